@@ -137,6 +137,14 @@ def distances(paths, nodes, order=list, extra=(), radius=""):
     return label_texts(nodes, order(arcs) + list(extra), paths, radius)
 
 
+def claimed(texts):
+    """The same graph, and the distances of the labels as a claim."""
+    graph, _queries, labels = texts
+    problem, *lines = labels.splitlines()
+    _p, _dist, nodes, blocks = problem.split()
+    return [graph, text(f"p distances {nodes} {blocks}", *(" ".join(line.split()[:3]) for line in lines))]
+
+
 def max_cases(n):
     """Cases of maximum flow: the name, the words, the malicious texts, the kind ones, and how much more is allowed."""
     words = "judge-max I S C"
@@ -206,6 +214,13 @@ def label_cases(n):
     pages = [far(n)[i::count] for i in range(count)]
     yield "paths: blocks over all pages", words, distances(pages, MOST), kind, PAGES_LIMIT
     yield from hub_cases(n // 5)
+    count = int(4 * n**0.5)
+    chain = list(range(count, count + count // 32 + 4))
+    arcs = [(i, count, 1) for i in range(1, count)] + [(*arc, 1) for arc in path(chain)]
+    arcs += [(1 + i % (count - 1), count, 9) for i in range(n // 2)]
+    paths = [[i, *chain] for i in range(1, count)]
+    many, few = (claimed(label_texts(nodes, arcs, paths)) for nodes in (chain[-1], 64 * chain[-1]))
+    yield "certify-paths: few arcs for each of many blocks", "certify-paths I S shown", many, few, LIMIT
 
 
 def hub_cases(n):
@@ -219,6 +234,11 @@ def hub_cases(n):
     leaving = distances(hub, 2 * n + 1, list, [(n + 1, n + 2 + i, 9) for i in range(n)], " 5")
     kind = distances(pairs, 2 * n, list, [(n + 1 + i, i + 1, 9) for i in range(n)], " 5")
     yield "paths: many arcs past the radius in each block", words, leaving, kind, LIMIT
+    parallels = distances([[i + 1, n + 1, n + 2] for i in range(n)], n + 2)
+    kind = distances([[i + 1, i + 1 + n, i + 1 + 2 * n] for i in range(n)], 3 * n)
+    yield "paths: many arcs between two nodes in each block", words, parallels, kind, LIMIT
+    words, parallels, kind = "certify-paths I S shown", claimed(parallels), claimed(kind)
+    yield "certify-paths: many arcs between two nodes in each block", words, parallels, kind, LIMIT
 
 
 class Runner:

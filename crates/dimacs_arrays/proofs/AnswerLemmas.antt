@@ -47,33 +47,33 @@ misfit_after (l ∷ lengths) more e = after_by (l.found == l.wanted) l.array (fi
 module _ {X : Type 0} (lengths : List ArrayLength) (limits : List Row) (lawful : Type 0) (answers : Result X JudgeError → Type 0) where
   --   an array has a wrong length
   pub tells_misfit : (error : ArrayError) → TellsLengths lengths (Err error) → (result : Result X ArrayError) → IsErrAnd result (λ e. e ≡ error) → AnswersArrays lengths limits lawful answers result
-  tells_misfit error told result is = let p = err_from_is_err_and result is in rw (p.1, p.2) (by_error error told)
+  tells_misfit error outcome result is = let p = err_from_is_err_and result is in rw (p.1, p.2) (by_error error outcome)
     where
       by_error : (error : ArrayError) → TellsLengths lengths (Err error) → AnswersArrays lengths limits lawful answers (Err error)
-      by_error (errors.Length array) told = told
-      by_error (errors.Limit place reason) told = absurd told
-      by_error (errors.Refused place reason) told = absurd told
-      by_error errors.Memory told = tt
+      by_error (errors.Length array) outcome = outcome
+      by_error (errors.Limit place reason) outcome = absurd outcome
+      by_error (errors.Refused place reason) outcome = absurd outcome
+      by_error errors.Memory outcome = tt
 
   module _ (fit : first_misfit lengths ≡ None) where
     --     a number is out of range
     pub tells_limit : {I : Type 0} (i : I) (error : ArrayError) → AllOneWay limits → (lawful → AllClear limits) → Spells {X = I} limits i (Err error) → (result : Result X ArrayError) → IsErrAnd result (λ e. e ≡ error)
         → AnswersArrays lengths limits lawful answers result
-    tells_limit {I} i error one needed told result is = let p = err_from_is_err_and result is in rw (p.1, p.2) (by_error error told)
+    tells_limit {I} i error one needed outcome result is = let p = err_from_is_err_and result is in rw (p.1, p.2) (by_error error outcome)
       where
         by_error : (error : ArrayError) → Spells {X = I} limits i (Err error) → AnswersArrays lengths limits lawful answers (Err error)
-        by_error (errors.Length array) told = absurd told
+        by_error (errors.Length array) outcome = absurd outcome
         by_error (errors.Limit place reason) first = (fit, (λ law. none_first limits place reason (needed law) first), (first, λ other why also. one_first limits other place why reason one also first))
-        by_error (errors.Refused place reason) told = absurd told
-        by_error errors.Memory told = tt
+        by_error (errors.Refused place reason) outcome = absurd outcome
+        by_error errors.Memory outcome = tt
 
     --     a test fails
     pub tells_refusal : lawful → (error : JudgeError) → answers (Err error) → (result : Result X ArrayError) → IsErrAnd result (λ e. e ≡ of_judge error) → AnswersArrays lengths limits lawful answers result
-    tells_refusal law error told result is = let p = err_from_is_err_and result is in rw (p.1, p.2) (by_error error told)
+    tells_refusal law error outcome result is = let p = err_from_is_err_and result is in rw (p.1, p.2) (by_error error outcome)
       where
         by_error : (error : JudgeError) → answers (Err error) → AnswersArrays lengths limits lawful answers (Err (of_judge error))
-        by_error (judged.Refused place reason) told = (fit, law, told)
-        by_error judged.Memory told = tt
+        by_error (judged.Refused place reason) outcome = (fit, law, outcome)
+        by_error judged.Memory outcome = tt
 
 -- a call over arrays: the lengths that its instance and its claim need; the limits; the instance that is spelled,
 -- when it is lawful, and the answer for it
@@ -95,15 +95,15 @@ module _ {X M : Type 0} (call : Call X M) (fit : first_misfit call.lengths ≡ N
 
   pub call_tells_limit : AllOneWay call.limits → (call.lawful call.spelled → AllClear call.limits) → (error : ArrayError) → Spells call.limits call.spelled (Err error)
       → (result : Result X ArrayError) → IsErrAnd result (λ e. e ≡ error) → CallAnswers call result
-  call_tells_limit one needed error told result is =
-      tells_limit (call.lengths ++ call.claim_lengths) call.limits (call.lawful call.spelled) (call.answers call.spelled) all_lengths_fit call.spelled error one needed told result is
+  call_tells_limit one needed error outcome result is =
+      tells_limit (call.lengths ++ call.claim_lengths) call.limits (call.lawful call.spelled) (call.answers call.spelled) all_lengths_fit call.spelled error one needed outcome result is
 
   --   the call made the instance that is spelled
   module _ (made : M) (same : made ≡ call.spelled) (law : call.lawful made) where
     pub call_tells_refusal : (error : JudgeError) → call.answers made (Err error) → (result : Result X ArrayError) → IsErrAnd result (λ e. e ≡ of_judge error) → CallAnswers call result
-    call_tells_refusal error told result is =
+    call_tells_refusal error outcome result is =
         tells_refusal (call.lengths ++ call.claim_lengths) call.limits (call.lawful call.spelled) (call.answers call.spelled) all_lengths_fit (subst call.lawful same law) error
-        (subst (λ (m : M). call.answers m (Err error)) same told) result is
+        (subst (λ (m : M). call.answers m (Err error)) same outcome) result is
 
     pub call_tells : (x : X) → call.answers made (Ok x) → CallAnswers call (Ok x)
-    call_tells x told = (all_lengths_fit, subst call.lawful same law, subst (λ (m : M). call.answers m (Ok x)) same told)
+    call_tells x outcome = (all_lengths_fit, subst call.lawful same law, subst (λ (m : M). call.answers m (Ok x)) same outcome)

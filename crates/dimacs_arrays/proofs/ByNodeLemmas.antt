@@ -215,7 +215,7 @@ wider_by p least shift is moved (v, node, more) =
     let low = is.below v node in
     (v, w, node, inside, by_lt_z (potential_of p v) (potential_of p w +ℤ pos (2 ^ 64)) (λ less. absurd (more (omega (arith, ints, moved, low), omega (arith, ints, moved, same, less)))) (λ far. omega (arith, ints, far)))
 
-pub if_wider : {X E : Type 0} (p : PotentialsValue) (shift : ℤ) → (IsWiderBy p shift → IsWider p) → (result : Result (Option X) E) → IfOk result (λ told. IfNone told (IsWiderBy p shift)) → IfOk result (λ told. IfNone told (IsWider p))
+pub if_wider : {X E : Type 0} (p : PotentialsValue) (shift : ℤ) → (IsWiderBy p shift → IsWider p) → (result : Result (Option X) E) → IfOk result (λ outcome. IfNone outcome (IsWiderBy p shift)) → IfOk result (λ outcome. IfNone outcome (IsWider p))
 if_wider p shift wider (Ok None) by = wider by
 if_wider p shift wider (Ok (Some x)) by = tt
 if_wider p shift wider (Err error) by = tt

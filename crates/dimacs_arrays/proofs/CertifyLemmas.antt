@@ -50,12 +50,12 @@ max_by i x cut total bytes maximum tight nodes total_is each marks bits =
 
 module _ (i : MaxValue) (x : List ℤ) where
   --   each answer about the flow shows that it is feasible
-  pub max_feasible : (told : MaxCertified) → CertifiesMaxFlow i x told → (done : Unit {0}) × FeasibleMax i x
+  pub max_feasible : (outcome : MaxCertified) → CertifiesMaxFlow i x outcome → (done : Unit {0}) × FeasibleMax i x
   max_feasible (max_told.Optimal total inside) says = (tt, says.0.0.feasible)
   max_feasible (max_told.Better y) says = (tt, says.claimed)
 
   pub max_better : (y : List ℤ) → FeasibleMax i x → DecidesMax i x (of_max.Better y) → CertifiesMaxFlow i x (max_told.Better y)
-  max_better y feasible told = record { claimed = feasible; not_maximum = told.0; feasible = told.1; greater = told.2 }
+  max_better y feasible outcome = record { claimed = feasible; not_maximum = outcome.0; feasible = outcome.1; greater = outcome.2 }
 
 -- ---- least
 -- potentials stay slack if the same number is added to each
@@ -88,7 +88,7 @@ module _ (i : MinValue) (x : List ℤ) where
   min_one_way : AllOneWay (min_claimed_rows i x)
   min_one_way = (bound_one_way i.arcs x, (balance_one_way i.nodes i.arcs (min_demand i) x, (cost_one_way i.arcs x, tt)))
 
-  min_clear : (told : MinCertified) → CertifiesMinFlow i x told → AllClear (min_claimed_rows i x)
+  min_clear : (outcome : MinCertified) → CertifiesMinFlow i x outcome → AllClear (min_claimed_rows i x)
   min_clear (min_told.Optimal total potentials) says = all_clear-append (feasible_min_rows i x) (cost_row i.arcs x ∷ []) (feasible_min_clear i x says.0.0.feasible) (costs_clear i.arcs x says.0.0.costs_wide, tt)
   min_clear (min_told.Wide total p) says = all_clear-append (feasible_min_rows i x) (cost_row i.arcs x ∷ []) (feasible_min_clear i x says.0.0.feasible) (costs_clear i.arcs x says.0.0.costs_wide, tt)
   min_clear (min_told.Better y) says = all_clear-append (feasible_min_rows i x) (cost_row i.arcs x ∷ []) (feasible_min_clear i x says.claimed) (costs_clear i.arcs x says.costs_wide, tt)
@@ -99,7 +99,7 @@ module _ (i : MinValue) (x : List ℤ) where
   -- the first test that fails
   pub min_infeasible : (error : JudgeError) → Refutes (λ (done : Unit {0}). FeasibleMin i x) (feasible_min_rows i x) error → (result : Result MinCertified JudgeError) → IsErrAnd result (λ e. e ≡ error)
       → Settles (CertifiesMinFlow i x) (min_claimed_rows i x) result
-  min_infeasible error told = min_refused error (refused_in_front (feasible_min_rows i x) (cost_row i.arcs x ∷ []) error (refuted_refuses _ (feasible_min_rows i x) error told))
+  min_infeasible error outcome = min_refused error (refused_in_front (feasible_min_rows i x) (cost_row i.arcs x ∷ []) error (refuted_refuses _ (feasible_min_rows i x) error outcome))
 
   module _ (feasible : FeasibleMin i x) where
     pub min_costly : (place : Where) (reason : Reason) → FirstOfRow (cost_row i.arcs x) place reason → (result : Result MinCertified JudgeError) → IsErrAnd result (λ e. e ≡ Refused place reason)
@@ -109,9 +109,9 @@ module _ (i : MinValue) (x : List ℤ) where
 
     module _ (costs : Clear (cost_row i.arcs x)) where
       pub min_better : (y : List ℤ) → DecidesMin i x (of_min.Better y) → CertifiesMinFlow i x (min_told.Better y)
-      min_better y told = record { claimed = feasible; costs_wide = costs_wide i.arcs x costs; not_least = told.0; feasible = told.1; less = told.2 }
+      min_better y outcome = record { claimed = feasible; costs_wide = costs_wide i.arcs x costs; not_least = outcome.0; feasible = outcome.1; less = outcome.2 }
 
-      pub min_least : All (JoinsNodes i.nodes) i.arcs → (total : ℤ) (p : PotentialsValue) (told : MinCertified) → total ≡ cost i.arcs x → DecidesMin i x (of_min.Optimal p) → IsLeastBy total p told → CertifiesMinFlow i x told
+      pub min_least : All (JoinsNodes i.nodes) i.arcs → (total : ℤ) (p : PotentialsValue) (outcome : MinCertified) → total ≡ cost i.arcs x → DecidesMin i x (of_min.Optimal p) → IsLeastBy total p outcome → CertifiesMinFlow i x outcome
       min_least joined total p (min_told.Optimal said potentials) total_is decided is = min_by i x p said potentials.items joined decided.0 costs decided.1 decided.2 (is.0 ∙ total_is) is.1.0 is.1.1
       min_least joined total p (min_told.Wide said q) total_is decided is = rw is.1 (min_by_wider i x p said decided.0 costs decided.1 decided.2 (is.0 ∙ total_is) is.2)
       min_least joined total p (min_told.Better y) total_is decided is = absurd is

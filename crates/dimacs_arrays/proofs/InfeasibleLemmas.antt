@@ -26,9 +26,9 @@ module _ (i : MinValue) (c : CutValue) (same : c.nodes ≡ i.nodes) where
 
   pub judged_alone : (result : Result Verdict JudgeError) → Judges (infeasible_rows i c) (ShowsNoFlow i c) (λ verdict. verdict ≡ Infeasible) result
       → JudgesInfeasible i (members c) result
-  judged_alone (Ok verdict) told = (told.0.1, (told.1.0.violated, told.1.1), told.2)
-  judged_alone (Err (Refused place reason)) told = (
-    (after_nodes place reason told.0.0, λ other why first. told.0.1 other why (inr (agreed, first))),
-    λ shown. told.1 (record { nodes_are = same; violated = shown.0 }, shown.1),
+  judged_alone (Ok verdict) outcome = (outcome.0.1, (outcome.1.0.violated, outcome.1.1), outcome.2)
+  judged_alone (Err (Refused place reason)) outcome = (
+    (after_nodes place reason outcome.0.0, λ other why first. outcome.0.1 other why (inr (agreed, first))),
+    λ shown. outcome.1 (record { nodes_are = same; violated = shown.0 }, shown.1),
   )
-  judged_alone (Err Memory) told = tt
+  judged_alone (Err Memory) outcome = tt

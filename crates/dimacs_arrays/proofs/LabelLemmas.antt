@@ -110,8 +110,8 @@ module _ (nodes s : ℕ) (claim : ℕ → Option ℤ) (pred : ℕ → ℕ) where
     pub no_pred : Clear (source_row s claim) → FirstOfRow (pred_row nodes s claim pred) place reason → HasNone place reason
     no_pred source first = (alone (inr (source, inl first)), λ labels are. first.fails.2.1 (spelled_pred labels are first.number first.fails.0))
 
-    pub no_way : Clear (source_row s claim) → Clear (pred_row nodes s claim pred) → FirstOfRow (back_row nodes s claim pred) place reason → HasNone place reason
-    no_way source preds first = (
+    pub no_path : Clear (source_row s claim) → Clear (pred_row nodes s claim pred) → FirstOfRow (back_row nodes s claim pred) place reason → HasNone place reason
+    no_path source preds first = (
       alone (inr (source, inr (preds, inl first))),
       λ labels are. first.fails.2.2 (spelled_leads labels are first.number first.fails.0 first.fails.2.1),
     )
@@ -135,7 +135,7 @@ module _ (nodes s : ℕ) (claim : ℕ → Option ℤ) (pred : ℕ → ℕ) where
     others = λ v node free. zero_pred clear v node free;
   }
     where
-      go : (v : ℕ) (mine told : Option ℤ) → label b v ≡ mine → claim v ≡ told → mine ≡ told
+      go : (v : ℕ) (mine outcome : Option ℤ) → label b v ≡ mine → claim v ≡ outcome → mine ≡ outcome
       go v None None e f = refl
       go v (Some d) None e f = let h : Some d ≡ None = sym (is.claimed v d e) ∙ f in absurd (cc)
       go v (Some d) (Some c) e f = sym (is.claimed v d e) ∙ f
@@ -153,7 +153,7 @@ module _ (nodes s : ℕ) (claim : ℕ → Option ℤ) (pred : ℕ → ℕ) where
 
   pub refused_by : Clear (source_row s claim) → Clear (pred_row nodes s claim pred) → (error : JudgeError) → Refuses (FirstOfRow (back_row nodes s claim pred)) error → (result : Result LabelsValue JudgeError) → IsErrAnd result (λ e. e ≡ error)
       → Settles (AreLabelsBy nodes s claim pred) (label_rows nodes s claim pred) result
-  refused_by source preds (Refused place reason) first result is = refused place reason (no_way place reason source preds first) result is
+  refused_by source preds (Refused place reason) first result is = refused place reason (no_path place reason source preds first) result is
   refused_by source preds Memory first (Ok labels) is = absurd is
   refused_by source preds Memory first (Err error) is = subst (Refutes (AreLabelsBy nodes s claim pred) (label_rows nodes s claim pred)) (sym is) tt
 

@@ -16,4 +16,4 @@ mod RisingLemmas
 mod SinkLemmas
 mod SolveLemmas
 mod TreeLemmas
-mod WayLemmas
+mod PathLemmas

@@ -169,8 +169,8 @@ module _ (g : NetworkValue) (s : ℕ) (distances : List ℤ) (preds : List ℕ) 
           labels = subst (All (LabelsOk g.arcs)) (sym alone) (All-cons (LabelsOk g.arcs) b [] passes (All-nil _));
         }
 
-    carried : (s' v : ℕ) (told told' radius : Option ℤ) → b.source ≡ s' → told ≡ told' → radius ≡ None → IsDistance g.arcs b.source v told radius → IsDistance g.arcs s' v told' None
-    carried s' v told told' radius source same none is = rw (← source, ← same, ← none) is
+    carried : (s' v : ℕ) (outcome outcome' radius : Option ℤ) → b.source ≡ s' → outcome ≡ outcome' → radius ≡ None → IsDistance g.arcs b.source v outcome radius → IsDistance g.arcs s' v outcome' None
+    carried s' v outcome outcome' radius source same none is = rw (← source, ← same, ← none) is
 
     pub rising_true : AreDistancesFrom g s claim
     rising_true v at = carried s v (label b v) (claim v) b.radius by.source (by.says v at) by.whole (labels_are_distances g.arcs b by.lawful.preds (stays_near g.nodes b by.lawful) passes v)

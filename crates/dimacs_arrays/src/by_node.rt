@@ -69,8 +69,8 @@ pub(crate) fn numbers_of(
     shift: i128,
 ) -> Result<Option<Vec<i64>>, Memory>
     requires { IsShift shift }
-    ensures numbers { IfOk result (λ told. IfSome told (λ numbers. AreShifted potentials.now shift numbers.items)) }
-    ensures wider { IfOk result (λ told. IfNone told (IsWiderBy potentials.now shift)) }
+    ensures numbers { IfOk result (λ outcome. IfSome outcome (λ numbers. AreShifted potentials.now shift numbers.items)) }
+    ensures wider { IfOk result (λ outcome. IfNone outcome (IsWiderBy potentials.now shift)) }
 {
     let mut numbers = Vec::new(alloc);
     for i in 0..potentials.nodes() {
@@ -85,8 +85,8 @@ pub(crate) fn numbers_of(
 /// These potentials in 64 bits, with the same number added to each if they don't fit otherwise. None if two of them are
 /// 2^64 or more apart.
 pub(crate) fn fitted(alloc: Global, potentials: &Potentials) -> Result<Option<Vec<i64>>, Memory>
-    ensures numbers { IfOk result (λ told. IfSome told (λ numbers. (shift : ℤ) × AreShifted potentials.now shift numbers.items)) }
-    ensures wider { IfOk result (λ told. IfNone told (IsWider potentials.now)) }
+    ensures numbers { IfOk result (λ outcome. IfSome outcome (λ numbers. (shift : ℤ) × AreShifted potentials.now shift numbers.items)) }
+    ensures wider { IfOk result (λ outcome. IfNone outcome (IsWider potentials.now)) }
 {
     if let Some(numbers) = numbers_of(alloc, potentials, 0)? {
         return Ok(Some(numbers));

@@ -10,7 +10,7 @@ ghost use Rattle.dimacs_arrays.specs.Paths.{AreInOrder, AreLabelsBy, IsPred, bac
 ghost use Rattle.dimacs_arrays.specs.inside.LabelTrees.{AreLed, IsLabelTree};
 
 use crate::label_tree::{LabelTree, distance_of, predecessor_of};
-use crate::way_back::WayBack;
+use crate::path_back::PathBack;
 use dimacs_claims::Labels;
 use dimacs_decide::{DistancesByNode, source_holds};
 use dimacs_judge::{JudgeError, Where};
@@ -92,7 +92,7 @@ fn label_tree(
         (claimed_by_node distances.now) (pred_by_node predecessors.now)))) }
 {
     let mut tree = LabelTree::new(alloc, distances, predecessors, source)?;
-    let mut back = WayBack::new(alloc);
+    let mut back = PathBack::new(alloc);
     for v in 1..distances.len() as u32 + 1 {
         if !back.lead(&mut tree, distances, predecessors, v)? {
             return Err(JudgeError::Refused(Where::Node(v), Reason::PredUnknown));

@@ -25,13 +25,13 @@ mod lengths;
 mod limits;
 mod max;
 mod min;
+mod path_back;
 mod predecessors;
 mod reached;
 mod rising;
 mod solve_max;
 mod solve_min;
 mod solve_paths;
-mod way_back;
 
 pub use certify_infeasible::{InfeasibleCertified, certify_infeasible_arrays};
 pub use certify_max::{MaxCertified, certify_max_arrays};

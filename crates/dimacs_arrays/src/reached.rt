@@ -18,8 +18,8 @@ pub(crate) fn distances_of(
     block: &Block,
 ) -> Result<Option<Vec<i64>>, Memory>
     requires { IsBlock nodes block.now }
-    ensures distances { IfOk result (λ told. IfSome told (λ distances. AreDistancesOf nodes block.now distances.items)) }
-    ensures far { IfOk result (λ told. IfNone told (HasFar block.now)) }
+    ensures distances { IfOk result (λ outcome. IfSome outcome (λ distances. AreDistancesOf nodes block.now distances.items)) }
+    ensures far { IfOk result (λ outcome. IfNone outcome (HasFar block.now)) }
 {
     let mut distances = vec![in alloc; i64::MAX; nodes as usize]?;
     distances[block.source() as usize - 1] = 0;

@@ -22,7 +22,7 @@ use Rattle.dimacs_records.specs.Earlier.{is_short, names}
 use Rattle.dimacs_records.specs.Ranges.{IsRadius, IsWide}
 use Rattle.dimacs_records.specs.Readings.{LineRecord, records_of}
 use Rattle.dimacs_records.specs.Spelling.{kind_of}
-use Rattle.dimacs_records.specs.Tests.{Passes, PassesEnd, after_records, earlier_of, told_at_end, told_of}
+use Rattle.dimacs_records.specs.Tests.{Passes, PassesEnd, after_records, earlier_of, noted_at_end, noted_before}
 use Rattle.dimacs_claims.specs.declared.block.Label.{Label}
 use Rattle.dimacs_claims.specs.Labels.{AreSources, BlockValue, EachAfter, IsBlock, IsNewSource, distance_in, label, with_label, has_source}
 use Rattle.dimacs_claims.specs.LabelTexts.{GivesLabels, label_line}
@@ -31,20 +31,20 @@ use Rattle.dimacs_claims.proofs.BlockLemmas.{label_id, near_radius, is_some-labe
 use Rattle.dimacs_claims.proofs.LabelRecords.{source_of, opened_with, last_after, last_cases, last_is, say_taken, short_told, list_any-has_source, lines_of_blocks-push_block, lines_of_blocks-push_label, lines_of_blocks-zero, new_source, push_same}
 
 -- what the tests know follows from the records
-pub lines_told : (b : LabelsBegun) → after_lines b ≡ after_records (labels_begun_records b)
-lines_told b = ap (earlier_of (after_lines b).problem) (sym ((say_taken b).counted ∙ length-map b.blocks source_of))
+pub lines_noted : (b : LabelsBegun) → after_lines b ≡ after_records (labels_begun_records b)
+lines_noted b = ap (earlier_of (after_lines b).problem) (sym ((say_taken b).counted ∙ length-map b.blocks source_of))
 
 pub source_told : (begun : LabelsBegun) (source : ℕ) → list_any (names source) (labels_begun_records begun) ≡ list_any (has_source source) begun.blocks
 source_told begun source = (say_taken begun).named source ∙ sym (list_any-has_source source begun.blocks)
 
-pub tells : (b : LabelsBegun) (r : Record) → kind_of r ≡ Labels → before b r ≡ told_of (labels_begun_records b) r
-tells b (LabelsProblem nodes blocks) of_kind = lines_told b
-tells b (LabelsBlock source count radius) of_kind = ap (λ (e : Earlier). record (before b (LabelsBlock source count radius)) { problem = e.problem; counted = e.counted }) (lines_told b)
-tells b (LabelsNode id dist pred) of_kind = ap (λ (e : Earlier). record (before b (LabelsNode id dist pred)) { problem = e.problem; counted = e.counted }) (lines_told b)
+pub tells : (b : LabelsBegun) (r : Record) → kind_of r ≡ Labels → before b r ≡ noted_before (labels_begun_records b) r
+tells b (LabelsProblem nodes blocks) of_kind = lines_noted b
+tells b (LabelsBlock source count radius) of_kind = ap (λ (e : Earlier). record (before b (LabelsBlock source count radius)) { problem = e.problem; counted = e.counted }) (lines_noted b)
+tells b (LabelsNode id dist pred) of_kind = ap (λ (e : Earlier). record (before b (LabelsNode id dist pred)) { problem = e.problem; counted = e.counted }) (lines_noted b)
 tells b r of_kind = absurd (cc)
 
-pub end_tells : (b : LabelsBegun) → before_end b ≡ told_at_end Labels (labels_begun_records b)
-end_tells b = ap (λ (e : Earlier). record (before_end b) { problem = e.problem; counted = e.counted }) (lines_told b)
+pub end_tells : (b : LabelsBegun) → before_end b ≡ noted_at_end Labels (labels_begun_records b)
+end_tells b = ap (λ (e : Earlier). record (before_end b) { problem = e.problem; counted = e.counted }) (lines_noted b)
 
 -- a complete state gives its labels
 pub gives_labels : (b : LabelsBegun) → AreLabelsBegun b → PassesEnd Labels (before_end b) → (rs : List LineRecord) → records_of rs ≡ labels_begun_records b → GivesLabels rs (record { nodes = b.nodes; blocks = b.blocks })
@@ -233,7 +233,7 @@ or_false true = refl
 or_false false = refl
 
 apart_ids : (a b : ℕ) → a ≢ b → (b == a) ≡ false
-apart_ids a b off = elim (eqb_tells b a) [ inl same ↦ absurd (off (sym same.1)) | inr told ↦ told.0 ]
+apart_ids a b off = elim (eqb_tells b a) [ inl same ↦ absurd (off (sym same.1)) | inr noted ↦ noted.0 ]
 
 -- the last block has one more label
 pub labelled_more : (old new : NodeTable ℕ) (blocks front : List BlockValue) (b : BlockValue) (l : Label) → blocks ≡ front ++ b ∷ [] → AreLabelled old blocks → value_of new l.id ≡ length blocks → ((id : ℕ) → id ≢ l.id → value_of new id ≡ value_of old id) → AreLabelled new (front ++ with_label b l ∷ [])

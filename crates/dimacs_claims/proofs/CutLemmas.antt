@@ -26,7 +26,7 @@ use Rattle.dimacs_records.proofs.CanonicalLaws.{canonical_spelled, numbered_all}
 use Rattle.dimacs_records.proofs.ConditionLemmas.{is_allowed, is_complete, allowed_at}
 use Rattle.dimacs_records.proofs.SplitLemmas.{image_at, All-at}
 use Rattle.dimacs_claims.specs.Cuts.{CutValue, IsCut, AreNamed, GivesCut, SpellsCut, canonical_cut, cut_records, empty_cut, ids_in, is_id, with_node}
-use Rattle.dimacs_records.specs.Tests.{Passes, after_records, earlier_of, told_of}
+use Rattle.dimacs_records.specs.Tests.{Passes, after_records, earlier_of, noted_before}
 use Rattle.dimacs_claims.specs.CutReading.{CutBegun, IsCutBegunBy, after_lines, before}
 use Rattle.dimacs_records.specs.Spelling.{kind_of}
 use Rattle.dimacs_claims.proofs.NodeLists.{passing_once, passing_few, none_passing, All-passing, passing_listed, passing_more}
@@ -88,15 +88,15 @@ law_with_node c id law node = record { nodes_few = law.nodes_few; within = λ ot
     by_test other false apart e = law.within other (sym (ap (λ b. b || contains c.ids other) apart) ∙ e)
 
 -- what the tests know follows from the records
-pub lines_told : (b : CutBegun) (rs : List Record) → IsCutBegunBy b rs → after_lines b ≡ after_records rs
-lines_told b rs h = rw h.records (ap (earlier_of (after_lines b).problem) (h.count ∙ sym (counted h.named)))
+pub lines_noted : (b : CutBegun) (rs : List Record) → IsCutBegunBy b rs → after_lines b ≡ after_records rs
+lines_noted b rs h = rw h.records (ap (earlier_of (after_lines b).problem) (h.count ∙ sym (counted h.named)))
 
 named_told : (b : CutBegun) (rs : List Record) (id : ℕ) → IsCutBegunBy b rs → list_any (names id) rs ≡ contains b.cut.ids id
 named_told b rs id h = rw h.records (any_names id h.named ∙ sym (contains_named b.cut.ids h.named id h.ids))
 
-pub tells : (b : CutBegun) (r : Record) → kind_of r ≡ kinds.Cut → (rs : List Record) → IsCutBegunBy b rs → before b r ≡ told_of rs r
-tells b (CutProblem n k) of_kind rs h = lines_told b rs h
-tells b (CutNode id) of_kind rs h = ap₂ (λ (e : Earlier) t. record e { named = t }) (lines_told b rs h) (sym (named_told b rs id h))
+pub tells : (b : CutBegun) (r : Record) → kind_of r ≡ kinds.Cut → (rs : List Record) → IsCutBegunBy b rs → before b r ≡ noted_before rs r
+tells b (CutProblem n k) of_kind rs h = lines_noted b rs h
+tells b (CutNode id) of_kind rs h = ap₂ (λ (e : Earlier) t. record e { named = t }) (lines_noted b rs h) (sym (named_told b rs id h))
 tells b r of_kind rs h = absurd (cc)
 
 -- the state after a problem line

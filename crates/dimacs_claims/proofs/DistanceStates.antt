@@ -11,22 +11,22 @@ use Rattle.dimacs_records.specs.declared.records.Record.TheVariants.{LabelsBlock
 use Rattle.dimacs_records.specs.Blocks.{block_in, is_labelled, is_past, is_past_block}
 use Rattle.dimacs_records.specs.Readings.{LineRecord, numbered, records_of}
 use Rattle.dimacs_records.specs.Spelling.{kind_of}
-use Rattle.dimacs_records.specs.Tests.{Passes, PassesEnd, told_at_end, told_of}
+use Rattle.dimacs_records.specs.Tests.{Passes, PassesEnd, noted_at_end, noted_before}
 use Rattle.dimacs_records.proofs.CanonicalLaws.{numbered_all}
 use Rattle.dimacs_claims.specs.declared.block.Label.{Label}
 use Rattle.dimacs_claims.specs.DistanceTexts.{AreBare, GivesDistances, IsBare, bare}
 use Rattle.dimacs_claims.specs.Labels.{BlockValue, IsBlock, LabelsValue, with_block, with_label}
 use Rattle.dimacs_claims.specs.LabelTexts.{GivesLabels}
 use Rattle.dimacs_claims.specs.LabelsReading.{AreLabelsBegun, LabelsBegun, before, before_bare, before_end, labels_begun_records}
-use Rattle.dimacs_claims.proofs.BegunLemmas.{end_tells, in_last, lines_told, tells}
+use Rattle.dimacs_claims.proofs.BegunLemmas.{end_tells, in_last, lines_noted, tells}
 use Rattle.dimacs_claims.proofs.DistanceLaws.{bare_counted_in, bare_full, bare_labelled, bare_misplaced, bare_named, bare_problem_in, bare_short}
 use Rattle.dimacs_claims.proofs.LabelRecords.{HasLast, last_after, last_cases, say_taken}
 
 -- what the tests know follows from the records
-pub tells_bare : (b : LabelsBegun) (r : Record) → kind_of r ≡ Distances → before_bare b r ≡ told_of (map bare (labels_begun_records b)) r
+pub tells_bare : (b : LabelsBegun) (r : Record) → kind_of r ≡ Distances → before_bare b r ≡ noted_before (map bare (labels_begun_records b)) r
 tells_bare b (DistancesProblem nodes blocks) is =
     let rs = labels_begun_records b in
-    rw (bare_problem_in rs, bare_counted_in rs) (lines_told b)
+    rw (bare_problem_in rs, bare_counted_in rs) (lines_noted b)
 tells_bare b (DistancesBlock source count) is =
     let rs = labels_begun_records b in
     rw (bare_problem_in rs, bare_counted_in rs, bare_named source rs, bare_short rs) (tells b (LabelsBlock source count None) refl)
@@ -35,7 +35,7 @@ tells_bare b (DistancesNode id dist) is =
     rw (bare_problem_in rs, bare_counted_in rs, bare_misplaced rs, bare_labelled id rs, bare_full rs) (ap (λ (e : Earlier). record e { pred_unknown = false; past_radius = false }) (tells b (LabelsNode id dist id) refl))
 tells_bare b r is = absurd (cc)
 
-pub end_tells_bare : (b : LabelsBegun) → before_end b ≡ told_at_end Distances (map bare (labels_begun_records b))
+pub end_tells_bare : (b : LabelsBegun) → before_end b ≡ noted_at_end Distances (map bare (labels_begun_records b))
 end_tells_bare b =
     let rs = labels_begun_records b in
     rw (bare_problem_in rs, bare_counted_in rs, bare_short rs) (end_tells b)

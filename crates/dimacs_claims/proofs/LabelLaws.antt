@@ -235,7 +235,7 @@ labels_round_trip labels are few =
 
 -- a text has at least as many lines as the labels that it spells, in either kind
 pub fit_read : (kind : TextKind) (gives : List LineRecord → LabelsValue → Type 0) → ((rs : List LineRecord) (labels : LabelsValue) → gives rs labels → length (records_of rs) ≡ length (label_records labels))
-    → (all : List (List ℕ)) (told : Result LabelsValue ReadError) → Reads (SpellsValue kind gives all) (Fault kind all) told → IfOk told FitText
+    → (all : List (List ℕ)) (noted : Result LabelsValue ReadError) → Reads (SpellsValue kind gives all) (Fault kind all) noted → IfOk noted FitText
 fit_read kind gives as_many all (Ok labels) h =
     let spells = h.0 in
     omega (arith, one_a_line kind all spells.said 1 spells.spelled.spell, spells.spelled.few, as_many (numbered 1 spells.said) labels spells.given, length-map (numbered 1 spells.said) (λ (r : LineRecord). r.says))

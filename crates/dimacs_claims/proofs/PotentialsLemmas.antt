@@ -30,7 +30,7 @@ use Rattle.dimacs_records.specs.Ranges.{IsWide}
 use Rattle.dimacs_claims.specs.Potentials.{PotentialsValue, ArePotentials, GivesPotentials, SpellsPotentials, canonical_potentials, node_line, nonzero_ids, potential_of, potentials_records, with_values, zero_potentials}
 use Rattle.dimacs_records.specs.NodeValues.{NameNodes, has_value, is_nonzero, is_of, without_zeros}
 use Rattle.dimacs_claims.specs.PotentialsReading.{PotentialsBegun, ArePotentialsBegunBy, potentials_begun, after_lines, before, has_line}
-use Rattle.dimacs_records.specs.Tests.{Passes, PassesEnd, after_records, earlier_of, told_of}
+use Rattle.dimacs_records.specs.Tests.{Passes, PassesEnd, after_records, earlier_of, noted_before}
 use Rattle.dimacs_records.specs.Spelling.{kind_of}
 use Rattle.dimacs_claims.proofs.NodeLists.{All-passing, count_map, passing, passing_below, passing_few, passing_listed, passing_once, lines_of_passing}
 use Rattle.dimacs_records.proofs.CountLemmas.{once_before, same_test}
@@ -64,8 +64,8 @@ allows_problem : (n k : ℕ) → IsAllowed [] (PotentialsProblem n k)
 allows_problem n k = is_allowed [] (PotentialsProblem n k) refl
 
 -- what the tests know follows from the records
-pub lines_told : (b : PotentialsBegun) (rs : List Record) → ArePotentialsBegunBy b rs → after_lines b ≡ after_records rs
-lines_told b rs h = rw h.records (ap (earlier_of (after_lines b).problem) (h.count ∙ sym (counted h.named)))
+pub lines_noted : (b : PotentialsBegun) (rs : List Record) → ArePotentialsBegunBy b rs → after_lines b ≡ after_records rs
+lines_noted b rs h = rw h.records (ap (earlier_of (after_lines b).problem) (h.count ∙ sym (counted h.named)))
 
 has_named : (b : PotentialsBegun) (id : ℕ) {rs : List Record} (h : ArePotentialsBegunBy b rs) → has_line b id ≡ list_any (is_of id) h.named
 has_named b id h = ap (λ m. is_some (get m id)) h.values ∙ has-from_entries h.named id
@@ -73,9 +73,9 @@ has_named b id h = ap (λ m. is_some (get m id)) h.values ∙ has-from_entries h
 named_told : (b : PotentialsBegun) (rs : List Record) (id : ℕ) → ArePotentialsBegunBy b rs → list_any (names id) rs ≡ has_line b id
 named_told b rs id h = rw h.records (any_names id h.named ∙ sym (has_named b id h))
 
-pub tells : (b : PotentialsBegun) (r : Record) → kind_of r ≡ kinds.Potentials → (rs : List Record) → ArePotentialsBegunBy b rs → before b r ≡ told_of rs r
-tells b (PotentialsProblem n k) of_kind rs h = lines_told b rs h
-tells b (PotentialsNode id v) of_kind rs h = ap₂ (λ (e : Earlier) t. record e { named = t }) (lines_told b rs h) (sym (named_told b rs id h))
+pub tells : (b : PotentialsBegun) (r : Record) → kind_of r ≡ kinds.Potentials → (rs : List Record) → ArePotentialsBegunBy b rs → before b r ≡ noted_before rs r
+tells b (PotentialsProblem n k) of_kind rs h = lines_noted b rs h
+tells b (PotentialsNode id v) of_kind rs h = ap₂ (λ (e : Earlier) t. record e { named = t }) (lines_noted b rs h) (sym (named_told b rs id h))
 tells b r of_kind rs h = absurd (cc)
 
 -- the state after a problem line
@@ -90,16 +90,16 @@ begins n k = record {
 }
 
 -- one more node, which passes the tests
-module _ (b : PotentialsBegun) (id : ℕ) (v : ℤ) (least : 1 ≤ id) (told : Passes (before b (PotentialsNode id v)) (PotentialsNode id v)) where
+module _ (b : PotentialsBegun) (id : ℕ) (v : ℤ) (least : 1 ≤ id) (noted : Passes (before b (PotentialsNode id v)) (PotentialsNode id v)) where
   pub node : IsNode b.nodes id
-  node = (least, grind (arith, nat_tests, told.second_within))
+  node = (least, grind (arith, nat_tests, noted.second_within))
 
   pub room : b.taken < b.declared
-  room = grind (arith, nat_tests, told.room)
+  room = grind (arith, nat_tests, noted.room)
 
   pub adds : (rs : List Record) → ArePotentialsBegunBy b rs → ArePotentialsBegunBy (record b { taken = b.taken + 1; values = insert b.values id v }) (rs ++ PotentialsNode id v ∷ [])
   adds rs h =
-      let new : list_any (is_of id) h.named ≡ false = sym (has_named b id h) ∙ told.new_node in
+      let new : list_any (is_of id) h.named ≡ false = sym (has_named b id h) ∙ noted.new_node in
       record {
         named = h.named ++ (id, v) ∷ [];
         name_nodes = named_more h.named id v new b.nodes h.name_nodes node;

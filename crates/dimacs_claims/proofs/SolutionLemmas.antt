@@ -20,7 +20,7 @@ use Rattle.dimacs_records.specs.Spelling.{parts_of, texts_in}
 use Rattle.dimacs_records.specs.Forms.{form, Wide, Id, Whole}
 use Rattle.dimacs_records.specs.Canonical.{CanBeSpelled, FitAll, canonical_text}
 use Rattle.dimacs_records.specs.Readings.{LineRecord, AreSpelledBefore, IsOfKind, ReadsLines, IsAllowed, on_line, records_of, numbered}
-use Rattle.dimacs_records.specs.Tests.{Passes, told_at_end, told_of}
+use Rattle.dimacs_records.specs.Tests.{Passes, noted_at_end, noted_before}
 use Rattle.dimacs_records.specs.Texts.{AreSpelled, AreFaultless}
 use Rattle.dimacs_records.proofs.CanonicalLaws.{canonical_spelled}
 use Rattle.dimacs_records.proofs.ConditionLemmas.{is_allowed, is_complete}
@@ -239,7 +239,7 @@ lawful_given : (all : List (List ℕ)) (said : List (Option Record)) (s : Soluti
 lawful_given all said s spelled h =
     lawful_of_records (numbered 1 said) s (all_of_kind all said 1 spelled.spell) (omega (arith, one_a_line all said 1 spelled.spell, spelled.few)) h
 
-lawful_read : (all : List (List ℕ)) (told : Result SolutionValue ReadError) → ReadsLines kinds.Solution GivesSolution all told → IfOk told IsLawful
+lawful_read : (all : List (List ℕ)) (noted : Result SolutionValue ReadError) → ReadsLines kinds.Solution GivesSolution all noted → IfOk noted IsLawful
 lawful_read all (Ok s) h = lawful_given all h.said s (spelled_of_faultless kinds.Solution all h.said h.faultless) h.given
 lawful_read all (Err error) h = tt
 
@@ -249,11 +249,11 @@ module _ {W : Type 0} (value : W → ℤ) (value_line : W → ℕ) (holds : W �
   like s w = IsPlaced (value w) (value_line w) (holds w) s
 
   -- the result for the lines and the solution that they give is that of a reader of solutions
-  read_as : (text : List ℕ) (result : Result W ReadError) (told : Result SolutionValue ReadError) → ReadsLines kinds.Solution GivesSolution (lines text) told → AnswersAlike like told result → ReadsLike like text result
-  read_as text result told reads alike = record {
-    told = told;
-    reads = reads_exactly kinds.Solution GivesSolution (lines text) told solution_faultless one_solution reads;
-    lawful = lawful_read (lines text) told reads;
+  read_as : (text : List ℕ) (result : Result W ReadError) (noted : Result SolutionValue ReadError) → ReadsLines kinds.Solution GivesSolution (lines text) noted → AnswersAlike like noted result → ReadsLike like text result
+  read_as text result noted reads alike = record {
+    noted = noted;
+    reads = reads_exactly kinds.Solution GivesSolution (lines text) noted solution_faultless one_solution reads;
+    lawful = lawful_read (lines text) noted reads;
     alike = alike;
   }
 
@@ -281,10 +281,10 @@ module _ (holds : List Entry → Type 0) (rs : List LineRecord) where
   say None h = rw h.2 (entries_say h.0)
   say (Some v) h = rw h.2.all_are (value_says h.0 h.2.before h.2.after v.line v.value h.2.others_are)
 
-  pub value_tells : (value : Option ValueLine) (other : ℤ) → StandsForSolution value holds rs → earlier_value value ≡ told_of (records_of rs) (value_record other)
+  pub value_tells : (value : Option ValueLine) (other : ℤ) → StandsForSolution value holds rs → earlier_value value ≡ noted_before (records_of rs) (value_record other)
   value_tells value other h = let says = say value h in rw (says.0, says.1.0, says.1.1) refl
 
-  pub end_tells : (value : Option ValueLine) → StandsForSolution value holds rs → earlier_value value ≡ told_at_end kinds.Solution (records_of rs)
+  pub end_tells : (value : Option ValueLine) → StandsForSolution value holds rs → earlier_value value ≡ noted_at_end kinds.Solution (records_of rs)
   end_tells value h = let says = say value h in rw (says.0, says.1.0, says.1.1) refl
 
   pub value_placed : (value : Option ValueLine) (line : ℕ) (said : ℤ) → Passes (earlier_value value) (value_record said) → StandsForSolution value holds rs
@@ -310,8 +310,8 @@ module _ (holds : List Entry → Type 0) (rs : List LineRecord) where
   same_placed value other same = ((λ h. (h.0, (same h.0).0 h.1, h.2)), (λ h. (h.0, (same h.0).1 h.1, h.2)))
 
 -- a solution whose entries were kept
-pub kept_solution : {W : Type 0} (value : W → ℤ) (value_line : W → ℕ) (entries : W → List Entry) (told : Result SolutionValue ReadError) (w : W) → AnswersAlike (λ s x. IsPlaced (value x) (value_line x) (λ kept. entries x ≡ kept) s) told (Ok w)
-    → told ≡ Ok (record { value = value w; value_line = value_line w; entries = entries w })
+pub kept_solution : {W : Type 0} (value : W → ℤ) (value_line : W → ℕ) (entries : W → List Entry) (noted : Result SolutionValue ReadError) (w : W) → AnswersAlike (λ s x. IsPlaced (value x) (value_line x) (λ kept. entries x ≡ kept) s) noted (Ok w)
+    → noted ≡ Ok (record { value = value w; value_line = value_line w; entries = entries w })
 kept_solution value value_line entries (Ok s) w alike = rw (alike.value_is, alike.line_is, alike.entries) refl
 kept_solution value value_line entries (Err e) w alike = absurd alike
 
@@ -319,7 +319,7 @@ pub kept_lawful : (value : ℤ) (line : ℕ) (entries : List Entry) → IsPlaced
 kept_lawful value line entries (s, is, lawful) = rw (is.value_is, is.line_is, is.entries) lawful
 
 -- the same after an error
-pub error_kept : {W : Type 0} (like : SolutionValue → W → Type 0) (told : Result SolutionValue ReadError) (e : ReadError) (result : Result Solution ReadError) → AnswersAlike like told (Err e) → IsErrAnd result (λ f. f ≡ e) → told ≡ result_map_both claimed (λ f. f) result
+pub error_kept : {W : Type 0} (like : SolutionValue → W → Type 0) (noted : Result SolutionValue ReadError) (e : ReadError) (result : Result Solution ReadError) → AnswersAlike like noted (Err e) → IsErrAnd result (λ f. f ≡ e) → noted ≡ result_map_both claimed (λ f. f) result
 error_kept like (Err f) e (Err h) alike is = ap Err (alike ∙ sym is)
 error_kept like (Ok s) e result alike is = absurd alike
 error_kept like (Err f) e (Ok s) alike is = absurd is

@@ -2,7 +2,6 @@ pub mod ById
 pub mod CutReading
 pub mod Cuts
 pub mod DistanceTexts
-pub mod LabelIters
 pub mod LabelLists
 pub mod LabelTexts
 pub mod Labels

@@ -123,9 +123,9 @@ impl Begun for BegunCut {
 
     ghost begun_by = { λ begun rs. IsCutBegunBy begun rs };
 
-    ghost told = { λ begun r. before begun r };
+    ghost noted = { λ begun r. before begun r };
 
-    ghost told_end = { λ begun. after_lines begun };
+    ghost noted_end = { λ begun. after_lines begun };
 
     ghost gives = { λ rs c. GivesCut rs c };
 

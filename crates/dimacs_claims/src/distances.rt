@@ -133,9 +133,9 @@ impl Begun for BegunDistances {
 
     ghost begun_by = { λ begun rs. rs ≡ map bare (labels_begun_records begun) };
 
-    ghost told = { λ begun r. before_bare begun r };
+    ghost noted = { λ begun r. before_bare begun r };
 
-    ghost told_end = { λ begun. before_end begun };
+    ghost noted_end = { λ begun. before_end begun };
 
     ghost gives = { λ rs distances. GivesDistances rs distances };
 

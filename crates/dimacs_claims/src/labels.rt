@@ -3,7 +3,7 @@
 ghost use Rattle.std.specs.Prelude.{◌≡◌, ◌<◌, ◌≤◌, ◌++◌, ◌∷◌, [], ℕ, ℤ, List, Option, Some, None, OnOk, OnErr, IfOk, IfSome, is_some, length, map, option_map, refl, slice_get};
 ghost use Rattle.dimacs_lines.specs.Limits.{most_count, most_nodes};
 ghost use Rattle.dimacs_lines.specs.Lines.{lines};
-ghost use Rattle.dimacs_lines.specs.Pages.{Appends};
+ghost use Rattle.dimacs_lines.specs.OutputBuffers.{Appends};
 ghost use Rattle.dimacs_lines.specs.Puts.{Puts};
 ghost use Rattle.dimacs_records.specs.declared.kinds.TextKind.TheVariants as kinds;
 ghost use Rattle.dimacs_records.specs.declared.records.Record.TheVariants.{LabelsBlock};
@@ -26,7 +26,7 @@ ghost use Rattle.dimacs_claims.specs.LabelsReading.{AreLabelsBegun, labels_begun
 
 use crate::block::{Block, Label};
 use crate::by_id::{ById, distance_by};
-use dimacs_lines::{DeviceFault, Memory, Page, Sink, Source};
+use dimacs_lines::{DeviceFault, Memory, OutputBuffer, Sink, Source};
 use dimacs_nodes::{NodeSet, NodeTable};
 use dimacs_records::{
     Begun, CountedReading, Declared, Earlier, ReadError, Record, TextKind, read_counted,
@@ -331,9 +331,9 @@ impl Begun for BegunLabels {
 
     ghost begun_by = { λ begun rs. rs ≡ labels_begun_records begun };
 
-    ghost told = { λ begun r. before begun r };
+    ghost noted = { λ begun r. before begun r };
 
-    ghost told_end = { λ begun. before_end begun };
+    ghost noted_end = { λ begun. before_end begun };
 
     ghost gives = { λ rs labels. GivesLabels rs labels };
 
@@ -433,19 +433,19 @@ pub(crate) fn write_in_kind<S: Sink>(
         nodes,
         blocks: count,
     };
-    let mut page = Page::new();
-    write_record(&mut page, sink, &in_kind(kind, problem));
+    let mut output = OutputBuffer::new();
+    write_record(&mut output, sink, &in_kind(kind, problem));
     for block in blocks {
-        write_block(&mut page, sink, kind, block);
+        write_block(&mut output, sink, kind, block);
     }
-    page.finish(sink)
+    output.finish(sink)
 }
 
 /// Writes the line of a block and the lines of its labels.
 #[inline(always)]
-fn write_block<S: Sink>(page: &mut Page, sink: &mut S, kind: TextKind, block: &Block)
+fn write_block<S: Sink>(output: &mut OutputBuffer, sink: &mut S, kind: TextKind, block: &Block)
     requires { length block.now.labels ≤ most_count }
-    ensures { Appends (canonical_text (map (in_kind kind) (block_lines block.now))) (S.seen sink.old) page.old (S.seen sink.new) page.new }
+    ensures { Appends (canonical_text (map (in_kind kind) (block_lines block.now))) (S.seen sink.old) output.old (S.seen sink.new) output.new }
 {
     let labels = block.labels();
     let source = block.source();
@@ -456,9 +456,9 @@ fn write_block<S: Sink>(page: &mut Page, sink: &mut S, kind: TextKind, block: &B
         count,
         radius,
     };
-    write_record(page, sink, &in_kind(kind, opening));
+    write_record(output, sink, &in_kind(kind, opening));
     write_lines(
-        page,
+        output,
         sink,
         labels.len(),
         |i|

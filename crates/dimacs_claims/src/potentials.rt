@@ -132,9 +132,9 @@ impl Begun for BegunPotentials {
 
     ghost begun_by = { λ begun rs. ArePotentialsBegunBy begun rs };
 
-    ghost told = { λ begun r. before begun r };
+    ghost noted = { λ begun r. before begun r };
 
-    ghost told_end = { λ begun. after_lines begun };
+    ghost noted_end = { λ begun. after_lines begun };
 
     ghost gives = { λ rs p. GivesPotentials rs p };
 

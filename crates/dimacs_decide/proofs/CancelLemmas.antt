@@ -11,13 +11,13 @@ use Rattle.dimacs_judge.specs.Rows.{amount_at}
 use Rattle.dimacs_network.specs.Arcs.{arc_at, no_arc}
 use Rattle.dimacs_judge.proofs.Products.{mul_add, mul_neg, mul_comm, mul_le, mul_zero}
 use Rattle.dimacs_judge.proofs.Passing.{pair_at}
-use Rattle.dimacs_network.specs.declared.links.Side.{Side}
-use Rattle.dimacs_network.specs.declared.links.Side.TheVariants.{Tail, Head}
-use Rattle.dimacs_network.specs.Links.{end_of, other_end}
+use Rattle.dimacs_network.specs.declared.adjacency_lists.Side.{Side}
+use Rattle.dimacs_network.specs.declared.adjacency_lists.Side.TheVariants.{Tail, Head}
+use Rattle.dimacs_network.specs.AdjacencyLists.{end_of, other_end}
 use Rattle.dimacs_decide.specs.Bounds.{KeepsBounds}
 use Rattle.dimacs_decide.specs.inside.Heights.{gain_at}
-use Rattle.dimacs_decide.specs.inside.Rooms.{carried_after, room_at, room_on}
-use Rattle.dimacs_decide.specs.inside.Cancelling.{IsCancelling, IsRoomFor}
+use Rattle.dimacs_decide.specs.inside.ResidualCapacities.{carried_after, residual_capacity_at, residual_capacity_on}
+use Rattle.dimacs_decide.specs.inside.Cancelling.{IsCancelling, HasCapacityFor}
 use Rattle.dimacs_decide.specs.inside.Cycles.{IsSaving, LeadsFrom, ending_of, gain_after, node_after, residual_at}
 use Rattle.dimacs_decide.proofs.RaiseLemmas.{AllZip-set, net-raise, sum_arcs-set, when-neg, within_at}
 use Rattle.dimacs_decide.proofs.HeightLemmas.{arc_bounds}
@@ -51,8 +51,8 @@ cancel_none arcs x cycle amount within = record {
   costs = omega (arith, ints, mul_zero amount);
 }
 
-pub room_none : (arcs : List ArcView) (x : List ℤ) (cycle : List ResidualArc) (amount : ℤ) → pos 0 <ℤ amount → IsRoomFor arcs x cycle 0 amount
-room_none arcs x cycle amount some = record { some = some; each = λ i less. absurd (omega (arith, less)) }
+pub residual_capacity_none : (arcs : List ArcView) (x : List ℤ) (cycle : List ResidualArc) (amount : ℤ) → pos 0 <ℤ amount → HasCapacityFor arcs x cycle 0 amount
+residual_capacity_none arcs x cycle amount some = record { some = some; each = λ i less. absurd (omega (arith, less)) }
 
 module _ (arcs : List ArcView) (x : List ℤ) (cycle : List ResidualArc) (saving : IsSaving arcs x cycle) (j : ℕ) (short : j < length cycle) where
   abbrev r : ResidualArc
@@ -74,16 +74,16 @@ module _ (arcs : List ArcView) (x : List ℤ) (cycle : List ResidualArc) (saving
   inside = leads.within
 
   --   the least residual capacity so far, and that of this residual arc
-  pub room_more : (amount less : ℤ) → IsRoomFor arcs x cycle j amount → less ≤ℤ amount → less ≤ℤ room_on arcs x r.side k → (pos 0 <ℤ amount → pos 0 <ℤ room_on arcs x r.side k → pos 0 <ℤ less) → IsRoomFor arcs x cycle (j + 1) less
-  room_more amount less is le here some = record {
-    some = some is.some leads.room;
+  pub residual_capacity_more : (amount less : ℤ) → HasCapacityFor arcs x cycle j amount → less ≤ℤ amount → less ≤ℤ residual_capacity_on arcs x r.side k → (pos 0 <ℤ amount → pos 0 <ℤ residual_capacity_on arcs x r.side k → pos 0 <ℤ less) → HasCapacityFor arcs x cycle (j + 1) less
+  residual_capacity_more amount less is le here some = record {
+    some = some is.some leads.residual_capacity;
     each = λ i before. elim (cases_order i j) [
-      | inl e ↦ subst (λ m. less ≤ℤ room_on arcs x (residual_at cycle m).side (residual_at cycle m).arc) (sym e) here
+      | inl e ↦ subst (λ m. less ≤ℤ residual_capacity_on arcs x (residual_at cycle m).side (residual_at cycle m).arc) (sym e) here
       | inr apart ↦ elim apart [ inl low ↦ omega (arith, ints, is.each i low, le) | inr high ↦ absurd (omega (arith, high, before)) ]
     ];
   }
 
-  module _ (y : List ℤ) (amount : ℤ) (is : IsCancelling arcs x y cycle j amount) (room : IsRoomFor arcs x cycle (length cycle) amount) where
+  module _ (y : List ℤ) (amount : ℤ) (is : IsCancelling arcs x y cycle j amount) (residual_capacity : HasCapacityFor arcs x cycle (length cycle) amount) where
     pub long : k < length y
     long = omega (arith, inside, AllZip-long _ arcs y is.within)
 
@@ -107,15 +107,15 @@ module _ (arcs : List ArcView) (x : List ℤ) (cycle : List ResidualArc) (saving
       tail_is : (arc_at arcs k).tail ≡ from
       tail_is = subst (λ side. end_of side (arc_at arcs k) ≡ from) forward leads.begins
 
-      room_is : amount ≤ℤ ((arc_at arcs k).cap -ℤ amount_at x k)
-      room_is = subst (λ side. amount ≤ℤ room_at side (arc_at arcs k) (amount_at x k)) forward (room.each j short)
+      residual_capacity_is : amount ≤ℤ ((arc_at arcs k).cap -ℤ amount_at x k)
+      residual_capacity_is = subst (λ side. amount ≤ℤ residual_capacity_at side (arc_at arcs k) (amount_at x k)) forward (residual_capacity.each j short)
 
       forward_fits : (amount_at y k +ℤ amount) ≤ℤ (arc_at arcs k).cap
-      forward_fits = omega (arith, ints, is.heads k inside (fresh (arc_at arcs k).head head_is), room_is)
+      forward_fits = omega (arith, ints, is.heads k inside (fresh (arc_at arcs k).head head_is), residual_capacity_is)
 
       cancel_forward : IsCancelling arcs x (set y k (amount_at y k +ℤ amount)) cycle (j + 1) amount
       cancel_forward = rw (add-one j) (record {
-        within = AllZip-set (λ a z. (a.low ≤ℤ z) × (z ≤ℤ a.cap)) arcs y k no_arc _ is.within (omega (arith, ints, low_here, room.some), forward_fits);
+        within = AllZip-set (λ a z. (a.low ≤ℤ z) × (z ≤ℤ a.cap)) arcs y k no_arc _ is.within (omega (arith, ints, low_here, residual_capacity.some), forward_fits);
         balance = λ u. let n = net-raise arcs y k amount u inside long in let m = rw (head_is, tail_is) at n in omega (arith, ints, is.balance u, m);
         heads = λ i less other. elim (cases_eq i k) [
           | inl same ↦ absurd (other j (omega arith) (sym (ap (λ m. (arc_at arcs m).head) same ∙ head_is)))
@@ -126,7 +126,7 @@ module _ (arcs : List ArcView) (x : List ℤ) (cycle : List ResidualArc) (saving
               let e = get_or-set_same y k (amount_at y k +ℤ amount) (pos 0) long in
               let h = is.tails i less (λ m before. other m (omega (arith, before))) in
               let g : amount_at x k ≤ℤ amount_at y k = subst (λ m. amount_at x m ≤ℤ amount_at y m) same h in
-              subst (λ m. amount_at x m ≤ℤ amount_at (set y k (amount_at y k +ℤ amount)) m) (sym same) (omega (arith, ints, e, g, room.some))
+              subst (λ m. amount_at x m ≤ℤ amount_at (set y k (amount_at y k +ℤ amount)) m) (sym same) (omega (arith, ints, e, g, residual_capacity.some))
           | inr ne ↦ let e = get_or-set_other y k i (amount_at y k +ℤ amount) (pos 0) ne in let h = is.tails i less (λ m before. other m (omega (arith, before))) in omega (arith, ints, e, h)
         ];
         costs = saved (cost arcs y) _ (cost arcs x) amount (gain_after arcs cycle j) (gain_at r.side (arc_at arcs k)) is.costs (rw forward (let c = cost-set arcs y k amount inside long in omega (arith, ints, c, mul_neg_left (arc_at arcs k).cost amount)));
@@ -139,15 +139,15 @@ module _ (arcs : List ArcView) (x : List ℤ) (cycle : List ResidualArc) (saving
       back_head : (arc_at arcs k).head ≡ from
       back_head = subst (λ side. end_of side (arc_at arcs k) ≡ from) backward leads.begins
 
-      back_room : amount ≤ℤ (amount_at x k -ℤ (arc_at arcs k).low)
-      back_room = subst (λ side. amount ≤ℤ room_at side (arc_at arcs k) (amount_at x k)) backward (room.each j short)
+      back_residual_capacity : amount ≤ℤ (amount_at x k -ℤ (arc_at arcs k).low)
+      back_residual_capacity = subst (λ side. amount ≤ℤ residual_capacity_at side (arc_at arcs k) (amount_at x k)) backward (residual_capacity.each j short)
 
       backward_fits : (arc_at arcs k).low ≤ℤ (amount_at y k -ℤ amount)
-      backward_fits = omega (arith, ints, is.tails k inside (fresh (arc_at arcs k).tail back_tail), back_room)
+      backward_fits = omega (arith, ints, is.tails k inside (fresh (arc_at arcs k).tail back_tail), back_residual_capacity)
 
       cancel_backward : IsCancelling arcs x (set y k (amount_at y k -ℤ amount)) cycle (j + 1) amount
       cancel_backward = rw (add-one j) (record {
-        within = AllZip-set (λ a z. (a.low ≤ℤ z) × (z ≤ℤ a.cap)) arcs y k no_arc _ is.within (backward_fits, omega (arith, ints, cap_here, room.some));
+        within = AllZip-set (λ a z. (a.low ≤ℤ z) × (z ≤ℤ a.cap)) arcs y k no_arc _ is.within (backward_fits, omega (arith, ints, cap_here, residual_capacity.some));
         balance = λ u.
             let n = net-raise arcs y k (neg_ℤ amount) u inside long in
             let m = rw (back_head, back_tail) at n in
@@ -157,7 +157,7 @@ module _ (arcs : List ArcView) (x : List ℤ) (cycle : List ResidualArc) (saving
               let e = get_or-set_same y k (amount_at y k -ℤ amount) (pos 0) long in
               let h = is.heads i less (λ m before. other m (omega (arith, before))) in
               let g : amount_at y k ≤ℤ amount_at x k = subst (λ m. amount_at y m ≤ℤ amount_at x m) same h in
-              subst (λ m. amount_at (set y k (amount_at y k -ℤ amount)) m ≤ℤ amount_at x m) (sym same) (omega (arith, ints, e, g, room.some))
+              subst (λ m. amount_at (set y k (amount_at y k -ℤ amount)) m ≤ℤ amount_at x m) (sym same) (omega (arith, ints, e, g, residual_capacity.some))
           | inr ne ↦ let e = get_or-set_other y k i (amount_at y k -ℤ amount) (pos 0) ne in let h = is.heads i less (λ m before. other m (omega (arith, before))) in omega (arith, ints, e, h)
         ];
         tails = λ i less other. elim (cases_eq i k) [

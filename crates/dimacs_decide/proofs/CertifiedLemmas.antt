@@ -16,19 +16,19 @@ use Rattle.dimacs_decide.specs.MinDecision.{DecidesMin}
 
 -- ---- maximum
 pub max_certified : (i : MaxValue) (s : SolutionValue) (x : List ℤ) (decision : MaxDecision) → IsMaxClaim i s x → DecidesMax i x decision → CertifiesMax i s decision
-max_certified i s x (of_max.Optimal cut) claim told = (x, record { claim = claim; nodes_are = told.2; tight = told.1 }, told.0)
-max_certified i s x (of_max.Better y) claim told = (x, record { claim = claim; not_maximum = told.0; feasible = told.1; greater = rw claim.value_is at told.2 })
+max_certified i s x (of_max.Optimal cut) claim outcome = (x, record { claim = claim; nodes_are = outcome.2; tight = outcome.1 }, outcome.0)
+max_certified i s x (of_max.Better y) claim outcome = (x, record { claim = claim; not_maximum = outcome.0; feasible = outcome.1; greater = rw claim.value_is at outcome.2 })
 
 -- each answer is about the claimed flow
 pub max_claimed : (i : MaxValue) (s : SolutionValue) (decision : MaxDecision) → CertifiesMax i s decision → (x : List ℤ) × IsMaxClaim i s x
-max_claimed i s (of_max.Optimal cut) told = let (x, passes, best) = told in (x, passes.claim)
-max_claimed i s (of_max.Better y) told = let (x, improved) = told in (x, improved.claim)
+max_claimed i s (of_max.Optimal cut) outcome = let (x, passes, best) = outcome in (x, passes.claim)
+max_claimed i s (of_max.Better y) outcome = let (x, improved) = outcome in (x, improved.claim)
 
 -- ---- least
 pub min_certified : (i : MinValue) (s : SolutionValue) (x : List ℤ) (decision : MinDecision) → IsMinClaim i s x → DecidesMin i x decision → CertifiesMin i s decision
-min_certified i s x (of_min.Optimal potentials) claim told = (x, record { claim = claim; nodes_are = told.2; slack = told.1 }, told.0)
-min_certified i s x (of_min.Better y) claim told = (x, record { claim = claim; not_least = told.0; feasible = told.1; less = rw claim.cost_is at told.2 })
+min_certified i s x (of_min.Optimal potentials) claim outcome = (x, record { claim = claim; nodes_are = outcome.2; slack = outcome.1 }, outcome.0)
+min_certified i s x (of_min.Better y) claim outcome = (x, record { claim = claim; not_least = outcome.0; feasible = outcome.1; less = rw claim.cost_is at outcome.2 })
 
 pub min_claimed : (i : MinValue) (s : SolutionValue) (decision : MinDecision) → CertifiesMin i s decision → (x : List ℤ) × IsMinClaim i s x
-min_claimed i s (of_min.Optimal potentials) told = let (x, passes, best) = told in (x, passes.claim)
-min_claimed i s (of_min.Better y) told = let (x, improved) = told in (x, improved.claim)
+min_claimed i s (of_min.Optimal potentials) outcome = let (x, passes, best) = outcome in (x, passes.claim)
+min_claimed i s (of_min.Better y) outcome = let (x, improved) = outcome in (x, improved.claim)

@@ -53,8 +53,8 @@ sources_within nodes claim same are = All-weaker (IsBlock claim.nodes) (λ (b : 
 
 -- ---- the decision about a block that was copied by node
 pub decided_here : (g : NetworkValue) (b d : BlockValue) (source : ℕ) (claim : ℕ → Option ℤ) (result : Result BlockValue JudgeError) → b ≡ d → source ≡ b.source → ((v : ℕ) → claim v ≡ label b v) → DecidesBlock g source claim result → DecidesBlock g d.source (label d) result
-decided_here g b d source claim result same from copied told =
-    let here : DecidesBlock g b.source (label b) result = subst (λ c. DecidesBlock g b.source c result) (fun_ext copied) (subst (λ s. DecidesBlock g s claim result) from told) in
+decided_here g b d source claim result same from copied outcome =
+    let here : DecidesBlock g b.source (label b) result = subst (λ c. DecidesBlock g b.source c result) (fun_ext copied) (subst (λ s. DecidesBlock g s claim result) from outcome) in
     subst (λ (e : BlockValue). DecidesBlock g e.source (label e) result) same here
 
 -- ---- what the first test that fails shows
@@ -76,16 +76,16 @@ module _ (g : NetworkValue) (joined : All (JoinsNodes g.nodes) g.arcs) where
 
   refuted : (blocks : List BlockValue) (k : ℕ) (error : JudgeError) → k < length blocks → All (λ (b : BlockValue). IsNode g.nodes b.source) blocks → AreAllDistances g (take k blocks)
       → DecidesBlock g (block_at blocks k).source (label (block_at blocks k)) (Err error) → CertifiesPaths g blocks (Err error)
-  refuted blocks k (Refused place reason) inside nodes hold told =
-      let first = first_in blocks k place reason inside nodes hold told.0.0 in
-      ((first, λ other why also. one_first (distances_rows g blocks) other place why reason (all_one_way blocks) also first), λ are. told.1 (All-get_or (λ (b : BlockValue). AreDistancesFrom g b.source (label b)) blocks k no_block inside are))
-  refuted blocks k Memory inside nodes hold told = tt
+  refuted blocks k (Refused place reason) inside nodes hold outcome =
+      let first = first_in blocks k place reason inside nodes hold outcome.0.0 in
+      ((first, λ other why also. one_first (distances_rows g blocks) other place why reason (all_one_way blocks) also first), λ are. outcome.1 (All-get_or (λ (b : BlockValue). AreDistancesFrom g b.source (label b)) blocks k no_block inside are))
+  refuted blocks k Memory inside nodes hold outcome = tt
 
   --   the same if it is returned as the function's own error
   pub refused_at : (blocks : List BlockValue) (k : ℕ) (error : JudgeError) → k < length blocks → All (λ (b : BlockValue). IsNode g.nodes b.source) blocks → AreAllDistances g (take k blocks)
       → DecidesBlock g (block_at blocks k).source (label (block_at blocks k)) (Err error) → (result : Result LabelsValue JudgeError) → IsErrAnd result (λ e. e ≡ error) → CertifiesPaths g blocks result
-  refused_at blocks k error inside nodes hold told (Ok labels) is = absurd is
-  refused_at blocks k error inside nodes hold told (Err e) is = subst (λ (e : JudgeError). CertifiesPaths g blocks (Err e)) (sym is) (refuted blocks k error inside nodes hold told)
+  refused_at blocks k error inside nodes hold outcome (Ok labels) is = absurd is
+  refused_at blocks k error inside nodes hold outcome (Err e) is = subst (λ (e : JudgeError). CertifiesPaths g blocks (Err e)) (sym is) (refuted blocks k error inside nodes hold outcome)
 
 -- ---- blocks for the first claims
 module _ (g : NetworkValue) (blocks made : List BlockValue) (k : ℕ) (inside : k < length blocks) (zip : AllZip (IsMadeOf g) (take k blocks) made) where

@@ -43,7 +43,7 @@ walk_one g walk s a w has = walk_append g walk (a ∷ []) s a.tail a.head w (has
 
 -- ---- distances pass the tests
 -- twice round a walk from a node to itself weighs no less than once
-source_zero : (g : List ArcView) (s : ℕ) (told : Option ℤ) → IsDistance g s s told None → told ≡ Some (pos 0)
+source_zero : (g : List ArcView) (s : ℕ) (outcome : Option ℤ) → IsDistance g s s outcome None → outcome ≡ Some (pos 0)
 source_zero g s None is = absurd (is [] refl)
 source_zero g s (Some d) is =
     let none : d ≤ℤ pos 0 = is.least [] refl in
@@ -160,8 +160,8 @@ pub zero_from_clear : (s : ℕ) (claim : ℕ → Option ℤ) → Clear (source_r
 zero_from_clear s claim clear = same_zero s claim (claim s) refl clear
 
 -- ---- if no test fails
-carried : (g : List ArcView) (s s' v : ℕ) (told told' radius : Option ℤ) → s ≡ s' → told ≡ told' → radius ≡ None → IsDistance g s v told radius → IsDistance g s' v told' None
-carried g s s' v told told' radius source same none is = rw (← source, ← same, ← none) is
+carried : (g : List ArcView) (s s' v : ℕ) (outcome outcome' radius : Option ℤ) → s ≡ s' → outcome ≡ outcome' → radius ≡ None → IsDistance g s v outcome radius → IsDistance g s' v outcome' None
+carried g s s' v outcome outcome' radius source same none is = rw (← source, ← same, ← none) is
 
 module _ (g : NetworkValue) (s : ℕ) (claim : ℕ → Option ℤ) (b : BlockValue) (reached : ℕ → Bool) (joined : All (JoinsNodes g.nodes) g.arcs) (arcs : Clear (claim_row g.arcs claim)) (nodes : Clear (reach_row g s claim)) (source : b.source ≡ s)
     (whole : IsWholeTightTree g.nodes g.arcs claim b reached) where
@@ -174,7 +174,7 @@ module _ (g : NetworkValue) (s : ℕ) (claim : ℕ → Option ℤ) (b : BlockVal
   says : (v : ℕ) → IsNode g.nodes v → label b v ≡ claim v
   says v node = go (label b v) (claim v) refl refl
     where
-      go : (mine told : Option ℤ) → label b v ≡ mine → claim v ≡ told → mine ≡ told
+      go : (mine outcome : Option ℤ) → label b v ≡ mine → claim v ≡ outcome → mine ≡ outcome
       go None None e f = refl
       go (Some d) None e f = let h : Some d ≡ None = sym (whole.tree.claimed v d e) ∙ f in absurd (cc)
       go (Some d) (Some c) e f = sym (whole.tree.claimed v d e) ∙ f
@@ -221,10 +221,10 @@ refused g s claim place reason refuted (Ok b) is = absurd is
 refused g s claim place reason refuted (Err error) is = subst (λ (e : JudgeError). DecidesBlock g s claim (Err e)) (sym is) refuted
 
 decided_alone : (g : NetworkValue) (s : ℕ) (claim : ℕ → Option ℤ) (error : JudgeError) → DecidesBlock g s claim (Err error) → DecidesDistances g s claim (Err error)
-decided_alone g s claim (Refused place reason) told = told
-decided_alone g s claim Memory told = tt
+decided_alone g s claim (Refused place reason) outcome = outcome
+decided_alone g s claim Memory outcome = tt
 
 -- the same if it is returned as the function's own error
 pub refused_alone : (g : NetworkValue) (s : ℕ) (claim : ℕ → Option ℤ) (error : JudgeError) → DecidesBlock g s claim (Err error) → (result : Result LabelsValue JudgeError) → IsErrAnd result (λ e. e ≡ error) → DecidesDistances g s claim result
-refused_alone g s claim error told (Ok labels) is = absurd is
-refused_alone g s claim error told (Err e) is = subst (λ (e : JudgeError). DecidesDistances g s claim (Err e)) (sym is) (decided_alone g s claim error told)
+refused_alone g s claim error outcome (Ok labels) is = absurd is
+refused_alone g s claim error outcome (Err e) is = subst (λ (e : JudgeError). DecidesDistances g s claim (Err e)) (sym is) (decided_alone g s claim error outcome)

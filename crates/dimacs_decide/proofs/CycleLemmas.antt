@@ -17,7 +17,7 @@ use Rattle.dimacs_instance.specs.MinFlows.{HasBounds}
 -- ---- a cycle of raised nodes, in the order of the cycle
 -- the residual arc along which a node was raised
 abbrev pub residual_by : Label → ResidualArc
-residual_by l = record { arc = l.via - 1; side = l.side }
+residual_by l = record { arc = l.parent_arc - 1; side = l.side }
 
 module _ (arcs : List ArcView) (x : List ℤ) (labels : ℕ → Label) (path : List ℕ) (first last : ℕ) (now : AreHeights arcs x labels) (is : IsCycle arcs labels path first last) where
   --   the nodes, counted from the last one
@@ -40,20 +40,20 @@ module _ (arcs : List ArcView) (x : List ℤ) (labels : ℕ → Label) (path : L
     before : j < last
     before = omega (arith, short)
 
-    pub some_via : 0 < l.via
-    some_via = is.raised j behind before
+    pub some_parent_arc : 0 < l.parent_arc
+    some_parent_arc = is.raised j behind before
 
     raised : IsRaised arcs x (height_of labels) now.time (slice_index path j) l
-    raised = now.raised (slice_index path j) some_via
+    raised = now.raised (slice_index path j) some_parent_arc
 
-    inside : l.via - 1 < length arcs
-    inside = omega (arith, raised.within, some_via)
+    inside : l.parent_arc - 1 < length arcs
+    inside = omega (arith, raised.within, some_parent_arc)
 
     ends : ending_of arcs (raised_by k) ≡ slice_index path j
     ends = raised.to
 
     begins : beginning_of arcs (raised_by k) ≡ node k
-    begins = let next : j + 1 ≡ last - k = omega (arith, short) in sym (below_some arcs l some_via) ∙ is.steps j behind before ∙ ap (slice_index path) next
+    begins = let next : j + 1 ≡ last - k = omega (arith, short) in sym (below_some arcs l some_parent_arc) ∙ is.steps j behind before ∙ ap (slice_index path) next
 
     higher : slice_index path j ≡ node (suc k)
     higher = let e : j ≡ last - suc k = omega arith in ap (slice_index path) e
@@ -65,9 +65,9 @@ module _ (arcs : List ArcView) (x : List ℤ) (labels : ℕ → Label) (path : L
     climbs_or_later = rw (begins, higher) at raised.strict
 
   --   a list of all of them
-  module _ (cycle : List ResidualArc) (long : length cycle ≡ last - first) (told : (k : ℕ) → k < last - first → residual_at cycle k ≡ raised_by k) where
+  module _ (cycle : List ResidualArc) (long : length cycle ≡ last - first) (outcome : (k : ℕ) → k < last - first → residual_at cycle k ≡ raised_by k) where
     ends_at : (k : ℕ) → k < last - first → ending_of arcs (residual_at cycle k) ≡ slice_index path (last - k - 1)
-    ends_at k short = ap (ending_of arcs) (told k short) ∙ ends k short
+    ends_at k short = ap (ending_of arcs) (outcome k short) ∙ ends k short
 
     stands : (k : ℕ) → k ≤ last - first → node_after arcs cycle k ≡ node k
     stands zero h =
@@ -78,10 +78,10 @@ module _ (arcs : List ArcView) (x : List ℤ) (labels : ℕ → Label) (path : L
     stands (suc k) h = ends_at k (omega (arith, h)) ∙ higher k (omega (arith, h))
 
     leads : (k : ℕ) → k < last - first → LeadsFrom arcs x (node_after arcs cycle k) (residual_at cycle k)
-    leads k short = subst (λ r. LeadsFrom arcs x (node_after arcs cycle k) r) (sym (told k short)) (record {
+    leads k short = subst (λ r. LeadsFrom arcs x (node_after arcs cycle k) r) (sym (outcome k short)) (record {
       within = inside k short;
       begins = begins k short ∙ sym (stands k (omega (arith, short)));
-      room = (raised k short).room;
+      residual_capacity = (raised k short).residual_capacity;
     })
 
     apart : (i k : ℕ) → i < k → k < last - first → ending_of arcs (residual_at cycle i) ≢ ending_of arcs (residual_at cycle k)
@@ -98,7 +98,7 @@ module _ (arcs : List ArcView) (x : List ℤ) (labels : ℕ → Label) (path : L
     rises zero h = (omega (arith, ints), inl refl)
     rises (suc k) h =
         let short : k < last - first = omega (arith, h) in
-        let gain : gain_of arcs (residual_at cycle k) ≡ gain_of arcs (raised_by k) = ap (gain_of arcs) (told k short) in
+        let gain : gain_of arcs (residual_at cycle k) ≡ gain_of arcs (raised_by k) = ap (gain_of arcs) (outcome k short) in
         let low = climbs k short in
         let so_far = rises k (omega (arith, h)) in (
           omega (arith, ints, so_far.0, low, gain),

@@ -5,12 +5,12 @@ use Rattle.dimacs_instance.specs.MinFlows.{MinValue, positive_part}
 use Rattle.dimacs_judge.specs.Flows.{sum_nodes}
 use Rattle.dimacs_judge.specs.inside.Ranges.{IsOfSize}
 use Rattle.dimacs_judge.proofs.Sums.{sum_nodes-same}
-use Rattle.dimacs_decide.specs.FeasibilityDecision.{surplus_at, total_excess}
-use Rattle.dimacs_decide.specs.inside.Surpluses.{AreSurpluses}
+use Rattle.dimacs_decide.specs.FeasibilityDecision.{imbalance_at, total_excess}
+use Rattle.dimacs_decide.specs.inside.Imbalances.{AreImbalances}
 
 -- the sum of the excesses of the nodes below this one, which is bounded
-pub record IsExcessBelow (surplus : ℕ → ℤ) (id : ℕ) (sum : ℤ) : Type 0 where
-  pub is : sum ≡ sum_nodes (λ v. pos (positive_part (surplus v))) (id - 1)
+pub record IsExcessBelow (imbalance : ℕ → ℤ) (id : ℕ) (sum : ℤ) : Type 0 where
+  pub is : sum ≡ sum_nodes (λ v. pos (positive_part (imbalance v))) (id - 1)
   pub least : pos 0 ≤ℤ sum
   pub most : sum ≤ℤ pos (id * 2 ^ 99)
 
@@ -18,14 +18,14 @@ part_size : (z : ℤ) → IsOfSize (2 ^ 99) z → positive_part z ≤ 2 ^ 99
 part_size (pos n) h = omega (arith, ints, h.1)
 part_size (negsuc n) h = omega arith
 
-pub excess_none : (surplus : ℕ → ℤ) → IsExcessBelow surplus 1 (pos 0)
-excess_none surplus = record { is = refl; least = omega (arith, ints); most = omega (arith, ints) }
+pub excess_none : (imbalance : ℕ → ℤ) → IsExcessBelow imbalance 1 (pos 0)
+excess_none imbalance = record { is = refl; least = omega (arith, ints); most = omega (arith, ints) }
 
-pub excess_more : (surplus : ℕ → ℤ) (id : ℕ) (sum : ℤ) → 1 ≤ id → IsOfSize (2 ^ 99) (surplus id) → IsExcessBelow surplus id sum → IsExcessBelow surplus (id + 1) (sum +ℤ pos (positive_part (surplus id)))
-excess_more surplus zero sum some size is = absurd (omega (arith, some))
-excess_more surplus (suc id) sum some size is =
-    let small = part_size (surplus (suc id)) size in
-    let f : ℕ → ℤ = λ v. pos (positive_part (surplus v)) in
+pub excess_more : (imbalance : ℕ → ℤ) (id : ℕ) (sum : ℤ) → 1 ≤ id → IsOfSize (2 ^ 99) (imbalance id) → IsExcessBelow imbalance id sum → IsExcessBelow imbalance (id + 1) (sum +ℤ pos (positive_part (imbalance id)))
+excess_more imbalance zero sum some size is = absurd (omega (arith, some))
+excess_more imbalance (suc id) sum some size is =
+    let small = part_size (imbalance (suc id)) size in
+    let f : ℕ → ℤ = λ v. pos (positive_part (imbalance v)) in
     let e : suc id - 1 ≡ id = omega arith in
     let o : suc id + 1 - 1 ≡ suc id = omega arith in
     let before : sum_nodes f (suc id - 1) ≡ sum_nodes f id = ap (sum_nodes f) e in
@@ -36,8 +36,8 @@ excess_more surplus (suc id) sum some size is =
       most = omega (arith, ints, is.most, small);
     }
 
-pub excess_is : (i : MinValue) (x : List ℤ) (surplus : ℕ → ℤ) → AreSurpluses i x surplus → sum_nodes (λ v. pos (positive_part (surplus v))) i.nodes ≡ total_excess i x
-excess_is i x surplus are = sum_nodes-same (λ v. pos (positive_part (surplus v))) (λ v. pos (positive_part (surplus_at i x v))) i.nodes (λ v h. ap (λ (z : ℤ). pos (positive_part z)) (are v h))
+pub excess_is : (i : MinValue) (x : List ℤ) (imbalance : ℕ → ℤ) → AreImbalances i x imbalance → sum_nodes (λ v. pos (positive_part (imbalance v))) i.nodes ≡ total_excess i x
+excess_is i x imbalance are = sum_nodes-same (λ v. pos (positive_part (imbalance v))) (λ v. pos (positive_part (imbalance_at i x v))) i.nodes (λ v h. ap (λ (z : ℤ). pos (positive_part z)) (are v h))
 
 -- ---- the sum of all
 sum_some : (f : ℕ → ℕ) (n : ℕ) → pos 0 ≤ℤ sum_nodes (λ v. pos (f v)) n
@@ -45,4 +45,4 @@ sum_some f zero = omega (arith, ints)
 sum_some f (suc n) = omega (arith, ints, sum_some f n)
 
 pub excess_some : (i : MinValue) (x : List ℤ) → pos 0 ≤ℤ total_excess i x
-excess_some i x = sum_some (λ v. positive_part (surplus_at i x v)) i.nodes
+excess_some i x = sum_some (λ v. positive_part (imbalance_at i x v)) i.nodes

@@ -18,11 +18,11 @@ use Rattle.dimacs_judge.specs.ViolatedSets.{Violated}
 use Rattle.dimacs_judge.proofs.Duality.{across_is, violated_has_no_flow}
 use Rattle.dimacs_judge.proofs.Sums.{sum_nodes-zero}
 use Rattle.dimacs_decide.specs.Bounds.{KeepsBounds}
-use Rattle.dimacs_decide.specs.FeasibilityDecision.{surplus_at, total_excess}
+use Rattle.dimacs_decide.specs.FeasibilityDecision.{imbalance_at, total_excess}
 use Rattle.dimacs_decide.specs.inside.Sending.{IsSent, IsStuck}
-use Rattle.dimacs_decide.specs.declared.surplus.Standing.{Standing}
-use Rattle.dimacs_decide.specs.declared.surplus.Standing.TheVariants.{Even, Excess, Short}
-use Rattle.dimacs_decide.specs.inside.Surpluses.{AreSurpluses, Stands}
+use Rattle.dimacs_decide.specs.declared.imbalance.Standing.{Standing}
+use Rattle.dimacs_decide.specs.declared.imbalance.Standing.TheVariants.{Even, Excess, Short}
+use Rattle.dimacs_decide.specs.inside.Imbalances.{AreImbalances, Stands}
 use Rattle.dimacs_decide.proofs.SumLemmas.{across_of, sum_nodes-less, sum_nodes-split}
 
 -- ---- positive parts
@@ -35,8 +35,8 @@ part_none (pos n) h = omega (arith, ints)
 part_none (negsuc n) h = refl
 
 -- ---- no excess
-pub even_tells : (i : MinValue) (x : List ℤ) (surplus : ℕ → ℤ) → KeepsBounds i.arcs x → AreSurpluses i x surplus → ((v : ℕ) → 1 ≤ v → v < i.nodes + 1 → surplus v ≡ pos 0) → FeasibleMin i x
-even_tells i x surplus within are none = record {
+pub even_tells : (i : MinValue) (x : List ℤ) (imbalance : ℕ → ℤ) → KeepsBounds i.arcs x → AreImbalances i x imbalance → ((v : ℕ) → 1 ≤ v → v < i.nodes + 1 → imbalance v ≡ pos 0) → FeasibleMin i x
+even_tells i x imbalance within are none = record {
   within = within;
   balanced = λ v node. omega (arith, ints, are v node, none v node.0 (omega (arith, node.1)));
 }
@@ -49,14 +49,14 @@ when_some : (b : Bool) (z : ℤ) → (b ≡ true → pos 0 ≤ℤ z) → pos 0 �
 when_some true z h = h refl
 when_some false z h = omega (arith, ints)
 
-pub stuck_tells : (i : MinValue) (x : List ℤ) (surplus : ℕ → ℤ) (reached : ℕ → Type 0) (set : CutValue) → IsMin i → AreSurpluses i x surplus → (r : ℕ) → IsNode i.nodes r → reached r → pos 0 <ℤ surplus r
-    → IsStuck i.nodes i.arcs x surplus reached set → ShowsNoFlow i set
-stuck_tells i x surplus reached set law are r node begun some is =
+pub stuck_tells : (i : MinValue) (x : List ℤ) (imbalance : ℕ → ℤ) (reached : ℕ → Type 0) (set : CutValue) → IsMin i → AreImbalances i x imbalance → (r : ℕ) → IsNode i.nodes r → reached r → pos 0 <ℤ imbalance r
+    → IsStuck i.nodes i.arcs x imbalance reached set → ShowsNoFlow i set
+stuck_tells i x imbalance reached set law are r node begun some is =
     let c = members set in
     let inside : c r ≡ true = is.has r node begun in
-    let each : (v : ℕ) → IsNode i.nodes v → pos 0 ≤ℤ when (c v) (surplus_at i x v) = λ v h. when_some (c v) (surplus_at i x v) (λ e. omega (arith, ints, are v h, is.shut.none_lacks v h e)) in
-    let here : pos 0 <ℤ when (c r) (surplus_at i x r) = rw inside (omega (arith, ints, some, are r node)) in
-    let more = sum_nodes-less (λ v. pos 0) (λ v. when (c v) (surplus_at i x v)) i.nodes r each node here in
+    let each : (v : ℕ) → IsNode i.nodes v → pos 0 ≤ℤ when (c v) (imbalance_at i x v) = λ v h. when_some (c v) (imbalance_at i x v) (λ e. omega (arith, ints, are v h, is.shut.none_lacks v h e)) in
+    let here : pos 0 <ℤ when (c r) (imbalance_at i x r) = rw inside (omega (arith, ints, some, are r node)) in
+    let more = sum_nodes-less (λ v. pos 0) (λ v. when (c v) (imbalance_at i x v)) i.nodes r each node here in
     let split = sum_nodes-split c (supply_of i) (net i.arcs x) i.nodes in
     let crossing = across_is c i.nodes i.arcs x law.joined in
     let most = across_of (λ a. a.cap) (λ a. a.low) c i.arcs x is.shut.shut in
@@ -80,41 +80,41 @@ none_cross nodes set (a ∷ arcs) (z ∷ x) joined w all =
     let ends = All-head (JoinsNodes nodes) a arcs joined in
     (no_crossing (set a.tail) (set a.head) z a.low a.cap (all a.tail ends.0) (all a.head ends.1), none_cross nodes set arcs x (All-tail (JoinsNodes nodes) a arcs joined) w.1 all)
 
-pub short_tells : (i : MinValue) (x : List ℤ) (surplus : ℕ → ℤ) (set : CutValue) → IsMin i → KeepsBounds i.arcs x → AreSurpluses i x surplus → set.nodes ≡ i.nodes → ((v : ℕ) → IsNode i.nodes v → members set v ≡ true)
-    → ((v : ℕ) → 1 ≤ v → v < i.nodes + 1 → surplus v ≤ℤ pos 0) → (r : ℕ) → IsNode i.nodes r → surplus r <ℤ pos 0 → ShowsNoFlow i set
-short_tells i x surplus set law within are of all low r node less =
+pub short_tells : (i : MinValue) (x : List ℤ) (imbalance : ℕ → ℤ) (set : CutValue) → IsMin i → KeepsBounds i.arcs x → AreImbalances i x imbalance → set.nodes ≡ i.nodes → ((v : ℕ) → IsNode i.nodes v → members set v ≡ true)
+    → ((v : ℕ) → 1 ≤ v → v < i.nodes + 1 → imbalance v ≤ℤ pos 0) → (r : ℕ) → IsNode i.nodes r → imbalance r <ℤ pos 0 → ShowsNoFlow i set
+short_tells i x imbalance set law within are of all low r node less =
     let c = members set in
-    let each : (v : ℕ) → IsNode i.nodes v → when (c v) (surplus_at i x v) ≤ℤ pos 0 = λ v h. let e = when_all (c v) (surplus_at i x v) (all v h) in omega (arith, ints, e, are v h, low v h.0 (omega (arith, h.1))) in
-    let here : when (c r) (surplus_at i x r) <ℤ pos 0 = let e = when_all (c r) (surplus_at i x r) (all r node) in omega (arith, ints, e, are r node, less) in
-    let fewer = sum_nodes-less (λ v. when (c v) (surplus_at i x v)) (λ v. pos 0) i.nodes r each node here in
+    let each : (v : ℕ) → IsNode i.nodes v → when (c v) (imbalance_at i x v) ≤ℤ pos 0 = λ v h. let e = when_all (c v) (imbalance_at i x v) (all v h) in omega (arith, ints, e, are v h, low v h.0 (omega (arith, h.1))) in
+    let here : when (c r) (imbalance_at i x r) <ℤ pos 0 = let e = when_all (c r) (imbalance_at i x r) (all r node) in omega (arith, ints, e, are r node, less) in
+    let fewer = sum_nodes-less (λ v. when (c v) (imbalance_at i x v)) (λ v. pos 0) i.nodes r each node here in
     let split = sum_nodes-split c (supply_of i) (net i.arcs x) i.nodes in
     let crossing = across_is c i.nodes i.arcs x law.joined in
     let least = across_of (λ a. a.low) (λ a. a.cap) c i.arcs x (none_cross i.nodes c i.arcs x law.joined within all) in
     shows i set law of (inr (omega (arith, ints, fewer, sum_nodes-zero (λ v. pos 0) i.nodes (λ v h. refl), split, crossing, least)))
 
 -- ---- some was sent
-module _ (i : MinValue) (x y : List ℤ) (surplus : ℕ → ℤ) (are : AreSurpluses i x surplus) (sent : IsSent i.nodes i.arcs x y surplus) where
+module _ (i : MinValue) (x y : List ℤ) (imbalance : ℕ → ℤ) (are : AreImbalances i x imbalance) (sent : IsSent i.nodes i.arcs x y imbalance) where
   abbrev left : List ℤ → ℕ → ℤ
-  left z v = pos (positive_part (surplus_at i z v))
+  left z v = pos (positive_part (imbalance_at i z v))
 
   apart : sent.from ≢ sent.to
-  apart e = let f = ap surplus e in omega (arith, ints, f, sent.some, sent.enough, sent.lacked)
+  apart e = let f = ap imbalance e in omega (arith, ints, f, sent.some, sent.enough, sent.lacked)
 
-  at_from : surplus_at i y sent.from ≡ surplus_at i x sent.from -ℤ sent.amount
+  at_from : imbalance_at i y sent.from ≡ imbalance_at i x sent.from -ℤ sent.amount
   at_from =
       let here : (sent.from == sent.from) ≡ true = eq-eqb sent.from sent.from refl in
       let there : (sent.to == sent.from) ≡ false = ne_eqb sent.to sent.from (λ e. apart (sym e)) in
       let shift : net i.arcs y sent.from ≡ net i.arcs x sent.from +ℤ sent.amount = sent.shifts sent.from ∙ rw (here, there) (omega (arith, ints)) in
       omega (arith, ints, shift)
 
-  at_to : surplus_at i y sent.to ≡ surplus_at i x sent.to +ℤ sent.amount
+  at_to : imbalance_at i y sent.to ≡ imbalance_at i x sent.to +ℤ sent.amount
   at_to =
       let here : (sent.to == sent.to) ≡ true = eq-eqb sent.to sent.to refl in
       let there : (sent.from == sent.to) ≡ false = ne_eqb sent.from sent.to apart in
       let shift : net i.arcs y sent.to ≡ net i.arcs x sent.to -ℤ sent.amount = sent.shifts sent.to ∙ rw (here, there) (omega (arith, ints)) in
       omega (arith, ints, shift)
 
-  elsewhere : (v : ℕ) → v ≢ sent.from → v ≢ sent.to → surplus_at i y v ≡ surplus_at i x v
+  elsewhere : (v : ℕ) → v ≢ sent.from → v ≢ sent.to → imbalance_at i y v ≡ imbalance_at i x v
   elsewhere v not_from not_to =
       let here : (sent.from == v) ≡ false = ne_eqb sent.from v (λ e. not_from (sym e)) in
       let there : (sent.to == v) ≡ false = ne_eqb sent.to v (λ e. not_to (sym e)) in
@@ -124,8 +124,8 @@ module _ (i : MinValue) (x y : List ℤ) (surplus : ℕ → ℤ) (are : AreSurpl
   less_at : left y sent.from <ℤ left x sent.from
   less_at =
       let is = are sent.from sent.from_within in
-      let before = part_of (surplus_at i x sent.from) (omega (arith, ints, is, sent.some, sent.enough)) in
-      let after = part_of (surplus_at i y sent.from) (omega (arith, ints, is, at_from, sent.enough)) in
+      let before = part_of (imbalance_at i x sent.from) (omega (arith, ints, is, sent.some, sent.enough)) in
+      let after = part_of (imbalance_at i y sent.from) (omega (arith, ints, is, at_from, sent.enough)) in
       omega (arith, ints, before, after, at_from, sent.some)
 
   no_more : (v : ℕ) → IsNode i.nodes v → left y v ≤ℤ left x v
@@ -134,7 +134,7 @@ module _ (i : MinValue) (x y : List ℤ) (surplus : ℕ → ℤ) (are : AreSurpl
     | inr not_from ↦ elim (cases_eq v sent.to) [
       | inl same ↦
           let is = are sent.to sent.to_within in
-          let after = part_none (surplus_at i y sent.to) (omega (arith, ints, is, at_to, sent.lacked)) in
+          let after = part_none (imbalance_at i y sent.to) (omega (arith, ints, is, at_to, sent.lacked)) in
           let le : left y sent.to ≤ℤ left x sent.to = omega (arith, ints, after) in
           subst (λ u. left y u ≤ℤ left x u) (sym same) le
       | inr not_to ↦ let e = elsewhere v not_from not_to in rw e (omega (arith, ints))
@@ -149,36 +149,36 @@ module _ (i : MinValue) (x y : List ℤ) (surplus : ℕ → ℤ) (are : AreSurpl
   )
 
 -- ---- the excesses of the nodes below this one
-pub record AreSurplusesBelow (i : MinValue) (x : List ℤ) (id : ℕ) (surplus : ℕ → ℤ) : Type 0 where
-  pub below : (v : ℕ) → 1 ≤ v → v < id → surplus v ≡ surplus_at i x v
-  pub above : (v : ℕ) → id ≤ v → surplus v ≡ pos 0
+pub record AreImbalancesBelow (i : MinValue) (x : List ℤ) (id : ℕ) (imbalance : ℕ → ℤ) : Type 0 where
+  pub below : (v : ℕ) → 1 ≤ v → v < id → imbalance v ≡ imbalance_at i x v
+  pub above : (v : ℕ) → id ≤ v → imbalance v ≡ pos 0
 
-pub surpluses_none : (i : MinValue) (x : List ℤ) (surplus : ℕ → ℤ) → ((v : ℕ) → surplus v ≡ pos 0) → AreSurplusesBelow i x 1 surplus
-surpluses_none i x surplus none = record {
+pub imbalances_none : (i : MinValue) (x : List ℤ) (imbalance : ℕ → ℤ) → ((v : ℕ) → imbalance v ≡ pos 0) → AreImbalancesBelow i x 1 imbalance
+imbalances_none i x imbalance none = record {
   below = λ v some less. absurd (omega (arith, some, less));
   above = λ v more. none v;
 }
 
-pub surpluses_skip : (i : MinValue) (x : List ℤ) (id : ℕ) (surplus : ℕ → ℤ) → AreSurplusesBelow i x id surplus → surplus_at i x id ≡ pos 0 → AreSurplusesBelow i x (id + 1) surplus
-surpluses_skip i x id surplus is none = record {
+pub imbalances_skip : (i : MinValue) (x : List ℤ) (id : ℕ) (imbalance : ℕ → ℤ) → AreImbalancesBelow i x id imbalance → imbalance_at i x id ≡ pos 0 → AreImbalancesBelow i x (id + 1) imbalance
+imbalances_skip i x id imbalance is none = record {
   below = λ v some less. elim (cases_order v id) [
-    | inl same ↦ subst (λ u. surplus u ≡ surplus_at i x u) (sym same) (is.above id (omega arith) ∙ sym none)
+    | inl same ↦ subst (λ u. imbalance u ≡ imbalance_at i x u) (sym same) (is.above id (omega arith) ∙ sym none)
     | inr apart ↦ elim apart [ inl low ↦ is.below v some low | inr high ↦ absurd (omega (arith, high, less)) ]
   ];
   above = λ v more. is.above v (omega (arith, more));
 }
 
-pub surpluses_more : (i : MinValue) (x : List ℤ) (id : ℕ) (surplus after : ℕ → ℤ) → AreSurplusesBelow i x id surplus → after id ≡ surplus_at i x id → ((v : ℕ) → v ≢ id → after v ≡ surplus v) → AreSurplusesBelow i x (id + 1) after
-surpluses_more i x id surplus after is here others = record {
+pub imbalances_more : (i : MinValue) (x : List ℤ) (id : ℕ) (imbalance after : ℕ → ℤ) → AreImbalancesBelow i x id imbalance → after id ≡ imbalance_at i x id → ((v : ℕ) → v ≢ id → after v ≡ imbalance v) → AreImbalancesBelow i x (id + 1) after
+imbalances_more i x id imbalance after is here others = record {
   below = λ v some less. elim (cases_order v id) [
-    | inl same ↦ subst (λ u. after u ≡ surplus_at i x u) (sym same) here
+    | inl same ↦ subst (λ u. after u ≡ imbalance_at i x u) (sym same) here
     | inr apart ↦ elim apart [ inl low ↦ others v (λ e. omega (arith, e, low)) ∙ is.below v some low | inr high ↦ absurd (omega (arith, high, less)) ]
   ];
   above = λ v more. others v (λ e. omega (arith, e, more)) ∙ is.above v (omega (arith, more));
 }
 
-pub surpluses_all : (i : MinValue) (x : List ℤ) (id : ℕ) (surplus : ℕ → ℤ) → i.nodes < id → AreSurplusesBelow i x id surplus → AreSurpluses i x surplus
-surpluses_all i x id surplus over is v node = is.below v node.0 (omega (arith, node.1, over))
+pub imbalances_all : (i : MinValue) (x : List ℤ) (id : ℕ) (imbalance : ℕ → ℤ) → i.nodes < id → AreImbalancesBelow i x id imbalance → AreImbalances i x imbalance
+imbalances_all i x id imbalance over is v node = is.below v node.0 (omega (arith, node.1, over))
 
 -- ---- all nodes in a set
 pub record HasAllBelow (nodes id : ℕ) (set : CutValue) : Type 0 where
@@ -200,12 +200,12 @@ all_more nodes id set is =
     }
 
 -- ---- the excesses of the nodes below this one, summed up
-pub record StandsLow (nodes id : ℕ) (surplus : ℕ → ℤ) (standing : Standing) : Type 0 where
-  pub low : (v : ℕ) → 1 ≤ v → v < id → surplus v ≤ℤ pos 0
-  pub stands : Stands nodes id surplus standing
+pub record StandsLow (nodes id : ℕ) (imbalance : ℕ → ℤ) (standing : Standing) : Type 0 where
+  pub low : (v : ℕ) → 1 ≤ v → v < id → imbalance v ≤ℤ pos 0
+  pub stands : Stands nodes id imbalance standing
 
-pub stands_none : (nodes : ℕ) (surplus : ℕ → ℤ) → StandsLow nodes 1 surplus Even
-stands_none nodes surplus = record {
+pub stands_none : (nodes : ℕ) (imbalance : ℕ → ℤ) → StandsLow nodes 1 imbalance Even
+stands_none nodes imbalance = record {
   low = λ v some less. absurd (omega (arith, some, less));
   stands = λ v some less. absurd (omega (arith, some, less));
 }
@@ -216,18 +216,18 @@ one_more_node P id before here v some less = elim (cases_order v id) [
   | inr apart ↦ elim apart [ inl low ↦ before v some low | inr high ↦ absurd (omega (arith, high, less)) ]
 ]
 
-still_stands : (nodes id : ℕ) (surplus : ℕ → ℤ) (standing : Standing) → Stands nodes id surplus standing → surplus id ≡ pos 0 → Stands nodes (id + 1) surplus standing
-still_stands nodes id surplus Even is none = one_more_node (λ v. surplus v ≡ pos 0) id is none
-still_stands nodes id surplus Short is none = (one_more_node (λ v. surplus v ≤ℤ pos 0) id is.0 (omega (arith, ints, none)), is.1)
-still_stands nodes id surplus Excess is none = is
+still_stands : (nodes id : ℕ) (imbalance : ℕ → ℤ) (standing : Standing) → Stands nodes id imbalance standing → imbalance id ≡ pos 0 → Stands nodes (id + 1) imbalance standing
+still_stands nodes id imbalance Even is none = one_more_node (λ v. imbalance v ≡ pos 0) id is none
+still_stands nodes id imbalance Short is none = (one_more_node (λ v. imbalance v ≤ℤ pos 0) id is.0 (omega (arith, ints, none)), is.1)
+still_stands nodes id imbalance Excess is none = is
 
-pub stands_even : (nodes id : ℕ) (surplus : ℕ → ℤ) (standing : Standing) → StandsLow nodes id surplus standing → surplus id ≡ pos 0 → StandsLow nodes (id + 1) surplus standing
-stands_even nodes id surplus standing is none = record {
-  low = one_more_node (λ v. surplus v ≤ℤ pos 0) id is.low (omega (arith, ints, none));
-  stands = still_stands nodes id surplus standing is.stands none;
+pub stands_even : (nodes id : ℕ) (imbalance : ℕ → ℤ) (standing : Standing) → StandsLow nodes id imbalance standing → imbalance id ≡ pos 0 → StandsLow nodes (id + 1) imbalance standing
+stands_even nodes id imbalance standing is none = record {
+  low = one_more_node (λ v. imbalance v ≤ℤ pos 0) id is.low (omega (arith, ints, none));
+  stands = still_stands nodes id imbalance standing is.stands none;
 }
 
-pub stands_short : (nodes id : ℕ) (surplus : ℕ → ℤ) (standing : Standing) → StandsLow nodes id surplus standing → IsNode nodes id → surplus id <ℤ pos 0 → StandsLow nodes (id + 1) surplus Short
-stands_short nodes id surplus standing is node less =
-    let low : (v : ℕ) → 1 ≤ v → v < id + 1 → surplus v ≤ℤ pos 0 = one_more_node (λ v. surplus v ≤ℤ pos 0) id is.low (omega (arith, ints, less)) in
+pub stands_short : (nodes id : ℕ) (imbalance : ℕ → ℤ) (standing : Standing) → StandsLow nodes id imbalance standing → IsNode nodes id → imbalance id <ℤ pos 0 → StandsLow nodes (id + 1) imbalance Short
+stands_short nodes id imbalance standing is node less =
+    let low : (v : ℕ) → 1 ≤ v → v < id + 1 → imbalance v ≤ℤ pos 0 = one_more_node (λ v. imbalance v ≤ℤ pos 0) id is.low (omega (arith, ints, less)) in
     record { low = low; stands = (low, (id, node, less)) }

@@ -7,8 +7,8 @@ use Rattle.std.proofs.lemmas.Bool.{cases_eq, cases_lt, cases_order}
 use Rattle.std.proofs.lemmas.Bool.Decides.{eqb_tells}
 use Rattle.std.proofs.lemmas.List.Elements.{All-cons, All-nil}
 use Rattle.dimacs_network.specs.declared.network.ArcView.{ArcView}
-use Rattle.dimacs_network.specs.declared.links.Side.TheVariants.{Tail}
-use Rattle.dimacs_network.specs.Links.{IsLast}
+use Rattle.dimacs_network.specs.declared.adjacency_lists.Side.TheVariants.{Tail}
+use Rattle.dimacs_network.specs.AdjacencyLists.{IsLast}
 use Rattle.dimacs_network.specs.Arcs.{arc_at}
 use Rattle.dimacs_records.specs.declared.reasons.Reason.{Reason}
 use Rattle.dimacs_claims.specs.Labels.{BlockValue, IsBlock, distance_in, label, no_label}

@@ -19,7 +19,7 @@ use Rattle.dimacs_judge.specs.Rows.{amount_at}
 use Rattle.dimacs_network.specs.Arcs.{no_arc, arc_at}
 use Rattle.dimacs_judge.proofs.Duality.{slack_is_least}
 use Rattle.dimacs_judge.proofs.Passing.{pair_at, pairs_from}
-use Rattle.dimacs_network.specs.declared.links.Side.TheVariants.{Tail, Head}
+use Rattle.dimacs_network.specs.declared.adjacency_lists.Side.TheVariants.{Tail, Head}
 use Rattle.dimacs_decide.specs.Bounds.{KeepsBounds}
 use Rattle.dimacs_decide.specs.declared.heights.Label.{Label}
 use Rattle.dimacs_decide.specs.inside.Heights.{AreSettled, height_of}

@@ -13,7 +13,7 @@ use Rattle.dimacs_judge.specs.Optimum.{Maximum}
 use Rattle.dimacs_judge.proofs.Duality.{tight_is_maximum}
 use Rattle.dimacs_decide.specs.Bounds.{KeepsBounds}
 use Rattle.dimacs_decide.specs.inside.Sending.{IsSent, IsShut, IsShutAt}
-use Rattle.dimacs_decide.specs.inside.Surpluses.{AreEnds}
+use Rattle.dimacs_decide.specs.inside.Imbalances.{AreEnds}
 
 -- ---- the lower bounds are 0
 abbrev pub KeepsCapacities : List ArcView → List ℤ → Type 0
@@ -46,34 +46,34 @@ tight_from_shut set (a ∷ arcs) (z ∷ x) caps w =
     let h = All-head HasCapacityAlone a arcs caps in
     ((w.0.0, λ e. w.0.1 e ∙ h.0), tight_from_shut set arcs x (All-tail HasCapacityAlone a arcs caps) w.1)
 
-module _ (i : MaxValue) (x : List ℤ) (surplus : ℕ → ℤ) (law : IsMax i) (feasible : FeasibleMax i x) (ends : AreEnds i.source i.sink surplus) where
+module _ (i : MaxValue) (x : List ℤ) (imbalance : ℕ → ℤ) (law : IsMax i) (feasible : FeasibleMax i x) (ends : AreEnds i.source i.sink imbalance) where
   -- ---- the set
-  pub stuck_tells : (set : ℕ → Bool) → IsShut i.nodes i.arcs x surplus set → set i.source ≡ true → Maximum i x × CutTight i x set
+  pub stuck_tells : (set : ℕ → Bool) → IsShut i.nodes i.arcs x imbalance set → set i.source ≡ true → Maximum i x × CutTight i x set
   stuck_tells set is inside =
       let outside : set i.sink ≡ false = elim (cases_Bool (set i.sink)) [ inl there ↦ absurd (omega (arith, ints, ends.sink, is.none_lacks i.sink law.sink_within there)) | inr out ↦ out ] in
       let tight : CutTight i x set = record { source_inside = inside; sink_outside = outside; tight = tight_from_shut set i.arcs x law.capacities is.shut } in
       (tight_is_maximum i law.joined law.source_within x set feasible tight, tight)
 
   -- ---- the flow
-  only_source : (v : ℕ) → pos 0 <ℤ surplus v → v ≡ i.source
+  only_source : (v : ℕ) → pos 0 <ℤ imbalance v → v ≡ i.source
   only_source v some = elim (cases_eq v i.source) [
     | inl same ↦ same
     | inr ne ↦ elim (cases_eq v i.sink) [
-      | inl same ↦ absurd (let e = ap surplus same in omega (arith, ints, e, some, ends.sink))
+      | inl same ↦ absurd (let e = ap imbalance same in omega (arith, ints, e, some, ends.sink))
       | inr other ↦ absurd (omega (arith, ints, some, ends.others v ne other))
     ]
   ]
 
-  only_sink : (v : ℕ) → surplus v <ℤ pos 0 → v ≡ i.sink
+  only_sink : (v : ℕ) → imbalance v <ℤ pos 0 → v ≡ i.sink
   only_sink v some = elim (cases_eq v i.sink) [
     | inl same ↦ same
     | inr other ↦ elim (cases_eq v i.source) [
-      | inl same ↦ absurd (let e = ap surplus same in omega (arith, ints, e, some, ends.source))
+      | inl same ↦ absurd (let e = ap imbalance same in omega (arith, ints, e, some, ends.source))
       | inr ne ↦ absurd (omega (arith, ints, some, ends.others v ne other))
     ]
   ]
 
-  pub sent_tells : (y : List ℤ) → IsSent i.nodes i.arcs x y surplus → (¬ Maximum i x) × FeasibleMax i y × (value i x <ℤ value i y)
+  pub sent_tells : (y : List ℤ) → IsSent i.nodes i.arcs x y imbalance → (¬ Maximum i x) × FeasibleMax i y × (value i x <ℤ value i y)
   sent_tells y sent =
       let from : sent.from ≡ i.source = only_source sent.from (omega (arith, ints, sent.some, sent.enough)) in
       let to : sent.to ≡ i.sink = only_sink sent.to (omega (arith, ints, sent.some, sent.lacked)) in

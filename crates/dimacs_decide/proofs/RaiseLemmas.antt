@@ -10,13 +10,13 @@ use Rattle.dimacs_judge.specs.Flows.{sum_arcs, when, net}
 use Rattle.dimacs_judge.specs.Rows.{amount_at}
 use Rattle.dimacs_network.specs.Arcs.{no_arc, arc_at}
 use Rattle.dimacs_judge.proofs.Passing.{pair_at}
-use Rattle.dimacs_network.specs.declared.links.Side.{Side}
-use Rattle.dimacs_network.specs.declared.links.Side.TheVariants.{Tail, Head}
+use Rattle.dimacs_network.specs.declared.adjacency_lists.Side.{Side}
+use Rattle.dimacs_network.specs.declared.adjacency_lists.Side.TheVariants.{Tail, Head}
 use Rattle.dimacs_decide.specs.declared.search.Visit.{Visit}
-use Rattle.dimacs_network.specs.Links.{end_of, other_end}
-use Rattle.dimacs_decide.specs.inside.Rooms.{carried_after, room_at}
+use Rattle.dimacs_network.specs.AdjacencyLists.{end_of, other_end}
+use Rattle.dimacs_decide.specs.inside.ResidualCapacities.{carried_after, residual_capacity_at}
 use Rattle.dimacs_decide.specs.Bounds.{KeepsBounds}
-use Rattle.dimacs_decide.specs.inside.Residual.{IsReachedBy, rank_of, room_of, via_of}
+use Rattle.dimacs_decide.specs.inside.Residual.{IsReachedBy, rank_of, residual_capacity_of, parent_arc_of}
 use Rattle.dimacs_decide.specs.inside.Raising.{Pushed, IsRaising}
 
 -- ---- one amount changes
@@ -63,33 +63,33 @@ push_none arcs rank x sink amount within = record {
 
 -- along an arc whose other end is nearer to the root
 push : (side : Side) (arcs : List ArcView) (rank : ℕ → ℕ) (x y : List ℤ) (t k : ℕ) (amount : ℤ) → Pushed arcs rank x y t (other_end side (arc_at arcs k)) amount → k < length arcs
-    → rank (end_of side (arc_at arcs k)) < rank (other_end side (arc_at arcs k)) → pos 0 ≤ℤ amount → amount ≤ℤ room_at side (arc_at arcs k) (amount_at x k)
+    → rank (end_of side (arc_at arcs k)) < rank (other_end side (arc_at arcs k)) → pos 0 ≤ℤ amount → amount ≤ℤ residual_capacity_at side (arc_at arcs k) (amount_at x k)
     → Pushed arcs rank x (set y k (carried_after side amount (amount_at y k))) t (end_of side (arc_at arcs k)) amount
-push Tail arcs rank x y t k amount p h falls some room =
+push Tail arcs rank x y t k amount p h falls some residual_capacity =
     let long : k < length y = omega (arith, h, AllZip-long _ arcs y p.within) in
     let same = p.below k h (omega (arith, falls)) (omega arith) in
     let now = pair_at _ arcs y k no_arc (pos 0) p.within h in
     record {
-      within = AllZip-set (λ a z. (a.low ≤ℤ z) × (z ≤ℤ a.cap)) arcs y k no_arc _ p.within (omega (arith, ints, now, same, room, some));
+      within = AllZip-set (λ a z. (a.low ≤ℤ z) × (z ≤ℤ a.cap)) arcs y k no_arc _ p.within (omega (arith, ints, now, same, residual_capacity, some));
       balance = λ u. omega (arith, ints, p.balance u, net-raise arcs y k amount u h long);
       below = λ j l s t. get_or-set_other y k j _ (pos 0) (λ e. let f : rank (arc_at arcs j).head ≡ rank (arc_at arcs k).head = ap (λ m. rank (arc_at arcs m).head) e in omega (arith, f, t, falls)) ∙ p.below j l (omega (arith, s, falls)) (omega (arith, t, falls));
     }
-push Head arcs rank x y t k amount p h falls some room =
+push Head arcs rank x y t k amount p h falls some residual_capacity =
     let long : k < length y = omega (arith, h, AllZip-long _ arcs y p.within) in
     let same = p.below k h (omega arith) (omega (arith, falls)) in
     let now = pair_at _ arcs y k no_arc (pos 0) p.within h in
     record {
-      within = AllZip-set (λ a z. (a.low ≤ℤ z) × (z ≤ℤ a.cap)) arcs y k no_arc _ p.within (omega (arith, ints, now, same, room, some));
+      within = AllZip-set (λ a z. (a.low ≤ℤ z) × (z ≤ℤ a.cap)) arcs y k no_arc _ p.within (omega (arith, ints, now, same, residual_capacity, some));
       balance = λ u. omega (arith, ints, p.balance u, net-raise arcs y k (neg_ℤ amount) u h long, when-neg ((arc_at arcs k).tail == u) amount, when-neg ((arc_at arcs k).head == u) amount);
       below = λ j l s t. get_or-set_other y k j _ (pos 0) (λ e. let f : rank (arc_at arcs j).tail ≡ rank (arc_at arcs k).tail = ap (λ m. rank (arc_at arcs m).tail) e in omega (arith, f, s, falls)) ∙ p.below j l (omega (arith, s, falls)) (omega (arith, t, falls));
     }
 
-pub raising_none : (arcs : List ArcView) (x : List ℤ) (visits : ℕ → Visit) (to : ℕ) (amount : ℤ) → 0 < rank_of visits to → pos 0 <ℤ amount → amount ≤ℤ room_of visits to → KeepsBounds arcs x
+pub raising_none : (arcs : List ArcView) (x : List ℤ) (visits : ℕ → Visit) (to : ℕ) (amount : ℤ) → 0 < rank_of visits to → pos 0 <ℤ amount → amount ≤ℤ residual_capacity_of visits to → KeepsBounds arcs x
     → IsRaising arcs x x visits to to amount
-raising_none arcs x visits to amount reached some room within = record {
+raising_none arcs x visits to amount reached some residual_capacity within = record {
   reached = reached;
   some = some;
-  room = room;
+  residual_capacity = residual_capacity;
   pushed = push_none arcs (rank_of visits) x to amount within;
 }
 
@@ -97,7 +97,7 @@ raising_none arcs x visits to amount reached some room within = record {
 module _ (arcs : List ArcView) (x y : List ℤ) (visits : ℕ → Visit) (t at : ℕ) (amount : ℤ)
     (now : IsRaising arcs x y visits t at amount) (by : IsReachedBy arcs x visits at) where
   abbrev k : ℕ
-  k = via_of visits at
+  k = parent_arc_of visits at
 
   pub long : k < length y
   long = omega (arith, by.within, AllZip-long _ arcs y now.pushed.within)
@@ -110,14 +110,14 @@ module _ (arcs : List ArcView) (x y : List ℤ) (visits : ℕ → Visit) (t at :
   step = record {
     reached = by.reached;
     some = now.some;
-    room = omega (arith, ints, now.room, by.before);
-    pushed = push by.side arcs (rank_of visits) x y t k amount (rw by.to now.pushed) by.within (rw by.to by.rank) (omega (arith, ints, now.some)) (omega (arith, ints, by.room, now.room));
+    residual_capacity = omega (arith, ints, now.residual_capacity, by.before);
+    pushed = push by.side arcs (rank_of visits) x y t k amount (rw by.to now.pushed) by.within (rw by.to by.rank) (omega (arith, ints, now.some)) (omega (arith, ints, by.residual_capacity, now.residual_capacity));
   }
 
   --   the arc, and the side that was found for it
-  module _ (a : ArcView) (is : arc_at arcs k ≡ a) (side : Side) (told : (s : Side) → other_end s a ≡ at → end_of s a ≢ at → side ≡ s) where
+  module _ (a : ArcView) (is : arc_at arcs k ≡ a) (side : Side) (outcome : (s : Side) → other_end s a ≡ at → end_of s a ≢ at → side ≡ s) where
     side_is : side ≡ by.side
-    side_is = told by.side (subst (λ (b : ArcView). other_end by.side b ≡ at) is by.to) (λ e. apart (subst (λ (b : ArcView). end_of by.side b ≡ at) (sym is) e))
+    side_is = outcome by.side (subst (λ (b : ArcView). other_end by.side b ≡ at) is by.to) (λ e. apart (subst (λ (b : ArcView). end_of by.side b ≡ at) (sym is) e))
 
     pub falls : rank_of visits (end_of side a) < rank_of visits at
     falls = rw (side_is, ← is) by.rank

@@ -18,7 +18,7 @@ use Rattle.dimacs_decide.proofs.ClaimLemmas.{made_of, true_claim}
 use Rattle.dimacs_decide.proofs.TightLemmas.{few, grown}
 
 -- ---- the arcs
-pub no_fault : (fails : Reason → Type 0) (told : Option Reason) → is_some told ≡ false → TellsReason fails told → (reason : Reason) → ¬ fails reason
+pub no_fault : (fails : Reason → Type 0) (outcome : Option Reason) → is_some outcome ≡ false → TellsReason fails outcome → (reason : Reason) → ¬ fails reason
 no_fault fails None none tells = tells
 no_fault fails (Some reason) none tells = absurd (cc)
 

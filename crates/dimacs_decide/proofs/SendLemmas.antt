@@ -14,11 +14,11 @@ use Rattle.dimacs_network.specs.Arcs.{JoinsNodes, no_arc, arc_at}
 use Rattle.dimacs_judge.specs.Cuts.{members}
 use Rattle.dimacs_judge.specs.Rows.{amount_at}
 use Rattle.dimacs_judge.proofs.Passing.{pair_at, pairs_from}
-use Rattle.dimacs_network.specs.declared.links.Side.TheVariants.{Tail, Head}
+use Rattle.dimacs_network.specs.declared.adjacency_lists.Side.TheVariants.{Tail, Head}
 use Rattle.dimacs_decide.specs.Bounds.{KeepsBounds}
 use Rattle.dimacs_decide.specs.declared.search.Visit.{Visit}
 use Rattle.dimacs_decide.specs.inside.Raising.{Shifts}
-use Rattle.dimacs_decide.specs.inside.Residual.{HaveSurplus, IsDone, IsExplored, IsResidualTree, is_in, rank_of, room_of}
+use Rattle.dimacs_decide.specs.inside.Residual.{HaveImbalance, IsDone, IsExplored, IsResidualTree, is_in, rank_of, residual_capacity_of}
 use Rattle.dimacs_decide.specs.inside.Sending.{IsSent, IsShut, IsShutAt}
 use Rattle.dimacs_decide.proofs.SideLemmas.{far_within, near_within}
 
@@ -29,8 +29,8 @@ shut_arc true false z low cap h g to back = (λ e. by_lt_z z cap (λ l. absurd (
 shut_arc false true z low cap h g to back = (λ e. absurd (false≢true e), λ e. by_lt_z low z (λ l. absurd (false≢true (back refl (omega (arith, ints, l))))) (λ l. omega (arith, ints, l, h)))
 shut_arc false false z low cap h g to back = (λ e. absurd (false≢true e), λ e. absurd (false≢true e))
 
-module _ (nodes : ℕ) (arcs : List ArcView) (x : List ℤ) (surplus : ℕ → ℤ) (visits : ℕ → Visit) (set : ℕ → Bool) (joined : All (JoinsNodes nodes) arcs) (within : KeepsBounds arcs x)
-    (done : (v : ℕ) → 0 < rank_of visits v → IsDone arcs x surplus visits v) (same : (v : ℕ) → IsNode nodes v → set v ≡ is_in visits v) where
+module _ (nodes : ℕ) (arcs : List ArcView) (x : List ℤ) (imbalance : ℕ → ℤ) (visits : ℕ → Visit) (set : ℕ → Bool) (joined : All (JoinsNodes nodes) arcs) (within : KeepsBounds arcs x)
+    (done : (v : ℕ) → 0 < rank_of visits v → IsDone arcs x imbalance visits v) (same : (v : ℕ) → IsNode nodes v → set v ≡ is_in visits v) where
   pub reached_inside : (v : ℕ) → IsNode nodes v → 0 < rank_of visits v → set v ≡ true
   reached_inside v node reached = same v node ∙ lt-ltb 0 (rank_of visits v) reached
 
@@ -44,18 +44,18 @@ module _ (nodes : ℕ) (arcs : List ArcView) (x : List ℤ) (surplus : ℕ → �
       let tail = near_within Tail nodes arcs k joined h in
       let head = near_within Head nodes arcs k joined h in
       shut_arc (set a.tail) (set a.head) (amount_at x k) a.low a.cap bounds.0 bounds.1
-      (λ inside room. reached_inside a.head head ((done a.tail (inside_reached a.tail tail inside)).1 Tail k h refl room))
-      (λ inside room. reached_inside a.tail tail ((done a.head (inside_reached a.head head inside)).1 Head k h refl room))
+      (λ inside residual_capacity. reached_inside a.head head ((done a.tail (inside_reached a.tail tail inside)).1 Tail k h refl residual_capacity))
+      (λ inside residual_capacity. reached_inside a.tail tail ((done a.head (inside_reached a.head head inside)).1 Head k h refl residual_capacity))
 
-  pub is_shut : IsShut nodes arcs x surplus set
+  pub is_shut : IsShut nodes arcs x imbalance set
   is_shut = record {
     shut = pairs_from (IsShutAt set) arcs x no_arc (pos 0) (AllZip-long _ arcs x within) shut_at;
     none_lacks = λ v node inside. (done v (inside_reached v node inside)).0;
   }
 
 -- ---- the flow after sending
-pub reached_node : (nodes : ℕ) (arcs : List ArcView) (x : List ℤ) (surplus : ℕ → ℤ) (visits : ℕ → Visit) → All (JoinsNodes nodes) arcs → IsResidualTree arcs x visits → HaveSurplus nodes surplus visits → (v : ℕ) → 0 < rank_of visits v → IsNode nodes v
-reached_node nodes arcs x surplus visits joined tree roots v some = elim (cases_order (rank_of visits v) 1) [
+pub reached_node : (nodes : ℕ) (arcs : List ArcView) (x : List ℤ) (imbalance : ℕ → ℤ) (visits : ℕ → Visit) → All (JoinsNodes nodes) arcs → IsResidualTree arcs x visits → HaveImbalance nodes imbalance visits → (v : ℕ) → 0 < rank_of visits v → IsNode nodes v
+reached_node nodes arcs x imbalance visits joined tree roots v some = elim (cases_order (rank_of visits v) 1) [
   | inl same ↦ (roots v same).0
   | inr apart ↦ elim apart [
     | inl low ↦ absurd (omega (arith, low, some))
@@ -63,18 +63,18 @@ reached_node nodes arcs x surplus visits joined tree roots v some = elim (cases_
   ]
 ]
 
-pub is_sent : (nodes : ℕ) (arcs : List ArcView) (x y : List ℤ) (surplus : ℕ → ℤ) (visits : ℕ → Visit) (from to : ℕ) (amount : ℤ) → All (JoinsNodes nodes) arcs → IsExplored nodes arcs x surplus visits (Some to)
-    → pos 0 <ℤ amount → (amount +ℤ surplus to) ≤ℤ pos 0 → KeepsBounds arcs y → rank_of visits from ≡ 1 → amount ≤ℤ room_of visits from → Shifts arcs x y from to amount → IsSent nodes arcs x y surplus
-is_sent nodes arcs x y surplus visits from to amount joined is some lacked within root room shifts =
+pub is_sent : (nodes : ℕ) (arcs : List ArcView) (x y : List ℤ) (imbalance : ℕ → ℤ) (visits : ℕ → Visit) (from to : ℕ) (amount : ℤ) → All (JoinsNodes nodes) arcs → IsExplored nodes arcs x imbalance visits (Some to)
+    → pos 0 <ℤ amount → (amount +ℤ imbalance to) ≤ℤ pos 0 → KeepsBounds arcs y → rank_of visits from ≡ 1 → amount ≤ℤ residual_capacity_of visits from → Shifts arcs x y from to amount → IsSent nodes arcs x y imbalance
+is_sent nodes arcs x y imbalance visits from to amount joined is some lacked within root residual_capacity shifts =
     let (node, enough) = is.roots from root in
     record {
       from = from;
       to = to;
       amount = amount;
       from_within = node;
-      to_within = reached_node nodes arcs x surplus visits joined is.tree is.roots to is.found_is.0;
+      to_within = reached_node nodes arcs x imbalance visits joined is.tree is.roots to is.found_is.0;
       some = some;
-      enough = omega (arith, ints, enough, room);
+      enough = omega (arith, ints, enough, residual_capacity);
       lacked = lacked;
       within = within;
       shifts = shifts;

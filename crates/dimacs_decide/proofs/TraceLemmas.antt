@@ -8,9 +8,9 @@ use Rattle.std.proofs.Math.Seq.{get_or-append_seam}
 use Rattle.dimacs_network.specs.declared.network.ArcView.{ArcView}
 use Rattle.dimacs_network.specs.Arcs.{JoinsNodes, arc_at}
 use Rattle.dimacs_instance.specs.MinFlows.{HasBounds}
-use Rattle.dimacs_network.specs.declared.links.Side.{Side}
-use Rattle.dimacs_network.specs.declared.links.Side.TheVariants.{Tail, Head}
-use Rattle.dimacs_network.specs.Links.{end_of, other_end}
+use Rattle.dimacs_network.specs.declared.adjacency_lists.Side.{Side}
+use Rattle.dimacs_network.specs.declared.adjacency_lists.Side.TheVariants.{Tail, Head}
+use Rattle.dimacs_network.specs.AdjacencyLists.{end_of, other_end}
 use Rattle.dimacs_decide.specs.declared.heights.Label.{Label}
 use Rattle.dimacs_decide.specs.inside.Heights.{AreHeights, BelowBound, below_of, bound, height_of}
 use Rattle.dimacs_decide.specs.inside.Traces.{IsCycle, IsFollowing, IsTrace}
@@ -19,49 +19,49 @@ use Rattle.dimacs_decide.proofs.SideLemmas.{far_within, near_within}
 use Rattle.dimacs_decide.proofs.HeightLemmas.{arc_bounds, gain_most}
 
 -- ---- the node below
-pub below_none : (arcs : List ArcView) (l : Label) → l.via ≡ 0 → below_of arcs l ≡ 0
-below_none arcs l none = let b : (l.via == 0) ≡ true = eq-eqb l.via 0 none in rw b refl
+pub below_none : (arcs : List ArcView) (l : Label) → l.parent_arc ≡ 0 → below_of arcs l ≡ 0
+below_none arcs l none = let b : (l.parent_arc == 0) ≡ true = eq-eqb l.parent_arc 0 none in rw b refl
 
-pub below_some : (arcs : List ArcView) (l : Label) → 0 < l.via → below_of arcs l ≡ end_of l.side (arc_at arcs (l.via - 1))
-below_some arcs l some = let b : (l.via == 0) ≡ false = ne_eqb l.via 0 (λ e. omega (arith, e, some)) in rw b refl
+pub below_some : (arcs : List ArcView) (l : Label) → 0 < l.parent_arc → below_of arcs l ≡ end_of l.side (arc_at arcs (l.parent_arc - 1))
+below_some arcs l some = let b : (l.parent_arc == 0) ≡ false = ne_eqb l.parent_arc 0 (λ e. omega (arith, e, some)) in rw b refl
 
-pub cases_via : (n : ℕ) → (n ≡ 0) ⊎ (0 < n)
-cases_via zero = inl refl
-cases_via (suc n) = inr (omega arith)
+pub cases_parent_arc : (n : ℕ) → (n ≡ 0) ⊎ (0 < n)
+cases_parent_arc zero = inl refl
+cases_parent_arc (suc n) = inr (omega arith)
 
 pub some_place : (n : ℕ) → n ≢ 0 → 0 < n
-some_place n ne = elim (cases_via n) [ inl none ↦ absurd (ne none) | inr some ↦ some ]
+some_place n ne = elim (cases_parent_arc n) [ inl none ↦ absurd (ne none) | inr some ↦ some ]
 
 module _ (nodes : ℕ) (arcs : List ArcView) (x : List ℤ) (labels : ℕ → Label) (joined : All (JoinsNodes nodes) arcs) (bounds : All HasBounds arcs) (now : AreHeights arcs x labels) where
   pub step_down : (v : ℕ) → height_of labels v ≤ℤ (height_of labels (below_of arcs (labels v)) +ℤ pos 9223372036854775808)
-  step_down v = elim (cases_via (labels v).via) [
+  step_down v = elim (cases_parent_arc (labels v).parent_arc) [
     | inl none ↦ let b = below_none arcs (labels v) none in rw b (omega (arith, ints, (now.low v none).0))
     | inr some ↦
         let r = now.raised v some in
         let b = below_some arcs (labels v) some in
         let l = labels v in
-        let most = gain_most l.side (arc_at arcs (l.via - 1)) (arc_bounds arcs (l.via - 1) bounds (omega (arith, some, r.within))) in
+        let most = gain_most l.side (arc_at arcs (l.parent_arc - 1)) (arc_bounds arcs (l.parent_arc - 1) bounds (omega (arith, some, r.within))) in
         rw b (omega (arith, ints, r.low, most))
   ]
 
   pub below_inside : (v : ℕ) → below_of arcs (labels v) ≤ nodes
-  below_inside v = elim (cases_via (labels v).via) [
+  below_inside v = elim (cases_parent_arc (labels v).parent_arc) [
     | inl none ↦ let b = below_none arcs (labels v) none in rw b (omega arith)
     | inr some ↦
         let r = now.raised v some in
         let b = below_some arcs (labels v) some in
         let l = labels v in
-        rw b (near_within l.side nodes arcs (l.via - 1) joined (omega (arith, some, r.within))).1
+        rw b (near_within l.side nodes arcs (l.parent_arc - 1) joined (omega (arith, some, r.within))).1
   ]
 
   --   no arc leads to node 0
   pub height_zero : height_of labels 0 ≤ℤ bound 0
-  height_zero = elim (cases_via (labels 0).via) [
+  height_zero = elim (cases_parent_arc (labels 0).parent_arc) [
     | inl none ↦ (now.low 0 none).1
     | inr some ↦
         let r = now.raised 0 some in
         let l = labels 0 in
-        let node = far_within l.side nodes arcs (l.via - 1) joined (omega (arith, some, r.within)) in
+        let node = far_within l.side nodes arcs (l.parent_arc - 1) joined (omega (arith, some, r.within)) in
         absurd (let e = r.to in omega (arith, e, node.0))
   ]
 
@@ -111,8 +111,8 @@ module _ (nodes : ℕ) (arcs : List ArcView) (x : List ℤ) (labels : ℕ → La
   length_is : length longer ≡ length path + 1
   length_is = length-append path (at ∷ [])
 
-  pub room_left : places at ≡ 0 → length path + 1 ≤ nodes + 1
-  room_left none = omega (arith, is.each, some_zero places at (nodes + 1) (omega (arith, is.inside)) none)
+  pub residual_capacity_left : places at ≡ 0 → length path + 1 ≤ nodes + 1
+  residual_capacity_left none = omega (arith, is.each, some_zero places at (nodes + 1) (omega (arith, is.inside)) none)
 
   steps_to : (j : ℕ) → begin ≤ j → j < length path → below_of arcs (labels (slice_index longer j)) ≡ slice_index longer (j + 1)
   steps_to j behind less = elim (cases_order (j + 1) (length path)) [
@@ -213,7 +213,7 @@ module _ (nodes : ℕ) (arcs : List ArcView) (x : List ℤ) (labels : ℕ → La
             let c : slice_index path i ≡ slice_index path j = sym (in_front i (omega (arith, less, short))) ∙ e ∙ in_front j short in
             let d = ap places c in
             omega (arith, a, b, d, less);
-        raised = λ j behind less. elim (cases_via (labels (slice_index longer j)).via) [
+        raised = λ j behind less. elim (cases_parent_arc (labels (slice_index longer j)).parent_arc) [
           | inl none ↦ absurd (
               let s = steps_to j (omega (arith, behind, more)) less in
               let z : slice_index longer (j + 1) ≡ 0 = sym s ∙ below_none arcs (labels (slice_index longer j)) none in
@@ -230,12 +230,12 @@ module _ (nodes : ℕ) (arcs : List ArcView) (x : List ℤ) (labels : ℕ → La
 -- ---- all paths down
 pub all_low : (nodes : ℕ) (arcs : List ArcView) (x : List ℤ) (labels : ℕ → Label) (path : List ℕ) (places : ℕ → ℕ) → AreHeights arcs x labels → IsTrace nodes labels path places
     → ((k : ℕ) → k < length arcs → (0 < places (arc_at arcs k).tail) × (0 < places (arc_at arcs k).head)) → BelowBound (nodes + 1) labels
-all_low nodes arcs x labels path places now is seen v = elim (cases_via (labels v).via) [
+all_low nodes arcs x labels path places now is seen v = elim (cases_parent_arc (labels v).parent_arc) [
   | inl none ↦ omega (arith, ints, (now.low v none).1)
   | inr some ↦
       let r = now.raised v some in
       let l = labels v in
-      let k = l.via - 1 in
+      let k = l.parent_arc - 1 in
       let both = seen k (omega (arith, some, r.within)) in
       let there : 0 < places v = subst (λ u. 0 < places u) r.to (at_far l.side k both) in
       omega (arith, ints, is.low v there, is.each)

@@ -9,12 +9,12 @@ use Rattle.dimacs_decide.specs.declared.feasible.FeasibilityDecision.{Feasibilit
 use Rattle.dimacs_decide.specs.declared.feasible.FeasibilityDecision.TheVariants.{Balanced, Infeasible, Nearer}
 
 -- the excess of a node: its supply less its balance; a negative one is a deficit
-abbrev pub surplus_at : MinValue → List ℤ → ℕ → ℤ
-surplus_at i x v = supply_of i v -ℤ net i.arcs x v
+abbrev pub imbalance_at : MinValue → List ℤ → ℕ → ℤ
+imbalance_at i x v = supply_of i v -ℤ net i.arcs x v
 
 -- the sum of all excesses
 abbrev pub total_excess : MinValue → List ℤ → ℤ
-total_excess i x = sum_nodes (λ v. pos (positive_part (surplus_at i x v))) i.nodes
+total_excess i x = sum_nodes (λ v. pos (positive_part (imbalance_at i x v))) i.nodes
 
 -- the flow is feasible; or a set shows that no flow is; or the other flow keeps the bounds and leaves less excess
 abbrev pub DecidesFeasible : MinValue → List ℤ → FeasibilityDecision → Type 0

@@ -6,8 +6,8 @@ pub mod FewLabels
 pub mod Heights
 pub mod Raising
 pub mod Residual
-pub mod Rooms
+pub mod ResidualCapacities
 pub mod Sending
-pub mod Surpluses
+pub mod Imbalances
 pub mod TightTrees
 pub mod Traces

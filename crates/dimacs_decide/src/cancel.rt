@@ -4,10 +4,10 @@ ghost use Rattle.std.specs.Prelude.{ℕ, ◌≡◌, ◌≤ℤ◌, ◌<ℤ◌, po
 ghost use Rattle.dimacs_instance.specs.MinFlows.{HasBounds};
 ghost use Rattle.dimacs_judge.specs.Flows.{cost, net};
 ghost use Rattle.dimacs_decide.specs.Bounds.{KeepsBounds};
-ghost use Rattle.dimacs_decide.specs.inside.Cancelling.{IsRoomFor};
+ghost use Rattle.dimacs_decide.specs.inside.Cancelling.{HasCapacityFor};
 ghost use Rattle.dimacs_decide.specs.inside.Cycles.{IsSaving};
 
-use crate::room::{room_from, send_from};
+use crate::residual_capacity::{residual_capacity_from, send_from};
 use dimacs_judge::Flow;
 use dimacs_methods::ResidualArc;
 use dimacs_network::Network;
@@ -22,18 +22,22 @@ fn lesser(a: i64, b: i64) -> i64
 }
 
 /// The least residual capacity of the residual arcs of a cycle.
-fn least_room<N: Network>(network: &N, cycle: &[ResidualArc], flow: &Flow) -> i64
+fn least_residual_capacity<N: Network>(network: &N, cycle: &[ResidualArc], flow: &Flow) -> i64
     requires bounds { All HasBounds (N.list network.now) }
     requires within { KeepsBounds (N.list network.now) flow.now }
     requires cycle { IsSaving (N.list network.now) flow.now cycle.now }
-    ensures { IsRoomFor (N.list network.now) flow.now cycle.now (length cycle.now) result }
+    ensures { HasCapacityFor (N.list network.now) flow.now cycle.now (length cycle.now) result }
 {
     let mut least = i64::MAX;
     for j in 0..cycle.len() {
         let residual = cycle[j];
         let arc = network.arc(residual.arc);
-        let room = room_from(residual.side, arc, flow.amount(residual.arc));
-        least = lesser(least, room);
+        let residual_capacity = residual_capacity_from(
+            residual.side,
+            arc,
+            flow.amount(residual.arc),
+        );
+        least = lesser(least, residual_capacity);
     }
     least
 }
@@ -47,7 +51,7 @@ pub(crate) fn cancel<N: Network>(network: &N, cycle: &[ResidualArc], flow: &mut 
     ensures balances { (v : ℕ) → net (N.list network.now) flow.new v ≡ net (N.list network.now) flow.old v }
     ensures less { cost (N.list network.now) flow.new <ℤ cost (N.list network.now) flow.old }
 {
-    let amount = least_room(network, cycle, flow);
+    let amount = least_residual_capacity(network, cycle, flow);
     for j in 0..cycle.len() {
         let residual = cycle[j];
         send_from(residual.side, residual.arc, amount, flow);

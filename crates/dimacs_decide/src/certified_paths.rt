@@ -2,8 +2,8 @@
 
 ghost use Rattle.std.specs.Prelude.{◌≡◌, IfOk, IfSome, OnOk};
 ghost use Rattle.dimacs_lines.specs.Limits.{IsNode};
-ghost use Rattle.dimacs_network.specs.Links.{AreLinksOf};
-ghost use Rattle.dimacs_network.specs.declared.links.Side.TheVariants.{Tail};
+ghost use Rattle.dimacs_network.specs.AdjacencyLists.{AreAdjacencyLists};
+ghost use Rattle.dimacs_network.specs.declared.adjacency_lists.Side.TheVariants.{Tail};
 ghost use Rattle.dimacs_claims.specs.Labels.{IsBlock, label};
 ghost use Rattle.dimacs_decide.specs.CertifiedPaths.{CertifiesPaths};
 ghost use Rattle.dimacs_decide.specs.Distances.{AreDistancesFrom};
@@ -19,7 +19,7 @@ use dimacs_claims::{Block, Distances, Labels};
 use dimacs_instance::Graph;
 use dimacs_judge::JudgeError;
 use dimacs_lines::Memory;
-use dimacs_network::{Links, Network, Side};
+use dimacs_network::{AdjacencyLists, Network, Side};
 use std::alloc::Global;
 
 /// Decides whether the distances in every block are right. Weights may be negative. If they are right, it returns
@@ -38,12 +38,12 @@ pub fn certify_paths<N: Network>(
     ensures { CertifiesPaths graph.now distances.now.blocks result }
 {
     let network = graph.network();
-    let mut links = None;
-    let mut tables = Some(Tables::new(alloc));
-    let mut labels = Labels::new(alloc, network.nodes());
     let blocks = distances.blocks();
+    let mut lists = None;
+    let mut tables = Tables::new(alloc, graph, blocks)?;
+    let mut labels = Labels::new(alloc, network.nodes());
     for i in 0..blocks.len() {
-        let block = certify_one(alloc, graph, &mut links, &mut tables, &blocks[i])?;
+        let block = certify_one(alloc, graph, &mut lists, &mut tables, &blocks[i])?;
         labels.push(block)?;
     }
     Ok(labels)
@@ -53,49 +53,43 @@ pub fn certify_paths<N: Network>(
 fn certify_one<N: Network>(
     alloc: Global,
     graph: &Graph<N>,
-    links: &mut Option<Links>,
+    lists: &mut Option<AdjacencyLists>,
     tables: &mut Option<Tables>,
     claimed: &Block,
 ) -> Result<Block, JudgeError>
     requires lawful { IsBlock graph.now.nodes claimed.now }
-    requires links { IfSome links.old (AreLinksOf Tail graph.now.arcs) }
-    requires free { IfSome tables.old AreFree }
+    requires lists { IfSome lists.old (AreAdjacencyLists Tail graph.now.arcs) }
+    requires free { IfSome tables.old (AreFree graph.now) }
     ensures decides { DecidesBlock graph.now claimed.now.source (label claimed.now) result }
-    ensures links { OnOk result (IfSome links.new (AreLinksOf Tail graph.now.arcs)) }
-    ensures free { OnOk result (IfSome tables.new AreFree) }
+    ensures lists { OnOk result (IfSome lists.new (AreAdjacencyLists Tail graph.now.arcs)) }
+    ensures free { OnOk result (IfSome tables.new (AreFree graph.now)) }
 {
     if labels_few(claimed, graph.network()) {
-        if let Some(block) = certify_few(alloc, graph, links, tables, claimed)? {
+        if let Some(block) = certify_few(alloc, graph, tables, claimed)? {
             return Ok(block);
         }
     }
     let claim = BlockClaim::new(alloc, claimed)?;
-    certify_block(alloc, graph, links, claimed.source(), &claim)
+    certify_block(alloc, graph, lists, claimed.source(), &claim)
 }
 
 /// Labels for the claimed distances, found by the arcs that leave the block's nodes, if the distances are right.
 fn certify_few<N: Network>(
     alloc: Global,
     graph: &Graph<N>,
-    links: &mut Option<Links>,
     tables: &mut Option<Tables>,
     claimed: &Block,
 ) -> Result<Option<Block>, Memory>
     requires lawful { IsBlock graph.now.nodes claimed.now }
-    requires links { IfSome links.old (AreLinksOf Tail graph.now.arcs) }
-    requires free { IfSome tables.old AreFree }
+    requires free { IfSome tables.old (AreFree graph.now) }
     ensures distances { IfOk result (λ found. IfSome found (λ block. AreDistancesFrom graph.now claimed.now.source (label claimed.now))) }
     ensures made { IfOk result (λ found. IfSome found (IsMadeOf graph.now claimed.now)) }
-    ensures links { OnOk result (IfSome links.new (AreLinksOf Tail graph.now.arcs)) }
-    ensures free { OnOk result (IfSome tables.new AreFree) }
+    ensures free { OnOk result (IfSome tables.new (AreFree graph.now)) }
 {
     let Some(own) = tables.take() else {
         return Ok(None);
     };
-    let linked = linked(alloc, graph.network(), links.take())?;
-    let found = few_block(alloc, graph, &linked, claimed, own)?;
-    *links = Some(linked);
-    let Some((block, own)) = found else {
+    let Some((block, own)) = few_block(alloc, graph, claimed, own)? else {
         return Ok(None);
     };
     *tables = Some(own);
@@ -107,31 +101,35 @@ fn certify_few<N: Network>(
 fn certify_block<N: Network, C: DistanceClaim>(
     alloc: Global,
     graph: &Graph<N>,
-    links: &mut Option<Links>,
+    lists: &mut Option<AdjacencyLists>,
     source: u32,
     claim: &C,
 ) -> Result<Block, JudgeError>
     requires source { IsNode graph.now.nodes source }
-    requires links { IfSome links.old (AreLinksOf Tail graph.now.arcs) }
+    requires lists { IfSome lists.old (AreAdjacencyLists Tail graph.now.arcs) }
     ensures decides { DecidesBlock graph.now source (C.claimed claim.now) result }
-    ensures links { OnOk result (IfSome links.new (AreLinksOf Tail graph.now.arcs)) }
+    ensures lists { OnOk result (IfSome lists.new (AreAdjacencyLists Tail graph.now.arcs)) }
 {
     if let Some(block) = rising_block(alloc, graph, source, claim)? {
         return Ok(block);
     }
-    let linked = linked(alloc, graph.network(), links.take())?;
+    let linked = linked(alloc, graph.network(), lists.take())?;
     let block = decide_block(alloc, graph, &linked, source, claim)?;
-    *links = Some(linked);
+    *lists = Some(linked);
     Ok(block)
 }
 
 /// The adjacency lists, built now if they weren't before.
-fn linked<N: Network>(alloc: Global, network: &N, links: Option<Links>) -> Result<Links, Memory>
-    requires { IfSome links (AreLinksOf Tail (N.list network.now)) }
-    ensures { IfOk result (AreLinksOf Tail (N.list network.now)) }
+fn linked<N: Network>(
+    alloc: Global,
+    network: &N,
+    lists: Option<AdjacencyLists>,
+) -> Result<AdjacencyLists, Memory>
+    requires { IfSome lists (AreAdjacencyLists Tail (N.list network.now)) }
+    ensures { IfOk result (AreAdjacencyLists Tail (N.list network.now)) }
 {
-    match links {
-        Some(links) => Ok(links),
-        None => Links::new(alloc, network, Side::Tail),
+    match lists {
+        Some(lists) => Ok(lists),
+        None => AdjacencyLists::new(alloc, network, Side::Tail),
     }
 }

@@ -10,7 +10,7 @@ ghost use Rattle.dimacs_decide.specs.inside.Heights.{AreHeights};
 ghost use Rattle.dimacs_decide.specs.inside.Traces.{IsCycle};
 
 use crate::heights::{Label, gain};
-use crate::room::room_from;
+use crate::residual_capacity::residual_capacity_from;
 use crate::trace::Cycle;
 use dimacs_judge::Flow;
 use dimacs_lines::Memory;
@@ -65,7 +65,8 @@ fn leads_from<N: Network>(network: &N, flow: &Flow, from: u32, residual: Residua
         return false;
     }
     let arc = network.arc(residual.arc);
-    residual.side.near(arc) == from && room_from(residual.side, arc, flow.amount(residual.arc)) > 0
+    residual.side.near(arc) == from
+        && residual_capacity_from(residual.side, arc, flow.amount(residual.arc)) > 0
 }
 
 /// The node to which a residual arc leads; 0 if its arc doesn't exist.
@@ -96,7 +97,7 @@ pub(crate) fn raised_along<N: Network>(
     for k in 0..last - cycle.first {
         let label = labels.get(cycle.path[last - k - 1]);
         residuals.push(ResidualArc {
-            arc: label.via - 1,
+            arc: label.parent_arc - 1,
             side: label.side,
         })?;
     }

@@ -3,8 +3,8 @@
 ghost use Rattle.std.specs.Prelude.{◌≤◌, ◌+ℤ◌, ◌<ℤ◌, ◌↔◌, IsTrue, None};
 ghost use Rattle.dimacs_lines.specs.Limits.{most_nodes, IsNode};
 ghost use Rattle.dimacs_records.specs.Ranges.{IsWide};
-ghost use Rattle.dimacs_network.specs.Links.{AreLinksOf};
-ghost use Rattle.dimacs_network.specs.declared.links.Side.TheVariants.{Tail};
+ghost use Rattle.dimacs_network.specs.AdjacencyLists.{AreAdjacencyLists};
+ghost use Rattle.dimacs_network.specs.declared.adjacency_lists.Side.TheVariants.{Tail};
 ghost use Rattle.dimacs_judge.specs.Tests.{TellsRow};
 ghost use Rattle.dimacs_judge.specs.inside.Tests.{TellsReason};
 ghost use Rattle.dimacs_judge.specs.CertificateTests.{RelaxFails};
@@ -18,7 +18,7 @@ use crate::tight_tree::{TightTree, tight_tree};
 use dimacs_claims::{Block, Labels};
 use dimacs_instance::Graph;
 use dimacs_judge::{JudgeError, Where};
-use dimacs_network::{ArcView, Links, Network, Side};
+use dimacs_network::{AdjacencyLists, ArcView, Network, Side};
 use dimacs_nodes::NodeTable;
 use dimacs_records::Reason;
 use std::alloc::Global;
@@ -40,23 +40,23 @@ pub fn decide_distances<N: Network, C: DistanceClaim>(
     requires { IsNode graph.now.nodes source }
     ensures { DecidesDistances graph.now source (C.claimed claim.now) result }
 {
-    let links = Links::new(alloc, graph.network(), Side::Tail)?;
-    decide_distances_over(alloc, graph, &links, source, claim)
+    let lists = AdjacencyLists::new(alloc, graph.network(), Side::Tail)?;
+    decide_distances_over(alloc, graph, &lists, source, claim)
 }
 
 /// The same over adjacency lists that several calls can share.
 pub fn decide_distances_over<N: Network, C: DistanceClaim>(
     alloc: Global,
     graph: &Graph<N>,
-    links: &Links,
+    lists: &AdjacencyLists,
     source: u32,
     claim: &C,
 ) -> Result<Labels, JudgeError>
     requires source { IsNode graph.now.nodes source }
-    requires links { AreLinksOf Tail graph.now.arcs links.now }
+    requires lists { AreAdjacencyLists Tail graph.now.arcs lists.now }
     ensures { DecidesDistances graph.now source (C.claimed claim.now) result }
 {
-    let block = decide_block(alloc, graph, links, source, claim)?;
+    let block = decide_block(alloc, graph, lists, source, claim)?;
     let mut labels = Labels::new(alloc, graph.network().nodes());
     labels.push(block)?;
     Ok(labels)
@@ -66,19 +66,19 @@ pub fn decide_distances_over<N: Network, C: DistanceClaim>(
 pub(crate) fn decide_block<N: Network, C: DistanceClaim>(
     alloc: Global,
     graph: &Graph<N>,
-    links: &Links,
+    lists: &AdjacencyLists,
     source: u32,
     claim: &C,
 ) -> Result<Block, JudgeError>
     requires source { IsNode graph.now.nodes source }
-    requires links { AreLinksOf Tail graph.now.arcs links.now }
+    requires lists { AreAdjacencyLists Tail graph.now.arcs lists.now }
     ensures { DecidesBlock graph.now source (C.claimed claim.now) result }
 {
     let network = graph.network();
     source_holds(source, claim)?;
     arcs_hold(network, claim)?;
     let reached = NodeTable::new(alloc, false);
-    let tree = tight_tree(alloc, network, links, source, claim, reached)?;
+    let tree = tight_tree(alloc, network, lists, source, claim, reached)?;
     nodes_hold(network, claim, &tree)?;
     Ok(tree.into_block())
 }

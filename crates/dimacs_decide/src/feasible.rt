@@ -6,13 +6,13 @@ ghost use Rattle.dimacs_judge.specs.Cuts.{members};
 ghost use Rattle.dimacs_nodes.specs.Tables.{value_of};
 ghost use Rattle.dimacs_decide.specs.Bounds.{KeepsBounds};
 ghost use Rattle.dimacs_decide.specs.FeasibilityDecision.{DecidesFeasible};
-ghost use Rattle.dimacs_decide.specs.Links.{IsIncidenceOf};
-ghost use Rattle.dimacs_decide.specs.inside.Surpluses.{AreSurpluses, IsLook};
+ghost use Rattle.dimacs_decide.specs.Incidence.{IsIncidenceOf};
+ghost use Rattle.dimacs_decide.specs.inside.Imbalances.{AreImbalances, IsLook};
 
-use crate::links::Incidence;
+use crate::imbalance::{Standing, assess, imbalances};
+use crate::incidence::Incidence;
 use crate::search::Search;
 use crate::send::{Sending, send};
-use crate::surplus::{Standing, assess, surpluses};
 use dimacs_claims::Cut;
 use dimacs_instance::MinInstance;
 use dimacs_judge::Flow;
@@ -44,9 +44,9 @@ pub fn decide_feasible<N: Network>(
 {
     match first_look(alloc, instance, flow)? {
         Look::Decided(decision) => Ok(decision),
-        Look::Excess(surplus) => {
+        Look::Excess(imbalance) => {
             let incidence = Incidence::new(alloc, instance.network())?;
-            nearer_or_stuck(alloc, instance, &incidence, flow, surplus)
+            nearer_or_stuck(alloc, instance, &incidence, flow, imbalance)
         }
     }
 }
@@ -64,7 +64,7 @@ pub fn decide_feasible_over<N: Network>(
 {
     match first_look(alloc, instance, flow)? {
         Look::Decided(decision) => Ok(decision),
-        Look::Excess(surplus) => nearer_or_stuck(alloc, instance, incidence, flow, surplus),
+        Look::Excess(imbalance) => nearer_or_stuck(alloc, instance, incidence, flow, imbalance),
     }
 }
 
@@ -86,14 +86,14 @@ fn first_look<N: Network>(
     requires { KeepsBounds instance.now.arcs flow.now }
     ensures { IfOk result (IsLook instance.now flow.now) }
 {
-    let surplus = surpluses(alloc, instance, flow)?;
+    let imbalance = imbalances(alloc, instance, flow)?;
     let nodes = instance.network().nodes();
-    match assess(nodes, &surplus) {
+    match assess(nodes, &imbalance) {
         Standing::Even => Ok(Look::Decided(FeasibilityDecision::Balanced)),
         Standing::Short => Ok(Look::Decided(FeasibilityDecision::Infeasible(every_node(
             alloc, nodes,
         )?))),
-        Standing::Excess => Ok(Look::Excess(surplus)),
+        Standing::Excess => Ok(Look::Excess(imbalance)),
     }
 }
 
@@ -103,16 +103,16 @@ fn nearer_or_stuck<N: Network>(
     instance: &MinInstance<N>,
     incidence: &Incidence,
     flow: &Flow,
-    surplus: NodeTable<i128>,
+    imbalance: NodeTable<i128>,
 ) -> Result<FeasibilityDecision, Memory>
     requires within { KeepsBounds instance.now.arcs flow.now }
     requires incidence { IsIncidenceOf instance.now.arcs incidence.now }
-    requires surplus { AreSurpluses instance.now flow.now (value_of surplus) }
-    requires excess { (v : ℕ) × IsNode instance.now.nodes v × (pos 0 <ℤ value_of surplus v) }
+    requires imbalance { AreImbalances instance.now flow.now (value_of imbalance) }
+    requires excess { (v : ℕ) × IsNode instance.now.nodes v × (pos 0 <ℤ value_of imbalance v) }
     ensures { IfOk result (DecidesFeasible instance.now flow.now) }
 {
     let network = instance.network();
-    let mut search = Search::new(alloc, surplus);
+    let mut search = Search::new(alloc, imbalance);
     search.begin_all(network.nodes())?;
     match send(alloc, network, incidence, flow, search)? {
         Sending::Sent(nearer) => Ok(FeasibilityDecision::Nearer(nearer)),

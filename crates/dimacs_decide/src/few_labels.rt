@@ -1,14 +1,16 @@
 //! Certifying a block with few labels by the arcs that leave its nodes.
 
-ghost use Rattle.std.specs.Prelude.{◌≡◌, ℕ, IfOk, IfSome, IsTrue, true};
-ghost use Rattle.dimacs_network.specs.Links.{AreLinksOf};
-ghost use Rattle.dimacs_network.specs.declared.links.Side.TheVariants.{Tail};
+ghost use Rattle.std.specs.Prelude.{◌≡◌, ◌≤◌, ℕ, IfOk, IfSome, IsTrue, is_some, length, true};
+ghost use Rattle.dimacs_lines.specs.Limits.{most_count};
+ghost use Rattle.dimacs_network.specs.AdjacencyLists.{AreAdjacencyLists};
+ghost use Rattle.dimacs_network.specs.declared.adjacency_lists.Side.TheVariants.{Tail};
+ghost use Rattle.dimacs_instance.specs.Graph.{IsGraph};
 ghost use Rattle.dimacs_claims.specs.Labels.{IsBlock, label};
 ghost use Rattle.dimacs_judge.specs.Tests.{Clear};
 ghost use Rattle.dimacs_nodes.specs.Tables.{value_of};
 ghost use Rattle.dimacs_decide.specs.Distances.{AreDistancesFrom, claim_row};
 ghost use Rattle.dimacs_decide.specs.inside.DistanceBlocks.{IsMadeOf};
-ghost use Rattle.dimacs_decide.specs.inside.FewLabels.{AreFree, ArePassedFrom};
+ghost use Rattle.dimacs_decide.specs.inside.FewLabels.{AreFree, AreLightest, ArePassedFrom, IsUnreached, arcs_followed};
 ghost use Rattle.dimacs_decide.specs.inside.TightTrees.{ReachesAll};
 
 use crate::claim::DistanceClaim;
@@ -17,92 +19,195 @@ use crate::placed_claim::PlacedClaim;
 use crate::tight_tree::{TightTree, tight_tree};
 use dimacs_claims::Block;
 use dimacs_instance::Graph;
+use dimacs_judge::lightest_arcs;
 use dimacs_lines::Memory;
-use dimacs_network::{Links, Network};
+use dimacs_network::{AdjacencyLists, ArcView, Network, PlainArcs, Side};
 use dimacs_nodes::NodeTable;
 use std::alloc::Global;
 
-/// A block has few labels if there are more than this many nodes for each.
+/// A block has few labels if there are more than this many nodes for each of them.
 const NODES_A_LABEL: usize = 32;
 
-/// Tables by node, shared by all blocks with few labels. A block sets only the items of the nodes that it labels.
+/// What all blocks with few labels share: the arcs by tail, and tables by node. A block sets only the items of the nodes
+/// that it labels.
 #[derive(Drop)]
 pub(crate) struct Tables {
+    /// One lightest arc between each two nodes, if there is a hub. For each block may label the two ends of many arcs.
+    lightest: Option<PlainArcs<ArcView>>,
+    /// The lists of the lightest arcs; without a hub, of all arcs.
+    lists: AdjacencyLists,
     places: NodeTable<u32>,
     reached: NodeTable<bool>,
 }
 
 impl Tables {
-    /// Takes no memory.
-    pub(crate) fn new(alloc: Global) -> Tables
-        ensures { AreFree result }
+    /// None if no block has few labels. Takes 4 bytes for each arc and each node that has one; with a hub, 36 for each
+    /// pair of nodes that an arc joins.
+    pub(crate) fn new<N: Network>(
+        alloc: Global,
+        graph: &Graph<N>,
+        blocks: &[Block],
+    ) -> Result<Option<Tables>, Memory>
+        ensures { IfOk result (λ found. IfSome found (AreFree graph.now)) }
     {
-        Tables {
+        let network = graph.network();
+        if !any_labels_few(blocks, network) {
+            return Ok(None);
+        }
+        let lightest = lightest_network(alloc, network, blocks)?;
+        let lists = links_of(alloc, network, &lightest)?;
+        Ok(Some(Tables {
+            lightest,
+            lists,
             places: NodeTable::new(alloc, 0),
             reached: NodeTable::new(alloc, false),
-        }
+        }))
     }
 }
 
-/// Whether the block has so few labels that the arcs that leave their nodes take less time than all arcs.
+/// Whether the block has so few labels that the arcs that leave their nodes take less time than all arcs: few for so
+/// many nodes, or so few that fewer pairs of labelled nodes can be joined than there are arcs.
 pub(crate) fn labels_few<N: Network>(block: &Block, network: &N) -> bool {
-    block.labels().len() < network.nodes() as usize / NODES_A_LABEL
+    let labels = block.labels().len();
+    labels < network.nodes() as usize / NODES_A_LABEL
+        || labels.saturating_mul(labels) < network.arcs() as usize
+}
+
+/// Whether any block has so few labels.
+fn any_labels_few<N: Network>(blocks: &[Block], network: &N) -> bool {
+    for block in blocks {
+        if labels_few(block, network) {
+            return true;
+        }
+    }
+    false
+}
+
+/// The network of one lightest arc between each two nodes, if there is a hub.
+fn lightest_network<N: Network>(
+    alloc: Global,
+    network: &N,
+    blocks: &[Block],
+) -> Result<Option<PlainArcs<ArcView>>, Memory>
+    requires { length (N.list network.now) ≤ most_count }
+    ensures nodes { IfOk result (λ found. IfSome found (λ least. least.nodes ≡ N.node_count network.now)) }
+    ensures arcs { IfOk result (λ found. IfSome found (λ least. AreLightest (N.list network.now) least.arcs)) }
+{
+    let Some(order) = lightest_arcs(alloc, network, blocks)? else {
+        return Ok(None);
+    };
+    let mut least = PlainArcs::new(alloc, network.nodes());
+    for k in 0..order.len() {
+        least.push(network.arc(order[k]))?;
+    }
+    Ok(Some(least))
+}
+
+/// The lists of the lightest arcs; without a hub, of all arcs.
+fn links_of<N: Network>(
+    alloc: Global,
+    network: &N,
+    lightest: &Option<PlainArcs<ArcView>>,
+) -> Result<AdjacencyLists, Memory>
+    ensures { IfOk result (AreAdjacencyLists Tail (arcs_followed (N.list network.now) lightest.now)) }
+{
+    match lightest {
+        Some(least) => AdjacencyLists::new(alloc, least, Side::Tail),
+        None => AdjacencyLists::new(alloc, network, Side::Tail),
+    }
 }
 
 /// Labels for the claimed distances, if these are right, and the tables for the next block. Takes time in proportion to
-/// the labels and the arcs that leave their nodes.
+/// the labels and the arcs that leave their nodes; with a hub, only to the lightest of these.
 pub(crate) fn few_block<N: Network>(
     alloc: Global,
     graph: &Graph<N>,
-    links: &Links,
     claimed: &Block,
     tables: Tables,
 ) -> Result<Option<(Block, Tables)>, Memory>
     requires lawful { IsBlock graph.now.nodes claimed.now }
-    requires links { AreLinksOf Tail graph.now.arcs links.now }
-    requires free { AreFree tables }
+    requires free { AreFree graph.now tables }
     ensures distances { IfOk result (λ found. IfSome found (λ both. AreDistancesFrom graph.now claimed.now.source (label claimed.now))) }
     ensures made { IfOk result (λ found. IfSome found (λ both. IsMadeOf graph.now claimed.now both.0)) }
-    ensures free { IfOk result (λ found. IfSome found (λ both. AreFree both.1)) }
+    ensures free { IfOk result (λ found. IfSome found (λ both. AreFree graph.now both.1)) }
 {
-    let network = graph.network();
-    let claim = PlacedClaim::new(claimed, tables.places)?;
-    if !leaving_passed(network, links, claimed, &claim) {
+    let Tables {
+        lightest,
+        lists,
+        places,
+        reached,
+    } = tables;
+    let all = graph.network();
+    let claim = PlacedClaim::new(claimed, places)?;
+    let found = match &lightest {
+        Some(least) => few_tree(alloc, graph, least, &lists, claimed, &claim, reached)?,
+        None => few_tree(alloc, graph, all, &lists, claimed, &claim, reached)?,
+    };
+    let Some(tree) = found else {
+        return Ok(None);
+    };
+    let (block, reached) = tree.into_parts()?;
+    let places = claim.into_places();
+    Ok(Some((
+        block,
+        Tables {
+            lightest,
+            lists,
+            places,
+            reached,
+        },
+    )))
+}
+
+/// The tree of tight arcs to all labelled nodes, if no arc fails. `network` has the lightest arcs of the graph.
+fn few_tree<N: Network, M: Network>(
+    alloc: Global,
+    graph: &Graph<N>,
+    network: &M,
+    lists: &AdjacencyLists,
+    claimed: &Block,
+    claim: &PlacedClaim<'_>,
+    reached: NodeTable<bool>,
+) -> Result<Option<TightTree>, Memory>
+    requires graph { IsGraph graph.now }
+    requires nodes { M.node_count network.now ≡ graph.now.nodes }
+    requires lightest { AreLightest graph.now.arcs (M.list network.now) }
+    requires lists { AreAdjacencyLists Tail (M.list network.now) lists.now }
+    requires lawful { IsBlock graph.now.nodes claimed.now }
+    requires claimed { claim.now.block.now ≡ claimed.now }
+    requires unreached { IsUnreached (value_of reached) }
+    ensures distances { IfOk result (λ found. IfSome found (λ tree. AreDistancesFrom graph.now claimed.now.source (label claimed.now))) }
+    ensures made { IfOk result (λ found. IfSome found (λ tree. IsMadeOf graph.now claimed.now tree.block)) }
+    ensures marked { IfOk result (λ found. IfSome found (λ tree. (v : ℕ) → value_of tree.reached v ≡ is_some (label tree.block v))) }
+{
+    if !leaving_passed(network, lists, claimed, claim) {
         return Ok(None);
     }
-    let tree = tight_tree(
-        alloc,
-        network,
-        links,
-        claimed.source(),
-        &claim,
-        tables.reached,
-    )?;
+    let source = claimed.source();
+    let tree = tight_tree(alloc, network, lists, source, claim, reached)?;
     if !reaches_all(claimed, &tree) {
         return Ok(None);
     }
-    let (block, reached) = tree.into_parts()?;
-    let places = claim.into_places();
-    Ok(Some((block, Tables { places, reached })))
+    Ok(Some(tree))
 }
 
 /// Whether no arc that leaves a labelled node fails.
 fn leaving_passed<N: Network, C: DistanceClaim>(
     network: &N,
-    links: &Links,
+    lists: &AdjacencyLists,
     claimed: &Block,
     claim: &C,
 ) -> bool
-    requires links { AreLinksOf Tail (N.list network.now) links.now }
+    requires lists { AreAdjacencyLists Tail (N.list network.now) lists.now }
     requires claimed { (v : ℕ) → C.claimed claim.now v ≡ label claimed.now v }
     ensures { IsTrue result → Clear (claim_row (N.list network.now) (C.claimed claim.now)) }
 {
-    if !node_passed(network, links, claim, claimed.source()) {
+    if !node_passed(network, lists, claim, claimed.source()) {
         return false;
     }
     let labels = claimed.labels();
     for i in 0..labels.len() {
-        if !node_passed(network, links, claim, labels.at(i).id) {
+        if !node_passed(network, lists, claim, labels.at(i).id) {
             return false;
         }
     }
@@ -112,20 +217,20 @@ fn leaving_passed<N: Network, C: DistanceClaim>(
 /// Whether no arc that leaves this node fails.
 fn node_passed<N: Network, C: DistanceClaim>(
     network: &N,
-    links: &Links,
+    lists: &AdjacencyLists,
     claim: &C,
     node: u32,
 ) -> bool
-    requires { AreLinksOf Tail (N.list network.now) links.now }
+    requires { AreAdjacencyLists Tail (N.list network.now) lists.now }
     ensures { IsTrue result → ArePassedFrom (N.list network.now) (C.claimed claim.now) node }
 {
-    let mut next = links.last(node);
+    let mut next = lists.last(node);
     while next > 0 {
-        let via = next - 1;
-        if arc_fault(claim, network.arc(via)).is_some() {
+        let arc_index = next - 1;
+        if arc_fault(claim, network.arc(arc_index)).is_some() {
             return false;
         }
-        next = links.before(via);
+        next = lists.before(arc_index);
     }
     true
 }

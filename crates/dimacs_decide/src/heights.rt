@@ -5,7 +5,7 @@ ghost use Rattle.std.specs.List.{AllZip};
 ghost use Rattle.dimacs_lines.specs.Limits.{most_count, most_nodes};
 ghost use Rattle.dimacs_network.specs.declared.network.ArcView.{ArcView};
 ghost use Rattle.dimacs_network.specs.Arcs.{JoinsNodes, arc_at};
-ghost use Rattle.dimacs_network.specs.Links.{end_of, other_end};
+ghost use Rattle.dimacs_network.specs.AdjacencyLists.{end_of, other_end};
 ghost use Rattle.dimacs_instance.specs.MinFlows.{HasBounds};
 ghost use Rattle.dimacs_records.specs.Ranges.{IsWhole};
 ghost use Rattle.dimacs_judge.specs.Rows.{amount_at};
@@ -13,7 +13,7 @@ ghost use Rattle.dimacs_nodes.specs.Tables.{value_of};
 ghost use Rattle.dimacs_decide.specs.Bounds.{KeepsBounds};
 ghost use Rattle.dimacs_decide.specs.inside.Heights.{AreHeights, BelowBound, IsRound, Lifts, below_of, either_of, gain_at, height_of, unraised};
 
-use crate::room::room_from;
+use crate::residual_capacity::residual_capacity_from;
 use dimacs_judge::Flow;
 use dimacs_lines::Memory;
 use dimacs_network::{ArcView, Network, Side};
@@ -24,7 +24,7 @@ use dimacs_nodes::NodeTable;
 #[derive(Clone, Copy)]
 pub(crate) struct Label {
     pub height: i128,
-    pub via: u32,
+    pub parent_arc: u32,
     pub side: Side,
 }
 
@@ -34,7 +34,7 @@ pub(crate) fn unraised_label() -> Label
 {
     Label {
         height: 0,
-        via: 0,
+        parent_arc: 0,
         side: Side::Tail,
     }
 }
@@ -42,13 +42,13 @@ pub(crate) fn unraised_label() -> Label
 /// The node from which a label was raised; 0 for none.
 #[inline(always)]
 pub(crate) fn below<N: Network>(network: &N, label: Label) -> u32
-    requires { label.via ≤ length (N.list network.now) }
+    requires { label.parent_arc ≤ length (N.list network.now) }
     ensures { result ≡ below_of (N.list network.now) label }
 {
-    if label.via == 0 {
+    if label.parent_arc == 0 {
         return 0;
     }
-    label.side.near(network.arc(label.via - 1))
+    label.side.near(network.arc(label.parent_arc - 1))
 }
 
 /// What sending one unit along the arc from this side saves.
@@ -70,19 +70,19 @@ fn lift<N: Network>(
     network: &N,
     flow: &Flow,
     side: Side,
-    via: u32,
+    parent_arc: u32,
     labels: &mut NodeTable<Label>,
 ) -> Result<bool, Memory>
-    requires via { via < length (N.list network.now) }
+    requires parent_arc { parent_arc < length (N.list network.now) }
     requires few_arcs { length (N.list network.now) ≤ most_count }
     requires bounds { All HasBounds (N.list network.now) }
     requires within { KeepsBounds (N.list network.now) flow.now }
     requires least { (v : ℕ) → pos 0 ≤ℤ height_of (value_of labels.old) v }
     requires bounded { BelowBound 1073741824 (value_of labels.old) }
-    ensures { IfOk result (λ lifted. Lifts (N.list network.now) flow.now side via (value_of labels.old) lifted (value_of labels.new)) }
+    ensures { IfOk result (λ lifted. Lifts (N.list network.now) flow.now side parent_arc (value_of labels.old) lifted (value_of labels.new)) }
 {
-    let arc = network.arc(via);
-    if room_from(side, arc, flow.amount(via)) <= 0 {
+    let arc = network.arc(parent_arc);
+    if residual_capacity_from(side, arc, flow.amount(parent_arc)) <= 0 {
         return Ok(false);
     }
     let to = side.far(arc);
@@ -92,7 +92,7 @@ fn lift<N: Network>(
     }
     let label = Label {
         height,
-        via: via + 1,
+        parent_arc: parent_arc + 1,
         side,
     };
     labels.set(to, label)?;

@@ -7,7 +7,7 @@ ghost use Rattle.dimacs_claims.specs.Potentials.{potential_of};
 ghost use Rattle.dimacs_records.specs.Ranges.{IsWide};
 ghost use Rattle.dimacs_judge.specs.Feasible.{FeasibleMin};
 ghost use Rattle.dimacs_nodes.specs.Tables.{value_of};
-ghost use Rattle.dimacs_network.specs.declared.links.Side.TheVariants.{Tail};
+ghost use Rattle.dimacs_network.specs.declared.adjacency_lists.Side.TheVariants.{Tail};
 ghost use Rattle.dimacs_decide.specs.MinDecision.{DecidesMin};
 ghost use Rattle.dimacs_decide.specs.inside.Cycles.{IsSaving};
 ghost use Rattle.dimacs_decide.specs.inside.Heights.{AreStarted, BelowBound, bound, height_of};
@@ -214,11 +214,11 @@ fn start_at(labels: &mut NodeTable<Label>, id: u32, height: i128) -> Result<(), 
 
 /// The label of a node with this height that wasn't raised.
 fn unraised_at(height: i128) -> Label
-    ensures { result ≡ record { height = height; via = 0; side = Tail } }
+    ensures { result ≡ record { height = height; parent_arc = 0; side = Tail } }
 {
     Label {
         height,
-        via: 0,
+        parent_arc: 0,
         side: Side::Tail,
     }
 }

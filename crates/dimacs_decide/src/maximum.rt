@@ -6,11 +6,11 @@ ghost use Rattle.dimacs_network.specs.declared.network.ArcView.{ArcView};
 ghost use Rattle.dimacs_judge.specs.Feasible.{FeasibleMax};
 ghost use Rattle.dimacs_nodes.specs.Tables.{value_of};
 ghost use Rattle.dimacs_decide.specs.MaxDecision.{DecidesMax};
-ghost use Rattle.dimacs_decide.specs.Links.{IsIncidenceOf};
+ghost use Rattle.dimacs_decide.specs.Incidence.{IsIncidenceOf};
 ghost use Rattle.dimacs_decide.specs.inside.Residual.{IsResidualSearch, rank_of};
-ghost use Rattle.dimacs_decide.specs.inside.Surpluses.{AreEnds};
+ghost use Rattle.dimacs_decide.specs.inside.Imbalances.{AreEnds};
 
-use crate::links::Incidence;
+use crate::incidence::Incidence;
 use crate::search::{MOST, Search};
 use crate::send::{Sending, send};
 use dimacs_claims::Cut;
@@ -66,15 +66,15 @@ pub fn decide_max_over<N: Network>(
 /// A search from the source to the sink.
 fn begun(alloc: Global, source: u32, sink: u32) -> Result<Search, Memory>
     requires { source ≢ sink }
-    ensures ends { IfOk result (λ search. AreEnds source sink (value_of search.surplus)) }
+    ensures ends { IfOk result (λ search. AreEnds source sink (value_of search.imbalance)) }
     ensures reached { IfOk result (λ search. 0 < rank_of (value_of search.visits) source) }
     ensures begun { IfOk result (λ search. (nodes : ℕ) (arcs : List ArcView) (x : List ℤ) → IsNode nodes source
-        → IsResidualSearch nodes arcs x (value_of search.surplus) (value_of search.visits) search.queue.items 0) }
+        → IsResidualSearch nodes arcs x (value_of search.imbalance) (value_of search.visits) search.queue.items 0) }
 {
-    let mut surplus = NodeTable::new(alloc, 0i128);
-    surplus.set(source, MOST)?;
-    surplus.set(sink, -MOST)?;
-    let mut search = Search::new(alloc, surplus);
+    let mut imbalance = NodeTable::new(alloc, 0i128);
+    imbalance.set(source, MOST)?;
+    imbalance.set(sink, -MOST)?;
+    let mut search = Search::new(alloc, imbalance);
     search.begin(source)?;
     Ok(search)
 }

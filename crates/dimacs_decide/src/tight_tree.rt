@@ -4,8 +4,8 @@ ghost use Rattle.std.specs.Prelude.{◌≡◌, ◌≢◌, ◌<◌, ◌≤◌, �
 ghost use Rattle.dimacs_lines.specs.Limits.{most_nodes, IsNode};
 ghost use Rattle.dimacs_records.specs.Ranges.{IsWide};
 ghost use Rattle.dimacs_network.specs.Arcs.{JoinsNodes, arc_at};
-ghost use Rattle.dimacs_network.specs.Links.{AreLinksOf};
-ghost use Rattle.dimacs_network.specs.declared.links.Side.TheVariants.{Tail};
+ghost use Rattle.dimacs_network.specs.AdjacencyLists.{AreAdjacencyLists};
+ghost use Rattle.dimacs_network.specs.declared.adjacency_lists.Side.TheVariants.{Tail};
 ghost use Rattle.dimacs_claims.specs.Labels.{label};
 ghost use Rattle.dimacs_nodes.specs.Tables.{value_of};
 ghost use Rattle.dimacs_decide.specs.Distances.{IsTight};
@@ -15,7 +15,7 @@ ghost use Rattle.dimacs_decide.specs.inside.TightTrees.{AreTightTails, IsPassed,
 use crate::claim::DistanceClaim;
 use dimacs_claims::{Block, Label};
 use dimacs_lines::Memory;
-use dimacs_network::{ArcView, Links, Network};
+use dimacs_network::{AdjacencyLists, ArcView, Network};
 use dimacs_nodes::NodeTable;
 use std::alloc::Global;
 
@@ -148,12 +148,12 @@ impl TightTree {
         &mut self,
         network: &N,
         claim: &C,
-        links: &Links,
+        lists: &AdjacencyLists,
         from: u32,
     ) -> Result<(), Memory>
         requires few_nodes { N.node_count network.now ≤ most_nodes }
         requires joined { All (JoinsNodes (N.node_count network.now)) (N.list network.now) }
-        requires links { AreLinksOf Tail (N.list network.now) links.now }
+        requires lists { AreAdjacencyLists Tail (N.list network.now) lists.now }
         requires tree { IsTightTree (N.node_count network.now) (N.list network.now) (C.claimed claim.now) self.old.block (value_of self.old.reached) }
         requires reached { value_of self.old.reached from ≡ true }
         ensures tree { OnOk result (IsTightTree (N.node_count network.now) (N.list network.now) (C.claimed claim.now)
@@ -161,11 +161,11 @@ impl TightTree {
         ensures grows { OnOk result (TreeGrows self.old.block (value_of self.old.reached) self.new.block (value_of self.new.reached)) }
         ensures passed { OnOk result (IsPassed (N.list network.now) (C.claimed claim.now) (value_of self.new.reached) from) }
     {
-        let mut next = links.last(from);
+        let mut next = lists.last(from);
         while next > 0 {
-            let via = next - 1;
-            self.follow(network, claim, via)?;
-            next = links.before(via);
+            let arc_index = next - 1;
+            self.follow(network, claim, arc_index)?;
+            next = lists.before(arc_index);
         }
         Ok(())
     }
@@ -176,20 +176,20 @@ impl TightTree {
         &mut self,
         network: &N,
         claim: &C,
-        via: u32,
+        arc_index: u32,
     ) -> Result<(), Memory>
         requires few_nodes { N.node_count network.now ≤ most_nodes }
         requires joined { All (JoinsNodes (N.node_count network.now)) (N.list network.now) }
-        requires via { via < length (N.list network.now) }
+        requires arc_index { arc_index < length (N.list network.now) }
         requires tree { IsTightTree (N.node_count network.now) (N.list network.now) (C.claimed claim.now) self.old.block (value_of self.old.reached) }
-        requires reached { value_of self.old.reached (arc_at (N.list network.now) via).tail ≡ true }
+        requires reached { value_of self.old.reached (arc_at (N.list network.now) arc_index).tail ≡ true }
         ensures tree { OnOk result (IsTightTree (N.node_count network.now) (N.list network.now) (C.claimed claim.now)
             self.new.block (value_of self.new.reached)) }
         ensures grows { OnOk result (TreeGrows self.old.block (value_of self.old.reached) self.new.block (value_of self.new.reached)) }
-        ensures followed { OnOk result (IsTight (C.claimed claim.now) (arc_at (N.list network.now) via)
-            → value_of self.new.reached (arc_at (N.list network.now) via).head ≡ true) }
+        ensures followed { OnOk result (IsTight (C.claimed claim.now) (arc_at (N.list network.now) arc_index)
+            → value_of self.new.reached (arc_at (N.list network.now) arc_index).head ≡ true) }
     {
-        let arc = network.arc(via);
+        let arc = network.arc(arc_index);
         if self.reached.get(arc.head) {
             return Ok(());
         }
@@ -236,14 +236,14 @@ fn leads_to(from: i128, weight: i64, to: i128) -> bool
 pub(crate) fn tight_tree<N: Network, C: DistanceClaim>(
     alloc: Global,
     network: &N,
-    links: &Links,
+    lists: &AdjacencyLists,
     source: u32,
     claim: &C,
     reached: NodeTable<bool>,
 ) -> Result<TightTree, Memory>
     requires few_nodes { N.node_count network.now ≤ most_nodes }
     requires joined { All (JoinsNodes (N.node_count network.now)) (N.list network.now) }
-    requires links { AreLinksOf Tail (N.list network.now) links.now }
+    requires lists { AreAdjacencyLists Tail (N.list network.now) lists.now }
     requires source { IsNode (N.node_count network.now) source }
     requires claimed { C.claimed claim.now source ≡ Some (pos 0) }
     requires unreached { IsUnreached (value_of reached) }
@@ -255,7 +255,7 @@ pub(crate) fn tight_tree<N: Network, C: DistanceClaim>(
     let mut at = 0;
     while at <= tree.len() {
         let from = tree.node(at);
-        tree.pass(network, claim, links, from)?;
+        tree.pass(network, claim, lists, from)?;
         at += 1;
     }
     Ok(tree)

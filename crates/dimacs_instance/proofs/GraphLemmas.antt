@@ -13,7 +13,7 @@ use Rattle.dimacs_records.specs.declared.records.Record.{Record}
 use Rattle.dimacs_records.specs.declared.records.Record.TheVariants.{GraphProblem, GraphArc}
 use Rattle.dimacs_records.specs.Earlier.{counted_in}
 use Rattle.dimacs_records.specs.Spelling.{kind_of}
-use Rattle.dimacs_records.specs.Tests.{after_records, earlier_of, told_of}
+use Rattle.dimacs_records.specs.Tests.{after_records, earlier_of, noted_before}
 use Rattle.dimacs_records.specs.Readings.{IsAllowed, IsComplete}
 use Rattle.dimacs_records.proofs.ConditionLemmas.{is_allowed, is_complete}
 use Rattle.dimacs_network.specs.declared.network.ArcView.{ArcView}
@@ -51,12 +51,12 @@ pub first_problem : (n m : ℕ) → IsAllowed [] (GraphProblem n m)
 first_problem n m = is_allowed [] (GraphProblem n m) refl
 
 -- what the tests know follows from the records
-pub lines_told : (b : GraphBegun) → after_lines b ≡ after_records (graph_begun_records b)
-lines_told b = ap (earlier_of (after_lines b).problem) (sym (counted_in-arcs b.arcs))
+pub lines_noted : (b : GraphBegun) → after_lines b ≡ after_records (graph_begun_records b)
+lines_noted b = ap (earlier_of (after_lines b).problem) (sym (counted_in-arcs b.arcs))
 
-pub tells : (b : GraphBegun) (r : Record) → kind_of r ≡ Graph → after_lines b ≡ told_of (graph_begun_records b) r
-tells b (GraphProblem n m) of_kind = lines_told b
-tells b (GraphArc t h w) of_kind = lines_told b
+pub tells : (b : GraphBegun) (r : Record) → kind_of r ≡ Graph → after_lines b ≡ noted_before (graph_begun_records b) r
+tells b (GraphProblem n m) of_kind = lines_noted b
+tells b (GraphArc t h w) of_kind = lines_noted b
 tells b r of_kind = absurd (cc)
 
 arc_allowed : (nodes declared : ℕ) (arcs : List ArcView) (a : ArcView) (before : List Record) (r : Record) → before ≡ GraphProblem nodes declared ∷ map graph_arc arcs → r ≡ graph_arc a

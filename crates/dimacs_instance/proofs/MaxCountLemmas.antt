@@ -16,7 +16,7 @@ use Rattle.dimacs_records.specs.Conditions.{lacks_end}
 use Rattle.dimacs_records.specs.Ranges.{IsWhole}
 use Rattle.dimacs_records.specs.Readings.{LineRecord, records_of}
 use Rattle.dimacs_records.specs.Spelling.{kind_of}
-use Rattle.dimacs_records.specs.Tests.{Passes, PassesEnd, told_at_end, told_of}
+use Rattle.dimacs_records.specs.Tests.{Passes, PassesEnd, noted_at_end, noted_before}
 use Rattle.dimacs_records.specs.Texts.{AreFaultless}
 use Rattle.dimacs_network.specs.declared.network.ArcView.{ArcView}
 use Rattle.dimacs_network.specs.Arcs.{JoinsNodes}
@@ -52,10 +52,10 @@ pub counted_begun : (b : MaxBegun) → IsMaxBegun b → IsMaxCountedBy (count_of
 counted_begun b is = record { begun = b; is_begun = is; records = refl; counts = refl }
 
 module _ (c : MaxCount) (rs : List Record) (counted : IsMaxCountedBy c rs) where
-  pub counted_told : (r : Record) → kind_of r ≡ Max → before c r ≡ told_of rs r
-  counted_told r of_kind = rw (counted.counts, counted.records) (tells counted.begun r of_kind)
+  pub counted_noted : (r : Record) → kind_of r ≡ Max → before c r ≡ noted_before rs r
+  counted_noted r of_kind = rw (counted.counts, counted.records) (tells counted.begun r of_kind)
 
-  pub counted_end_told : before_end c ≡ told_at_end Max rs
+  pub counted_end_told : before_end c ≡ noted_at_end Max rs
   counted_end_told = rw (counted.counts, counted.records) (end_tells counted.begun)
 
   module _ (tail head : ℕ) (cap : ℤ) (passes : Passes (before c (MaxArc tail head cap)) (MaxArc tail head cap)) where

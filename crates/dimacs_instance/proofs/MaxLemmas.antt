@@ -16,7 +16,7 @@ use Rattle.dimacs_records.specs.declared.records.Record.TheVariants.{MaxProblem,
 use Rattle.dimacs_records.specs.Earlier.{counted_in, is_counted, names, is_end_node, is_flow_arc, is_max_node}
 use Rattle.dimacs_records.specs.Conditions.{lacks_end}
 use Rattle.dimacs_records.specs.Readings.{IsAllowed, IsComplete}
-use Rattle.dimacs_records.specs.Tests.{after_records, earlier_of, told_at_end, told_of}
+use Rattle.dimacs_records.specs.Tests.{after_records, earlier_of, noted_at_end, noted_before}
 use Rattle.dimacs_records.proofs.ConditionLemmas.{is_allowed, is_complete}
 use Rattle.dimacs_records.specs.Spelling.{kind_of}
 use Rattle.dimacs_network.specs.declared.network.ArcView.{ArcView}
@@ -113,14 +113,14 @@ pub first_problem : (n m : ℕ) → IsAllowed [] (MaxProblem n m)
 first_problem n m = is_allowed [] (MaxProblem n m) refl
 
 -- what the tests know follows from the records
-lines_told : (b : MaxBegun) → after_lines (count_of b) ≡ after_records (max_begun_records b)
-lines_told b = ap (earlier_of (after_lines (count_of b)).problem) (sym (counted b.nodes b.declared b.ends b.arcs))
+lines_noted : (b : MaxBegun) → after_lines (count_of b) ≡ after_records (max_begun_records b)
+lines_noted b = ap (earlier_of (after_lines (count_of b)).problem) (sym (counted b.nodes b.declared b.ends b.arcs))
 
-pub end_tells : (b : MaxBegun) → before_end (count_of b) ≡ told_at_end Max (max_begun_records b)
-end_tells b = ap₂ (λ (e : Earlier) t. record e { lacks_end = t }) (lines_told b) (sym (lacking b.nodes b.declared b.ends b.arcs))
+pub end_tells : (b : MaxBegun) → before_end (count_of b) ≡ noted_at_end Max (max_begun_records b)
+end_tells b = ap₂ (λ (e : Earlier) t. record e { lacks_end = t }) (lines_noted b) (sym (lacking b.nodes b.declared b.ends b.arcs))
 
-pub tells : (b : MaxBegun) (r : Record) → kind_of r ≡ Max → before (count_of b) r ≡ told_of (max_begun_records b) r
-tells b (MaxProblem n m) of_kind = lines_told b
+pub tells : (b : MaxBegun) (r : Record) → kind_of r ≡ Max → before (count_of b) r ≡ noted_before (max_begun_records b) r
+tells b (MaxProblem n m) of_kind = lines_noted b
 tells b (MaxNode id end) of_kind =
     rw (any_flow_arc b.nodes b.declared b.ends b.arcs, named b.nodes b.declared b.ends b.arcs id, ended b.nodes b.declared b.ends b.arcs end, counted b.nodes b.declared b.ends b.arcs) refl
 tells b (MaxArc t h cap) of_kind = end_tells b

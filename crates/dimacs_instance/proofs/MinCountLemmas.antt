@@ -12,7 +12,7 @@ use Rattle.dimacs_records.specs.NodeValues.{without_zeros}
 use Rattle.dimacs_records.specs.Ranges.{IsWhole}
 use Rattle.dimacs_records.specs.Readings.{LineRecord, records_of}
 use Rattle.dimacs_records.specs.Spelling.{kind_of}
-use Rattle.dimacs_records.specs.Tests.{Passes, PassesEnd, after_records, told_of}
+use Rattle.dimacs_records.specs.Tests.{Passes, PassesEnd, after_records, noted_before}
 use Rattle.dimacs_records.specs.Texts.{AreFaultless}
 use Rattle.dimacs_network.specs.declared.network.ArcView.{ArcView}
 use Rattle.dimacs_instance.specs.MinFlows.{IsMin, MinValue, demand_sum, supply_sum}
@@ -20,7 +20,7 @@ use Rattle.dimacs_instance.specs.MinTexts.{GivesMin, min_arc, min_node, min_reco
 use Rattle.dimacs_instance.specs.MinReading.{IsMinBegun, IsMinBegunBy, IsMinCountedBy, MinBegun, MinCount, after_lines, before, count_of, without_arcs}
 use Rattle.dimacs_instance.specs.Summaries.{GivesMinSummary}
 use Rattle.dimacs_instance.specs.declared.summaries.min.MinSummary.{MinSummary}
-use Rattle.dimacs_instance.proofs.MinLemmas.{arc_bounds, arc_joins, arc_room, begins, gives_min, law_with_arc, law_with_supply, lines_told, min_law, names_one, new_law, node, tells, with_arc}
+use Rattle.dimacs_instance.proofs.MinLemmas.{arc_bounds, arc_joins, arc_room, begins, gives_min, law_with_arc, law_with_supply, lines_noted, min_law, names_one, new_law, node, tells, with_arc}
 use Rattle.dimacs_instance.proofs.MinTextLemmas.{min_faultless, one_min}
 
 pub counted_none : (nodes declared : ℕ) → nodes ≤ most_nodes → declared ≤ most_count → IsMinCountedBy (record { nodes = nodes; declared = declared; supplies = empty; arcs = 0 }) (MinProblem nodes declared ∷ [])
@@ -37,11 +37,11 @@ arc_records nodes declared named arcs a =
     (append_assoc (map min_node named) (map min_arc arcs) (min_arc a ∷ []) ∙ ap (λ (later : List Record). map min_node named ++ later) (sym (map-append min_arc arcs (a ∷ []))))
 
 module _ (c : MinCount) (rs : List Record) (counted : IsMinCountedBy c rs) where
-  pub counted_told : (r : Record) → kind_of r ≡ Min → before c r ≡ told_of rs r
-  counted_told r of_kind = rw counted.counts (tells counted.begun r of_kind rs counted.begun_by)
+  pub counted_noted : (r : Record) → kind_of r ≡ Min → before c r ≡ noted_before rs r
+  counted_noted r of_kind = rw counted.counts (tells counted.begun r of_kind rs counted.begun_by)
 
   pub counted_lines_told : after_lines c ≡ after_records rs
-  counted_lines_told = rw counted.counts (lines_told counted.begun rs counted.begun_by)
+  counted_lines_told = rw counted.counts (lines_noted counted.begun rs counted.begun_by)
 
   pub one_more_arc : (a : ArcView) → Passes (after_lines c) (min_arc a) → 1 ≤ a.tail → 1 ≤ a.head → IsWhole a.cap → IsWhole a.cost
       → IsMinCountedBy (record { nodes = c.nodes; declared = c.declared; supplies = c.supplies; arcs = c.arcs + 1 }) (rs ++ min_arc a ∷ [])

@@ -17,7 +17,7 @@ use Rattle.dimacs_records.specs.declared.records.Record.{Record}
 use Rattle.dimacs_records.specs.declared.records.Record.TheVariants.{MinArc, MinProblem, MinNode}
 use Rattle.dimacs_records.specs.Earlier.{is_flow_arc, names, counted_in}
 use Rattle.dimacs_records.specs.Readings.{LineRecord, IsAllowed, IsComplete, records_of}
-use Rattle.dimacs_records.specs.Tests.{Passes, PassesEnd, after_records, earlier_of, told_of}
+use Rattle.dimacs_records.specs.Tests.{Passes, PassesEnd, after_records, earlier_of, noted_before}
 use Rattle.dimacs_records.proofs.ConditionLemmas.{is_allowed, is_complete}
 use Rattle.dimacs_network.specs.declared.network.ArcView.{ArcView}
 use Rattle.dimacs_network.specs.Arcs.{JoinsNodes, NetworkValue}
@@ -73,8 +73,8 @@ pub allows_problem : (n m : ℕ) → IsAllowed [] (MinProblem n m)
 allows_problem n m = is_allowed [] (MinProblem n m) refl
 
 -- what the tests know follows from the records
-pub lines_told : (b : MinBegun) (rs : List Record) → IsMinBegunBy b rs → after_lines (count_of b) ≡ after_records rs
-lines_told b rs h = rw h.records (ap (earlier_of (after_lines (count_of b)).problem) (sym (counted h.named b.arcs)))
+pub lines_noted : (b : MinBegun) (rs : List Record) → IsMinBegunBy b rs → after_lines (count_of b) ≡ after_records rs
+lines_noted b rs h = rw h.records (ap (earlier_of (after_lines (count_of b)).problem) (sym (counted h.named b.arcs)))
 
 has_named : (b : MinBegun) (id : ℕ) {rs : List Record} (h : IsMinBegunBy b rs) → has_line (count_of b) id ≡ list_any (is_of id) h.named
 has_named b id h = ap (λ m. is_some (get m id)) h.supplies ∙ has-from_entries h.named id
@@ -85,10 +85,10 @@ arcs_told b rs h = rw h.records (any_flow_arc h.named b.arcs)
 named_told : (b : MinBegun) (rs : List Record) (id : ℕ) → IsMinBegunBy b rs → list_any (names id) rs ≡ has_line (count_of b) id
 named_told b rs id h = rw h.records (any_names id h.named b.arcs ∙ sym (has_named b id h))
 
-pub tells : (b : MinBegun) (r : Record) → kind_of r ≡ Min → (rs : List Record) → IsMinBegunBy b rs → before (count_of b) r ≡ told_of rs r
-tells b (MinProblem n m) of_kind rs h = lines_told b rs h
-tells b (MinNode id s) of_kind rs h = rw (arcs_told b rs h, named_told b rs id h) (ap (λ (e : Earlier). record (before (count_of b) (MinNode id s)) { problem = e.problem; counted = e.counted }) (lines_told b rs h))
-tells b (MinArc tail head low cap cost) of_kind rs h = lines_told b rs h
+pub tells : (b : MinBegun) (r : Record) → kind_of r ≡ Min → (rs : List Record) → IsMinBegunBy b rs → before (count_of b) r ≡ noted_before rs r
+tells b (MinProblem n m) of_kind rs h = lines_noted b rs h
+tells b (MinNode id s) of_kind rs h = rw (arcs_told b rs h, named_told b rs id h) (ap (λ (e : Earlier). record (before (count_of b) (MinNode id s)) { problem = e.problem; counted = e.counted }) (lines_noted b rs h))
+tells b (MinArc tail head low cap cost) of_kind rs h = lines_noted b rs h
 tells b r of_kind rs h = absurd (cc)
 
 -- the state after a problem line

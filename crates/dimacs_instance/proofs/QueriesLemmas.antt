@@ -19,7 +19,7 @@ use Rattle.dimacs_records.specs.Canonical.{CanBeSpelled}
 use Rattle.dimacs_records.specs.Ranges.{IsId}
 use Rattle.dimacs_records.specs.Readings.{LineRecord, IsAllowed, IsComplete, records_of}
 use Rattle.dimacs_records.specs.Spelling.{kind_of, query_word}
-use Rattle.dimacs_records.specs.Tests.{after_records, earlier_of, told_of}
+use Rattle.dimacs_records.specs.Tests.{after_records, earlier_of, noted_before}
 use Rattle.dimacs_records.specs.Texts.{AreFaultless}
 use Rattle.dimacs_records.proofs.CanonicalLaws.{canonical_spelled, numbered_all}
 use Rattle.dimacs_records.proofs.ConditionLemmas.{is_allowed, is_complete, allowed_at}
@@ -58,8 +58,8 @@ module _ (n : ℕ) (queries : QueriesValue) where
       is_complete kinds.Queries earlier (rw counted refl)
 
 -- what the tests know follows from the records
-pub lines_told : (b : QueriesBegun) → after_lines b ≡ after_records (queries_begun_records b)
-lines_told b = ap (earlier_of (after_lines b).problem) (sym (counted_in-query_lines b.queries))
+pub lines_noted : (b : QueriesBegun) → after_lines b ≡ after_records (queries_begun_records b)
+lines_noted b = ap (earlier_of (after_lines b).problem) (sym (counted_in-query_lines b.queries))
 
 -- only the problem line announces the kind of query
 source_told : (id n : ℕ) (queries : QueriesValue) → list_any (asks_for asks.Pairs) (earlier n queries) ≡ are_others (SourceQuery id) queries
@@ -70,10 +70,10 @@ pair_told : (from to n : ℕ) (queries : QueriesValue) → list_any (asks_for as
 pair_told from to n (Sources ids) = refl
 pair_told from to n (Pairs pairs) = no_problem_in_pairs pairs
 
-pub tells : (b : QueriesBegun) (r : Record) → kind_of r ≡ kinds.Queries → before b r ≡ told_of (queries_begun_records b) r
-tells b (QueriesProblem kind n) of_kind = lines_told b
-tells b (SourceQuery id) of_kind = ap₂ (λ (e : Earlier) t. record e { misplaced = t }) (lines_told b) (sym (source_told id b.declared b.queries))
-tells b (PairQuery from to) of_kind = ap₂ (λ (e : Earlier) t. record e { misplaced = t }) (lines_told b) (sym (pair_told from to b.declared b.queries))
+pub tells : (b : QueriesBegun) (r : Record) → kind_of r ≡ kinds.Queries → before b r ≡ noted_before (queries_begun_records b) r
+tells b (QueriesProblem kind n) of_kind = lines_noted b
+tells b (SourceQuery id) of_kind = ap₂ (λ (e : Earlier) t. record e { misplaced = t }) (lines_noted b) (sym (source_told id b.declared b.queries))
+tells b (PairQuery from to) of_kind = ap₂ (λ (e : Earlier) t. record e { misplaced = t }) (lines_noted b) (sym (pair_told from to b.declared b.queries))
 tells b r of_kind = absurd (cc)
 
 -- the records of queries have no fault

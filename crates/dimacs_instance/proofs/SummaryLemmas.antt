@@ -27,7 +27,7 @@ use Rattle.dimacs_instance.specs.GraphReading.{GraphBegun, IsGraphBegun, graph_b
 use Rattle.dimacs_instance.specs.Summaries.{GivesGraphSummary, IsGraphCountedBy, ReadsSummary, SumsUpGraph, counted_lines}
 use Rattle.dimacs_instance.specs.declared.summaries.graph.CountedGraph.{CountedGraph}
 use Rattle.dimacs_instance.specs.declared.summaries.graph.GraphSummary.{GraphSummary}
-use Rattle.dimacs_instance.proofs.GraphLemmas.{graph_faultless, lines_told, one_graph}
+use Rattle.dimacs_instance.proofs.GraphLemmas.{graph_faultless, lines_noted, one_graph}
 
 -- ---- a graph
 pub counted_none : (nodes declared : ℕ) → nodes ≤ most_nodes → declared ≤ most_count → IsGraphCountedBy (record { nodes = nodes; declared = declared; arcs = 0 }) (GraphProblem nodes declared ∷ [])
@@ -67,8 +67,8 @@ module _ (c : CountedGraph) (tail head : ℕ) (weight : ℤ) (passes : Passes (c
         arcs = omega (arith, length-append b.arcs (arc ∷ []), counted.arcs);
       }
 
-pub counted_told : (c : CountedGraph) (rs : List Record) → IsGraphCountedBy c rs → counted_lines c ≡ after_records rs
-counted_told c rs counted = rw (counted.nodes, counted.declared, counted.arcs, counted.records) (lines_told counted.begun)
+pub counted_noted : (c : CountedGraph) (rs : List Record) → IsGraphCountedBy c rs → counted_lines c ≡ after_records rs
+counted_noted c rs counted = rw (counted.nodes, counted.declared, counted.arcs, counted.records) (lines_noted counted.begun)
 
 pub gives_graph_summary : (c : CountedGraph) → PassesEnd Graph (counted_lines c) → (rs : List LineRecord) → IsGraphCountedBy c (records_of rs) → GivesGraphSummary rs (record { nodes = c.nodes; arcs = c.arcs })
 gives_graph_summary c p rs counted =

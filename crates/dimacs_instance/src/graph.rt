@@ -102,9 +102,9 @@ impl<N: OfWeightArcs> Begun for BegunGraph<N> {
 
     ghost begun_by = { λ begun rs. rs ≡ graph_begun_records begun };
 
-    ghost told = { λ begun r. after_lines begun };
+    ghost noted = { λ begun r. after_lines begun };
 
-    ghost told_end = { λ begun. after_lines begun };
+    ghost noted_end = { λ begun. after_lines begun };
 
     ghost gives = { λ rs g. GivesGraph rs g };
 

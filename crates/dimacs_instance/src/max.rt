@@ -223,9 +223,9 @@ impl<N: OfCapacityArcs> Begun for BegunMax<N> {
 
     ghost begun_by = { λ begun rs. rs ≡ max_begun_records begun };
 
-    ghost told = { λ begun r. before (count_of begun) r };
+    ghost noted = { λ begun r. before (count_of begun) r };
 
-    ghost told_end = { λ begun. before_end (count_of begun) };
+    ghost noted_end = { λ begun. before_end (count_of begun) };
 
     ghost gives = { λ rs m. GivesMax rs m };
 

@@ -16,7 +16,7 @@ ghost use Rattle.dimacs_instance.specs.MinReading.{IsMinBegunBy, after_lines, be
 
 mod build;
 
-use dimacs_lines::{DeviceFault, Memory, Page, Sink, Source};
+use dimacs_lines::{DeviceFault, Memory, OutputBuffer, Sink, Source};
 use dimacs_network::{ArcView, ForwardStar, KeptArc, Network, OfCostArcs, PlainArcs};
 use dimacs_nodes::NodeMap;
 use dimacs_records::{
@@ -174,9 +174,9 @@ impl<N: OfCostArcs> Begun for BegunMin<N> {
 
     ghost begun_by = { λ begun rs. IsMinBegunBy begun rs };
 
-    ghost told = { λ begun r. before (count_of begun) r };
+    ghost noted = { λ begun r. before (count_of begun) r };
 
-    ghost told_end = { λ begun. after_lines (count_of begun) };
+    ghost noted_end = { λ begun. after_lines (count_of begun) };
 
     ghost gives = { λ rs m. GivesMin rs m };
 
@@ -287,10 +287,10 @@ pub fn write_min<N: Network, S: Sink>(
     let network = instance.network();
     let nodes = network.nodes();
     let arcs = network.arcs();
-    let mut page = Page::new();
-    write_record(&mut page, sink, &Record::MinProblem { nodes, arcs });
+    let mut output = OutputBuffer::new();
+    write_record(&mut output, sink, &Record::MinProblem { nodes, arcs });
     write_lines(
-        &mut page,
+        &mut output,
         sink,
         nodes as usize,
         |i|
@@ -304,7 +304,7 @@ pub fn write_min<N: Network, S: Sink>(
         },
     );
     write_lines(
-        &mut page,
+        &mut output,
         sink,
         arcs as usize,
         |i|
@@ -312,7 +312,7 @@ pub fn write_min<N: Network, S: Sink>(
             ensures { result ≡ option_map min_arc (slice_get (N.list network.entry.now) i) }
         { Some(arc_record(network.arc(i as u32))) },
     );
-    page.finish(sink)
+    output.finish(sink)
 }
 
 /// The line of an arc.

@@ -3,7 +3,7 @@
 ghost use Rattle.std.specs.Prelude.{◌≡◌, ◌<◌, ℕ, List, Some, IfOk, length, refl, slice_get};
 ghost use Rattle.std.specs.Result.{result_map_both};
 ghost use Rattle.dimacs_lines.specs.Lines.{lines};
-ghost use Rattle.dimacs_lines.specs.Pages.{Appends};
+ghost use Rattle.dimacs_lines.specs.OutputBuffers.{Appends};
 ghost use Rattle.dimacs_lines.specs.Puts.{Puts};
 ghost use Rattle.dimacs_records.specs.declared.kinds.TextKind.TheVariants as kinds;
 ghost use Rattle.dimacs_records.specs.declared.records.Record.TheVariants.{QueriesProblem};
@@ -14,7 +14,7 @@ ghost use Rattle.dimacs_records.specs.Texts.{Reads};
 ghost use Rattle.dimacs_instance.specs.QueryTexts.{QueriesValue, AreLawful, GivesQueries, SpellsQueries, asked, canonical_queries, kind_asked, query_lines};
 ghost use Rattle.dimacs_instance.specs.QueriesReading.{queries_begun_records, after_lines, are_others, before};
 
-use dimacs_lines::{DeviceFault, Memory, Page, Sink, Source};
+use dimacs_lines::{DeviceFault, Memory, OutputBuffer, Sink, Source};
 use dimacs_records::{
     Begun, CountedReading, Declared, Earlier, Part, QueryKind, ReadError, Record, TextKind,
     read_counted, write_line, write_lines,
@@ -134,9 +134,9 @@ impl Begun for BegunQueries {
 
     ghost begun_by = { λ begun rs. rs ≡ queries_begun_records begun };
 
-    ghost told = { λ begun r. before begun r };
+    ghost noted = { λ begun r. before begun r };
 
-    ghost told_end = { λ begun. after_lines begun };
+    ghost noted_end = { λ begun. after_lines begun };
 
     ghost gives = { λ rs queries. GivesQueries rs queries };
 
@@ -225,10 +225,10 @@ pub fn write_queries<S: Sink>(queries: &Queries, sink: &mut S) -> Result<(), Dev
         → SpellsQueries (canonical_queries (asked queries.now)) read
         → canonical_queries read ≡ canonical_queries (asked queries.now) }
 {
-    let mut page = Page::new();
-    write_problem(&mut page, sink, queries.kind(), queries.len());
+    let mut output = OutputBuffer::new();
+    write_problem(&mut output, sink, queries.kind(), queries.len());
     write_lines(
-        &mut page,
+        &mut output,
         sink,
         queries.len(),
         |i|
@@ -236,15 +236,15 @@ pub fn write_queries<S: Sink>(queries: &Queries, sink: &mut S) -> Result<(), Dev
             ensures { result ≡ slice_get (query_lines (asked queries.entry.now)) i }
         { Some(queries.line(i)) },
     );
-    page.finish(sink)
+    output.finish(sink)
 }
 
 /// Writes the problem line, even if its number is out of range.
-fn write_problem<S: Sink>(page: &mut Page, sink: &mut S, asks: QueryKind, count: usize)
-    ensures { Appends (canonical_line (QueriesProblem asks count)) (S.seen sink.old) page.old (S.seen sink.new) page.new }
+fn write_problem<S: Sink>(output: &mut OutputBuffer, sink: &mut S, asks: QueryKind, count: usize)
+    ensures { Appends (canonical_line (QueriesProblem asks count)) (S.seen sink.old) output.old (S.seen sink.new) output.new }
 {
     write_line(
-        page,
+        output,
         sink,
         b"p",
         &[

@@ -73,7 +73,7 @@ block_numbered blocks source i b is at =
 pub block_unnumbered : (blocks : List BlockValue) (source : ℕ) → position (has_source source) blocks ≡ None → block_of blocks source ≡ None
 block_unnumbered blocks source none = rw (find-position (has_source source) blocks, none) refl
 
-pub full_tells : (blocks : List BlockValue) (source i : ℕ) (b : BlockValue) (told : Bool) → position (has_source source) blocks ≡ Some i → b ≡ get_or blocks i b → is_some b.radius ≡ not told → IsTrue told ↔ HasFullBlock blocks source
+pub full_tells : (blocks : List BlockValue) (source i : ℕ) (b : BlockValue) (outcome : Bool) → position (has_source source) blocks ≡ Some i → b ≡ get_or blocks i b → is_some b.radius ≡ not outcome → IsTrue outcome ↔ HasFullBlock blocks source
 full_tells blocks source i b true is at some = (λ t. (b, block_numbered blocks source i b is at, unlabelled b.radius some), λ full. refl)
 full_tells blocks source i b false is at some = (
   λ t. absurd (let f : false ≡ true = t in cc),
@@ -95,9 +95,9 @@ pub radius_none : (blocks : List BlockValue) (source : ℕ) → position (has_so
 radius_none blocks source none = ap radius_in (sym (block_unnumbered blocks source none))
 
 -- a source has a block exactly if it has a number
-pub numbered_tells : (blocks : List BlockValue) (source : ℕ) (number : Option ℕ) (told : Bool) → told ≡ is_some number → number ≡ position (has_source source) blocks → IsTrue told ↔ HasBlock blocks source
-numbered_tells blocks source None told e is = (λ t. absurd (let f : true ≡ false = sym t ∙ e in cc), λ has. absurd (no_block blocks source (sym is) has))
-numbered_tells blocks source (Some i) told e is = (λ t. has_block blocks source i (sym is), λ has. e)
+pub numbered_tells : (blocks : List BlockValue) (source : ℕ) (number : Option ℕ) (outcome : Bool) → outcome ≡ is_some number → number ≡ position (has_source source) blocks → IsTrue outcome ↔ HasBlock blocks source
+numbered_tells blocks source None outcome e is = (λ t. absurd (let f : true ≡ false = sym t ∙ e in cc), λ has. absurd (no_block blocks source (sym is) has))
+numbered_tells blocks source (Some i) outcome e is = (λ t. has_block blocks source i (sym is), λ has. e)
 
 -- ---- the numbers so far
 pub numbers_more : (blocks : List BlockValue) (numbers : FinMap nat_cmp ℕ) (i : ℕ) (b : BlockValue) → i < length blocks → b ≡ get_or blocks i b → EachAfter IsNewSource blocks

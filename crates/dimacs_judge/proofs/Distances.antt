@@ -199,6 +199,6 @@ missed g s v (Some r') past = λ walk w. let (r, is, far) = past walk w in let s
 pub labels_are_distances : (g : List ArcView) (b : BlockValue) → PredsAreEarlier b → StaysNear b → LabelsOk g b → (v : ℕ) → IsDistance g b.source v (label b v) b.radius
 labels_are_distances g b known near ok v = go (label b v) refl
   where
-    go : (told : Option ℤ) → label b v ≡ told → IsDistance g b.source v told b.radius
+    go : (outcome : Option ℤ) → label b v ≡ outcome → IsDistance g b.source v outcome b.radius
     go (Some d) e = labelled_is_distance g b known near ok v d e
     go None e = missed g b.source v b.radius (unlabelled_is_past g b ok v e)

@@ -40,7 +40,7 @@ module _ (i : MaxValue) (law : IsMax i) (x : List ℤ) (set : ℕ → Bool) wher
   -- the first test that fails is the judge's error
   pub max_infeasible : (error : JudgeError) → Refuses (First (feasible_max_rows i x)) error → (result : Result Verdict JudgeError) → IsErrAnd result (λ e. e ≡ error)
       → Judges (max_flow_rows i x set) (ShowsMaxFlow i x set) (λ verdict. verdict ≡ Max (value i x)) result
-  max_infeasible error told = max_judged error (refused_in_front (feasible_max_rows i x) (cut_rows i set x) error told)
+  max_infeasible error outcome = max_judged error (refused_in_front (feasible_max_rows i x) (cut_rows i set x) error outcome)
 
   -- after the tests of the flow have passed
   module _ (long : length x ≡ length i.arcs) (flow_clear : AllClear (feasible_max_rows i x)) where
@@ -74,7 +74,7 @@ module _ (i : MinValue) (x : List ℤ) (p : ℕ → ℤ) where
   -- the first test that fails is the judge's error
   pub min_infeasible : (error : JudgeError) → Refuses (First (feasible_min_rows i x)) error → (result : Result Verdict JudgeError) → IsErrAnd result (λ e. e ≡ error)
       → Judges (min_flow_rows i x p) (ShowsMinFlow i x p) (λ verdict. verdict ≡ Min (cost i.arcs x)) result
-  min_infeasible error told = min_judged error (refused_in_front (feasible_min_rows i x) cost_tests error told)
+  min_infeasible error outcome = min_judged error (refused_in_front (feasible_min_rows i x) cost_tests error outcome)
 
   -- after the tests of the flow have passed
   module _ (long : length x ≡ length i.arcs) (flow_clear : AllClear (feasible_min_rows i x)) where

@@ -141,6 +141,6 @@ stays_near nodes b is = record { source = go b.radius is.radius_within; labels =
 pub passing_are_distances : (arcs : List ArcView) (l : LabelsValue) → AreLabels l → All (LabelsOk arcs) l.blocks → AreDistances arcs l.blocks
 passing_are_distances arcs l are all k d inside = labels_are_distances arcs (get_or l.blocks k d) (are.blocks k d inside).preds (stays_near l.nodes (get_or l.blocks k d) (are.blocks k d inside)) (all k d inside)
 
-pub told_distances : (arcs : List ArcView) (l : LabelsValue) → AreLabels l → (told : Result Unit (Where × Reason)) → Tells (label_rows arcs l.blocks) told → OnOk told (AreDistances arcs l.blocks)
+pub told_distances : (arcs : List ArcView) (l : LabelsValue) → AreLabels l → (outcome : Result Unit (Where × Reason)) → Tells (label_rows arcs l.blocks) outcome → OnOk outcome (AreDistances arcs l.blocks)
 told_distances arcs l are (Ok done) clear = passing_are_distances arcs l are (labels_hold arcs l.blocks clear)
 told_distances arcs l are (Err refusal) first = tt

@@ -9,20 +9,20 @@ use Rattle.std.specs.Prelude.{Result, Ok, Err}
 use Rattle.dimacs_records.specs.declared.reasons.Reason.{Reason}
 use Rattle.dimacs_records.specs.declared.reasons.Reason.TheVariants.{NotShortest}
 use Rattle.dimacs_network.specs.declared.network.ArcView.{ArcView}
-use Rattle.dimacs_network.specs.declared.links.Side.TheVariants.{Tail}
-use Rattle.dimacs_network.specs.Links.{IsLast}
+use Rattle.dimacs_network.specs.declared.adjacency_lists.Side.TheVariants.{Tail}
+use Rattle.dimacs_network.specs.AdjacencyLists.{IsLast}
 use Rattle.dimacs_claims.specs.declared.block.Label.{Label}
 use Rattle.dimacs_claims.specs.Labels.{BlockValue, IsBlock, IsNear, label, no_label}
 use Rattle.dimacs_claims.proofs.BlockLemmas.{has_pred}
 use Rattle.dimacs_judge.specs.CertificateTests.{RelaxFails, relax_row}
 use Rattle.dimacs_judge.specs.inside.Leaving.{AreCovering, ArePassedFrom, Covers, IsPassed, WeightsFall, arcs_in}
-use Rattle.dimacs_judge.specs.inside.Marks.{AreMade, IsKnown, Known, MarksArc}
+use Rattle.dimacs_judge.specs.inside.NodeLabels.{AreMade, IsKnown, Known, NodeLabelsArc}
 use Rattle.dimacs_network.specs.Arcs.{arc_at, no_arc}
 use Rattle.dimacs_judge.specs.Tests.{Clear}
 use Rattle.dimacs_judge.specs.inside.Tests.{TellsReason}
 use Rattle.dimacs_judge.proofs.Distances.{near_label}
 use Rattle.dimacs_judge.proofs.LabelsPassing.{stays_near}
-use Rattle.dimacs_judge.proofs.MarkLemmas.{marks_still, marks_this, some_makes}
+use Rattle.dimacs_judge.proofs.NodeLabelLemmas.{node_labels_still, node_labels_this, some_makes}
 
 -- ---- one arc
 near_less : (radius : Option ℤ) (x y : ℤ) → x ≤ℤ y → IsNear radius y → IsNear radius x
@@ -48,10 +48,10 @@ passed_covered arcs b at one other are covers is = record {
         | inl out ↦ is.holds reason (d, from, inl (out.0, ap (label b) covers.head ∙ out.1, near_less b.radius (d +ℤ one.cost) (d +ℤ other.cost) (less_sum d one.cost other.cost covers.cost) out.2))
         | inr far ↦ (let (e, head, less) = far.1 in is.holds reason (d, from, inr (far.0, (e, ap (label b) covers.head ∙ head, less_far d one.cost other.cost e covers.cost less))))
       ];
-  marked = λ l has makes.
+  labelled = λ l has makes.
       let from : label b one.tail ≡ Some makes.base = ap (label b) (covers.tail ∙ makes.from) ∙ makes.known in
       let head : label b one.head ≡ Some l.dist = ap (label b) (covers.head ∙ makes.to) ∙ are.named l has in
-      is.marked l has (record {
+      is.labelled l has (record {
         base = makes.base;
         known = makes.known;
         from = covers.tail ∙ makes.from;
@@ -73,7 +73,7 @@ passed_beyond nodes arcs b at a d is are tail beyond = record {
             let (to, head, less) = far.1 in
             beyond (near_less b.radius (d +ℤ a.cost) to (below to (subst (λ z. (z +ℤ a.cost) <ℤ to) same less)) (near_label b (stays_near nodes b is) a.head to head))
       ];
-  marked = λ l has makes.
+  labelled = λ l has makes.
       let both : Some makes.base ≡ Some d = sym makes.known ∙ (ap (label b) (sym makes.from) ∙ tail) in
       let same : makes.base ≡ d = cc in
       absurd (beyond (subst (IsNear b.radius) (sym makes.adds ∙ ap (λ z. z +ℤ a.cost) same) (near_label b (stays_near nodes b is) l.id l.dist (are.named l has))));
@@ -83,19 +83,19 @@ passed_beyond nodes arcs b at a d is are tail beyond = record {
     below to less = omega (arith, ints, less)
 
 -- a test that reports no reason doesn't fail
-pub no_reason : {X : Type 0} (fails : Reason → Type 0) (told : Result X Reason) → is_err told ≡ false → TellsReason fails (result_err told) → (reason : Reason) → ¬ fails reason
+pub no_reason : {X : Type 0} (fails : Reason → Type 0) (outcome : Result X Reason) → is_err outcome ≡ false → TellsReason fails (result_err outcome) → (reason : Reason) → ¬ fails reason
 no_reason fails (Ok x) none tells = tells
 no_reason fails (Err why) none tells = absurd (cc)
 
 -- after relaxing an arc
-module _ (a : ArcView) (old new : ℕ → Known) (b : BlockValue) (passes : MarksArc a old new) where
+module _ (a : ArcView) (old new : ℕ → Known) (b : BlockValue) (passes : NodeLabelsArc a old new) where
   pub passed_still : (c : ArcView) → IsPassed b old c → IsPassed b new c
-  passed_still c is = record { holds = is.holds; marked = marks_still a old new b passes c is.marked }
+  passed_still c is = record { holds = is.holds; labelled = node_labels_still a old new b passes c is.labelled }
 
   pub passed_this : (arcs : List ArcView) (i : ℕ) → slice_get arcs i ≡ Some a → IsKnown arcs b old → ((reason : Reason) → ¬ RelaxFails b.radius (old a.tail).dist (old a.head).dist a.cost reason) → IsPassed b new a
   passed_this arcs i here are holds = record {
     holds = rw (← are.labels a.tail, ← are.labels a.head) holds;
-    marked = marks_this a old new b passes arcs are i here;
+    labelled = node_labels_this a old new b passes arcs are i here;
   }
 
 -- ---- the arcs of a node
@@ -172,5 +172,5 @@ module _ (arcs : List ArcView) (b : BlockValue) (n : ℕ) (at : ℕ → Known) (
     are.known.sound l has,
     λ tight.
         let (k, inside, makes) = some_makes arcs b l tight in
-        (labelled_passed l.pred makes.base makes.known k inside makes.from).marked l has makes,
+        (labelled_passed l.pred makes.base makes.known k inside makes.from).labelled l has makes,
   )

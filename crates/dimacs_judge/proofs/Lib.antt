@@ -13,6 +13,7 @@ pub mod Settling
 pub mod Reasons
 pub mod Passing
 pub mod LabelsPassing
+mod PassedLemmas
 mod PlaceLemmas
 mod EntryLemmas
 pub mod Claims
@@ -21,11 +22,12 @@ mod ListedRows
 pub mod BlockNumbers
 pub mod QueriesPassing
 pub mod PathsPassing
+mod OnePass
 pub mod MaxJudge
 pub mod MinJudge
 pub mod FlowJudges
 mod SolutionLemmas
 mod DistanceLemmas
-mod MarkLemmas
+mod NodeLabelLemmas
 mod LeavingLemmas
 mod LeastLemmas

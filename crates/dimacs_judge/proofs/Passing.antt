@@ -230,7 +230,7 @@ sink_clear : (i : MaxValue) (set : ℕ → Bool) → set i.sink ≡ false → Cl
 sink_clear i set outside = one_clear (places.Node i.sink) reasons.SinkInside (set i.sink ≡ true) (λ within. not_both (set i.sink) within outside)
 
 -- the tests of a cut with the source inside and the sink outside
-pub cut_told : (i : MaxValue) (set : ℕ → Bool) (x : List ℤ) (told : Result Unit (Where × Reason)) → set i.source ≡ true → set i.sink ≡ false → TellsRow (tight_row i.arcs set x) told → Tells (cut_rows i set x) told
+pub cut_told : (i : MaxValue) (set : ℕ → Bool) (x : List ℤ) (outcome : Result Unit (Where × Reason)) → set i.source ≡ true → set i.sink ≡ false → TellsRow (tight_row i.arcs set x) outcome → Tells (cut_rows i set x) outcome
 cut_told i set x (Ok done) inside outside clear = (source_clear i set inside, (sink_clear i set outside, (clear, tt)))
 cut_told i set x (Err refusal) inside outside first = inr (source_clear i set inside, inr (sink_clear i set outside, inl first))
 

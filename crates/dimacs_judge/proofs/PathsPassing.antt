@@ -50,7 +50,7 @@ abbrev HasDistance : List ArcView → List BlockValue → ℕ × ℕ → Type 0
 HasDistance arcs blocks pair = IsDistance arcs pair.0 pair.1 (distance_from blocks pair.0 pair.1) (beyond_from blocks pair.0 pair.1)
 
 -- an answer with a distance needs no radius
-told_beyond : (arcs : List ArcView) (s t : ℕ) (told radius : Option ℤ) → IsDistance arcs s t told radius → IsDistance arcs s t told (if is_some told then None else radius)
+told_beyond : (arcs : List ArcView) (s t : ℕ) (outcome radius : Option ℤ) → IsDistance arcs s t outcome radius → IsDistance arcs s t outcome (if is_some outcome then None else radius)
 told_beyond arcs s t (Some d) radius is = is
 told_beyond arcs s t None radius is = is
 

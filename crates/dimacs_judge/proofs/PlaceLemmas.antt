@@ -70,7 +70,7 @@ module _ (arcs : List ArcView) (before : List Entry) (e : Entry) where
 
 -- ---- no entry
 pub none_placed : (arcs : List ArcView) (n : ℕ) (flow : List ℤ) (counts : List ℕ) → n ≡ length arcs → flow ≡ replicate n (pos 0) → counts ≡ replicate n 0
-    → HavePlaced (record { arcs = arcs; flow = flow; counts = counts; in_order = 0; out_of_order = false; refusal = None }) []
+    → HavePlaced (record { arcs = arcs; flow = flow; counts = counts; in_order = 0; out_of_order = false; searched = false; refusal = None }) []
 none_placed arcs n flow counts one_each zero_flow zeros = record {
   clear = λ k place reason f. absurd (omega (arith, f.0));
   amounts = zero_flow ∙ none_claimed arcs n one_each;
@@ -92,6 +92,10 @@ pub placed_carry : (p : PlacesValue) (entries : List Entry) (refusal : Option (W
 placed_carry p entries None none held = claims_carried p.arcs entries held.clear p.flow held.amounts
 placed_carry p entries (Some refusal) none held = absurd (cc)
 
+-- no entry came with the ends of an arc that isn't counted and whose first comes after those in order
+pub none_came : (p : PlacesValue) (tail head first : ℕ) → IsKthBetween p.arcs tail head 0 (Some first) → p.in_order ≤ first → get_or p.counts first 0 ≡ 0 → came_between p tail head first ≡ 0
+none_came p tail head first found after uncounted = rw (uncounted, none_below p.arcs tail head first found p.in_order after) refl
+
 -- ---- one more entry
 module _ (p : PlacesValue) (before : List Entry) (e : Entry) (placed : HavePlaced p before) where
   -- from now on entries may come in any order
@@ -102,6 +106,15 @@ module _ (p : PlacesValue) (before : List Entry) (e : Entry) (placed : HavePlace
     counted = placed.counted;
     uncounted = λ e. absurd (cc);
     ordered = λ e. absurd (cc);
+  }
+
+  pub placed_searched : HavePlaced (record p { searched = true }) before
+  placed_searched = record {
+    clear = placed.clear;
+    amounts = placed.amounts;
+    counted = placed.counted;
+    uncounted = placed.uncounted;
+    ordered = placed.ordered;
   }
 
   module _ (in_order : p.out_of_order ≡ false) (inside : p.in_order < length p.arcs) (joined : joins e.tail e.head (arc_at p.arcs p.in_order) ≡ true) where

@@ -57,7 +57,7 @@ full_or_not blocks source = by_block (block_of blocks source) refl
         let f : Some r ≡ None = sym some ∙ (ap (λ (d : BlockValue). d.radius) same ∙ full.2) in
         cc)
 
-    by_block : (told : Option BlockValue) → block_of blocks source ≡ told → HasFullBlock blocks source ⊎ (¬ HasFullBlock blocks source)
+    by_block : (outcome : Option BlockValue) → block_of blocks source ≡ outcome → HasFullBlock blocks source ⊎ (¬ HasFullBlock blocks source)
     by_block None is = inr (λ full. let f : None ≡ Some full.0 = sym is ∙ full.1 in cc)
     by_block (Some b) is = by_radius b is b.radius refl
 

@@ -61,7 +61,7 @@ weights_free arcs b none k place reason f = let some : false ≡ true = subst Is
 pub weights_all : (arcs : List ArcView) (b : BlockValue) → Clear (negative_row arcs) → Clear (weight_row arcs b)
 weights_all arcs b clear k place reason f = clear k place reason f.1
 
-pub weights_told : (arcs : List ArcView) (b : BlockValue) → IsSome b.radius → (told : Result Unit (Where × Reason)) → TellsRow (negative_row arcs) told → TellsRow (weight_row arcs b) told
+pub weights_told : (arcs : List ArcView) (b : BlockValue) → IsSome b.radius → (outcome : Result Unit (Where × Reason)) → TellsRow (negative_row arcs) outcome → TellsRow (weight_row arcs b) outcome
 weights_told arcs b some (Ok done) clear = weights_all arcs b clear
 weights_told arcs b some (Err refusal) first = record { number = first.number; fails = (some, first.fails); earlier = λ k less place reason f. first.earlier k less place reason f.1 }
 

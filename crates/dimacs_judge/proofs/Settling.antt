@@ -12,7 +12,7 @@ use Rattle.dimacs_judge.specs.inside.Tests.{Tells, Refuses}
 use Rattle.dimacs_judge.proofs.Firsts.{AllOneWay, one_first, none_first}
 use Rattle.dimacs_judge.proofs.RowLists.{first_in_front, first_after}
 
-pub decided : (holds : Type 0) (rows : List Row) → (AllClear rows → holds) → (holds → AllClear rows) → (told : Result Unit (Where × Reason)) → Tells rows told → Decides holds rows told
+pub decided : (holds : Type 0) (rows : List Row) → (AllClear rows → holds) → (holds → AllClear rows) → (outcome : Result Unit (Where × Reason)) → Tells rows outcome → Decides holds rows outcome
 decided holds rows passing needed (Ok done) clear = passing clear
 decided holds rows passing needed (Err refusal) first = (first, λ h. none_first rows refusal.0 refusal.1 (needed h) first)
 
@@ -27,20 +27,20 @@ pub error_settles : {X : Type 0} (holds : X → Type 0) (rows : List Row) → Al
 error_settles holds rows one needed error first result is = let p = err_from_is_err_and result is in rw (p.1, p.2) (refusal_refutes holds rows one needed error first)
 
 pub refuted_refuses : {X : Type 0} (holds : X → Type 0) (rows : List Row) (error : JudgeError) → Refutes holds rows error → Refuses (First rows) error
-refuted_refuses holds rows (Refused place reason) told = told.0.0
-refuted_refuses holds rows Memory told = tt
+refuted_refuses holds rows (Refused place reason) outcome = outcome.0.0
+refuted_refuses holds rows Memory outcome = tt
 
 -- what implies something refuted is refuted too
 refuted_also : {X Y : Type 0} (holds : X → Type 0) (other : Y → Type 0) (rows : List Row) → ((y : Y) → other y → (x : X) × holds x) → (error : JudgeError) → Refutes holds rows error → Refutes other rows error
-refuted_also holds other rows needs (Refused place reason) told = (told.0, λ y is. let (x, h) = needs y is in told.1 x h)
-refuted_also holds other rows needs Memory told = tt
+refuted_also holds other rows needs (Refused place reason) outcome = (outcome.0, λ y is. let (x, h) = needs y is in outcome.1 x h)
+refuted_also holds other rows needs Memory outcome = tt
 
 pub refuted_settles : {X Y : Type 0} (holds : X → Type 0) (other : Y → Type 0) (rows : List Row) → ((y : Y) → other y → (x : X) × holds x) → (error : JudgeError) → Refutes holds rows error
     → (result : Result Y JudgeError) → IsErrAnd result (λ e. e ≡ error) → Settles other rows result
-refuted_settles holds other rows needs error told result is = let p = err_from_is_err_and result is in rw (p.1, p.2) (refuted_also holds other rows needs error told)
+refuted_settles holds other rows needs error outcome result is = let p = err_from_is_err_and result is in rw (p.1, p.2) (refuted_also holds other rows needs error outcome)
 
 -- a single row
-pub last_row : (row : Row) (told : Result Unit (Where × Reason)) → TellsRow row told → Tells (row ∷ []) told
+pub last_row : (row : Row) (outcome : Result Unit (Where × Reason)) → TellsRow row outcome → Tells (row ∷ []) outcome
 last_row row (Ok done) clear = (clear, tt)
 last_row row (Err refusal) first = inl first
 

@@ -53,7 +53,11 @@ cost_clear_more arcs y i sum below is wide = arc_clear_more arcs _ i below (λ r
 pub cost_first : (arcs : List ArcView) (y : List ℤ) (i : ℕ) (sum : ℤ) → i < length arcs → ClearBelow (cost_row arcs y) i → sum ≡ cost_through arcs y i → (¬ IsWide sum) → FirstOfRow (cost_row arcs y) (Arc (i + 1)) CostRange
 cost_first arcs y i sum inside below is off = arc_first arcs _ i CostRange inside below (refl, λ wide. off (rw is wide))
 
-when_within : (b c : Bool) (h k : ℕ) (z x : ℤ) → IsOfSize h z → IsOfSize k x → IsOfSize (h + 2 * k) ((z +ℤ when b x) -ℤ when c x)
+pub when_back : (b : Bool) (x : ℤ) → when b (pos 0 -ℤ x) ≡ pos 0 -ℤ when b x
+when_back true x = refl
+when_back false x = refl
+
+pub when_within : (b c : Bool) (h k : ℕ) (z x : ℤ) → IsOfSize h z → IsOfSize k x → IsOfSize (h + 2 * k) ((z +ℤ when b x) -ℤ when c x)
 when_within true true h k z x s t = omega (arith, ints)
 when_within true false h k z x s t = omega (arith, ints)
 when_within false true h k z x s t = omega (arith, ints)

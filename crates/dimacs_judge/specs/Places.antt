@@ -10,13 +10,15 @@ use Rattle.dimacs_judge.specs.declared.verdict.Where.{Where}
 use Rattle.dimacs_judge.specs.Claims.{is_between, claimed_flow, entry_row}
 use Rattle.dimacs_judge.specs.Tests.{Clear, FirstOfRow}
 
--- the arcs, their amounts and counts, how many entries came in order, whether another came, and the first that fails
+-- the arcs, their amounts and counts, how many entries came in order, whether another came, whether entries are searched for,
+-- and the first that fails
 pub record PlacesValue : Type 0 where
   pub arcs : List ArcView
   pub flow : List ℤ
   pub counts : List ℕ
   pub in_order : ℕ
   pub out_of_order : Bool
+  pub searched : Bool
   pub refusal : Option (Where × Reason)
 
 -- an amount and a count for each arc

@@ -3,7 +3,9 @@ pub mod Distances
 pub mod FlowTests
 pub mod Labels
 pub mod Leaving
-pub mod Marks
+pub mod NodeLabels
+pub mod OnePass
+pub mod Passed
 pub mod Places
 pub mod QueryTests
 pub mod Ranges

@@ -1,6 +1,6 @@
 //! The balance of each node: its outflow less its inflow.
 
-ghost use Rattle.std.specs.Prelude.{◌≡◌, ◌≤◌, ◌^◌, ◌==◌, ℕ, ◌+ℤ◌, ◌-ℤ◌, length, IfOk, OnOk, FitsSigned};
+ghost use Rattle.std.specs.Prelude.{◌≡◌, ◌≤◌, ◌^◌, ◌==◌, ℕ, ℤ, ◌+ℤ◌, ◌-ℤ◌, length, IfOk, OnOk, FitsSigned};
 ghost use Rattle.std.specs.Int.{w128};
 ghost use Rattle.dimacs_lines.specs.Limits.{most_count};
 ghost use Rattle.dimacs_nodes.specs.Tables.{value_of};
@@ -18,6 +18,24 @@ use std::alloc::Global;
 #[derive(Drop)]
 pub struct Balances {
     sums: NodeTable<i128>,
+}
+
+/// What knows the balance of each node.
+pub(crate) trait NodeBalances {
+    ghost balance: { Self → ℕ → ℤ };
+
+    /// The balance of a node.
+    fn balance_of(&self, node: u32) -> i128
+        ensures { result ≡ balance self.now node };
+}
+
+impl NodeBalances for Balances {
+    ghost balance = { λ balances v. value_of balances.sums v };
+
+    #[inline(always)]
+    fn balance_of(&self, node: u32) -> i128 {
+        self.of(node)
+    }
 }
 
 impl Balances {
@@ -55,17 +73,11 @@ fn transfer(sums: &mut NodeTable<i128>, arc: ArcView, amount: i64) -> Result<(),
     Ok(())
 }
 
-/// Adds the amount to the balance of a node. In the common case the node's page is allocated, and one look-up is
-/// enough.
-#[inline(always)]
+/// Adds the amount to the balance of a node.
 fn add_at(sums: &mut NodeTable<i128>, node: u32, amount: i128) -> Result<(), Memory>
     requires { FitsSigned w128 (value_of sums.old node +ℤ amount) }
     ensures { OnOk result ((v : ℕ) → value_of sums.new v ≡ value_of sums.old v +ℤ when (node == v) amount) }
 {
-    if let Some(sum) = sums.get_slot(node) {
-        sums.put(sum.place, sum.value + amount);
-        return Ok(());
-    }
     let sum = sums.get(node);
     sums.set(node, sum + amount)
 }

@@ -37,7 +37,7 @@ fn add_cost(sum: i128, cost: i64, amount: i64) -> Option<i128>
 }
 
 /// The product as 128 bits, which always hold it.
-fn product(cost: i64, amount: i64) -> i128
+pub(crate) fn product(cost: i64, amount: i64) -> i128
     ensures value { result ≡ cost *ℤ amount }
     ensures size { IsOfSize (2 ^ 126) result }
 {

@@ -1,11 +1,11 @@
 //! Whether a cut is tight for a flow.
 
 ghost use Rattle.std.specs.Prelude.{◌≡◌, length};
-ghost use Rattle.dimacs_judge.specs.CertificateTests.{TightFails, tight_row, cut_rows};
+ghost use Rattle.dimacs_judge.specs.CertificateTests.{TightFails, cut_rows};
 ghost use Rattle.dimacs_judge.specs.Cuts.{CutTight, members};
-ghost use Rattle.dimacs_judge.specs.Tests.{Decides, TellsRow};
-ghost use Rattle.dimacs_judge.specs.inside.Tests.{TellsReason};
+ghost use Rattle.dimacs_judge.specs.Tests.{Decides};
 
+use crate::arc_test::{ArcTest, arcs_hold};
 use crate::flow::Flow;
 use crate::verdict::Where;
 use dimacs_claims::Cut;
@@ -34,29 +34,19 @@ pub fn cut_tests<N: Network>(
     if cut.contains(sink) {
         return Err((Where::Node(sink), Reason::SinkInside));
     }
-    arcs_tight(instance.network(), flow, cut)
+    arcs_hold(instance.network(), flow, cut)
 }
 
-/// Tests each arc; the error names the first that leaves the cut with room, or enters it with flow.
-fn arcs_tight<N: Network>(network: &N, flow: &Flow, cut: &Cut) -> Result<(), (Where, Reason)>
-    requires one_each { length flow.now ≡ length (N.list network.now) }
-    ensures { TellsRow (tight_row (N.list network.now) (members cut.now) flow.now) result }
-{
-    for i in 0..network.arcs() {
-        if let Some(reason) = tight_fault(network.arc(i), flow.amount(i), cut) {
-            return Err((Where::Arc(i + 1), reason));
+/// Whether an arc leaves the cut with room, or enters it with flow.
+impl ArcTest for Cut {
+    ghost fails = { λ cut. TightFails (members cut) };
+
+    #[inline(always)]
+    fn fault(&self, arc: ArcView, amount: i64) -> Option<Reason> {
+        match (self.contains(arc.tail), self.contains(arc.head)) {
+            (true, false) if amount != arc.cap => Some(Reason::NotSaturated),
+            (false, true) if amount != 0 => Some(Reason::BackFlow),
+            _ => None,
         }
-    }
-    Ok(())
-}
-
-/// The reason why an arc fails, if it does.
-fn tight_fault(arc: ArcView, amount: i64, cut: &Cut) -> Option<Reason>
-    ensures { TellsReason (TightFails (members cut.now) arc amount) result }
-{
-    match (cut.contains(arc.tail), cut.contains(arc.head)) {
-        (true, false) if amount != arc.cap => Some(Reason::NotSaturated),
-        (false, true) if amount != 0 => Some(Reason::BackFlow),
-        _ => None,
     }
 }

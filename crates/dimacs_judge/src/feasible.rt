@@ -3,12 +3,14 @@
 ghost use Rattle.std.specs.Prelude.{◌≡◌, ◌≤◌, ℕ, ℤ, List, Option, length};
 ghost use Rattle.dimacs_lines.specs.Limits.{most_count, most_nodes};
 ghost use Rattle.dimacs_judge.specs.Feasible.{FeasibleMax, FeasibleMin};
-ghost use Rattle.dimacs_judge.specs.FlowTests.{AreBalances, BoundFails, BalanceFails, bound_row, balance_row, feasible_max_rows, feasible_min_rows, max_demand, min_demand};
+ghost use Rattle.dimacs_judge.specs.Flows.{net};
+ghost use Rattle.dimacs_judge.specs.FlowTests.{BoundFails, BalanceFails, bound_row, balance_row, feasible_max_rows, feasible_min_rows, max_demand, min_demand};
 ghost use Rattle.dimacs_judge.specs.inside.FlowTests.{TellsFeasible};
 ghost use Rattle.dimacs_judge.specs.Tests.{Settles, TellsRow};
 ghost use Rattle.dimacs_judge.specs.inside.Tests.{TellsReason};
 
-use crate::balances::Balances;
+use crate::arc_test::{ArcTest, arcs_hold};
+use crate::balances::{Balances, NodeBalances};
 use crate::flow::Flow;
 use crate::verdict::{JudgeError, Where};
 use dimacs_instance::{MaxInstance, MinInstance};
@@ -72,24 +74,24 @@ pub fn bounds_hold<N: Network>(network: &N, flow: &Flow) -> Result<(), (Where, R
     requires one_each { length flow.now ≡ length (N.list network.now) }
     ensures { TellsRow (bound_row (N.list network.now) flow.now) result }
 {
-    for i in 0..network.arcs() {
-        if let Some(reason) = bound_fault(network.arc(i), flow.amount(i)) {
-            return Err((Where::Arc(i + 1), reason));
-        }
-    }
-    Ok(())
+    arcs_hold(network, flow, &Bounds)
 }
 
-/// The reason why an arc fails, if it does.
-fn bound_fault(arc: ArcView, amount: i64) -> Option<Reason>
-    ensures { TellsReason (BoundFails arc amount) result }
-{
-    if amount < arc.low {
-        Some(Reason::BelowLow)
-    } else if amount > arc.cap {
-        Some(Reason::AboveCap)
-    } else {
-        None
+/// The test of an arc's bounds.
+pub(crate) struct Bounds;
+
+impl ArcTest for Bounds {
+    ghost fails = { λ bounds. BoundFails };
+
+    #[inline(always)]
+    fn fault(&self, arc: ArcView, amount: i64) -> Option<Reason> {
+        if amount < arc.low {
+            Some(Reason::BelowLow)
+        } else if amount > arc.cap {
+            Some(Reason::AboveCap)
+        } else {
+            None
+        }
     }
 }
 
@@ -123,17 +125,17 @@ impl<N: Network> Demands for MinInstance<N> {
 }
 
 /// Tests the balances; the error names the first node with another balance than is demanded.
-pub(crate) fn balances_hold<N: Network, D: Demands>(
+pub(crate) fn balances_hold<N: Network, B: NodeBalances, D: Demands>(
     network: &N,
-    balances: &Balances,
+    balances: &B,
     demands: &D,
 ) -> Result<(), (Where, Reason)>
     requires { N.node_count network.now ≤ most_nodes }
-    ensures { (x : List ℤ) → AreBalances (N.list network.now) x balances.now
+    ensures { (x : List ℤ) → ((v : ℕ) → B.balance balances.now v ≡ net (N.list network.now) x v)
         → TellsRow (balance_row (N.node_count network.now) (N.list network.now) (D.demand demands.now) x) result }
 {
     for v in 1..network.nodes() + 1 {
-        if let Some(reason) = balance_fault(demands.demand_at(v), balances.of(v)) {
+        if let Some(reason) = balance_fault(demands.demand_at(v), balances.balance_of(v)) {
             return Err((Where::Node(v), reason));
         }
     }

@@ -1,6 +1,6 @@
 //! Judging that a flow costs least.
 
-ghost use Rattle.std.specs.Prelude.{◌≡◌, IfErr, IfOk};
+ghost use Rattle.std.specs.Prelude.{◌≡◌, IfErr, IfOk, IfSome, Ok};
 ghost use Rattle.dimacs_claims.specs.SolutionReading.{IsPlaced};
 ghost use Rattle.dimacs_claims.specs.SolutionTexts.{SolutionValue, claimed};
 ghost use Rattle.dimacs_judge.specs.declared.verdict.Verdict.TheVariants.{Min};
@@ -14,6 +14,7 @@ use crate::costs::cost_within;
 use crate::entries::placed;
 use crate::feasible::feasible;
 use crate::flow::Flow;
+use crate::one_pass::sums_if_passed;
 use crate::places::FlowPlaces;
 use crate::potentials::slack_tests;
 use crate::verdict::{JudgeError, Verdict};
@@ -55,11 +56,39 @@ pub fn judge_min_placed<N: Network>(
     ensures { (s : SolutionValue) → IsPlaced placed.now.value placed.now.value_line (ArePlaced placed.now.place) s
         → Judges (min_rows instance.now s potentials.now) (ShowsLeast instance.now s potentials.now) (λ verdict. verdict ≡ Min s.value) result }
 {
+    if let Some(verdict) = min_in_one_pass(alloc, instance, placed, potentials) {
+        return Ok(verdict);
+    }
     let network = instance.network();
     let flow = min_claim_tests(alloc, instance, placed)?;
     nodes_agree(network.nodes(), potentials.nodes())?;
     slack_tests(instance, flow, potentials)?;
     Ok(Verdict::Min(placed.value))
+}
+
+/// Makes all tests in one pass over the arcs. None if one fails, without saying which.
+fn min_in_one_pass<N: Network>(
+    alloc: Global,
+    instance: &MinInstance<N>,
+    placed: &Placed<FlowPlaces<'_, N>>,
+    potentials: &Potentials,
+) -> Option<Verdict>
+    requires network { placed.now.place.arcs ≡ instance.now.arcs }
+    ensures { IfSome result (λ verdict. (s : SolutionValue) → IsPlaced placed.now.value placed.now.value_line (ArePlaced placed.now.place) s
+        → Judges (min_rows instance.now s potentials.now) (ShowsLeast instance.now s potentials.now) (λ verdict. verdict ≡ Min s.value) (Ok verdict)) }
+{
+    let network = instance.network();
+    let Ok(flow) = placed.place.flow() else {
+        return None;
+    };
+    let Ok(()) = nodes_agree(network.nodes(), potentials.nodes()) else {
+        return None;
+    };
+    let sums = sums_if_passed(alloc, network, flow, instance, potentials)?;
+    match value_agrees(sums.cost, placed) {
+        Ok(()) => Some(Verdict::Min(placed.value)),
+        Err(_) => None,
+    }
 }
 
 /// Makes the tests of `judge_min` that come before the potentials: of the entries, the bounds, the balances, the range

@@ -6,14 +6,14 @@ ghost use Rattle.dimacs_claims.specs.Labels.{IsBlock, IsNear, label};
 ghost use Rattle.dimacs_records.specs.Ranges.{IsWide};
 ghost use Rattle.dimacs_judge.specs.CertificateTests.{relax_row};
 ghost use Rattle.dimacs_judge.specs.inside.Leaving.{AreLeast, ArePassedFrom, IsPassed};
-ghost use Rattle.dimacs_judge.specs.inside.Marks.{AreMade, IsMarked, known};
+ghost use Rattle.dimacs_judge.specs.inside.NodeLabels.{AreMade, IsLabelled, known};
 ghost use Rattle.dimacs_judge.specs.Tests.{Clear};
 
 use crate::distance::Distance;
 use crate::labels::escape_fault;
 use crate::least_arcs::LeastArcs;
-use crate::mark::Mark;
-use crate::marks::pass_arc;
+use crate::node_label::NodeLabel;
+use crate::node_labels::pass_arc;
 use dimacs_claims::Block;
 use dimacs_network::Network;
 use dimacs_nodes::NodeTable;
@@ -32,22 +32,22 @@ pub(crate) fn leaving_passed<N: Network, D: Distance>(
     network: &N,
     block: &Block,
     least: &LeastArcs,
-    marks: &mut NodeTable<Mark<D>>,
+    node_labels: &mut NodeTable<NodeLabel<D>>,
 ) -> bool
     requires lawful { (nodes : ℕ) × IsBlock nodes block.now }
     requires least { AreLeast (N.list network.now) least.now }
-    requires marked { IsMarked D.value (N.list network.now) block.now marks.old }
-    ensures marked { IsMarked D.value (N.list network.now) block.now marks.new }
-    ensures made { IsTrue result → AreMade (N.list network.now) block.now (known D.value marks.new) }
+    requires labelled { IsLabelled D.value (N.list network.now) block.now node_labels.old }
+    ensures labelled { IsLabelled D.value (N.list network.now) block.now node_labels.new }
+    ensures made { IsTrue result → AreMade (N.list network.now) block.now (known D.value node_labels.new) }
     ensures clear { IsTrue result → Clear (relax_row (N.list network.now) block.now) }
 {
-    if !node_passed(network, block, block.source(), 0, least, marks) {
+    if !node_passed(network, block, block.source(), 0, least, node_labels) {
         return false;
     }
     let labels = block.labels();
     for i in 0..labels.len() {
         let label = labels.at(i);
-        if !node_passed(network, block, label.id, label.dist, least, marks) {
+        if !node_passed(network, block, label.id, label.dist, least, node_labels) {
             return false;
         }
     }
@@ -62,15 +62,15 @@ fn node_passed<N: Network, D: Distance>(
     node: u32,
     from: i128,
     least: &LeastArcs,
-    marks: &mut NodeTable<Mark<D>>,
+    node_labels: &mut NodeTable<NodeLabel<D>>,
 ) -> bool
     requires lawful { (nodes : ℕ) × IsBlock nodes block.now }
     requires least { AreLeast (N.list network.now) least.now }
     requires label { label block.now node ≡ Some from }
-    requires marked { IsMarked D.value (N.list network.now) block.now marks.old }
-    ensures marked { IsMarked D.value (N.list network.now) block.now marks.new }
-    ensures kept { (a : ArcView) → IsPassed block.now (known D.value marks.old) a → IsPassed block.now (known D.value marks.new) a }
-    ensures passed { IsTrue result → ArePassedFrom (N.list network.now) block.now (known D.value marks.new) node }
+    requires labelled { IsLabelled D.value (N.list network.now) block.now node_labels.old }
+    ensures labelled { IsLabelled D.value (N.list network.now) block.now node_labels.new }
+    ensures kept { (a : ArcView) → IsPassed block.now (known D.value node_labels.old) a → IsPassed block.now (known D.value node_labels.new) a }
+    ensures passed { IsTrue result → ArePassedFrom (N.list network.now) block.now (known D.value node_labels.new) node }
 {
     let radius = block.radius();
     let mut next = least.last(node);
@@ -80,7 +80,7 @@ fn node_passed<N: Network, D: Distance>(
         if least.by_weight() && leads_past(radius, from, arc.cost) {
             return true;
         }
-        if pass_arc(arc, block, marks).is_err() {
+        if pass_arc(arc, block, node_labels).is_err() {
             return false;
         }
         next = least.before(place);

@@ -7,6 +7,7 @@
 #![tactic(auto)]
 
 mod agreement;
+mod arc_test;
 mod balances;
 mod costs;
 mod crossing;
@@ -22,9 +23,11 @@ mod laws;
 mod least;
 mod least_arcs;
 mod leaving;
-mod mark;
-mod marks;
 mod maximum;
+mod node_label;
+mod node_labels;
+mod one_pass;
+mod passed;
 mod paths;
 mod places;
 mod potentials;
@@ -47,6 +50,7 @@ pub use laws::{
     violated_has_no_flow,
 };
 pub use least::{judge_min, judge_min_placed, min_claim_tests};
+pub use least_arcs::lightest_arcs;
 pub use maximum::{judge_max, judge_max_placed, max_claim_tests};
 pub use paths::judge_paths;
 pub use places::FlowPlaces;

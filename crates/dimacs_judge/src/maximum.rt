@@ -1,6 +1,6 @@
 //! Judging that a flow is maximum.
 
-ghost use Rattle.std.specs.Prelude.{◌≡◌, List, ℤ, IfErr, IfOk};
+ghost use Rattle.std.specs.Prelude.{◌≡◌, List, ℤ, IfErr, IfOk, IfSome, Ok};
 ghost use Rattle.dimacs_claims.specs.SolutionReading.{IsPlaced};
 ghost use Rattle.dimacs_claims.specs.SolutionTexts.{SolutionValue, claimed};
 ghost use Rattle.dimacs_judge.specs.declared.verdict.Verdict.TheVariants.{Max};
@@ -12,11 +12,12 @@ ghost use Rattle.dimacs_judge.specs.Places.{ArePlaced};
 ghost use Rattle.dimacs_judge.specs.Tests.{Judges, Refutes, TellsRow};
 
 use crate::agreement::{nodes_agree, value_agrees};
-use crate::balances::Balances;
+use crate::balances::{Balances, NodeBalances};
 use crate::cuts::cut_tests;
 use crate::entries::placed;
 use crate::feasible::feasible;
 use crate::flow::Flow;
+use crate::one_pass::sums_if_passed;
 use crate::places::FlowPlaces;
 use crate::verdict::{JudgeError, Verdict, Where};
 use dimacs_claims::{Cut, Place, Placed, Solution};
@@ -56,11 +57,46 @@ pub fn judge_max_placed<N: Network>(
     ensures { (s : SolutionValue) → IsPlaced placed.now.value placed.now.value_line (ArePlaced placed.now.place) s
         → Judges (max_rows instance.now s cut.now) (ShowsMaximum instance.now s cut.now) (λ verdict. verdict ≡ Max s.value) result }
 {
+    if let Some(verdict) = max_in_one_pass(alloc, instance, placed, cut) {
+        return Ok(verdict);
+    }
     let network = instance.network();
     let flow = max_claim_tests(alloc, instance, placed)?;
     nodes_agree(network.nodes(), cut.nodes())?;
     cut_tests(instance, flow, cut)?;
     Ok(Verdict::Max(placed.value))
+}
+
+/// Makes all tests in one pass over the arcs. None if one fails, without saying which.
+fn max_in_one_pass<N: Network>(
+    alloc: Global,
+    instance: &MaxInstance<N>,
+    placed: &Placed<FlowPlaces<'_, N>>,
+    cut: &Cut,
+) -> Option<Verdict>
+    requires network { placed.now.place.arcs ≡ instance.now.arcs }
+    ensures { IfSome result (λ verdict. (s : SolutionValue) → IsPlaced placed.now.value placed.now.value_line (ArePlaced placed.now.place) s
+        → Judges (max_rows instance.now s cut.now) (ShowsMaximum instance.now s cut.now) (λ verdict. verdict ≡ Max s.value) (Ok verdict)) }
+{
+    let network = instance.network();
+    let Ok(flow) = placed.place.flow() else {
+        return None;
+    };
+    let Ok(()) = nodes_agree(network.nodes(), cut.nodes()) else {
+        return None;
+    };
+    let source = instance.source();
+    if !cut.contains(source) {
+        return None;
+    }
+    if cut.contains(instance.sink()) {
+        return None;
+    }
+    let sums = sums_if_passed(alloc, network, flow, instance, cut)?;
+    match value_agrees(sums.balance_of(source), placed) {
+        Ok(()) => Some(Verdict::Max(placed.value)),
+        Err(_) => None,
+    }
 }
 
 /// Makes the tests of `judge_max` that come before the cut: of the entries, the bounds, the balances and the value.

@@ -6,7 +6,7 @@ ghost use Rattle.dimacs_judge.specs.PathsJudge.{ShowsDistances, paths_rows};
 ghost use Rattle.dimacs_judge.specs.Tests.{Judges};
 
 use crate::agreement::nodes_agree;
-use crate::marks::marked_blocks_hold;
+use crate::node_labels::labelled_blocks_hold;
 use crate::queries::{answers, blocks_exist, query_nodes_hold};
 use crate::verdict::{JudgeError, Verdict};
 use dimacs_claims::Labels;
@@ -43,6 +43,6 @@ pub fn judge_paths<N: Network>(
     nodes_agree(nodes, labels.nodes())?;
     query_nodes_hold(nodes, queries)?;
     let numbers = blocks_exist(alloc, labels, queries)?;
-    marked_blocks_hold(alloc, network, labels)?;
+    labelled_blocks_hold(alloc, network, labels)?;
     Ok(answers(alloc, queries, labels, &numbers)?)
 }

@@ -1,15 +1,17 @@
 //! The flow that entries claim, put on the arcs entry by entry.
 
-ghost use Rattle.std.specs.Prelude.{◌≡◌, ◌≤◌, ◌<◌, ◌+◌, ◌++◌, ◌∷◌, [], List, Result, Some, None, true, false, length, take, count_by, IfOk, IfErr, IsOk, IsTrue, OnOk, OnErr, ◌↔◌};
+ghost use Rattle.std.specs.Prelude.{◌≡◌, ◌≤◌, ◌<◌, ◌+◌, ◌++◌, ◌∷◌, [], List, Result, Some, None, true, false, length, take, count_by, IfOk, IfErr, IfSome, IsOk, IsTrue, OnOk, OnErr, ◌↔◌};
 ghost use Rattle.dimacs_claims.specs.declared.solution.Entry.{Entry};
 ghost use Rattle.dimacs_network.specs.declared.network.ArcView.{ArcView};
 ghost use Rattle.dimacs_network.specs.Arcs.{joins, IsKthBetween, arc_at};
 ghost use Rattle.dimacs_judge.specs.Claims.{Carries, entry_row};
 ghost use Rattle.dimacs_judge.specs.Places.{ArePlaced, HavePlaced, IsIndexFor, came_between};
+ghost use Rattle.dimacs_judge.specs.inside.Passed.{IsFirstBetween};
 ghost use Rattle.dimacs_judge.specs.inside.Places.{PutsEntry, TellsFlow};
 ghost use Rattle.dimacs_judge.specs.Tests.{FirstOfRow};
 
 use crate::flow::Flow;
+use crate::passed::{GAP, Passed, has_ends};
 use crate::verdict::Where;
 use dimacs_claims::{Entry, Place};
 use dimacs_lines::Memory;
@@ -22,7 +24,8 @@ use std::marker::Model;
 ///
 /// The k-th entry with given ends belongs to the k-th arc with them. While entries come in the order of the arcs, each
 /// belongs to the next arc, and no search is needed. From the first one out of order on, the entries between two nodes
-/// are counted at the first arc between them.
+/// are counted at the first arc between them. As long as entries only leave arcs out, this is the next arc with these
+/// ends, unless an earlier arc has them too. Then, or if an entry goes back, an index finds it.
 #[derive(Drop)]
 pub struct FlowPlaces<'a, N: Network> {
     network: &'a N,
@@ -32,28 +35,35 @@ pub struct FlowPlaces<'a, N: Network> {
     /// How many entries came before the first one out of order.
     in_order: u32,
     out_of_order: bool,
-    /// An index of the arcs, if the network has none itself. It is filled when the first entry comes out of order.
+    /// The arcs up to that of the last entry, while entries come in the order of the arcs but leave some out.
+    passed: Option<Passed>,
+    /// Whether entries are searched for by their ends.
+    searched: bool,
+    /// An index of the arcs, if the network has none itself. It is filled when the first entry is searched for.
     index: Option<ArcIndex>,
     /// The first entry that fails. Nothing is counted or put after it.
     refusal: Option<(Where, Reason)>,
+    alloc: Global,
 }
 
 impl<'a, N: Network> Model for FlowPlaces<'a, N> {
     ghost use Rattle.dimacs_judge.specs.Claims.{Carries, entry_row};
     ghost use Rattle.dimacs_judge.specs.Places.{PlacesValue, HaveRoom, IsIndexFor};
+    ghost use Rattle.dimacs_judge.specs.inside.Passed.{HavePassedIf};
 
     ghost Value = { PlacesValue };
 
     ghost view = { λ p. record
-        { arcs = N.list p.network.now; flow = p.flow; counts = p.counts.items; in_order = p.in_order; out_of_order = p.out_of_order; refusal = p.refusal } };
+        { arcs = N.list p.network.now; flow = p.flow; counts = p.counts.items; in_order = p.in_order; out_of_order = p.out_of_order; searched = p.searched; refusal = p.refusal } };
 
     ghost invariant = { λ p. HaveRoom (record
-        { arcs = N.list p.network.now; flow = p.flow; counts = p.counts.items; in_order = p.in_order; out_of_order = p.out_of_order; refusal = p.refusal })
-        × IsIndexFor (N.list p.network.now) p.out_of_order p.index };
+        { arcs = N.list p.network.now; flow = p.flow; counts = p.counts.items; in_order = p.in_order; out_of_order = p.out_of_order; searched = p.searched; refusal = p.refusal })
+        × IsIndexFor (N.list p.network.now) p.searched p.index
+        × HavePassedIf (N.list p.network.now) p.passed };
 }
 
 impl<'a, N: Network> FlowPlaces<'a, N> {
-    /// No entries on the arcs of a network. It allocates all memory that is ever needed.
+    /// No entries on the arcs of a network. It allocates all memory that they can't do without.
     pub fn new(alloc: Global, network: &'a N) -> Result<FlowPlaces<'a, N>, Memory>
         ensures network { IfOk result (λ places. places.arcs ≡ N.list network.now) }
         ensures empty { IfOk result (λ places. ArePlaced places []) }
@@ -65,8 +75,11 @@ impl<'a, N: Network> FlowPlaces<'a, N> {
             counts: vec![in alloc; 0u32; arcs as usize]?,
             in_order: 0,
             out_of_order: false,
+            passed: None,
+            searched: false,
             index: room_for_index(alloc, network)?,
             refusal: None,
+            alloc,
         })
     }
 
@@ -124,20 +137,82 @@ impl<'a, N: Network> FlowPlaces<'a, N> {
             self.in_order += 1;
             return Ok(());
         }
-        self.leave_order();
+        self.put_out_of_order(entry)
+    }
+
+    /// Puts the flow of an entry on its arc, if it or an earlier one isn't that of the next arc.
+    #[inline(never)]
+    fn put_out_of_order(&mut self, entry: Entry) -> Result<(), Reason>
+        requires { self.old.refusal ≡ None }
+        ensures network { self.new.arcs ≡ self.old.arcs }
+        ensures refusal { self.new.refusal ≡ None }
+        ensures puts { (before : List Entry) → HavePlaced self.old before → PutsEntry self.old.arcs before entry result self.new }
+    {
+        self.leave_order(entry);
+        if let Some(first) = self.next_first(entry) {
+            self.flow.set(first, entry.flow);
+            self.counts[first as usize] = 1;
+            return Ok(());
+        }
+        self.search();
         self.put_by_search(entry)
     }
 
-    /// Entries are found by their ends from now on. The first call fills the index.
-    fn leave_order(&mut self)
+    /// From now on entries are counted at their first arcs.
+    #[inline]
+    fn leave_order(&mut self, entry: Entry)
         ensures { self.new ≡ record self.old { out_of_order = true } }
     {
         if !self.out_of_order {
-            if let Some(index) = &mut self.index {
-                index.fill(self.network);
+            if self.index.is_some() && self.is_near(entry) {
+                if let Ok(passed) = Passed::room(self.alloc, self.network) {
+                    self.passed = Some(passed);
+                }
             }
             self.out_of_order = true;
         }
+    }
+
+    /// Whether the first of the next arcs with the ends of this entry isn't far. Otherwise it mostly goes back.
+    fn is_near(&self, entry: Entry) -> bool {
+        let end = self.in_order.saturating_add(GAP).min(self.network.arcs());
+        for i in self.in_order..end {
+            if has_ends(self.network.arc(i), entry) {
+                return true;
+            }
+        }
+        false
+    }
+
+    /// Entries are found by their ends from now on. The first call fills the index.
+    #[inline]
+    fn search(&mut self)
+        ensures { self.new ≡ record self.old { searched = true } }
+    {
+        if !self.searched {
+            self.passed = None;
+            if let Some(index) = &mut self.index {
+                index.fill(self.network);
+            }
+            self.searched = true;
+        }
+    }
+
+    /// The first arc with the ends of this entry, if it is among the next ones and no entry with these ends came.
+    #[inline(always)]
+    fn next_first(&mut self, entry: Entry) -> Option<u32>
+        ensures unchanged { self.new ≡ self.old }
+        ensures first { IfSome result (λ arc. IsFirstBetween self.old.arcs entry.tail entry.head arc
+            × (came_between self.old entry.tail entry.head arc ≡ 0)) }
+    {
+        let first = match &mut self.passed {
+            Some(passed) => passed.pass_to(self.network, entry, self.in_order)?,
+            None => return None,
+        };
+        if first < self.in_order || self.counts[first as usize] > 0 {
+            return None;
+        }
+        Some(first)
     }
 
     /// Whether all entries came in the order of the arcs, and this one has the ends of the next arc.
@@ -156,7 +231,8 @@ impl<'a, N: Network> FlowPlaces<'a, N> {
 
     /// Puts the flow of an entry on its arc, wherever that is.
     fn put_by_search(&mut self, entry: Entry) -> Result<(), Reason>
-        requires searched { self.old.out_of_order ≡ true }
+        requires out_of_order { self.old.out_of_order ≡ true }
+        requires searched { self.old.searched ≡ true }
         requires no_refusal { self.old.refusal ≡ None }
         ensures network { self.new.arcs ≡ self.old.arcs }
         ensures refusal { self.new.refusal ≡ None }
@@ -176,7 +252,7 @@ impl<'a, N: Network> FlowPlaces<'a, N> {
 
     /// How many entries with the ends of this one came; `first` is the first arc with these ends.
     fn came(&self, entry: Entry, first: u32) -> u32
-        requires searched { self.now.out_of_order ≡ true }
+        requires searched { self.now.searched ≡ true }
         requires first { IsKthBetween self.now.arcs entry.tail entry.head 0 (Some first) }
         ensures { result ≡ came_between self.now entry.tail entry.head first }
     {
@@ -192,7 +268,7 @@ impl<'a, N: Network> FlowPlaces<'a, N> {
 
     /// How many of the arcs before `end` have the ends of this entry, if at least one has.
     fn arcs_below(&self, entry: Entry, end: u32) -> u32
-        requires searched { self.now.out_of_order ≡ true }
+        requires searched { self.now.searched ≡ true }
         requires some { 1 ≤ count_by (joins entry.tail entry.head) (take end self.now.arcs) }
         ensures { result ≡ count_by (joins entry.tail entry.head) (take end self.now.arcs) }
     {
@@ -208,7 +284,7 @@ impl<'a, N: Network> FlowPlaces<'a, N> {
     /// The arc with the ends of this entry that comes after k such arcs; `first` is the first of them.
     #[inline]
     fn kth(&self, entry: Entry, first: u32, k: u32) -> Option<u32>
-        requires searched { self.now.out_of_order ≡ true }
+        requires searched { self.now.searched ≡ true }
         requires first { IsKthBetween self.now.arcs entry.tail entry.head 0 (Some first) }
         ensures { IsKthBetween self.now.arcs entry.tail entry.head k result }
     {
@@ -222,7 +298,7 @@ impl<'a, N: Network> FlowPlaces<'a, N> {
     /// The arc with the ends of this entry that comes after k such arcs.
     #[inline(always)]
     fn find(&self, entry: Entry, k: u32) -> Option<u32>
-        requires { self.now.out_of_order ≡ true }
+        requires { self.now.searched ≡ true }
         ensures { IsKthBetween self.now.arcs entry.tail entry.head k result }
     {
         match &self.index {
@@ -232,7 +308,7 @@ impl<'a, N: Network> FlowPlaces<'a, N> {
     }
 }
 
-/// An entry that fails is placed too, and no entry allocates.
+/// An entry that fails is placed too, and without memory for the arcs that were passed, entries are searched for.
 impl<'a, N: Network> Place for FlowPlaces<'a, N> {
     ghost stands_for = { λ places entries. ArePlaced places entries };
 

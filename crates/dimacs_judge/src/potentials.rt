@@ -6,9 +6,10 @@ ghost use Rattle.dimacs_judge.specs.Potentials as theory;
 ghost use Rattle.dimacs_judge.specs.Potentials.{Slack};
 ghost use Rattle.dimacs_judge.specs.CertificateTests.{SlackFails, slack_row};
 ghost use Rattle.dimacs_judge.specs.inside.Ranges.{IsOfSize};
-ghost use Rattle.dimacs_judge.specs.Tests.{Decides, TellsRow};
+ghost use Rattle.dimacs_judge.specs.Tests.{Decides};
 ghost use Rattle.dimacs_judge.specs.inside.Tests.{TellsReason};
 
+use crate::arc_test::{ArcTest, arcs_hold};
 use crate::flow::Flow;
 use crate::verdict::Where;
 use dimacs_claims::Potentials;
@@ -30,32 +31,20 @@ pub fn slack_tests<N: Network>(
     ensures { Decides (Slack instance.now.arcs flow.now (potential_of potentials.now))
         (slack_row instance.now.arcs (potential_of potentials.now) flow.now ∷ []) result }
 {
-    arcs_slack(instance.network(), flow, potentials)
+    arcs_hold(instance.network(), flow, potentials)
 }
 
-/// Tests each arc; the error names the first whose reduced cost is positive and that carries more than its lower bound,
-/// or whose reduced cost is negative and that carries less than its capacity.
-fn arcs_slack<N: Network>(
-    network: &N,
-    flow: &Flow,
-    potentials: &Potentials,
-) -> Result<(), (Where, Reason)>
-    requires one_each { length flow.now ≡ length (N.list network.now) }
-    ensures { TellsRow (slack_row (N.list network.now) (potential_of potentials.now) flow.now) result }
-{
-    for i in 0..network.arcs() {
-        let arc = network.arc(i);
-        let reduced = reduced_cost(arc, potentials);
-        if let Some(reason) = slack_fault(reduced, arc, flow.amount(i)) {
-            return Err((Where::Arc(i + 1), reason));
-        }
+impl ArcTest for Potentials {
+    ghost fails = { λ potentials a. SlackFails (theory.reduced_cost (potential_of potentials) a) a };
+
+    fn fault(&self, arc: ArcView, amount: i64) -> Option<Reason> {
+        slack_fault(reduced_cost(arc, self), arc, amount)
     }
-    Ok(())
 }
 
 /// The reason why an arc fails, if it does. Makes both tests without a branch between them, which would be
 /// mispredicted.
-fn slack_fault(reduced: i128, arc: ArcView, amount: i64) -> Option<Reason>
+pub(crate) fn slack_fault(reduced: i128, arc: ArcView, amount: i64) -> Option<Reason>
     ensures { TellsReason (SlackFails reduced arc amount) result }
 {
     let above_low = (reduced > 0) & (amount != arc.low);

@@ -44,8 +44,8 @@ pub fn min_solution<N: Network>(
     flow: &Flow,
 ) -> Result<Option<Solution>, Memory>
     requires { FeasibleMin instance.now flow.now }
-    ensures some { IfOk result (λ told. IfSome told (λ solution. IsMinSolutionOf instance.now flow.now (claimed solution))) }
-    ensures none { IfOk result (λ told. IfNone told (LeavesCostRange instance.now.arcs flow.now)) }
+    ensures some { IfOk result (λ outcome. IfSome outcome (λ solution. IsMinSolutionOf instance.now flow.now (claimed solution))) }
+    ensures none { IfOk result (λ outcome. IfNone outcome (LeavesCostRange instance.now.arcs flow.now)) }
 {
     let network = instance.network();
     let Ok(value) = cost_within(network, flow) else {

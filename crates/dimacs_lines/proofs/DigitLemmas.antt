@@ -20,23 +20,23 @@ digit_from b h = (grind (arith, nat_tests), grind (arith, nat_tests))
 pub not_blank : (b : ℕ) → 33 ≤ b → is_blank b ≡ false
 not_blank b h = grind (arith, nat_tests)
 
--- each byte among the leading digits is a digit
-digit_at : (xs : List ℕ) (n k d : ℕ) → n ≡ prefix_len is_ascii_digit (take 8 xs) → k < n → IsAsciiDigit (get_or xs k d)
-digit_at xs n k d is below =
-    let within : n ≤ length (take 8 xs) = omega (arith, prefix_len-le-length is_ascii_digit (take 8 xs)) in
-    let inside : k < 8 = omega (arith, within, length-take 8 xs) in
-    rw (← get_or-take 8 xs k d inside) (digit_from _ (prefix_len_passes is_ascii_digit (take 8 xs) k d (omega arith)))
+-- each byte among the leading digits of the first m bytes is a digit
+digit_at : (m : ℕ) (xs : List ℕ) (n k d : ℕ) → n ≡ prefix_len is_ascii_digit (take m xs) → k < n → IsAsciiDigit (get_or xs k d)
+digit_at m xs n k d is below =
+    let within : n ≤ length (take m xs) = omega (arith, prefix_len-le-length is_ascii_digit (take m xs)) in
+    let inside : k < m = omega (arith, within, length-take m xs) in
+    rw (← get_or-take m xs k d inside) (digit_from _ (prefix_len_passes is_ascii_digit (take m xs) k d (omega arith)))
 
-pub All-digits : (xs : List ℕ) (n : ℕ) → n ≡ prefix_len is_ascii_digit (take 8 xs) → All IsAsciiDigit (take n xs)
-All-digits xs n is k d inside =
+pub All-digits : (m : ℕ) (xs : List ℕ) (n : ℕ) → n ≡ prefix_len is_ascii_digit (take m xs) → All IsAsciiDigit (take n xs)
+All-digits m xs n is k d inside =
     let below : k < n = omega (arith, length-take n xs) in
-    rw (get_or-take n xs k d below) (digit_at xs n k d is below)
+    rw (get_or-take n xs k d below) (digit_at m xs n k d is below)
 
 -- digits with a blank or nothing after them are a whole field
 pub run_of_digits : (xs : List ℕ) (n : ℕ) → n ≡ prefix_len is_ascii_digit (take 8 xs) → (n < length xs → is_blank (get_or xs n 0) ≡ true) → n ≡ position_or_len is_blank xs
 run_of_digits xs n is ends =
     let within : n ≤ length xs = omega (arith, prefix_len-le-length is_ascii_digit (take 8 xs), length-take 8 xs) in
-    sym (position_or_len_is is_blank xs n 0 within (λ k below. not_blank (get_or xs k 0) (let digit = digit_at xs n k 0 is below in omega (arith, digit.0))) ends)
+    sym (position_or_len_is is_blank xs n 0 within (λ k below. not_blank (get_or xs k 0) (let digit = digit_at 8 xs n k 0 is below in omega (arith, digit.0))) ends)
 
 pub digit_is_no_sign : (b : ℕ) → IsAsciiDigit b → (b == 43 || b == 45) ≡ false
 digit_is_no_sign b digit = grind (arith, nat_tests, digit.0, digit.1)

@@ -9,6 +9,7 @@ mod FieldLaw
 mod DecimalLemmas
 mod Lanes
 mod Marks
+mod EndMarks
 mod Pairs
 mod PlaceSums
 pub mod PageLemmas

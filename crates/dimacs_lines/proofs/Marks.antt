@@ -29,7 +29,7 @@ marks-one : (b : ℕ) → b < 256 → marks 1 b ≡ cond (has_sixteen b) 0 16
 marks-one b small = eqb-true _ _ (agree_below_at (λ b. eqb (marks 1 b) (cond (has_sixteen b) 0 16)) (λ _. true) 256 b refl small)
 
 -- a shift to the left adds zeros at the end
-count_trailing_zeros-shl : (j k n m : ℕ) → n ≡ j + k → count_trailing_zeros n (m * 2 ^ j) ≡ j + count_trailing_zeros k m
+pub count_trailing_zeros-shl : (j k n m : ℕ) → n ≡ j + k → count_trailing_zeros n (m * 2 ^ j) ≡ j + count_trailing_zeros k m
 unfolding count_trailing_zeros
 count_trailing_zeros-shl zero k n m is =
     let width : n ≡ k = omega arith in
@@ -39,7 +39,7 @@ count_trailing_zeros-shl (suc j) k (suc n) m is =
     let rest = count_trailing_zeros-shl j k n m (omega arith) in
     ap₂ (λ d t. under d (count_trailing_zeros n t)) (shifted_even m j) (shifted_half m j) ∙ omega arith
 
-count_trailing_zeros-odd : (k n : ℕ) → n % 2 ≡ 1 → count_trailing_zeros k n ≡ 0
+pub count_trailing_zeros-odd : (k n : ℕ) → n % 2 ≡ 1 → count_trailing_zeros k n ≡ 0
 unfolding count_trailing_zeros
 count_trailing_zeros-odd zero n odd = refl
 count_trailing_zeros-odd (suc k) n odd = ap (λ d. under d (count_trailing_zeros k (n / 2))) odd

@@ -1,11 +1,12 @@
 -- The value of digits, by places and from the first digit on.
 use Rattle.std.proofs.Common.{◌≡◌, ℕ, zero, suc, ◌+◌, ◌-◌, ◌*◌, ◌/◌, ◌%◌, ◌^◌, ◌<◌, Bool, true, false, cond, eqb, ltb, List, [], ◌∷◌, ◌++◌, length, map, take, replicate, bit_xor, refl, sym, ap, ◌∙◌, arith, lit<, subst, leb-true, ltb-true, lt-ltb, eqb-true, eq-eqb, pow-suc, get_or-take, length-take}
 use Rattle.std.specs.Prelude.{◌||◌, not}
-use Rattle.std.specs.Char.{is_ascii_digit}
+use Rattle.std.specs.Char.{is_ascii_digit, IsAsciiDigit}
 use Rattle.std.specs.Int.Digits.{AllBelowBase, number_from_digits, number_from_digits_after}
 use Rattle.std.specs.List.{All, prefix_len, AllPass}
 use Rattle.std.proofs.lemmas.Bool.{and_parts, agree_below_at}
-use Rattle.std.proofs.lemmas.List.Elements.{All-nil, All-cons, All-head, All-tail}
+use Rattle.std.proofs.lemmas.Bool.Decides.{nat_tests}
+use Rattle.std.proofs.lemmas.List.Elements.{All-nil, All-cons, All-head, All-tail, All-weaker}
 use Rattle.std.proofs.lemmas.List.Sums.{prefix_len_passes}
 use Rattle.dimacs_lines.specs.Number.{place_sum}
 use Rattle.dimacs_lines.specs.inside.Plain.{has_sixteen}
@@ -111,3 +112,20 @@ prefix_len-padded zero m bs = refl
 prefix_len-padded (suc n) zero [] = refl
 prefix_len-padded (suc n) (suc m) [] = refl
 prefix_len-padded (suc n) m (b ∷ bs) = ap (λ k. cond (is_ascii_digit b) (1 + k) 0) (prefix_len-padded n m bs)
+
+-- the values of digits, with zeros before them
+abbrev pub turned : ℕ → List ℕ → List ℕ
+turned j ds = replicate j 0 ++ map (λ b. bit_xor b 48) ds
+
+passes : (b : ℕ) → IsAsciiDigit b → is_ascii_digit b ≡ true
+passes b digit = grind (arith, nat_tests, digit.0, digit.1)
+
+pub AllPass-digits : (ds : List ℕ) → All IsAsciiDigit ds → AllPass is_ascii_digit ds
+AllPass-digits ds h = All-weaker IsAsciiDigit (λ b. is_ascii_digit b ≡ true) passes ds h
+
+pub AllBelowBase-digits : (j : ℕ) (ds : List ℕ) → All IsAsciiDigit ds → AllBelowBase 10 (turned j ds)
+AllBelowBase-digits zero [] h = tt
+AllBelowBase-digits zero (b ∷ ds) h =
+    let digit = All-head IsAsciiDigit b ds h in
+    (omega (arith, digit_value b (passes b digit), digit.1), AllBelowBase-digits zero ds (All-tail IsAsciiDigit b ds h))
+AllBelowBase-digits (suc j) ds h = (lit< tt, AllBelowBase-digits j ds h)

@@ -7,6 +7,6 @@ pub mod Buffer
 pub mod Number
 pub mod Fields
 pub mod FieldViews
-pub mod Pages
+pub mod OutputBuffers
 pub mod Plain
 pub mod inside

@@ -14,3 +14,8 @@ pub record StandsAt (bytes : List ℕ) (at stop : ℕ) (n : ℤ) (next : ℕ) : 
   pub spelled : Spells text n
   pub short : length text ≤ 40
   pub ends : EndsAt bytes at stop text next
+
+-- the bytes from the start of a line on, and the place of the numbers that aren't taken yet
+pub record NumbersLeft : Type 0 where
+  pub bytes : List ℕ
+  pub at : ℕ

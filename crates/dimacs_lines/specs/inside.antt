@@ -1,4 +1,4 @@
 pub mod Buffer
 pub mod Decimals
-pub mod Pages
+pub mod OutputBuffers
 pub mod Plain

@@ -1,7 +1,7 @@
 //! Eight digits at a time, in one 64-bit word.
 
-ghost use Rattle.std.specs.Prelude.{◌≡◌, ◌-◌, ◌≤◌, ◌<◌, ◌++◌, ◌↔◌, length, map, replicate, take, drop, bit_xor, IsTrue, IfSome};
-ghost use Rattle.std.specs.Char.{is_ascii_digit};
+ghost use Rattle.std.specs.Prelude.{◌≡◌, ◌+◌, ◌-◌, ◌≤◌, ◌<◌, ◌++◌, ◌↔◌, length, map, replicate, take, drop, bit_xor, IsTrue, IfSome};
+ghost use Rattle.std.specs.Char.{is_ascii_digit, IsAsciiDigit};
 ghost use Rattle.std.specs.Int.{w64, to_le_bytes};
 ghost use Rattle.std.specs.Int.Digits.{AllBelowBase, number_from_digits};
 ghost use Rattle.std.specs.List.{All, prefix_len};
@@ -28,6 +28,18 @@ pub fn digits_at(line: &[u8], at: usize) -> Option<(usize, u32)>
         return None;
     }
     Some((count as usize, eight_digits(values)))
+}
+
+/// The value of one to eight digits at `at`.
+#[inline(always)]
+pub fn few_digits(line: &[u8], at: usize, count: usize) -> u32
+    requires room { at + 8 ≤ length line.now }
+    requires some { 0 < count }
+    requires few { count ≤ 8 }
+    requires digits { All IsAsciiDigit (take count (drop at line.now)) }
+    ensures { result ≡ place_sum (take count (drop at line.now)) }
+{
+    eight_digits(values_on_top(load(&line[at..]), count as u32))
 }
 
 /// The eight bytes from `at` on, the first one lowest, with zeros past the line's end.

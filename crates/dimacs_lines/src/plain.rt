@@ -1,142 +1,180 @@
-//! Fast reading of numbers in their most common form, straight from the buffer of a reader: right after the number
-//! stands one given byte, a blank or the line's end. Everything else is left to `Scan`.
+//! Fast reading of the numbers of a line in their most common form, straight from the buffer of a reader: right after
+//! each stands one given byte, a blank or the line's end. Everything else is left to `Scan`.
 
-ghost use Rattle.std.specs.Prelude.{◌≡◌, ◌≤◌, ◌<◌, ◌+◌, ◌^◌, pos, length, IfSome};
+ghost use Rattle.std.specs.Prelude.{◌≡◌, ◌≤◌, ◌<◌, ◌+◌, ◌∷◌, pos, length, take, drop, IfSome, IfNone};
 ghost use Rattle.dimacs_lines.specs.Plain.{StandsAt};
-ghost use Rattle.dimacs_lines.specs.inside.Plain.{DigitsAt};
+ghost use Rattle.dimacs_lines.specs.inside.Plain.{DigitsAt, IsRunOfDigits, ends_of};
 
-use crate::digits::digits_at;
-use crate::numbers::number;
+use crate::digits::few_digits;
+use std::marker::Model;
+use std::simd::prelude::*;
 
-/// The most bytes of a number that is read here, in whatever form.
-const LONGEST: usize = 40;
+/// How many bytes there must be from the start of the 32 on: a number that starts in them is read as eight bytes.
+const ROOM: usize = 40;
 
-/// The powers of ten from 10^0 to 10^8.
-const POWERS: [u64; 9] = [
-    1,
-    10,
-    100,
-    1_000,
-    10_000,
-    100_000,
-    1_000_000,
-    10_000_000,
-    100_000_000,
-];
-
-/// Reads an ID at `at`: one to eight digits with a value above 0, and `stop` right after them. Returns the place after
-/// `stop` and the ID; none if the bytes have another form.
-#[inline(always)]
-pub fn plain_id(bytes: &[u8], at: usize, stop: u8) -> Option<(usize, u32)>
-    requires { at ≤ length bytes.now }
-    ensures stands { IfSome result (λ found. StandsAt bytes.now at stop (pos found.1) found.0) }
-    ensures range { IfSome result (λ found. (1 ≤ found.1) × (found.1 < 100000000)) }
-{
-    let (next, id) = plain_size(bytes, at, stop)?;
-    if id == 0 {
-        return None;
-    }
-    Some((next, id))
+/// The numbers of a line, from left to right. The ends of all numbers in 32 bytes are found at once.
+#[derive(Drop)]
+pub struct PlainNumbers<'a> {
+    bytes: &'a [u8],
+    /// Where the 32 bytes start.
+    start: usize,
+    /// A bit for each of them that is no digit, the first one lowest, but none before `at`.
+    ends: u32,
+    /// The place of the next number, counted from `start`.
+    at: usize,
 }
 
-/// Reads a 64-bit number at `at`, with `stop` right after it. Returns the place after `stop` and the number; none if
-/// the bytes have another form, or more than 40 bytes. One to eight digits, perhaps after a minus, are the fast case.
-#[inline(always)]
-pub fn plain_whole(bytes: &[u8], at: usize, stop: u8) -> Option<(usize, i64)>
-    requires { at ≤ length bytes.now }
-    ensures stands { IfSome result (λ found. StandsAt bytes.now at stop found.1 found.0) }
-{
-    if at < bytes.len() && bytes[at] == b'-' {
-        if let Some((next, size)) = plain_size(bytes, at + 1, stop) {
-            return Some((next, -i64::from(size)));
+impl<'a> Model for PlainNumbers<'a> {
+    ghost use Rattle.std.specs.Prelude.{◌≡◌, ◌≤◌, ◌+◌, length};
+    ghost use Rattle.dimacs_lines.specs.Plain.{NumbersLeft};
+    ghost use Rattle.dimacs_lines.specs.inside.Plain.{ends_from};
+
+    ghost Value = { NumbersLeft };
+
+    ghost view = { λ s. record { bytes = s.bytes.now; at = s.start + s.at } };
+
+    ghost invariant = { λ s. (s.start + 40 ≤ length s.bytes.now) × (s.at ≤ 33) × (s.ends ≡ ends_from s.bytes.now s.start s.at) };
+}
+
+impl<'a> PlainNumbers<'a> {
+    /// The numbers after a letter and a blank. Returns none if the bytes begin otherwise, or are few.
+    #[inline(always)]
+    pub fn after(letter: u8, bytes: &'a [u8]) -> Option<PlainNumbers<'a>>
+        ensures begins { IfSome result (λ numbers. bytes.now ≡ letter ∷ 32 ∷ drop 2 bytes.now) }
+        ensures left { IfSome result (λ numbers. numbers ≡ record { bytes = bytes.now; at = 2 }) }
+    {
+        if bytes.len() < 2 + ROOM || bytes[0] != letter || bytes[1] != b' ' {
+            return None;
         }
-    } else if let Some((next, size)) = plain_size(bytes, at, stop) {
-        return Some((next, i64::from(size)));
+        Some(PlainNumbers::from(bytes, 2))
     }
-    long_whole(bytes, at, stop)
-}
 
-/// Reads one to eight digits at `at`, with `stop` right after them: the place after `stop`, and the value.
-#[inline(always)]
-fn plain_size(bytes: &[u8], at: usize, stop: u8) -> Option<(usize, u32)>
-    requires { at ≤ length bytes.now }
-    ensures digits { IfSome result (λ found. DigitsAt bytes.now at stop found.1 found.0) }
-    ensures few { IfSome result (λ found. found.0 ≤ at + 9) }
-{
-    let (count, size) = digits_at(bytes, at)?;
-    let end = at + count;
-    if end < bytes.len() && bytes[end] == stop {
-        return Some((end + 1, size));
-    }
-    None
-}
-
-/// Reads a whole number with more digits, or in another form.
-#[inline(never)]
-fn long_whole(bytes: &[u8], at: usize, stop: u8) -> Option<(usize, i64)>
-    requires { at ≤ length bytes.now }
-    ensures { IfSome result (λ found. StandsAt bytes.now at stop found.1 found.0) }
-{
-    if at < bytes.len() && bytes[at] == b'-' {
-        if let Some((next, size)) = long_size(bytes, at + 1, stop) {
-            return Some((next, -(size as i64)));
+    /// The numbers from `start` on.
+    #[inline(always)]
+    fn from(bytes: &'a [u8], start: usize) -> PlainNumbers<'a>
+        requires { start + 40 ≤ length bytes.now }
+        ensures { result ≡ record { bytes = bytes.now; at = start } }
+    {
+        let ends = ends(&bytes[start..]);
+        PlainNumbers {
+            bytes,
+            start,
+            ends,
+            at: 0,
         }
-    } else if let Some((next, size)) = long_size(bytes, at, stop) {
-        return Some((next, size as i64));
     }
-    other_whole(bytes, at, stop)
+
+    /// The place after the numbers that were taken.
+    #[inline(always)]
+    pub fn at(&self) -> usize
+        ensures { result ≡ self.now.at }
+    {
+        self.start + self.at
+    }
+
+    /// Takes an ID with `stop` right after it: one to eight digits with a value above 0. Returns none if the bytes have
+    /// another form.
+    #[inline(always)]
+    pub fn id(&mut self, stop: u8) -> Option<u32>
+        ensures stands { IfSome result (λ id. StandsAt self.old.bytes self.old.at stop (pos id) self.new.at) }
+        ensures range { IfSome result (λ id. (1 ≤ id) × (id < 100000000)) }
+        ensures bytes { self.new.bytes ≡ self.old.bytes }
+    {
+        let id = self.digits(stop)?;
+        if id == 0 {
+            return None;
+        }
+        Some(id)
+    }
+
+    /// Takes a number with `stop` right after it: one to sixteen digits, perhaps after a minus. Returns none if the bytes
+    /// have another form. One to eight digits are the fast case.
+    #[inline(always)]
+    pub fn whole(&mut self, stop: u8) -> Option<i64>
+        ensures stands { IfSome result (λ n. StandsAt self.old.bytes self.old.at stop n self.new.at) }
+        ensures bytes { self.new.bytes ≡ self.old.bytes }
+    {
+        if let Some(size) = self.digits(stop) {
+            return Some(i64::from(size));
+        }
+        let minus = self.bytes[self.at()] == b'-';
+        self.restart(self.at() + usize::from(minus))?;
+        let size = self.more_digits(stop)? as i64;
+        Some(if minus { -size } else { size })
+    }
+
+    /// Looks for the ends of numbers from `start` on.
+    #[inline(always)]
+    fn restart(&mut self, start: usize) -> Option<()>
+        requires { start ≤ length self.old.bytes }
+        ensures some { IfSome result (λ _. self.new ≡ record { bytes = self.old.bytes; at = start }) }
+        ensures none { IfNone result (self.new ≡ self.old) }
+    {
+        if self.bytes.len() - start < ROOM {
+            return None;
+        }
+        *self = PlainNumbers::from(self.bytes, start);
+        Some(())
+    }
+
+    /// Takes one to eight digits with `stop` right after them. Takes nothing if the bytes have another form.
+    #[inline(always)]
+    fn digits(&mut self, stop: u8) -> Option<u32>
+        ensures digits { IfSome result (λ n. DigitsAt self.old.bytes self.old.at stop n self.new.at) }
+        ensures range { IfSome result (λ n. n < 100000000) }
+        ensures bytes { self.new.bytes ≡ self.old.bytes }
+        ensures none { IfNone result (self.new ≡ self.old) }
+    {
+        let at = self.at();
+        let count = self.run(1, stop)?;
+        Some(few_digits(self.bytes, at, count))
+    }
+
+    /// Takes one to sixteen digits with `stop` right after them.
+    #[inline(always)]
+    fn more_digits(&mut self, stop: u8) -> Option<u64>
+        ensures digits { IfSome result (λ n. DigitsAt self.old.bytes self.old.at stop n self.new.at) }
+        ensures range { IfSome result (λ n. n < 10000000000000000) }
+        ensures bytes { self.new.bytes ≡ self.old.bytes }
+    {
+        if let Some(size) = self.digits(stop) {
+            return Some(u64::from(size));
+        }
+        let at = self.at();
+        let count = self.run(9, stop)?;
+        let high = few_digits(self.bytes, at, count - 8);
+        let low = few_digits(self.bytes, at + count - 8, 8);
+        Some(u64::from(high) * 100_000_000 + u64::from(low))
+    }
+
+    /// Takes a run of `least` to `least + 7` digits with `stop` right after it, and returns its length. Takes nothing if
+    /// the bytes have another form.
+    #[inline(always)]
+    fn run(&mut self, least: usize, stop: u8) -> Option<usize>
+        requires some { 0 < least }
+        requires few { least ≤ 9 }
+        ensures run { IfSome result (λ count. IsRunOfDigits self.old.bytes self.old.at stop count self.new.at) }
+        ensures length { IfSome result (λ count. (least ≤ count) × (count ≤ least + 7)) }
+        ensures bytes { self.new.bytes ≡ self.old.bytes }
+        ensures none { IfNone result (self.new ≡ self.old) }
+    {
+        let end = self.ends.trailing_zeros() as usize;
+        let count = end.wrapping_sub(self.at);
+        if count.wrapping_sub(least) >= 8 || self.bytes[self.start + end] != stop {
+            return None;
+        }
+        self.ends &= self.ends.wrapping_sub(1);
+        self.at = end + 1;
+        Some(count)
+    }
 }
 
-/// Reads nine to sixteen digits at `at`, with `stop` right after them: the place after `stop`, and the value. It reads
-/// eight at once, then the others.
+/// A bit for each of the first 32 bytes that is no digit.
 #[inline(always)]
-fn long_size(bytes: &[u8], at: usize, stop: u8) -> Option<(usize, u64)>
-    requires { at ≤ length bytes.now }
-    ensures { IfSome result (λ found. DigitsAt bytes.now at stop found.1 found.0) }
+fn ends(bytes: &[u8]) -> u32
+    requires { 32 ≤ length bytes.now }
+    ensures { result ≡ ends_of (take 32 bytes.now) }
 {
-    let (count, high) = digits_at(bytes, at)?;
-    if count < 8 {
-        return None;
-    }
-    let (next, low) = plain_size(bytes, at + 8, stop)?;
-    let size = u64::from(high) * ten_to(next - at - 9) + u64::from(low);
-    Some((next, size))
-}
-
-/// A power of ten.
-#[inline(always)]
-fn ten_to(power: usize) -> u64
-    requires { power ≤ 8 }
-    ensures is { result ≡ 10 ^ power }
-    ensures few { result ≤ 100000000 }
-{
-    POWERS[power]
-}
-
-/// Reads a number of up to `LONGEST` bytes in any form, with the general reader.
-#[cold]
-#[inline(never)]
-fn other_whole(bytes: &[u8], at: usize, stop: u8) -> Option<(usize, i64)>
-    requires { at ≤ length bytes.now }
-    ensures { IfSome result (λ found. StandsAt bytes.now at stop found.1 found.0) }
-{
-    let field = &bytes[at..at + visible(&bytes[at..])];
-    let after = at + field.len();
-    if after < bytes.len() && bytes[after] == stop {
-        let n = number(field).ok()?;
-        return Some((after + 1, n));
-    }
-    None
-}
-
-/// Counts the leading visible bytes (33 to 126), up to `LONGEST`.
-fn visible(bytes: &[u8]) -> usize
-    ensures short { result ≤ 40 }
-    ensures within { result ≤ length bytes.now }
-{
-    bytes
-        .iter()
-        .take(LONGEST)
-        .take_while(|b| b.is_ascii_graphic())
-        .count()
+    let values = u8x32::from_slice(bytes) - u8x32::splat(b'0');
+    values.simd_gt(u8x32::splat(9)).to_bitmask() as u32
 }

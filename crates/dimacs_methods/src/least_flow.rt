@@ -1,8 +1,10 @@
 //! Flows of least cost.
 
+use crate::augment::Augmenting;
 use crate::number::Number;
 use crate::potentials::set_potential;
-use crate::problem::Problem;
+use crate::problem::{MOST_MOVED, Problem};
+use crate::residual::Residual;
 use crate::scaling::Scaling;
 use crate::simplex::Simplex;
 use dimacs_claims::Potentials;
@@ -20,23 +22,42 @@ pub struct LeastFlow {
 
 /// Finds a flow of least cost, and potentials that show it. If no flow is feasible, the result leaves the least excess.
 ///
-/// The network simplex is quicker on most instances, but takes very long on some large ones. Those go to cost scaling.
+/// The network simplex is quicker on most instances. If few nodes have an excess, successive shortest paths are tried
+/// first. If the simplex takes long, the instance goes to cost scaling.
 pub fn make_least_flow<N: Network>(
     alloc: Global,
     instance: &MinInstance<N>,
 ) -> Result<LeastFlow, Memory> {
     let problem = Problem::new(alloc, instance)?;
+    if let Some(flow) = by_paths(alloc, &problem)? {
+        return Ok(flow);
+    }
     match quickly(alloc, &problem)? {
         Some(flow) => Ok(flow),
         None => surely(alloc, &problem),
     }
 }
 
-/// The potentials of the simplex fit into 64 bits if no path costs as much: 2^60.
-const LONGEST: i128 = 1152921504606846976;
+/// Up to this many nodes with an excess are few.
+const FEW: usize = 128;
 
-/// Amounts fit into 64 bits if all that may be moved is less: 2^62.
-const MOST: i128 = 4611686018427387904;
+/// Successive shortest paths; none if they aren't tried, or take too much work.
+fn by_paths<N: Network>(
+    alloc: Global,
+    problem: &Problem<'_, N>,
+) -> Result<Option<LeastFlow>, Memory> {
+    let sources = problem.sources();
+    let is_fit = problem.is_narrow() && problem.least_cost >= 0;
+    if !is_fit || sources > FEW {
+        return Ok(None);
+    }
+    let mut augmenting = Augmenting::new(alloc, problem)?;
+    if !augmenting.run()? {
+        return Ok(None);
+    }
+    let flow = of_residual(alloc, problem, &augmenting.residual)?;
+    Ok(Some(flow))
+}
 
 /// Prices fit into 64 bits if a cost and twice the number of nodes have at most this many bits together. In the first
 /// phase prices fall by a few times the tolerance for each node, later by less.
@@ -52,7 +73,7 @@ fn quickly<N: Network>(
     alloc: Global,
     problem: &Problem<'_, N>,
 ) -> Result<Option<LeastFlow>, Memory> {
-    if problem.longest_path() < LONGEST && problem.imbalance() < MOST {
+    if problem.is_narrow() {
         by_simplex::<N, i64>(alloc, problem)
     } else {
         by_simplex::<N, i128>(alloc, problem)
@@ -63,7 +84,7 @@ fn quickly<N: Network>(
 fn surely<N: Network>(alloc: Global, problem: &Problem<'_, N>) -> Result<LeastFlow, Memory> {
     let bits = problem.bits();
     let price_bits = bits.nodes.wrapping_mul(2).wrapping_add(bits.cost);
-    if price_bits <= PRICE_BITS && problem.greatest_excess() < MOST {
+    if price_bits <= PRICE_BITS && problem.greatest_excess() < MOST_MOVED {
         by_scaling::<N, i64>(alloc, problem)
     } else {
         by_scaling::<N, i128>(alloc, problem)
@@ -76,15 +97,6 @@ fn by_simplex<N: Network, V: Number>(
     problem: &Problem<'_, N>,
 ) -> Result<Option<LeastFlow>, Memory> {
     let mut simplex: Simplex<V> = Simplex::new(alloc, problem)?;
-    run_simplex(alloc, problem, &mut simplex)
-}
-
-/// Runs this simplex and returns its flow.
-fn run_simplex<N: Network, V: Number>(
-    alloc: Global,
-    problem: &Problem<'_, N>,
-    simplex: &mut Simplex<V>,
-) -> Result<Option<LeastFlow>, Memory> {
     let work = problem
         .size()
         .wrapping_mul(WORK_FOR_EACH)
@@ -104,9 +116,18 @@ fn by_scaling<N: Network, V: Number>(
     problem: &Problem<'_, N>,
 ) -> Result<LeastFlow, Memory> {
     let mut scaling: Scaling<V> = Scaling::new(alloc, problem)?;
-    scaling.run(alloc)?;
-    let values = scaling.residual.potentials(alloc)?;
-    let amounts = scaling.residual.amounts(alloc, problem.network())?;
+    scaling.run()?;
+    of_residual(alloc, problem, &scaling.residual)
+}
+
+/// The flow and the prices of a residual network.
+fn of_residual<N: Network, V: Number>(
+    alloc: Global,
+    problem: &Problem<'_, N>,
+    residual: &Residual<V>,
+) -> Result<LeastFlow, Memory> {
+    let values = residual.potentials(alloc)?;
+    let amounts = residual.amounts(alloc, problem.network())?;
     least_flow(alloc, problem, &values, amounts)
 }
 

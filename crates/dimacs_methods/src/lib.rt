@@ -4,12 +4,15 @@
 //! each loop is bounded independently of what the method computes.
 #![tactic(auto)]
 
+mod augment;
 mod least_flow;
+mod levels;
 mod node_numbers;
 mod number;
 mod potentials;
 mod preflow;
 mod problem;
+mod residual;
 mod scaling;
 mod simplex;
 mod tables;

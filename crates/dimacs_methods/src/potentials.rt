@@ -33,7 +33,7 @@ use crate::potentials::claim::Claim;
 use crate::potentials::cycle::{cycle_over, cycle_within};
 use crate::potentials::groups::{Groups, Places};
 use crate::potentials::join::joints;
-use crate::potentials::links::{Link, Linked, all_links, joined_links};
+use crate::potentials::links::{Link, all_links, joined_links};
 use crate::potentials::listing::Listing;
 use crate::potentials::rounds::settled_by_rounds;
 use crate::potentials::search::{End, lower_all};
@@ -90,7 +90,7 @@ fn tie_and_link<N: Network, V: Number>(
     if !tied {
         return torn(alloc, claim, &places);
     }
-    let Linked::Links(links) = all_links(alloc, claim, &places)? else {
+    let Some(links) = all_links(alloc, claim, &places)? else {
         return torn(alloc, claim, &places);
     };
     let mut distances = vec![in alloc; V::of(0); places.groups as usize]?;
@@ -115,8 +115,8 @@ fn join_and_settle<N: Network, V: Number>(
     let mut places = places;
     places.join(&joints);
     match joined_links(links, &joints) {
-        Linked::Links(links) => settle(alloc, claim, &places, links),
-        Linked::Torn => torn(alloc, claim, &places),
+        Some(links) => settle(alloc, claim, &places, links),
+        None => torn(alloc, claim, &places),
     }
 }
 

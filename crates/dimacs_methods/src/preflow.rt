@@ -2,11 +2,10 @@
 //! Cherkassky describe it. It is pushed along paths of two arcs, as in Goldberg's partial augmentation: only to nodes
 //! from which it can be pushed on.
 
-mod levels;
 mod residual;
 mod waiting;
 
-use crate::preflow::levels::Levels;
+use crate::levels::{Levels, NONE};
 use crate::preflow::residual::{Half, Residual};
 use crate::preflow::waiting::Waiting;
 use crate::tables::{member, set_member};
@@ -27,7 +26,7 @@ const ENDLESS_DEFICIT: i128 = -1329227995784915872903807060280344576;
 struct Preflow {
     residual: Residual,
     /// The excess of each node: its inflow and supply, less its outflow. A negative one is a deficit.
-    surplus: Vec<i128>,
+    imbalance: Vec<i128>,
     height: Vec<u32>,
     /// For each node, no half-arc before this place leads down.
     cursor: Vec<u32>,
@@ -51,11 +50,11 @@ pub fn raise_value<N: Network>(
     let source = preflow.residual.number(instance.source());
     let sink = preflow.residual.number(instance.sink());
     preflow.flood(source);
-    preflow.set_surplus(source, 0);
-    preflow.set_surplus(sink, ENDLESS_DEFICIT);
+    preflow.set_imbalance(source, 0);
+    preflow.set_imbalance(sink, ENDLESS_DEFICIT);
     preflow.drain();
-    preflow.set_surplus(source, ENDLESS_DEFICIT);
-    preflow.set_surplus(sink, 0);
+    preflow.set_imbalance(source, ENDLESS_DEFICIT);
+    preflow.set_imbalance(sink, 0);
     preflow.drain();
     preflow.residual.amounts(alloc, network)
 }
@@ -82,10 +81,10 @@ impl Preflow {
         let size = nodes as usize + 1;
         Ok(Preflow {
             residual,
-            surplus: vec![in alloc; 0i128; size]?,
+            imbalance: vec![in alloc; 0i128; size]?,
             height: vec![in alloc; 0u32; size]?,
             cursor: vec![in alloc; 0u32; size]?,
-            levels: Levels::new(alloc, nodes)?,
+            levels: Levels::new(alloc, size, size)?,
             waiting: Waiting::new(alloc, nodes)?,
             work: 0,
             enough: 24 * u64::from(nodes) + u64::from(network.arcs()),
@@ -96,7 +95,7 @@ impl Preflow {
     fn supply<N: Network>(&mut self, instance: &MinInstance<N>) {
         for node in 1..=self.residual.nodes() {
             let id = self.residual.id(node);
-            self.add_surplus(node, i128::from(instance.supply(id)));
+            self.add_imbalance(node, i128::from(instance.supply(id)));
         }
     }
 
@@ -107,8 +106,8 @@ impl Preflow {
             let amount = i128::from(member(amounts, i, 0));
             let tail = self.residual.number(arc.tail);
             let head = self.residual.number(arc.head);
-            self.add_surplus(tail, amount.wrapping_neg());
-            self.add_surplus(head, amount);
+            self.add_imbalance(tail, amount.wrapping_neg());
+            self.add_imbalance(head, amount);
         }
     }
 
@@ -116,8 +115,8 @@ impl Preflow {
     fn flood(&mut self, node: u32) {
         for place in self.residual.first(node)..self.residual.end(node) {
             let half = self.residual.half(place);
-            if half.room > 0 {
-                self.move_along(node, place, half, half.room);
+            if half.residual_capacity > 0 {
+                self.move_along(node, place, half, half.residual_capacity);
             }
         }
     }
@@ -143,13 +142,13 @@ impl Preflow {
         self.waiting.clear();
         self.work = 0;
         for node in 1..=self.residual.nodes() {
-            if self.surplus(node) < 0 {
+            if self.imbalance(node) < 0 {
                 self.raise_to(node, 1);
             }
         }
         for height in 1..u32::MAX {
             let first = self.levels.first(height);
-            if first == 0 {
+            if first == NONE {
                 return;
             }
             self.measure_from(first, height);
@@ -160,11 +159,11 @@ impl Preflow {
     fn measure_from(&mut self, first: u32, height: u32) {
         let mut node = first;
         for _ in 0..u32::MAX {
-            if node == 0 {
+            if node == NONE {
                 return;
             }
             self.reach_back(node, height);
-            if self.surplus(node) > 0 {
+            if self.imbalance(node) > 0 {
                 self.waiting.push(node, height);
             }
             node = self.levels.after(node);
@@ -175,7 +174,9 @@ impl Preflow {
     fn reach_back(&mut self, node: u32, height: u32) {
         for place in self.residual.first(node)..self.residual.end(node) {
             let half = self.residual.half(place);
-            if self.height(half.to) == CUT_OFF && self.residual.half(half.back).room > 0 {
+            if self.height(half.to) == CUT_OFF
+                && self.residual.half(half.back).residual_capacity > 0
+            {
                 self.raise_to(half.to, height.wrapping_add(1));
             }
         }
@@ -183,7 +184,7 @@ impl Preflow {
 
     /// Discharges a node from the queue, unless it was lifted since and higher ones come first.
     fn serve(&mut self, node: u32) {
-        if self.surplus(node) <= 0 {
+        if self.imbalance(node) <= 0 {
             return;
         }
         let height = self.height(node);
@@ -198,7 +199,7 @@ impl Preflow {
     fn discharge(&mut self, node: u32) {
         for _ in 0..u64::MAX {
             self.push_down(node);
-            if self.surplus(node) <= 0 || !self.lift(node) {
+            if self.imbalance(node) <= 0 || !self.lift(node) {
                 return;
             }
         }
@@ -212,7 +213,7 @@ impl Preflow {
             if self.leads_down(half, height) && self.leads_on(half.to) {
                 self.push(node, place, half);
                 self.push_on(half.to);
-                if self.surplus(node) <= 0 {
+                if self.imbalance(node) <= 0 {
                     set_member(&mut self.cursor, node, place);
                     return;
                 }
@@ -223,13 +224,13 @@ impl Preflow {
     /// Whether a half-arc of a node with this height has residual capacity and leads one level down.
     #[inline(always)]
     fn leads_down(&self, half: Half, height: u32) -> bool {
-        half.room > 0 && self.height(half.to).wrapping_add(1) == height
+        half.residual_capacity > 0 && self.height(half.to).wrapping_add(1) == height
     }
 
     /// Whether a node has a deficit or a half-arc that leads down; its cursor then points to that. Otherwise lifts it.
     #[inline(always)]
     fn leads_on(&mut self, node: u32) -> bool {
-        if self.surplus(node) < 0 {
+        if self.imbalance(node) < 0 {
             return true;
         }
         let height = self.height(node);
@@ -246,7 +247,7 @@ impl Preflow {
     /// Pushes excess along the half-arc at a node's cursor, if it leads down. Nodes that keep some go into the queue.
     #[inline(always)]
     fn push_on(&mut self, node: u32) {
-        if self.surplus(node) <= 0 {
+        if self.imbalance(node) <= 0 {
             return;
         }
         let height = self.height(node);
@@ -262,7 +263,7 @@ impl Preflow {
     /// Puts a node into the queue, if it has excess.
     #[inline(always)]
     fn wait(&mut self, node: u32) {
-        if self.surplus(node) > 0 {
+        if self.imbalance(node) > 0 {
             let height = self.height(node);
             self.waiting.push(node, height);
         }
@@ -271,7 +272,7 @@ impl Preflow {
     /// Pushes as much as excess and residual capacity allow.
     #[inline(always)]
     fn push(&mut self, from: u32, place: u32, half: Half) {
-        let amount = least(half.room, self.surplus(from));
+        let amount = least(half.residual_capacity, self.imbalance(from));
         self.move_along(from, place, half, amount);
     }
 
@@ -279,8 +280,8 @@ impl Preflow {
     /// Sends an amount along a half-arc.
     fn move_along(&mut self, from: u32, place: u32, half: Half, amount: i64) {
         self.residual.send(place, amount);
-        self.add_surplus(from, i128::from(amount).wrapping_neg());
-        self.add_surplus(half.to, i128::from(amount));
+        self.add_imbalance(from, i128::from(amount).wrapping_neg());
+        self.add_imbalance(half.to, i128::from(amount));
     }
 
     /// Lifts a node to one above the lowest node that it has a residual arc to. False if there is none, or if no other
@@ -291,7 +292,7 @@ impl Preflow {
             return false;
         }
         self.levels.remove(node, old);
-        if self.levels.first(old) == 0 {
+        if self.levels.first(old) == NONE {
             self.cut_off_above(old);
             set_member(&mut self.height, node, CUT_OFF);
             return false;
@@ -310,7 +311,7 @@ impl Preflow {
         let mut lowest = CUT_OFF;
         for place in self.residual.first(node)..self.residual.end(node) {
             let half = self.residual.half(place);
-            if half.room > 0 {
+            if half.residual_capacity > 0 {
                 lowest = lowest.min(self.height(half.to));
             }
             self.work = self.work.wrapping_add(1);
@@ -340,7 +341,7 @@ impl Preflow {
     fn cut_off(&mut self, first: u32) {
         let mut node = first;
         for _ in 0..u32::MAX {
-            if node == 0 {
+            if node == NONE {
                 return;
             }
             set_member(&mut self.height, node, CUT_OFF);
@@ -354,27 +355,27 @@ impl Preflow {
     }
 
     #[inline(always)]
-    fn surplus(&self, node: u32) -> i128 {
-        member(&self.surplus, node, 0)
+    fn imbalance(&self, node: u32) -> i128 {
+        member(&self.imbalance, node, 0)
     }
 
-    fn set_surplus(&mut self, node: u32, amount: i128) {
-        set_member(&mut self.surplus, node, amount);
+    fn set_imbalance(&mut self, node: u32, amount: i128) {
+        set_member(&mut self.imbalance, node, amount);
     }
 
     #[inline(always)]
-    fn add_surplus(&mut self, node: u32, amount: i128) {
-        if let Some(surplus) = self.surplus.get_mut(node as usize) {
-            *surplus = surplus.wrapping_add(amount);
+    fn add_imbalance(&mut self, node: u32, amount: i128) {
+        if let Some(imbalance) = self.imbalance.get_mut(node as usize) {
+            *imbalance = imbalance.wrapping_add(amount);
         }
     }
 }
 
 /// The lesser of residual capacity and excess.
 #[inline(always)]
-fn least(room: i64, excess: i128) -> i64 {
+fn least(residual_capacity: i64, excess: i128) -> i64 {
     match i64::try_from(excess) {
-        Ok(amount) => room.min(amount),
-        Err(_) => room,
+        Ok(amount) => residual_capacity.min(amount),
+        Err(_) => residual_capacity,
     }
 }

@@ -15,11 +15,18 @@ pub(crate) struct Problem<'a, N: Network> {
     /// The excess of each node, by number, if each arc carries its lower bound: its supply and inflow, less its
     /// outflow. A negative one is a deficit.
     pub excess: Vec<i128>,
-    /// The greatest cost, without its sign.
+    /// The greatest cost, without its sign, and the least.
     greatest: i128,
+    pub least_cost: i64,
     /// The sum of all capacities.
     capacity: i128,
 }
+
+/// Potentials and prices for unscaled costs fit into 64 bits if no path costs as much: 2^60.
+const LONGEST: i128 = 1152921504606846976;
+
+/// Amounts fit into 64 bits if all that may be moved is less: 2^62.
+pub(crate) const MOST_MOVED: i128 = 4611686018427387904;
 
 /// The number of bits of these numbers.
 #[derive(Clone, Copy)]
@@ -43,6 +50,7 @@ impl<'a, N: Network> Problem<'a, N> {
             numbers,
             excess,
             greatest: 0,
+            least_cost: 0,
             capacity: 0,
         };
         problem.look_at_arcs(instance.network());
@@ -53,6 +61,7 @@ impl<'a, N: Network> Problem<'a, N> {
         for i in 0..network.arcs() {
             let arc = network.arc(i);
             self.greatest = self.greatest.max(i128::from(arc.cost).wrapping_abs());
+            self.least_cost = self.least_cost.min(arc.cost);
             self.capacity = self.capacity.wrapping_add(i128::from(arc.cap));
             if arc.low > 0 {
                 let low = i128::from(arc.low);
@@ -86,6 +95,16 @@ impl<'a, N: Network> Problem<'a, N> {
             sum = sum.wrapping_add(amount.wrapping_abs());
         }
         sum
+    }
+
+    /// Whether the numbers of a method that doesn't scale costs fit into 64 bits.
+    pub(crate) fn is_narrow(&self) -> bool {
+        self.longest_path() < LONGEST && self.imbalance() < MOST_MOVED
+    }
+
+    /// How many nodes have an excess.
+    pub(crate) fn sources(&self) -> usize {
+        self.excess.iter().filter(|excess| **excess > 0).count()
     }
 
     /// A bound on the excess or deficit of any node, whatever the arcs carry.

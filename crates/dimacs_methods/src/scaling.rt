@@ -7,17 +7,18 @@
 //!
 //! From time to time a global update lowers all prices by the nodes' distances to a deficit. If an excess reaches none,
 //! no flow is feasible, and the excess is left where it is.
+//!
+//! A phase leaves out arcs whose reduced cost is far from 0: most keep their flow. If some excess reaches no deficit
+//! without them, they are taken back for good, and the phase begins again. In the end all arcs are tested.
 
 mod paths;
-mod prices;
-mod ranks;
-mod residual;
 mod update;
 
+use crate::levels::Levels;
 use crate::number::Number;
 use crate::problem::Problem;
-use crate::scaling::ranks::Ranks;
-use crate::scaling::residual::{Node, Residual};
+use crate::residual::{Node, Residual};
+use crate::tables::count_of;
 use dimacs_lines::Memory;
 use dimacs_network::Network;
 use std::alloc::Global;
@@ -29,6 +30,10 @@ const LONGEST: usize = 4;
 /// Each phase halves the tolerance this many times.
 const HALVINGS: u32 = 4;
 
+/// Arcs are left out if their reduced cost is beyond the tolerance, times 2 to this power, times the root of the number
+/// of nodes.
+const FAR: u32 = 6;
+
 /// The number of ranks for each node.
 const RANKS: usize = 16;
 
@@ -39,11 +44,14 @@ pub(crate) struct Scaling<V: Number> {
     active: VecDeque<u32>,
     /// The half-arcs of a path, by their places.
     path: Vec<u32>,
-    ranks: Ranks,
+    /// The nodes by rank: the distance to a deficit, as the update under way has found it.
+    ranks: Levels,
     /// The tolerance is 2 to this power.
     level: u32,
     /// How many prices may be lowered before the next global update.
     left: u64,
+    /// Whether arcs with a reduced cost far from 0 are left out.
+    leaves_out: bool,
 }
 
 impl<V: Number> Scaling<V> {
@@ -56,7 +64,7 @@ impl<V: Number> Scaling<V> {
         let bits = problem.bits();
         let residual = Residual::new(alloc, problem, bits.nodes)?;
         let path = Vec::with_capacity(alloc, LONGEST)?;
-        let ranks = Ranks::new(alloc, nodes.saturating_mul(RANKS), nodes)?;
+        let ranks = Levels::new(alloc, nodes.saturating_mul(RANKS), nodes)?;
         Ok(Scaling {
             residual,
             active: VecDeque::new(alloc),
@@ -64,67 +72,81 @@ impl<V: Number> Scaling<V> {
             ranks,
             level: bits.cost.saturating_add(bits.nodes),
             left: 0,
+            leaves_out: true,
         })
     }
 
     /// Runs phase after phase, until the flow costs least, or an excess can't be moved.
-    pub(crate) fn run(&mut self, alloc: Global) -> Result<(), Memory> {
+    pub(crate) fn run(&mut self) -> Result<(), Memory> {
         for _ in 0..u32::MAX {
             self.level = self.level.saturating_sub(HALVINGS);
-            let is_short = self.refine(alloc)?;
-            if is_short || self.level == 0 {
+            if self.refine(V::of(0))? {
+                return Ok(());
+            }
+            if self.level == 0 {
                 break;
             }
         }
+        self.leaves_out = false;
+        self.refine(V::of(-1))?;
         Ok(())
     }
 
-    /// One phase. Returns whether an excess is left.
-    fn refine(&mut self, alloc: Global) -> Result<bool, Memory> {
-        self.saturate();
+    /// One phase, which begins with the arcs whose reduced cost is below this. Returns whether an excess is left.
+    fn refine(&mut self, bound: V) -> Result<bool, Memory> {
+        self.saturate(bound);
         gather_active(&self.residual.nodes, &mut self.active)?;
-        let mut is_short = self.update_or_park(alloc)?;
+        let mut is_short = self.update_or_park()?;
         for _ in 0..u64::MAX {
             let Some(node) = self.active.pop_front() else {
                 break;
             };
-            is_short |= self.drain(alloc, node)?;
+            is_short |= self.drain(node)?;
         }
         Ok(is_short)
     }
 
-    /// Saturates all arcs with negative reduced cost.
-    fn saturate(&mut self) {
-        let count = u32::try_from(self.residual.nodes.len()).unwrap_or(0);
-        for number in 0..count {
-            let node = self.residual.node(number);
-            self.saturate_at(number, &node);
-            self.look_from(number, node.start);
-        }
-    }
-
-    /// Saturates the arcs with negative reduced cost from a node.
-    fn saturate_at(&mut self, number: u32, node: &Node<V>) {
-        for place in node.start..node.end {
-            let half = self.residual.half(place);
-            if half.room > 0 && self.residual.reduced(node.price, &half).is_negative() {
-                self.residual.send(number, place, half.room);
+    /// Saturates all arcs with a reduced cost below this, and chooses the arcs of the phase.
+    fn saturate(&mut self, bound: V) {
+        let nodes = count_of(&self.residual.nodes);
+        let far = V::of(i64::from(nodes.isqrt())).doubled(self.level.wrapping_add(FAR));
+        self.residual.take_back();
+        for number in 0..nodes {
+            self.saturate_at(number, bound);
+            if self.leaves_out {
+                self.residual.leave_out(number, far);
             }
         }
     }
 
+    /// Saturates the arcs from a node with a reduced cost below this.
+    fn saturate_at(&mut self, number: u32, bound: V) {
+        let node = self.residual.node(number);
+        for place in node.start..node.end {
+            self.residual.saturate(number, place, bound);
+        }
+    }
+
     /// Updates all prices. Returns whether an excess reaches no deficit.
-    fn update_or_park(&mut self, alloc: Global) -> Result<bool, Memory> {
+    fn update_or_park(&mut self) -> Result<bool, Memory> {
         let nodes = u64::try_from(self.residual.nodes.len()).unwrap_or(0);
         self.left = nodes.max(1);
         if self.update() {
             return Ok(false);
         }
-        self.park(alloc)
+        if self.residual.take_back() {
+            self.leaves_out = false;
+            self.saturate(V::of(0));
+            gather_active(&self.residual.nodes, &mut self.active)?;
+            if self.update() {
+                return Ok(false);
+            }
+        }
+        Ok(self.park())
     }
 
     /// Moves the excess of a node on. Returns whether some is left.
-    fn drain(&mut self, alloc: Global, node: u32) -> Result<bool, Memory> {
+    fn drain(&mut self, node: u32) -> Result<bool, Memory> {
         let mut is_short = false;
         for _ in 0..u64::MAX {
             if !self.residual.node(node).excess.is_positive() {
@@ -133,14 +155,14 @@ impl<V: Number> Scaling<V> {
             self.find_path(node)?;
             self.send_along(node)?;
             if self.left == 0 {
-                is_short |= self.update_or_park(alloc)?;
+                is_short |= self.update_or_park()?;
             }
         }
         Ok(is_short)
     }
 
-    #[inline(always)]
     /// Sets a node's cursor.
+    #[inline(always)]
     fn look_from(&mut self, number: u32, place: u32) {
         if let Some(node) = self.residual.nodes.get_mut(number as usize) {
             node.cursor = place;

@@ -34,13 +34,13 @@ const MOVES_PER_NUMBERING: u64 = 32;
 /// The least number of arcs that are compared at once.
 const LEAST_BLOCK: u32 = 10;
 
-/// After this many pivots for each node, a test decides whether the method lags: whether it has done more than this
-/// work, and more than one in this many nodes still has an artificial arc.
-const PIVOTS_BEFORE_ASKING: u64 = 2;
+/// The method lags if it has done more than this work, and if during so many pivots for each node it walked over more
+/// nodes than this many times the arcs that it looked at: then subtrees are large, and many more pivots follow.
+const EARLY_WORK: u64 = 134217728;
 
-const EARLY_WORK: u64 = 67108864;
+const PIVOTS: u64 = 2;
 
-const ONE_OF: usize = 10;
+const WALKS: u64 = 4;
 
 #[derive(Drop)]
 pub(crate) struct Simplex<V: Number> {
@@ -51,9 +51,12 @@ pub(crate) struct Simplex<V: Number> {
     /// The place where the next search begins, and how many arcs it compares at once.
     at: u32,
     block: u32,
-    /// The work that may still be done, in arcs and nodes looked at, and how many nodes may move before the next
-    /// numbering.
+    /// The work before the last test whether the method lags, and since then how many arcs were looked at, and how many
+    /// nodes walked over.
     work: u64,
+    looked: u64,
+    walked: u64,
+    /// How many nodes may move before the next numbering.
     moves: u64,
 }
 
@@ -74,21 +77,27 @@ impl<V: Number> Simplex<V> {
             at: 0,
             block: count.isqrt().max(LEAST_BLOCK),
             work: 0,
+            looked: 0,
+            walked: 0,
             moves: 1,
         })
     }
 
     /// Pivots until no arc should change its state. False if that takes more than this work, or seems to.
     pub(crate) fn run(&mut self, alloc: Global, work: u64) -> Result<bool, Memory> {
-        let asked = u64::from(self.tree.root()).wrapping_mul(PIVOTS_BEFORE_ASKING);
-        self.work = work;
-        for pivots in 0..u64::MAX {
+        let pivots = u64::from(self.tree.root()).wrapping_mul(PIVOTS);
+        let mut left = pivots;
+        for _ in 0..u64::MAX {
             let Some(entering) = self.entering() else {
                 return Ok(true);
             };
-            if self.work == 0 || pivots == asked && self.lags(work) {
-                return Ok(false);
+            if left == 0 {
+                left = pivots;
+                if self.lags(work) {
+                    return Ok(false);
+                }
             }
+            left = left.saturating_sub(1);
             self.pivot(entering);
             if self.moves == 0 {
                 self.renumber(alloc)?;
@@ -97,10 +106,16 @@ impl<V: Number> Simplex<V> {
         Ok(false)
     }
 
-    /// Whether the method is slow so far.
-    fn lags(&self, work: u64) -> bool {
-        let done = work.saturating_sub(self.work);
-        done > EARLY_WORK && self.tree.artificial_arcs() > self.tree.nodes.len() / ONE_OF
+    /// Whether the method has done more than this work, or is slow so far.
+    fn lags(&mut self, work: u64) -> bool {
+        let walks = self.walked > self.looked.wrapping_mul(WALKS);
+        self.work = self
+            .work
+            .wrapping_add(self.looked)
+            .wrapping_add(self.walked);
+        self.looked = 0;
+        self.walked = 0;
+        self.work > work || walks && self.work > EARLY_WORK
     }
 
     /// An arc that should change its state: the best one of the first block that has any, after the last block.
@@ -115,7 +130,7 @@ impl<V: Number> Simplex<V> {
             let looked_at = end.wrapping_sub(start);
             left = left.saturating_sub(looked_at);
             self.at = end;
-            self.work = self.work.saturating_sub(u64::from(looked_at));
+            self.looked = self.looked.wrapping_add(u64::from(looked_at));
             let best = self.arcs.best(&self.tree.potentials, start, end);
             if best.is_some() {
                 return best;
@@ -128,13 +143,13 @@ impl<V: Number> Simplex<V> {
     fn pivot(&mut self, entering: u32) {
         let price = self.arcs.price(entering);
         let state = self.arcs.state(entering);
-        let room = V::of(self.arcs.room(entering));
+        let residual_capacity = V::of(self.arcs.residual_capacity(entering));
         let cycle = if state == AT_LOW {
-            Cycle::find(&self.tree, price.tail, price.head, room)
+            Cycle::find(&self.tree, price.tail, price.head, residual_capacity)
         } else {
-            Cycle::find(&self.tree, price.head, price.tail, room)
+            Cycle::find(&self.tree, price.head, price.tail, residual_capacity)
         };
-        self.work = self.work.saturating_sub(cycle.steps);
+        self.walked = self.walked.wrapping_add(cycle.steps);
         self.tree.augment(&cycle);
         match cycle.leaving {
             Leaving::Itself => self.arcs.set_state(entering, state.wrapping_neg()),
@@ -142,7 +157,7 @@ impl<V: Number> Simplex<V> {
                 let hook = Hook {
                     parent: cycle.second,
                     arc: entering,
-                    up: room.minus(cycle.amount),
+                    up: residual_capacity.minus(cycle.amount),
                     down: cycle.amount,
                 };
                 self.exchange(out, cycle.first, hook);
@@ -152,7 +167,7 @@ impl<V: Number> Simplex<V> {
                     parent: cycle.first,
                     arc: entering,
                     up: cycle.amount,
-                    down: room.minus(cycle.amount),
+                    down: residual_capacity.minus(cycle.amount),
                 };
                 self.exchange(out, cycle.second, hook);
             }
@@ -171,7 +186,7 @@ impl<V: Number> Simplex<V> {
         self.leave(out);
         self.arcs.set_state(hook.arc, IN_TREE);
         let moved = self.tree.rehang(top, out, hook, raise);
-        self.work = self.work.saturating_sub(moved);
+        self.walked = self.walked.wrapping_add(moved);
         self.moves = self.moves.saturating_sub(moved);
     }
 
@@ -237,7 +252,7 @@ fn settle<V: Number>(arcs: &mut Arcs<V>, nodes: &[Node<V>]) {
         } else {
             node.up
         };
-        arcs.set_room(node.arc, flow.narrow());
+        arcs.set_residual_capacity(node.arc, flow.narrow());
         number = number.wrapping_add(1);
     }
 }

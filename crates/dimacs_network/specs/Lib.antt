@@ -1,5 +1,5 @@
 pub mod ArcOrder
 pub mod Arcs
 pub mod KeptArcs
-pub mod Links
+pub mod AdjacencyLists
 pub mod inside

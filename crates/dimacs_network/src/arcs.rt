@@ -1,34 +1,40 @@
 //! The arcs of instances, and how they are stored.
 
-ghost use Rattle.std.specs.Prelude.{◌≡◌};
+ghost use Rattle.std.specs.Prelude.{◌≡◌, pos};
 ghost use Rattle.dimacs_network.specs.declared.network.ArcView.{ArcView};
+ghost use Rattle.dimacs_network.specs.declared.arcs.ArcEnds.{ArcEnds};
 ghost use Rattle.dimacs_network.specs.KeptArcs.{capacity_arc, cost_arc, weight_arc};
 
 use crate::network::ArcView;
+use dimacs_nodes::ShortForm;
 
-/// An arc of a kind of instance, and how it is stored: in two parts, since many passes over the arcs read only the
-/// ends. Numbers that are the same for all arcs of the kind aren't stored.
+/// An arc of a kind of instance. Its ends are stored apart from its numbers, since many passes over the arcs read only
+/// the ends. Numbers that are the same for all arcs of the kind aren't stored.
 pub trait KeptArc: Copy {
-    /// The ends, and what is stored with them.
-    type WithEnds: Copy;
-
-    /// What is stored apart from the ends.
-    type Apart: Copy;
+    /// The numbers in 32 bits each.
+    type Short: ShortForm;
 
     ghost shows: { Self → ArcView };
 
-    ghost arc_of: { Self.WithEnds → Self.Apart → ArcView };
+    ghost arc_of: { ArcEnds → Self.Short.Long → ArcView };
 
     /// Splits an arc into its stored parts.
-    fn parts(self) -> (Self::WithEnds, Self::Apart)
+    fn parts(self) -> (ArcEnds, <Self::Short as ShortForm>::Long)
         ensures { arc_of result.0 result.1 ≡ shows self };
 
     /// The arc with these parts.
-    fn whole(with_ends: Self::WithEnds, apart: Self::Apart) -> ArcView
-        ensures { result ≡ arc_of with_ends apart };
+    fn whole(ends: ArcEnds, numbers: <Self::Short as ShortForm>::Long) -> ArcView
+        ensures { result ≡ arc_of ends numbers };
 }
 
-/// An arc of a graph, in 16 bytes.
+/// The ends of an arc.
+#[derive(Clone, Copy)]
+pub struct ArcEnds {
+    pub tail: u32,
+    pub head: u32,
+}
+
+/// An arc of a graph. It takes 12 bytes while all weights fit into 32 bits, otherwise 16.
 #[derive(Clone, Copy)]
 pub struct WeightArc {
     pub tail: u32,
@@ -53,26 +59,26 @@ impl WeightArc {
 }
 
 impl KeptArc for WeightArc {
-    type WithEnds = WeightArc;
-
-    type Apart = ();
+    type Short = i32;
 
     ghost shows = { λ a. weight_arc a.tail a.head a.weight };
 
-    ghost arc_of = { λ a _. weight_arc a.tail a.head a.weight };
+    ghost arc_of = { λ ends weight. weight_arc ends.tail ends.head weight };
 
     #[inline(always)]
-    fn parts(self) -> (WeightArc, ()) {
-        (self, ())
+    fn parts(self) -> (ArcEnds, i64) {
+        let WeightArc { tail, head, weight } = self;
+        (ArcEnds { tail, head }, weight)
     }
 
     #[inline(always)]
-    fn whole(arc: WeightArc, _apart: ()) -> ArcView {
-        arc.view()
+    fn whole(ends: ArcEnds, weight: i64) -> ArcView {
+        let ArcEnds { tail, head } = ends;
+        WeightArc { tail, head, weight }.view()
     }
 }
 
-/// An arc of a maximum flow, in 16 bytes.
+/// An arc of a maximum flow. It takes 12 bytes while all capacities fit into 32 bits, otherwise 16.
 #[derive(Clone, Copy)]
 pub struct CapacityArc {
     pub tail: u32,
@@ -97,30 +103,23 @@ impl CapacityArc {
 }
 
 impl KeptArc for CapacityArc {
-    type WithEnds = CapacityArc;
-
-    type Apart = ();
+    type Short = i32;
 
     ghost shows = { λ a. capacity_arc a.tail a.head a.cap };
 
-    ghost arc_of = { λ a _. capacity_arc a.tail a.head a.cap };
+    ghost arc_of = { λ ends cap. capacity_arc ends.tail ends.head cap };
 
     #[inline(always)]
-    fn parts(self) -> (CapacityArc, ()) {
-        (self, ())
+    fn parts(self) -> (ArcEnds, i64) {
+        let CapacityArc { tail, head, cap } = self;
+        (ArcEnds { tail, head }, cap)
     }
 
     #[inline(always)]
-    fn whole(arc: CapacityArc, _apart: ()) -> ArcView {
-        arc.view()
+    fn whole(ends: ArcEnds, cap: i64) -> ArcView {
+        let ArcEnds { tail, head } = ends;
+        CapacityArc { tail, head, cap }.view()
     }
-}
-
-/// The ends of an arc.
-#[derive(Clone, Copy)]
-pub struct ArcEnds {
-    pub tail: u32,
-    pub head: u32,
 }
 
 /// The bounds and the cost of an arc of a minimum cost flow.
@@ -131,11 +130,42 @@ pub struct BoundsAndCost {
     pub cost: i64,
 }
 
-/// An arc of a minimum cost flow has all numbers. It takes 32 bytes: 8 for the ends, 24 apart from them.
-impl KeptArc for ArcView {
-    type WithEnds = ArcEnds;
+/// Bounds and a cost that fit into 32 bits each.
+#[derive(Clone, Copy)]
+pub struct ShortBoundsAndCost {
+    low: i32,
+    cap: i32,
+    cost: i32,
+}
 
-    type Apart = BoundsAndCost;
+impl ShortForm for ShortBoundsAndCost {
+    type Long = BoundsAndCost;
+
+    ghost widened = { λ b. record { low = b.low; cap = b.cap; cost = b.cost } };
+
+    ghost no_item = { record { low = pos 0; cap = pos 0; cost = pos 0 } };
+
+    #[inline(always)]
+    fn narrow(numbers: BoundsAndCost) -> Option<ShortBoundsAndCost> {
+        let low = i32::try_from(numbers.low).ok()?;
+        let cap = i32::try_from(numbers.cap).ok()?;
+        let cost = i32::try_from(numbers.cost).ok()?;
+        Some(ShortBoundsAndCost { low, cap, cost })
+    }
+
+    #[inline(always)]
+    fn widen(self) -> BoundsAndCost {
+        BoundsAndCost {
+            low: i64::from(self.low),
+            cap: i64::from(self.cap),
+            cost: i64::from(self.cost),
+        }
+    }
+}
+
+/// An arc of a minimum cost flow has all numbers. It takes 20 bytes while all of them fit into 32 bits, otherwise 32.
+impl KeptArc for ArcView {
+    type Short = ShortBoundsAndCost;
 
     ghost shows = { λ a. a };
 
@@ -143,16 +173,14 @@ impl KeptArc for ArcView {
 
     #[inline(always)]
     fn parts(self) -> (ArcEnds, BoundsAndCost) {
-        let ends = ArcEnds {
-            tail: self.tail,
-            head: self.head,
-        };
-        let numbers = BoundsAndCost {
-            low: self.low,
-            cap: self.cap,
-            cost: self.cost,
-        };
-        (ends, numbers)
+        let ArcView {
+            tail,
+            head,
+            low,
+            cap,
+            cost,
+        } = self;
+        (ArcEnds { tail, head }, BoundsAndCost { low, cap, cost })
     }
 
     #[inline(always)]

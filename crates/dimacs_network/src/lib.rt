@@ -4,21 +4,21 @@
 //! implementation may store its arcs as it likes.
 #![tactic(auto)]
 
+mod adjacency_lists;
 mod arc_index;
 mod arc_order;
 mod arcs;
 mod forward_star;
 mod gather;
-mod links;
 mod network;
 mod of_arcs;
 mod plain_arcs;
 mod tail_starts;
 
+pub use adjacency_lists::{AdjacencyLists, Side};
 pub use arc_index::ArcIndex;
-pub use arcs::{ArcEnds, BoundsAndCost, CapacityArc, KeptArc, WeightArc};
+pub use arcs::{ArcEnds, BoundsAndCost, CapacityArc, KeptArc, ShortBoundsAndCost, WeightArc};
 pub use forward_star::ForwardStar;
-pub use links::{Links, Side};
 pub use network::{ArcView, Network};
 pub use of_arcs::{OfCapacityArcs, OfCostArcs, OfWeightArcs};
 pub use plain_arcs::{MAX_ARCS, PlainArcs};

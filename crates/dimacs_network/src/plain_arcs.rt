@@ -4,9 +4,10 @@ ghost use Rattle.std.specs.Prelude.{◌≡◌, ◌<◌, ◌≤◌, ◌+◌, ◌+
 ghost use Rattle.dimacs_lines.specs.Limits.{most_count};
 ghost use Rattle.dimacs_network.specs.declared.network.ArcView.{ArcView};
 
-use crate::arcs::KeptArc;
+use crate::arcs::{ArcEnds, KeptArc};
 use crate::network::{ArcView, Network};
 use dimacs_lines::Memory;
+use dimacs_nodes::{ShortForm, WideningList};
 use std::alloc::Global;
 use std::marker::Model;
 
@@ -17,8 +18,8 @@ pub const MAX_ARCS: u32 = 268_435_456;
 #[derive(Drop)]
 pub struct PlainArcs<A: KeptArc> {
     nodes: u32,
-    with_ends: Vec<A::WithEnds>,
-    apart: Vec<A::Apart>,
+    ends: Vec<ArcEnds>,
+    numbers: WideningList<A::Short, Vec<<A::Short as ShortForm>::Long>>,
 }
 
 impl<A: KeptArc> Model for PlainArcs<A> {
@@ -29,9 +30,9 @@ impl<A: KeptArc> Model for PlainArcs<A> {
 
     ghost Value = { NetworkValue };
 
-    ghost view = { λ n. record { nodes = n.nodes; arcs = arcs_of A.arc_of n.with_ends.items n.apart.items } };
+    ghost view = { λ n. record { nodes = n.nodes; arcs = arcs_of A.arc_of n.ends.items n.numbers } };
 
-    ghost invariant = { λ n. (length n.with_ends.items ≤ most_count) × (length n.apart.items ≡ length n.with_ends.items) };
+    ghost invariant = { λ n. (length n.ends.items ≤ most_count) × (length n.numbers ≡ length n.ends.items) };
 }
 
 impl<A: KeptArc> PlainArcs<A> {
@@ -41,21 +42,22 @@ impl<A: KeptArc> PlainArcs<A> {
     {
         PlainArcs {
             nodes,
-            with_ends: Vec::new(alloc),
-            apart: Vec::new(alloc),
+            ends: Vec::new(alloc),
+            numbers: WideningList::new(alloc),
         }
     }
 
     /// Adds an arc at the end.
+    #[inline(always)]
     pub fn push(&mut self, arc: A) -> Result<(), Memory>
         requires { length self.old.arcs < most_count }
         ensures pushed { OnOk result (self.new ≡ record self.old { arcs = self.old.arcs ++ A.shows arc ∷ [] }) }
         ensures unchanged { OnErr result (self.new ≡ self.old) }
     {
-        let (with_ends, apart) = arc.parts();
-        self.apart.reserve(1)?;
-        self.with_ends.push(with_ends)?;
-        self.apart.push_reserved(apart);
+        let (ends, numbers) = arc.parts();
+        self.ends.reserve(1)?;
+        self.numbers.push(numbers)?;
+        self.ends.push_reserved(ends);
         Ok(())
     }
 }
@@ -70,12 +72,12 @@ impl<A: KeptArc> Network for PlainArcs<A> {
     }
 
     fn arcs(&self) -> u32 {
-        self.with_ends.len() as u32
+        self.ends.len() as u32
     }
 
     #[inline(always)]
     fn arc(&self, i: u32) -> ArcView {
-        A::whole(self.with_ends[i as usize], self.apart[i as usize])
+        A::whole(self.ends[i as usize], self.numbers.at(i as usize))
     }
 
     fn find(&self, tail: u32, head: u32, k: u32) -> Option<u32> {

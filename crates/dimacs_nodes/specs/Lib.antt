@@ -1,4 +1,5 @@
 pub mod Layers
+pub mod Lists
 pub mod Maps
 pub mod Sets
 pub mod Slots

@@ -15,14 +15,14 @@ use Rattle.dimacs_records.specs.Faults.{FirstAtEnd}
 use Rattle.dimacs_records.specs.Order.{Place}
 use Rattle.dimacs_records.specs.Readings.{IsAllowed, IsComplete, IsFirstCondition, RefusesEnd, RefusesRecord}
 use Rattle.dimacs_records.specs.Spelling.{kind_of}
-use Rattle.dimacs_records.specs.Tests.{Passes, PassesEnd, answer_at, answer_at_end, place_told, reason_told, told_at_end, told_of}
+use Rattle.dimacs_records.specs.Tests.{Passes, PassesEnd, answer_at, answer_at_end, place_by, reason_by, noted_at_end, noted_before}
 use Rattle.dimacs_records.proofs.ConditionLemmas.{first_place, first_reason_at_end, is_allowed, is_complete, is_first_at_end, is_first_condition}
 
 -- what the tests know gives the first condition
-told : (e : Earlier) (earlier : List Record) (r : Record) → e ≡ told_of earlier r → first_place earlier r ≡ place_told e r
-told e earlier (LabelsNode id dist pred) so = rw so refl
-told e earlier (DistancesNode id dist) so = rw so refl
-told e earlier r so = rw so refl
+noted : (e : Earlier) (earlier : List Record) (r : Record) → e ≡ noted_before earlier r → first_place earlier r ≡ place_by e r
+noted e earlier (LabelsNode id dist pred) so = rw so refl
+noted e earlier (DistancesNode id dist) so = rw so refl
+noted e earlier r so = rw so refl
 
 refused_at : (earlier : List Record) (r : Record) (place : Option Place) (error : TakeError) → first_place earlier r ≡ place → Err error ≡ answer_at place → RefusesRecord earlier r error
 refused_at earlier r None error is answer = absurd (cc)
@@ -30,17 +30,17 @@ refused_at earlier r (Some p) error is answer =
     let same : error ≡ Refused (record { field = p.field; reason = p.reason }) = cc in
     rw same (is_first_condition earlier r (record { field = p.field; reason = p.reason }) is)
 
-pub refused_told : (e : Earlier) (earlier : List Record) (r : Record) (error : TakeError) → Err error ≡ answer_at (place_told e r) → e ≡ told_of earlier r → RefusesRecord earlier r error
-refused_told e earlier r error answer so = refused_at earlier r (place_told e r) error (told e earlier r so) answer
+pub refused_noted : (e : Earlier) (earlier : List Record) (r : Record) (error : TakeError) → Err error ≡ answer_at (place_by e r) → e ≡ noted_before earlier r → RefusesRecord earlier r error
+refused_noted e earlier r error answer so = refused_at earlier r (place_by e r) error (noted e earlier r so) answer
 
 -- a record that passes the tests is allowed
-pub allowed_told : (e : Earlier) (earlier : List Record) (r : Record) → Passes e r → e ≡ told_of earlier r → IsAllowed earlier r
+pub allowed_told : (e : Earlier) (earlier : List Record) (r : Record) → Passes e r → e ≡ noted_before earlier r → IsAllowed earlier r
 allowed_told e earlier r p so =
-    is_allowed earlier r (told e earlier r so
+    is_allowed earlier r (noted e earlier r so
     ∙ rw (p.after_problem, p.one_problem, p.placed, p.second_within, p.third_within, p.fourth_within, p.new_node, p.new_end, p.both_ends, p.low, p.cap, p.room, p.full_block, p.one_value, p.pred_known, p.near) refl)
 
 -- the same at the end
-end_told : (kind : TextKind) (e : Earlier) (all : List Record) → e ≡ told_at_end kind all → first_reason_at_end kind all ≡ reason_told kind e
+end_told : (kind : TextKind) (e : Earlier) (all : List Record) → e ≡ noted_at_end kind all → first_reason_at_end kind all ≡ reason_by kind e
 end_told Max e all so = rw so refl
 end_told Labels e all so = rw so refl
 end_told Distances e all so = rw so refl
@@ -53,10 +53,10 @@ refused_at_end kind all (Some reason) error is answer =
     let same : error ≡ Refused (record { field = 0; reason = reason }) = cc in
     rw same (refl, is_first_at_end kind all reason is)
 
-pub end_refused_told : (kind : TextKind) (e : Earlier) (all : List Record) (error : TakeError) → Err error ≡ answer_at_end (reason_told kind e) → e ≡ told_at_end kind all → RefusesEnd kind all error
-end_refused_told kind e all error answer so = refused_at_end kind all (reason_told kind e) error (end_told kind e all so) answer
+pub end_refused_told : (kind : TextKind) (e : Earlier) (all : List Record) (error : TakeError) → Err error ≡ answer_at_end (reason_by kind e) → e ≡ noted_at_end kind all → RefusesEnd kind all error
+end_refused_told kind e all error answer so = refused_at_end kind all (reason_by kind e) error (end_told kind e all so) answer
 
-pub complete_told : (kind : TextKind) (e : Earlier) (all : List Record) → PassesEnd kind e → e ≡ told_at_end kind all → IsComplete kind all
+pub complete_told : (kind : TextKind) (e : Earlier) (all : List Record) → PassesEnd kind e → e ≡ noted_at_end kind all → IsComplete kind all
 complete_told kind e all p so = is_complete kind all (end_told kind e all so ∙ rw (p.problem, p.ends, p.finished, p.value) refl)
 
 -- the first record of a text that begins without its problem line

@@ -32,8 +32,8 @@ is_full_label earlier (DistancesNode id dist) = is_full_block (block_in earlier)
 is_full_label earlier r = false
 
 -- what the tests of record r have to know about the earlier records
-abbrev pub told_of : List Record → Record → Earlier
-told_of earlier r = record {
+abbrev pub noted_before : List Record → Record → Earlier
+noted_before earlier r = record {
   problem = problem_in earlier;
   counted = counted_in earlier;
   misplaced = is_refused_for RecordOrder earlier r;
@@ -48,17 +48,17 @@ told_of earlier r = record {
 }
 
 -- what the tests at the end have to know about the records
-abbrev pub told_at_end : TextKind → List Record → Earlier
-told_at_end Max all = record (after_records all) { lacks_end = lacks_end all }
-told_at_end Labels all = record (after_records all) { block_short = is_short_block (block_in all) }
-told_at_end Distances all = record (after_records all) { block_short = is_short_block (block_in all) }
-told_at_end Solution all = record (after_records all) { valued = list_any is_value all }
-told_at_end kind all = after_records all
+abbrev pub noted_at_end : TextKind → List Record → Earlier
+noted_at_end Max all = record (after_records all) { lacks_end = lacks_end all }
+noted_at_end Labels all = record (after_records all) { block_short = is_short_block (block_in all) }
+noted_at_end Distances all = record (after_records all) { block_short = is_short_block (block_in all) }
+noted_at_end Solution all = record (after_records all) { valued = list_any is_value all }
+noted_at_end kind all = after_records all
 
-abbrev pub is_too_many_told : Earlier → Record → Bool
-is_too_many_told e (LabelsNode id dist pred) = e.block_full
-is_too_many_told e (DistancesNode id dist) = e.block_full
-is_too_many_told e r = is_counted r && is_full e.problem e.counted
+abbrev pub passes_count : Earlier → Record → Bool
+passes_count e (LabelsNode id dist pred) = e.block_full
+passes_count e (DistancesNode id dist) = e.block_full
+passes_count e r = is_counted r && is_full e.problem e.counted
 
 -- the first item whose test fails; `true` stands for a failure
 abbrev pub first_failing : {X : Type 0} → List X → List Bool → Option X
@@ -66,13 +66,13 @@ first_failing (x ∷ xs) (wrong ∷ more) = if wrong then Some x else first_fail
 first_failing xs tests = None
 
 -- the place of the first test of record r that fails
-abbrev pub place_told : Earlier → Record → Option Place
-place_told e r =
+abbrev pub place_by : Earlier → Record → Option Place
+place_by e r =
     first_failing record_places (
     ((needs_problem (kind_of r) && not (is_problem r)) && is_none e.problem) ∷ (is_problem r && is_some e.problem) ∷ e.misplaced
     ∷ is_above_at 2 e.problem (bounded_ids r) ∷ is_above_at 3 e.problem (bounded_ids r) ∷ is_above_at 4 e.problem (bounded_ids r)
     ∷ e.named ∷ e.end_named ∷ e.lacks_end ∷ is_bound_wrong 4 r ∷ is_bound_wrong 5 r
-    ∷ is_too_many_told e r ∷ e.block_short ∷ e.valued ∷ e.pred_unknown ∷ e.past_radius ∷ []
+    ∷ passes_count e r ∷ e.block_short ∷ e.valued ∷ e.pred_unknown ∷ e.past_radius ∷ []
     )
 
 abbrev pub needs_value : TextKind → Bool
@@ -80,8 +80,8 @@ needs_value Solution = true
 needs_value kind = false
 
 -- the reason of the first test at the end that fails
-abbrev pub reason_told : TextKind → Earlier → Option Reason
-reason_told kind e =
+abbrev pub reason_by : TextKind → Earlier → Option Reason
+reason_by kind e =
     first_failing end_reasons ((needs_problem kind && is_none e.problem) ∷ e.lacks_end ∷ (e.block_short || is_short e.problem e.counted) ∷ (needs_value kind && not e.valued) ∷ [])
 
 -- a refusal at this place, if there is one
@@ -106,7 +106,7 @@ pub record Passes (e : Earlier) (r : Record) : Type 0 where
   pub both_ends : e.lacks_end ≡ false
   pub low : is_bound_wrong 4 r ≡ false
   pub cap : is_bound_wrong 5 r ≡ false
-  pub room : is_too_many_told e r ≡ false
+  pub room : passes_count e r ≡ false
   pub full_block : e.block_short ≡ false
   pub one_value : e.valued ≡ false
   pub pred_known : e.pred_unknown ≡ false

@@ -2,7 +2,7 @@
 
 ghost use Rattle.std.specs.Prelude.{◌≡◌, ◌<◌, ℕ, List, [], ◌∷◌, ◌++◌, length, slice_get, pos, codes};
 ghost use Rattle.dimacs_lines.specs.Puts.{Puts};
-ghost use Rattle.dimacs_lines.specs.Pages.{Appends};
+ghost use Rattle.dimacs_lines.specs.OutputBuffers.{Appends};
 ghost use Rattle.dimacs_records.specs.declared.printed.Part.TheVariants.{Number};
 ghost use Rattle.dimacs_records.specs.declared.records.Record.{Record};
 ghost use Rattle.dimacs_records.specs.Canonical.{AreLines, canonical_line, canonical_text, line_of, said_lines};
@@ -10,15 +10,15 @@ ghost use Rattle.dimacs_records.specs.Spelling.{Text, Amount};
 
 use crate::printed::{Part, write_line};
 use crate::records::Record;
-use dimacs_lines::{DeviceFault, Page, Sink};
+use dimacs_lines::{DeviceFault, OutputBuffer, Sink};
 
 /// Puts the line of a record.
 pub fn put_record<S: Sink>(sink: &mut S, said: &Record) -> Result<(), DeviceFault>
     ensures { Puts result (S.seen sink.old) (canonical_line said.now) (S.seen sink.new) }
 {
-    let mut page = Page::new();
-    write_record(&mut page, sink, said);
-    page.finish(sink)
+    let mut output = OutputBuffer::new();
+    write_record(&mut output, sink, said);
+    output.finish(sink)
 }
 
 /// Puts these lines, then a line for each number below `count` for which `line` gives a record.
@@ -32,19 +32,19 @@ pub fn put_text<S: Sink, F: Fn(usize) -> Option<Record>>(
     ensures { (below : ℕ → List Record) → AreLines (F.post line) count below
         → Puts result (S.seen sink.old) (canonical_text (first.now ++ below count)) (S.seen sink.new) }
 {
-    let mut page = Page::new();
-    write_all(&mut page, sink, first);
-    write_lines(&mut page, sink, count, line);
-    page.finish(sink)
+    let mut output = OutputBuffer::new();
+    write_all(&mut output, sink, first);
+    write_lines(&mut output, sink, count, line);
+    output.finish(sink)
 }
 
 /// Writes the lines of these records. A function by itself: `write_record` is large if the kind of record isn't known.
 #[inline(never)]
-fn write_all<S: Sink>(page: &mut Page, sink: &mut S, records: &[Record])
-    ensures { Appends (canonical_text records.now) (S.seen sink.old) page.old (S.seen sink.new) page.new }
+fn write_all<S: Sink>(output: &mut OutputBuffer, sink: &mut S, records: &[Record])
+    ensures { Appends (canonical_text records.now) (S.seen sink.old) output.old (S.seen sink.new) output.new }
 {
     write_lines(
-        page,
+        output,
         sink,
         records.len(),
         |i|
@@ -57,58 +57,60 @@ fn write_all<S: Sink>(page: &mut Page, sink: &mut S, records: &[Record])
 /// Writes a line for each number below `count`, in order, for which `line` gives a record.
 #[inline(always)]
 pub fn write_lines<S: Sink, F: Fn(usize) -> Option<Record>>(
-    page: &mut Page,
+    output: &mut OutputBuffer,
     sink: &mut S,
     count: usize,
     line: F,
 )
     requires { (i : ℕ) → i < count → F.pre line i }
     ensures { (below : ℕ → List Record) → AreLines (F.post line) count below
-        → Appends (canonical_text (below count)) (S.seen sink.old) page.old (S.seen sink.new) page.new }
+        → Appends (canonical_text (below count)) (S.seen sink.old) output.old (S.seen sink.new) output.new }
 {
     for i in 0..count {
-        write_said(page, sink, line(i));
+        write_said(output, sink, line(i));
     }
 }
 
 /// Writes the line of a record, if there is one.
 #[inline(always)]
-fn write_said<S: Sink>(page: &mut Page, sink: &mut S, said: Option<Record>)
-    ensures { Appends (canonical_text (said_lines said)) (S.seen sink.old) page.old (S.seen sink.new) page.new }
+fn write_said<S: Sink>(output: &mut OutputBuffer, sink: &mut S, said: Option<Record>)
+    ensures { Appends (canonical_text (said_lines said)) (S.seen sink.old) output.old (S.seen sink.new) output.new }
 {
     if let Some(said) = said {
-        write_record(page, sink, &said);
+        write_record(output, sink, &said);
     }
 }
 
 /// Writes the line of a record through a buffer.
 #[inline(always)]
-pub fn write_record<S: Sink>(page: &mut Page, sink: &mut S, said: &Record)
-    ensures { Appends (canonical_line said.now) (S.seen sink.old) page.old (S.seen sink.new) page.new }
+pub fn write_record<S: Sink>(output: &mut OutputBuffer, sink: &mut S, said: &Record)
+    ensures { Appends (canonical_line said.now) (S.seen sink.old) output.old (S.seen sink.new) output.new }
 {
     match *said {
-        Record::MaxProblem { nodes, arcs } => write_problem(page, sink, b"max", nodes, arcs),
+        Record::MaxProblem { nodes, arcs } => write_problem(output, sink, b"max", nodes, arcs),
         Record::MaxNode { id, end } => {
-            write_line(page, sink, b"n", &[unsigned(id), Part::Word(end.word())])
+            write_line(output, sink, b"n", &[unsigned(id), Part::Word(end.word())])
         }
-        Record::MaxArc { tail, head, cap } => write_arc(page, sink, b'a', tail, head, cap),
-        Record::MinProblem { nodes, arcs } => write_problem(page, sink, b"min", nodes, arcs),
-        Record::MinNode { id, supply } => page.line(sink, b'n', &[i64::from(id), supply]),
+        Record::MaxArc { tail, head, cap } => write_arc(output, sink, b'a', tail, head, cap),
+        Record::MinProblem { nodes, arcs } => write_problem(output, sink, b"min", nodes, arcs),
+        Record::MinNode { id, supply } => output.line(sink, b'n', &[i64::from(id), supply]),
         Record::MinArc {
             tail,
             head,
             low,
             cap,
             cost,
-        } => page.line(
+        } => output.line(
             sink,
             b'a',
             &[i64::from(tail), i64::from(head), low, cap, cost],
         ),
-        Record::GraphProblem { nodes, arcs } => write_problem(page, sink, b"sp", nodes, arcs),
-        Record::GraphArc { tail, head, weight } => write_arc(page, sink, b'a', tail, head, weight),
+        Record::GraphProblem { nodes, arcs } => write_problem(output, sink, b"sp", nodes, arcs),
+        Record::GraphArc { tail, head, weight } => write_arc(
+            output, sink, b'a', tail, head, weight,
+        ),
         Record::QueriesProblem { asks, count } => write_line(
-            page,
+            output,
             sink,
             b"p",
             &[
@@ -118,64 +120,72 @@ pub fn write_record<S: Sink>(page: &mut Page, sink: &mut S, said: &Record)
                 unsigned(count),
             ],
         ),
-        Record::SourceQuery { id } => page.line(sink, b's', &[i64::from(id)]),
+        Record::SourceQuery { id } => output.line(sink, b's', &[i64::from(id)]),
         Record::PairQuery { from, to } => {
-            page.line(sink, b'q', &[i64::from(from), i64::from(to)]);
+            output.line(sink, b'q', &[i64::from(from), i64::from(to)]);
         }
-        Record::SolutionValue { value } => write_line(page, sink, b"s", &[Part::Wide(value)]),
-        Record::SolutionEntry { tail, head, flow } => write_arc(page, sink, b'f', tail, head, flow),
-        Record::CutProblem { nodes, count } => write_problem(page, sink, b"cut", nodes, count),
-        Record::CutNode { id } => page.line(sink, b'u', &[i64::from(id)]),
+        Record::SolutionValue { value } => write_line(output, sink, b"s", &[Part::Wide(value)]),
+        Record::SolutionEntry { tail, head, flow } => write_arc(
+            output, sink, b'f', tail, head, flow,
+        ),
+        Record::CutProblem { nodes, count } => write_problem(output, sink, b"cut", nodes, count),
+        Record::CutNode { id } => output.line(sink, b'u', &[i64::from(id)]),
         Record::PotentialsProblem { nodes, count } => {
-            write_problem(page, sink, b"pot", nodes, count)
+            write_problem(output, sink, b"pot", nodes, count)
         }
         Record::PotentialsNode { id, value } => {
-            write_line(page, sink, b"y", &[unsigned(id), Part::Wide(value)])
+            write_line(output, sink, b"y", &[unsigned(id), Part::Wide(value)])
         }
         Record::LabelsProblem { nodes, blocks } => {
-            write_problem(page, sink, b"dist", nodes, blocks)
+            write_problem(output, sink, b"dist", nodes, blocks)
         }
         Record::LabelsBlock {
             source,
             count,
             radius: None,
-        } => page.line(sink, b't', &[i64::from(source), i64::from(count)]),
+        } => output.line(sink, b't', &[i64::from(source), i64::from(count)]),
         Record::LabelsBlock {
             source,
             count,
             radius: Some(radius),
         } => write_line(
-            page,
+            output,
             sink,
             b"t",
             &[unsigned(source), unsigned(count), Part::Wide(radius)],
         ),
         Record::LabelsNode { id, dist, pred } => write_line(
-            page,
+            output,
             sink,
             b"d",
             &[unsigned(id), Part::Wide(dist), unsigned(pred)],
         ),
         Record::DistancesProblem { nodes, blocks } => {
-            write_problem(page, sink, b"distances", nodes, blocks)
+            write_problem(output, sink, b"distances", nodes, blocks)
         }
         Record::DistancesBlock { source, count } => {
-            page.line(sink, b't', &[i64::from(source), i64::from(count)]);
+            output.line(sink, b't', &[i64::from(source), i64::from(count)]);
         }
         Record::DistancesNode { id, dist } => {
-            write_line(page, sink, b"d", &[unsigned(id), Part::Wide(dist)])
+            write_line(output, sink, b"d", &[unsigned(id), Part::Wide(dist)])
         }
     }
 }
 
 /// Writes a problem line with a number of nodes and a count.
 #[inline(always)]
-fn write_problem<S: Sink>(page: &mut Page, sink: &mut S, word: &[u8], nodes: u32, count: u32)
+fn write_problem<S: Sink>(
+    output: &mut OutputBuffer,
+    sink: &mut S,
+    word: &[u8],
+    nodes: u32,
+    count: u32,
+)
     ensures { Appends (line_of (codes "p") (Text word.now ∷ Amount (pos nodes) ∷ Amount (pos count) ∷ []))
-        (S.seen sink.old) page.old (S.seen sink.new) page.new }
+        (S.seen sink.old) output.old (S.seen sink.new) output.new }
 {
     write_line(
-        page,
+        output,
         sink,
         b"p",
         &[Part::Word(word), unsigned(nodes), unsigned(count)],
@@ -184,11 +194,18 @@ fn write_problem<S: Sink>(page: &mut Page, sink: &mut S, word: &[u8], nodes: u32
 
 /// Writes a line of tail, head and a number.
 #[inline(always)]
-fn write_arc<S: Sink>(page: &mut Page, sink: &mut S, letter: u8, tail: u32, head: u32, n: i64)
+fn write_arc<S: Sink>(
+    output: &mut OutputBuffer,
+    sink: &mut S,
+    letter: u8,
+    tail: u32,
+    head: u32,
+    n: i64,
+)
     ensures { Appends (line_of (letter ∷ []) (Amount (pos tail) ∷ Amount (pos head) ∷ Amount n ∷ []))
-        (S.seen sink.old) page.old (S.seen sink.new) page.new }
+        (S.seen sink.old) output.old (S.seen sink.new) output.new }
 {
-    page.line_of_three(sink, letter, i64::from(tail), i64::from(head), n);
+    output.line_of_three(sink, letter, i64::from(tail), i64::from(head), n);
 }
 
 /// A count or an ID as a field.

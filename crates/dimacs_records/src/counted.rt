@@ -11,7 +11,7 @@ ghost use Rattle.dimacs_records.specs.Faults.{Fault};
 ghost use Rattle.dimacs_records.specs.Readings.{CountsRead, LineRecord, IsAllowed, IsOfKind, RefusesRecord, records_of};
 ghost use Rattle.dimacs_records.specs.Spelling.{kind_of};
 ghost use Rattle.dimacs_records.specs.Takings.{StandsFor};
-ghost use Rattle.dimacs_records.specs.Tests.{Passes, PassesEnd, told_at_end, told_of};
+ghost use Rattle.dimacs_records.specs.Tests.{Passes, PassesEnd, noted_at_end, noted_before};
 ghost use Rattle.dimacs_records.specs.Texts.{Reads, SpellsValue, AreFaultless};
 
 use crate::driver::read_text;
@@ -36,10 +36,10 @@ pub trait Begun: Drop {
     ghost begun_by: { Self → List Record → Type 0 };
 
     /// What they contribute to the tests of one more record.
-    ghost told: { Self → Record → Earlier };
+    ghost noted: { Self → Record → Earlier };
 
     /// What they contribute to the tests at the end.
-    ghost told_end: { Self → Earlier };
+    ghost noted_end: { Self → Earlier };
 
     /// Which value the records of a text give.
     ghost gives: { List LineRecord → Self.Value → Type 0 };
@@ -59,24 +59,24 @@ pub trait Begun: Drop {
     /// What the taken records contribute to the tests of one more.
     fn before(&self, said: Record) -> Earlier
         requires { IsOfKind kind said }
-        ensures told { result ≡ told self.now said }
-        ensures so { (rs : List Record) → begun_by self.now rs → result ≡ told_of rs said };
+        ensures noted { result ≡ noted self.now said }
+        ensures so { (rs : List Record) → begun_by self.now rs → result ≡ noted_before rs said };
 
     /// Keeps a record that passed all tests.
     fn keep(&mut self, said: Record) -> Result<(), Memory>
         requires of_kind { IsOfKind kind said }
-        requires passes { Passes (told self.old said) said }
+        requires passes { Passes (noted self.old said) said }
         ensures kept { OnOk result ((rs : List Record) → begun_by self.old rs → begun_by self.new (rs ++ said ∷ [])) }
         ensures unchanged { OnErr result (self.new ≡ self.old) };
 
     /// What the taken records contribute to the tests at the end.
     fn before_end(&self) -> Earlier
-        ensures told { result ≡ told_end self.now }
-        ensures so { (rs : List Record) → begun_by self.now rs → result ≡ told_at_end kind rs };
+        ensures noted { result ≡ noted_end self.now }
+        ensures so { (rs : List Record) → begun_by self.now rs → result ≡ noted_at_end kind rs };
 
     /// The value of all records, which have passed all tests.
     fn value(self, alloc: Global) -> Result<Self::Value, Memory>
-        requires { PassesEnd kind (told_end self) }
+        requires { PassesEnd kind (noted_end self) }
         ensures { IfOk result (λ value. (rs : List LineRecord) → begun_by self (records_of rs) → gives rs value) };
 
     /// This kind of text begins with a problem line.

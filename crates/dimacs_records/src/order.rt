@@ -8,7 +8,7 @@ ghost use Rattle.dimacs_records.specs.declared.records.Record.{Record};
 ghost use Rattle.dimacs_records.specs.Conditions.{is_above_at, bounded_ids, is_bound_wrong, needs_problem};
 ghost use Rattle.dimacs_records.specs.Earlier.{is_above, is_counted, is_full, is_problem, is_short, is_so};
 ghost use Rattle.dimacs_records.specs.Spelling.{kind_of};
-ghost use Rattle.dimacs_records.specs.Tests.{Passes, PassesEnd, answer_at, answer_at_end, earlier_of, is_too_many_told, needs_value, place_told, reason_told};
+ghost use Rattle.dimacs_records.specs.Tests.{Passes, PassesEnd, answer_at, answer_at_end, earlier_of, passes_count, needs_value, place_by, reason_by};
 
 use crate::faults::TakeError;
 use crate::kinds::TextKind;
@@ -96,7 +96,7 @@ impl Earlier {
     /// The text has as many lines as it declares, or the block as many labels, and the record is one more.
     #[inline(always)]
     fn is_full_for(self, said: Record) -> bool
-        ensures { result ≡ is_too_many_told self said }
+        ensures { result ≡ passes_count self said }
     {
         match said {
             Record::LabelsNode { .. } | Record::DistancesNode { .. } => self.block_full,
@@ -188,7 +188,7 @@ impl Earlier {
 #[inline(always)]
 pub fn test_record(earlier: Earlier, said: Record) -> Result<(), TakeError>
     ensures passes { OnOk result (Passes earlier said) }
-    ensures told { result ≡ answer_at (place_told earlier said) }
+    ensures noted { result ≡ answer_at (place_by earlier said) }
 {
     refuse_if(earlier.is_without_problem(said), 0, Reason::ProblemMissing)?;
     refuse_if(earlier.is_second_problem(said), 0, Reason::ProblemTwice)?;
@@ -214,7 +214,7 @@ pub fn test_record(earlier: Earlier, said: Record) -> Result<(), TakeError>
 #[inline(always)]
 pub fn test_end(kind: TextKind, earlier: Earlier) -> Result<(), TakeError>
     ensures passes { OnOk result (PassesEnd kind earlier) }
-    ensures told { result ≡ answer_at_end (reason_told kind earlier) }
+    ensures noted { result ≡ answer_at_end (reason_by kind earlier) }
 {
     refuse_if(earlier.is_without_any(kind), 0, Reason::ProblemMissing)?;
     refuse_if(earlier.lacks_end, 0, Reason::EndMissing)?;

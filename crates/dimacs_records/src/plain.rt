@@ -1,7 +1,7 @@
 //! Fast reading of lines in the plain form, which most lines have: a letter, one blank before each number, and the
 //! line's end right after the last. They are read straight from the buffer; every other line is left to `record`.
 
-ghost use Rattle.std.specs.Prelude.{◌≡◌, ◌≤◌, ◌∷◌, [], pos, length, drop, IfSome, IsTrue};
+ghost use Rattle.std.specs.Prelude.{◌≡◌, ◌≤◌, ◌∷◌, [], pos, length, IfSome};
 ghost use Rattle.dimacs_records.specs.declared.kinds.TextKind.TheVariants.{Min, Potentials, Labels, Distances};
 ghost use Rattle.dimacs_records.specs.Forms.{Id, Whole};
 ghost use Rattle.dimacs_records.specs.inside.Plain.{IsPlainLine, SaysArc, SaysFirst};
@@ -10,7 +10,7 @@ ghost use Rattle.dimacs_records.specs.Spelling.{Amount};
 use crate::kinds::TextKind;
 use crate::reading::Reading;
 use crate::records::Record;
-use dimacs_lines::{plain_id, plain_whole};
+use dimacs_lines::PlainNumbers;
 
 /// The length of some of the first lines in the buffer, with their ends.
 #[derive(Clone, Copy)]
@@ -96,17 +96,16 @@ fn distances_line(bytes: &[u8]) -> Option<PlainLine>
 fn labels_line(bytes: &[u8]) -> Option<PlainLine>
     ensures { IfSome result (λ line. SaysFirst Labels bytes.now line.said line.size) }
 {
-    if !begins_with(bytes, b'd') {
-        return None;
-    }
-    let (after_id, id) = plain_id(bytes, 2, b' ')?;
-    let (after_dist, dist) = plain_whole(bytes, after_id, b' ')?;
-    let (size, pred) = plain_id(bytes, after_dist, b'\n')?;
+    let mut numbers = PlainNumbers::after(b'd', bytes)?;
+    let id = numbers.id(b' ')?;
+    let dist = numbers.whole(b' ')?;
+    let pred = numbers.id(b'\n')?;
     let said = Record::LabelsNode {
         id,
         dist: i128::from(dist),
         pred,
     };
+    let size = numbers.at();
     Some(PlainLine { size, said })
 }
 
@@ -115,14 +114,12 @@ fn labels_line(bytes: &[u8]) -> Option<PlainLine>
 fn bounds_line(bytes: &[u8]) -> Option<PlainLine>
     ensures { IfSome result (λ line. SaysFirst Min bytes.now line.said line.size) }
 {
-    if !begins_with(bytes, b'a') {
-        return None;
-    }
-    let (after_tail, tail) = plain_id(bytes, 2, b' ')?;
-    let (after_head, head) = plain_id(bytes, after_tail, b' ')?;
-    let (after_low, low) = plain_whole(bytes, after_head, b' ')?;
-    let (after_cap, cap) = plain_whole(bytes, after_low, b' ')?;
-    let (size, cost) = plain_whole(bytes, after_cap, b'\n')?;
+    let mut numbers = PlainNumbers::after(b'a', bytes)?;
+    let tail = numbers.id(b' ')?;
+    let head = numbers.id(b' ')?;
+    let low = numbers.whole(b' ')?;
+    let cap = numbers.whole(b' ')?;
+    let cost = numbers.whole(b'\n')?;
     let said = Record::MinArc {
         tail,
         head,
@@ -130,6 +127,7 @@ fn bounds_line(bytes: &[u8]) -> Option<PlainLine>
         cap,
         cost,
     };
+    let size = numbers.at();
     Some(PlainLine { size, said })
 }
 
@@ -138,11 +136,10 @@ fn bounds_line(bytes: &[u8]) -> Option<PlainLine>
 fn node_line(bytes: &[u8], letter: u8) -> Option<NodeLine>
     ensures { IfSome result (λ line. IsPlainLine bytes.now letter (Id ∷ Whole ∷ []) (Amount (pos line.id) ∷ Amount line.number ∷ []) line.size) }
 {
-    if !begins_with(bytes, letter) {
-        return None;
-    }
-    let (after_id, id) = plain_id(bytes, 2, b' ')?;
-    let (size, number) = plain_whole(bytes, after_id, b'\n')?;
+    let mut numbers = PlainNumbers::after(letter, bytes)?;
+    let id = numbers.id(b' ')?;
+    let number = numbers.whole(b'\n')?;
+    let size = numbers.at();
     Some(NodeLine { size, id, number })
 }
 
@@ -151,12 +148,11 @@ fn node_line(bytes: &[u8], letter: u8) -> Option<NodeLine>
 fn arc_line(kind: TextKind, letter: u8, bytes: &[u8]) -> Option<PlainLine>
     ensures { IfSome result (λ line. SaysFirst kind bytes.now line.said line.size) }
 {
-    if !begins_with(bytes, letter) {
-        return None;
-    }
-    let (after_tail, tail) = plain_id(bytes, 2, b' ')?;
-    let (after_head, head) = plain_id(bytes, after_tail, b' ')?;
-    let (size, number) = plain_whole(bytes, after_head, b'\n')?;
+    let mut numbers = PlainNumbers::after(letter, bytes)?;
+    let tail = numbers.id(b' ')?;
+    let head = numbers.id(b' ')?;
+    let number = numbers.whole(b'\n')?;
+    let size = numbers.at();
     let said = arc_record(kind, letter, tail, head, number)?;
     Some(PlainLine { size, said })
 }
@@ -184,12 +180,4 @@ fn arc_record(kind: TextKind, letter: u8, tail: u32, head: u32, number: i64) -> 
         }),
         _ => None,
     }
-}
-
-/// Whether the bytes begin with this letter and a blank.
-#[inline(always)]
-fn begins_with(bytes: &[u8], letter: u8) -> bool
-    ensures { IsTrue result → bytes.now ≡ letter ∷ 32 ∷ drop 2 bytes.now }
-{
-    bytes.len() > 2 && bytes[0] == letter && bytes[1] == b' '
 }

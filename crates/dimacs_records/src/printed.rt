@@ -1,11 +1,11 @@
 //! Writing lines of words and numbers.
 
 ghost use Rattle.std.specs.Prelude.{◌++◌};
-ghost use Rattle.dimacs_lines.specs.Pages.{Appends};
+ghost use Rattle.dimacs_lines.specs.OutputBuffers.{Appends};
 ghost use Rattle.dimacs_lines.specs.Puts.{Puts};
 ghost use Rattle.dimacs_records.specs.Printed.{after_blank, printed, printed_line};
 
-use dimacs_lines::{DeviceFault, Page, Sink};
+use dimacs_lines::{DeviceFault, OutputBuffer, Sink};
 
 /// A field after the first word of a printed line.
 #[derive(Clone, Copy)]
@@ -19,31 +19,31 @@ pub enum Part<'a> {
 pub fn put_line<S: Sink>(sink: &mut S, word: &[u8], parts: &[Part<'_>]) -> Result<(), DeviceFault>
     ensures { Puts result (S.seen sink.old) (printed_line word.now parts.now) (S.seen sink.new) }
 {
-    let mut page = Page::new();
-    write_line(&mut page, sink, word, parts);
-    page.finish(sink)
+    let mut output = OutputBuffer::new();
+    write_line(&mut output, sink, word, parts);
+    output.finish(sink)
 }
 
 /// Writes such a line through a buffer.
-pub fn write_line<S: Sink>(page: &mut Page, sink: &mut S, word: &[u8], parts: &[Part<'_>])
-    ensures { Appends (printed_line word.now parts.now) (S.seen sink.old) page.old (S.seen sink.new) page.new }
+pub fn write_line<S: Sink>(output: &mut OutputBuffer, sink: &mut S, word: &[u8], parts: &[Part<'_>])
+    ensures { Appends (printed_line word.now parts.now) (S.seen sink.old) output.old (S.seen sink.new) output.new }
 {
-    page.write(sink, word);
+    output.write(sink, word);
     for part in parts {
-        write_part(page, sink, part);
+        write_part(output, sink, part);
     }
-    page.write(sink, b"\n");
+    output.write(sink, b"\n");
 }
 
 /// Writes a blank and then the field.
 #[inline(always)]
-fn write_part<S: Sink>(page: &mut Page, sink: &mut S, part: &Part<'_>)
-    ensures { Appends (after_blank (printed part.now)) (S.seen sink.old) page.old (S.seen sink.new) page.new }
+fn write_part<S: Sink>(output: &mut OutputBuffer, sink: &mut S, part: &Part<'_>)
+    ensures { Appends (after_blank (printed part.now)) (S.seen sink.old) output.old (S.seen sink.new) output.new }
 {
-    page.write(sink, b" ");
+    output.write(sink, b" ");
     match part {
-        Part::Word(word) => page.write(sink, word),
-        Part::Number(n) => page.number(sink, *n),
-        Part::Wide(n) => page.wide(sink, *n),
+        Part::Word(word) => output.write(sink, word),
+        Part::Number(n) => output.number(sink, *n),
+        Part::Wide(n) => output.wide(sink, *n),
     }
 }

@@ -2,13 +2,13 @@
 
 ghost use Rattle.std.specs.Prelude.{◌++◌};
 ghost use Rattle.std.specs.List.{flat_map};
-ghost use Rattle.dimacs_lines.specs.Pages.{Appends};
+ghost use Rattle.dimacs_lines.specs.OutputBuffers.{Appends};
 ghost use Rattle.dimacs_lines.specs.Puts.{Puts};
 ghost use Rattle.dimacs_runs.specs.Verdicts.{answer_line, distances_line, failure_line, gave_up_line, numbered_line, verdict_lines};
 
 use crate::refusal::put_refusal;
 use dimacs_judge::{Answer, Verdict, Where};
-use dimacs_lines::{DeviceFault, Page, Sink};
+use dimacs_lines::{DeviceFault, OutputBuffer, Sink};
 use dimacs_records::{At, Part, Reason, put_line, write_line};
 
 /// Writes the lines of a verdict: one, or a line for each pair of nodes asked about.
@@ -36,27 +36,27 @@ pub fn put_verdict<K: Sink>(sink: &mut K, verdict: &Verdict) -> Result<(), Devic
 fn put_answers<K: Sink>(sink: &mut K, answers: &[Answer]) -> Result<(), DeviceFault>
     ensures { Puts result (K.seen sink.old) (flat_map answer_line answers.now) (K.seen sink.new) }
 {
-    let mut page = Page::new();
+    let mut output = OutputBuffer::new();
     for answer in answers {
-        write_answer(&mut page, sink, answer);
+        write_answer(&mut output, sink, answer);
     }
-    page.finish(sink)
+    output.finish(sink)
 }
 
 /// Writes the line of an answer: a distance, `more` with the radius, or `unreachable`.
-fn write_answer<K: Sink>(page: &mut Page, sink: &mut K, answer: &Answer)
-    ensures { Appends (answer_line answer.now) (K.seen sink.old) page.old (K.seen sink.new) page.new }
+fn write_answer<K: Sink>(output: &mut OutputBuffer, sink: &mut K, answer: &Answer)
+    ensures { Appends (answer_line answer.now) (K.seen sink.old) output.old (K.seen sink.new) output.new }
 {
     let from = Part::Number(i64::from(answer.from));
     let to = Part::Number(i64::from(answer.to));
     match answer.distance {
-        Some(distance) => write_line(page, sink, b"v", &[from, to, Part::Wide(distance)]),
+        Some(distance) => write_line(output, sink, b"v", &[from, to, Part::Wide(distance)]),
         None => match answer.beyond {
             Some(radius) => {
                 let more = Part::Word(b"more");
-                write_line(page, sink, b"v", &[from, to, more, Part::Wide(radius)]);
+                write_line(output, sink, b"v", &[from, to, more, Part::Wide(radius)]);
             }
-            None => write_line(page, sink, b"v", &[from, to, Part::Word(b"unreachable")]),
+            None => write_line(output, sink, b"v", &[from, to, Part::Word(b"unreachable")]),
         },
     }
 }

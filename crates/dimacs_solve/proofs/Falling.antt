@@ -14,7 +14,7 @@ use Rattle.dimacs_judge.specs.Optimum.{Least}
 use Rattle.dimacs_judge.specs.Rows.{amount_at}
 use Rattle.dimacs_network.specs.Arcs.{arc_at}
 use Rattle.dimacs_decide.specs.Bounds.{KeepsBounds}
-use Rattle.dimacs_decide.specs.FeasibilityDecision.{surplus_at, total_excess}
+use Rattle.dimacs_decide.specs.FeasibilityDecision.{imbalance_at, total_excess}
 use Rattle.dimacs_decide.proofs.ExcessLemmas.{excess_some}
 use Rattle.dimacs_solve.specs.Descending.{AreFalling, IsBetter, StartsCheap, TakesMoreSteps, start_flow}
 
@@ -27,7 +27,7 @@ part_zero : (z : ℤ) → z ≡ pos 0 → pos (positive_part z) ≡ pos 0
 part_zero z e = rw e refl
 
 excess_none : (i : MinValue) (x : List ℤ) → FeasibleMin i x → total_excess i x ≡ pos 0
-excess_none i x f = sum_none (λ v. pos (positive_part (surplus_at i x v))) i.nodes (λ v h. part_zero (surplus_at i x v) (omega (arith, ints, f.balanced v h)))
+excess_none i x f = sum_none (λ v. pos (positive_part (imbalance_at i x v))) i.nodes (λ v h. part_zero (imbalance_at i x v) (omega (arith, ints, f.balanced v h)))
 
 -- ---- being better is transitive
 pub better_then : (i : MinValue) (x y z : List ℤ) → IsBetter i x y → IsBetter i y z → IsBetter i x z

@@ -17,7 +17,7 @@ use Rattle.dimacs_solve.specs.declared.adjacency.Hop.{Hop}
 use Rattle.dimacs_solve.specs.declared.frontier.Reach.{Reach}
 use Rattle.dimacs_solve.specs.Adjacency.{AreByNode, IsHop, out}
 use Rattle.dimacs_solve.specs.inside.Adjacency.{hop_to}
-use Rattle.dimacs_solve.specs.inside.Marks.{Known, AreUnknown, IsSettled, IsReachedWithin, Sets, reached, settled}
+use Rattle.dimacs_solve.specs.inside.NodeStates.{Known, AreUnknown, IsSettled, IsReachedWithin, Sets, reached, settled}
 use Rattle.dimacs_solve.specs.Paths.{IsNearestFirst}
 use Rattle.dimacs_solve.specs.inside.Search.{is_settled, settled_count, settled_label, IsWay, IsWayWaiting, IsPending, IsFront, Lowers, Offers, IsHopPassed, IsReady, Relaxes, IsMade, IsPathSearch, IsPopped, IsClosed, IsPathTree, work}
 
@@ -77,10 +77,10 @@ at_most_one : (b : Bool) → ones b ≤ 1
 at_most_one true = omega arith
 at_most_one false = omega arith
 
-pub settled_count-le : (marks : ℕ → Known) (n : ℕ) → settled_count marks n ≤ n
+pub settled_count-le : (node_states : ℕ → Known) (n : ℕ) → settled_count node_states n ≤ n
 unfolding settled_count
-settled_count-le marks zero = omega arith
-settled_count-le marks (suc n) = omega (arith, settled_count-le marks n, at_most_one (is_settled (marks (suc n))))
+settled_count-le node_states zero = omega arith
+settled_count-le node_states (suc n) = omega (arith, settled_count-le node_states n, at_most_one (is_settled (node_states (suc n))))
 
 settled_count-same : (old new : ℕ → Known) (n : ℕ) → ((v : ℕ) → 1 ≤ v → v ≤ n → is_settled (new v) ≡ is_settled (old v)) → settled_count new n ≡ settled_count old n
 unfolding settled_count
@@ -106,17 +106,17 @@ settled_count-more old new node (suc n) is others off on = elim (cases_eq (suc n
       omega (arith, before, here)
 ]
 
-settled_count-none : (marks : ℕ → Known) (n : ℕ) → ((v : ℕ) → ¬ IsSettled (marks v)) → settled_count marks n ≡ 0
+settled_count-none : (node_states : ℕ → Known) (n : ℕ) → ((v : ℕ) → ¬ IsSettled (node_states v)) → settled_count node_states n ≡ 0
 unfolding settled_count
-settled_count-none marks zero none = refl
-settled_count-none marks (suc n) none =
-    let before = settled_count-none marks n none in
-    let here = ap ones (off_from (marks (suc n)) (none (suc n))) in
+settled_count-none node_states zero none = refl
+settled_count-none node_states (suc n) none =
+    let before = settled_count-none node_states n none in
+    let here = ap ones (off_from (node_states (suc n)) (none (suc n))) in
     omega (arith, before, here)
 
 -- ---- marks don't rise
-pub lowers_none : (marks : ℕ → Known) → Lowers marks marks
-lowers_none marks = record { kept = λ v s. refl; none = λ v s. refl; within = λ v d w. w }
+pub lowers_none : (node_states : ℕ → Known) → Lowers node_states node_states
+lowers_none node_states = record { kept = λ v s. refl; none = λ v s. refl; within = λ v d w. w }
 
 lowers_more : (old mid new : ℕ → Known) → Lowers old mid → Lowers mid new → Lowers old new
 lowers_more old mid new l m = record {
@@ -153,64 +153,64 @@ waiting_stays a floor old new l o w = record {
 }
 
 -- ---- the marks and the queue after an offer
-record IsOffered (a : Adjacency) (floor : ℕ) (e : Reach ℕ) (marks : ℕ → Known) (front : List (Reach ℕ)) (marks' : ℕ → Known) (front' : List (Reach ℕ)) : Type 0 where
-  waits : IsFront a floor marks' front'
-  lowers : Lowers marks marks'
-  within : IsReachedWithin (marks' e.node) e.dist
+record IsOffered (a : Adjacency) (floor : ℕ) (e : Reach ℕ) (node_states : ℕ → Known) (front : List (Reach ℕ)) (node_states' : ℕ → Known) (front' : List (Reach ℕ)) : Type 0 where
+  waits : IsFront a floor node_states' front'
+  lowers : Lowers node_states node_states'
+  within : IsReachedWithin (node_states' e.node) e.dist
   few : length front' ≤ length front + 1
 
-module _ (a : Adjacency) (floor : ℕ) (e : Reach ℕ) (marks marks' : ℕ → Known) (front front' : List (Reach ℕ)) (is : IsFront a floor marks front) (beyond : floor ≤ e.dist) (off : ¬ IsReachedWithin (marks e.node) e.dist)
-    (sets : Sets marks e.node (reached e.dist) marks') (moved : IsPermutation (e ∷ front) front') (way : IsWay a marks e) (bound : e.dist ≤ a.greatest * settled_count marks a.nodes) where
-  unsettled : ¬ IsSettled (marks e.node)
+module _ (a : Adjacency) (floor : ℕ) (e : Reach ℕ) (node_states node_states' : ℕ → Known) (front front' : List (Reach ℕ)) (is : IsFront a floor node_states front) (beyond : floor ≤ e.dist) (off : ¬ IsReachedWithin (node_states e.node) e.dist)
+    (sets : Sets node_states e.node (reached e.dist) node_states') (moved : IsPermutation (e ∷ front) front') (way : IsWay a node_states e) (bound : e.dist ≤ a.greatest * settled_count node_states a.nodes) where
+  unsettled : ¬ IsSettled (node_states e.node)
   unsettled s = off (s.0, omega (arith, is.below e.node s, beyond))
 
-  taken_lowers : Lowers marks marks'
+  taken_lowers : Lowers node_states node_states'
   taken_lowers = record {
     kept = λ v s. elim (cases_eq v e.node) [
-      | inl same ↦ absurd (unsettled (subst (λ w. IsSettled (marks w)) same s))
+      | inl same ↦ absurd (unsettled (subst (λ w. IsSettled (node_states w)) same s))
       | inr apart ↦ sets.there v apart
     ];
     none = λ v s. elim (cases_eq v e.node) [
-      | inl same ↦ absurd (let f = (subst IsSettled sets.here (subst (λ w. IsSettled (marks' w)) same s)).1 in cc)
+      | inl same ↦ absurd (let f = (subst IsSettled sets.here (subst (λ w. IsSettled (node_states' w)) same s)).1 in cc)
       | inr apart ↦ sets.there v apart
     ];
     within = λ v d w. elim (cases_eq v e.node) [
       | inl same ↦
-          let w' : IsReachedWithin (marks e.node) d = subst (λ u. IsReachedWithin (marks u) d) same w in
+          let w' : IsReachedWithin (node_states e.node) d = subst (λ u. IsReachedWithin (node_states u) d) same w in
           elim (lt_or_le e.dist d) [
-            | inl less ↦ subst (λ u. IsReachedWithin (marks' u) d) (sym same) (subst (λ k. IsReachedWithin k d) (sym sets.here) (refl, omega (arith, less)))
+            | inl less ↦ subst (λ u. IsReachedWithin (node_states' u) d) (sym same) (subst (λ k. IsReachedWithin k d) (sym sets.here) (refl, omega (arith, less)))
             | inr more ↦ absurd (off (w'.0, omega (arith, w'.1, more)))
           ]
       | inr apart ↦ subst (λ k. IsReachedWithin k d) (sym (sets.there v apart)) w
     ];
   }
 
-  taken_waits : IsWayWaiting a floor marks' e
+  taken_waits : IsWayWaiting a floor node_states' e
   taken_waits = record {
-    way = way_stays a marks marks' taken_lowers.kept e way;
+    way = way_stays a node_states node_states' taken_lowers.kept e way;
     beyond = beyond;
     within = subst (λ k. IsReachedWithin k e.dist) (sym sets.here) (refl, omega arith);
-    bound = subst (λ n. e.dist ≤ a.greatest * n) (sym (lowers_count marks marks' a.nodes taken_lowers)) bound;
+    bound = subst (λ n. e.dist ≤ a.greatest * n) (sym (lowers_count node_states node_states' a.nodes taken_lowers)) bound;
   }
 
-  taken_front : IsFront a floor marks' front'
+  taken_front : IsFront a floor node_states' front'
   taken_front = record {
     adjacent = is.adjacent;
     waiting = λ o h. elim (has_cases e front front' moved o h) [
-      | inl same ↦ subst (IsWayWaiting a floor marks') same taken_waits
-      | inr old ↦ waiting_stays a floor marks marks' taken_lowers o (is.waiting o old)
+      | inl same ↦ subst (IsWayWaiting a floor node_states') same taken_waits
+      | inr old ↦ waiting_stays a floor node_states node_states' taken_lowers o (is.waiting o old)
     ];
     pending = λ v f n. elim (cases_eq v e.node) [
-      | inl same ↦ subst (λ w. IsPending front' w (marks' w).dist) (sym same) (subst (λ (k : Known). IsPending front' e.node k.dist) (sym sets.here) (e.pred, has_new e front front' moved))
+      | inl same ↦ subst (λ w. IsPending front' w (node_states' w).dist) (sym same) (subst (λ (k : Known). IsPending front' e.node k.dist) (sym sets.here) (e.pred, has_new e front front' moved))
       | inr apart ↦
           let at = sets.there v apart in
           let p = is.pending v (subst (λ (k : Known). k.found ≡ true) at f) (subst (λ (k : Known). k.final ≡ false) at n) in
-          subst (λ (k : Known). IsPending front' v k.dist) (sym at) (p.0, has_old e front front' moved (record { dist = (marks v).dist; node = v; pred = p.0 }) p.1)
+          subst (λ (k : Known). IsPending front' v k.dist) (sym at) (p.0, has_old e front front' moved (record { dist = (node_states v).dist; node = v; pred = p.0 }) p.1)
     ];
     below = λ v s. let same = taken_lowers.none v s in subst (λ (k : Known). k.dist ≤ floor) (sym same) (is.below v (subst IsSettled same s));
   }
 
-  taken_offered : IsOffered a floor e marks front marks' front'
+  taken_offered : IsOffered a floor e node_states front node_states' front'
   taken_offered = record {
     waits = taken_front;
     lowers = taken_lowers;
@@ -218,11 +218,11 @@ module _ (a : Adjacency) (floor : ℕ) (e : Reach ℕ) (marks marks' : ℕ → K
     few = omega (arith, length_permutation (e ∷ front) front' moved);
   }
 
-offered : (a : Adjacency) (floor : ℕ) (e : Reach ℕ) (marks : ℕ → Known) (front : List (Reach ℕ)) (marks' : ℕ → Known) (front' : List (Reach ℕ)) → IsFront a floor marks front → floor ≤ e.dist
-    → IsWay a marks e → e.dist ≤ a.greatest * settled_count marks a.nodes → Offers e marks front marks' front' → IsOffered a floor e marks front marks' front'
-offered a floor e marks front marks' front' is beyond way bound o = elim o [
-  | inl same ↦ rw (same.1, same.2) record { waits = is; lowers = lowers_none marks; within = same.0; few = omega arith }
-  | inr new ↦ taken_offered a floor e marks marks' front front' is beyond new.0 new.1 new.2 way bound
+offered : (a : Adjacency) (floor : ℕ) (e : Reach ℕ) (node_states : ℕ → Known) (front : List (Reach ℕ)) (node_states' : ℕ → Known) (front' : List (Reach ℕ)) → IsFront a floor node_states front → floor ≤ e.dist
+    → IsWay a node_states e → e.dist ≤ a.greatest * settled_count node_states a.nodes → Offers e node_states front node_states' front' → IsOffered a floor e node_states front node_states' front'
+offered a floor e node_states front node_states' front' is beyond way bound o = elim o [
+  | inl same ↦ rw (same.1, same.2) record { waits = is; lowers = lowers_none node_states; within = same.0; few = omega arith }
+  | inr new ↦ taken_offered a floor e node_states node_states' front front' is beyond new.0 new.1 new.2 way bound
 ]
 
 -- ---- the hops of a node
@@ -238,52 +238,52 @@ pub hop_at : (a : Adjacency) (node : ℕ) (hops : List Hop) (i : ℕ) (d : Hop) 
 hop_at a node hops i d is from inside = All-get_or (IsHop a.nodes a.greatest) hops i d inside (rw from (out_hops a node is))
 
 -- ---- one step of relaxing a node
-pub record IsRelaxing (a : Adjacency) (dist : ℕ) (old : ℕ → Known) (ways : List (Reach ℕ)) (hops : List Hop) (i : ℕ) (marks : ℕ → Known) (front : List (Reach ℕ)) : Type 0 where
-  pub waits : IsFront a dist marks front
-  pub lowers : Lowers old marks
-  pub passed : All (IsHopPassed marks dist) (take i hops)
+pub record IsRelaxing (a : Adjacency) (dist : ℕ) (old : ℕ → Known) (ways : List (Reach ℕ)) (hops : List Hop) (i : ℕ) (node_states : ℕ → Known) (front : List (Reach ℕ)) : Type 0 where
+  pub waits : IsFront a dist node_states front
+  pub lowers : Lowers old node_states
+  pub passed : All (IsHopPassed node_states dist) (take i hops)
   pub few : length front ≤ length ways + i
 
 pub relaxing_none : (a : Adjacency) (node dist : ℕ) (old : ℕ → Known) (ways : List (Reach ℕ)) (hops : List Hop) → IsReady a node dist old ways → IsRelaxing a dist old ways hops 0 old ways
 relaxing_none a node dist old ways hops ready = record { waits = ready.waits; lowers = lowers_none old; passed = All-nil (IsHopPassed old dist); few = omega arith }
 
-pub relaxing_more : (a : Adjacency) (dist node : ℕ) (old : ℕ → Known) (ways : List (Reach ℕ)) (hops : List Hop) (i : ℕ) (d : Hop) (marks : ℕ → Known) (front : List (Reach ℕ)) (marks' : ℕ → Known) (front' : List (Reach ℕ))
-    → IsReady a node dist old ways → hops ≡ out a node → i < length hops → IsRelaxing a dist old ways hops i marks front
-    → Offers (record { dist = dist + (get_or hops i d).weight; node = (get_or hops i d).head; pred = node }) marks front marks' front' → IsRelaxing a dist old ways hops (i + 1) marks' front'
-relaxing_more a dist node old ways hops i d marks front marks' front' ready from inside so_far offers =
+pub relaxing_more : (a : Adjacency) (dist node : ℕ) (old : ℕ → Known) (ways : List (Reach ℕ)) (hops : List Hop) (i : ℕ) (d : Hop) (node_states : ℕ → Known) (front : List (Reach ℕ)) (node_states' : ℕ → Known) (front' : List (Reach ℕ))
+    → IsReady a node dist old ways → hops ≡ out a node → i < length hops → IsRelaxing a dist old ways hops i node_states front
+    → Offers (record { dist = dist + (get_or hops i d).weight; node = (get_or hops i d).head; pred = node }) node_states front node_states' front' → IsRelaxing a dist old ways hops (i + 1) node_states' front'
+relaxing_more a dist node old ways hops i d node_states front node_states' front' ready from inside so_far offers =
     let hop = get_or hops i d in
     let e : Reach ℕ = record { dist = dist + hop.weight; node = hop.head; pred = node } in
     let lawful : IsHop a.nodes a.greatest hop = hop_at a node hops i d so_far.waits.adjacent from inside in
     let same = so_far.lowers.kept node ready.settled in
-    let way : IsWay a marks e = record {
+    let way : IsWay a node_states e = record {
       weight = hop.weight;
       node = ready.node;
       pred = subst IsSettled (sym same) ready.settled;
       hop = subst (λ hs. Contains hs hop) from (Contains-get_or hops i d inside);
       adds = ap (λ n. n + hop.weight) (sym ready.at ∙ ap (λ (k : Known). k.dist) (sym same));
     } in
-    let short : dist + hop.weight ≤ a.greatest * settled_count marks a.nodes = subst (λ n. dist + hop.weight ≤ a.greatest * n) (sym (lowers_count old marks a.nodes so_far.lowers)) (omega (arith, lawful.weight, ready.bound)) in
-    let new = offered a dist e marks front marks' front' so_far.waits (omega arith) way short offers in
+    let short : dist + hop.weight ≤ a.greatest * settled_count node_states a.nodes = subst (λ n. dist + hop.weight ≤ a.greatest * n) (sym (lowers_count old node_states a.nodes so_far.lowers)) (omega (arith, lawful.weight, ready.bound)) in
+    let new = offered a dist e node_states front node_states' front' so_far.waits (omega arith) way short offers in
     record {
       waits = new.waits;
-      lowers = lowers_more old marks marks' so_far.lowers new.lowers;
-      passed = All-more (IsHopPassed marks' dist) hops i d inside (All-weaker (IsHopPassed marks dist) (IsHopPassed marks' dist) (λ h p. new.lowers.within h.head (dist + h.weight) p) (take i hops) so_far.passed) new.within;
+      lowers = lowers_more old node_states node_states' so_far.lowers new.lowers;
+      passed = All-more (IsHopPassed node_states' dist) hops i d inside (All-weaker (IsHopPassed node_states dist) (IsHopPassed node_states' dist) (λ h p. new.lowers.within h.head (dist + h.weight) p) (take i hops) so_far.passed) new.within;
       few = omega (arith, new.few, so_far.few);
     }
 
-pub relaxing_all : (a : Adjacency) (dist node : ℕ) (old : ℕ → Known) (ways : List (Reach ℕ)) (hops : List Hop) (i : ℕ) (marks : ℕ → Known) (front : List (Reach ℕ)) → hops ≡ out a node → length hops ≡ i → IsRelaxing a dist old ways hops i marks front → Relaxes a node dist old ways marks front
-relaxing_all a dist node old ways hops i marks front from all is = record {
+pub relaxing_all : (a : Adjacency) (dist node : ℕ) (old : ℕ → Known) (ways : List (Reach ℕ)) (hops : List Hop) (i : ℕ) (node_states : ℕ → Known) (front : List (Reach ℕ)) → hops ≡ out a node → length hops ≡ i → IsRelaxing a dist old ways hops i node_states front → Relaxes a node dist old ways node_states front
+relaxing_all a dist node old ways hops i node_states front from all is = record {
   waits = is.waits;
   lowers = is.lowers;
-  passed = subst (All (IsHopPassed marks dist)) (take_all i hops (omega (arith, all)) ∙ from) is.passed;
+  passed = subst (All (IsHopPassed node_states dist)) (take_all i hops (omega (arith, all)) ∙ from) is.passed;
   few = omega (arith, is.few, all, ap length from, out_few a node);
 }
 
 -- the distance after one more hop from a settled node stays below the limit
-pub hop_within : (a : Adjacency) (node dist limit : ℕ) (marks : ℕ → Known) (front : List (Reach ℕ)) (hop : Hop) → IsReady a node dist marks front → a.nodes * a.greatest < limit → IsHop a.nodes a.greatest hop → dist + hop.weight < limit
-hop_within a node dist limit marks front hop ready room lawful =
-    let most : a.greatest * settled_count marks a.nodes ≤ a.greatest * a.nodes = mul-le-mul_left a.greatest (settled_count-le marks a.nodes) in
-    omega (arith, room, ready.bound, lawful.weight, most)
+pub hop_within : (a : Adjacency) (node dist limit : ℕ) (node_states : ℕ → Known) (front : List (Reach ℕ)) (hop : Hop) → IsReady a node dist node_states front → a.nodes * a.greatest < limit → IsHop a.nodes a.greatest hop → dist + hop.weight < limit
+hop_within a node dist limit node_states front hop ready bounded lawful =
+    let most : a.greatest * settled_count node_states a.nodes ≤ a.greatest * a.nodes = mul-le-mul_left a.greatest (settled_count-le node_states a.nodes) in
+    omega (arith, bounded, ready.bound, lawful.weight, most)
 
 -- ---- one more label
 -- the labels with one more, as `Block::add` promises
@@ -339,35 +339,35 @@ nearest_first_more ls l is low k d h = elim (cases_lt (k + 1) (length ls)) [
 ]
 
 -- ---- the walk that was removed from the queue
-module _ (a : Adjacency) (b : BlockValue) (marks : ℕ → Known) (e : Reach ℕ) (front : List (Reach ℕ)) (p : IsPopped a b marks e front) where
-  abbrev is : IsPathSearch a b marks p.before
+module _ (a : Adjacency) (b : BlockValue) (node_states : ℕ → Known) (e : Reach ℕ) (front : List (Reach ℕ)) (p : IsPopped a b node_states e front) where
+  abbrev is : IsPathSearch a b node_states p.before
   is = p.search
 
   abbrev moved : IsPermutation (e ∷ front) p.before
   moved = IsPermutation-sym p.before (e ∷ front) p.moved
 
-  pub popped_waits : IsWayWaiting a is.floor marks e
+  pub popped_waits : IsWayWaiting a is.floor node_states e
   popped_waits = is.waits.waiting e (has_new e front p.before moved)
 
   pub popped_lawful : IsHop a.nodes a.greatest (hop_to e.node popped_waits.way.weight)
   popped_lawful = All-contains (IsHop a.nodes a.greatest) (out a e.pred) (hop_to e.node popped_waits.way.weight) (out_hops a e.pred is.waits.adjacent) popped_waits.way.hop
 
-  popped_known : (v : ℕ) → (marks v).found ≡ true → (marks v).final ≡ false → v ≢ e.node → IsPending front v (marks v).dist
+  popped_known : (v : ℕ) → (node_states v).found ≡ true → (node_states v).final ≡ false → v ≢ e.node → IsPending front v (node_states v).dist
   popped_known v f n other =
       let q = is.waits.pending v f n in
-      elim (has_cases e front p.before moved (record { dist = (marks v).dist; node = v; pred = q.0 }) q.1) [
+      elim (has_cases e front p.before moved (record { dist = (node_states v).dist; node = v; pred = q.0 }) q.1) [
         | inl same ↦ absurd (other (sym (ap (λ (o : Reach ℕ). o.node) same)))
         | inr old ↦ (q.0, old)
       ]
 
   -- its node was settled already
-  pub popped_again : IsSettled (marks e.node) → IsPathSearch a b marks front
+  pub popped_again : IsSettled (node_states e.node) → IsPathSearch a b node_states front
   popped_again s = record {
     floor = is.floor;
     waits = record {
       adjacent = is.waits.adjacent;
       waiting = λ o h. is.waits.waiting o (has_old e front p.before moved o h);
-      pending = λ v f n. popped_known v f n (λ same. let t = s.1 in let u = subst (λ w. (marks w).final ≡ false) same n in cc);
+      pending = λ v f n. popped_known v f n (λ same. let t = s.1 in let u = subst (λ w. (node_states w).final ≡ false) same n in cc);
       below = is.waits.below;
     };
     labelled = is.labelled;
@@ -380,46 +380,46 @@ module _ (a : Adjacency) (b : BlockValue) (marks : ℕ → Known) (e : Reach ℕ
     passed = is.passed;
   }
 
-  popped_few : settled_count marks a.nodes ≤ a.nodes
-  popped_few = settled_count-le marks a.nodes
+  popped_few : settled_count node_states a.nodes ≤ a.nodes
+  popped_few = settled_count-le node_states a.nodes
 
   pub popped_small : e.dist < 2 ^ 90
   popped_small =
       let few : a.nodes ≤ most_nodes = is.waits.adjacent.few in
-      let less : a.greatest * settled_count marks a.nodes ≤ a.greatest * most_nodes = mul-le-mul_left a.greatest (omega (arith, popped_few, few)) in
+      let less : a.greatest * settled_count node_states a.nodes ≤ a.greatest * most_nodes = mul-le-mul_left a.greatest (omega (arith, popped_few, few)) in
       omega (arith, popped_waits.bound, less, is.waits.adjacent.small)
 
-  module _ (not_before : ¬ IsSettled (marks e.node)) where
-    fresh : (marks e.node).final ≡ false
-    fresh = elim (true_or_false (marks e.node).final) [ inl on ↦ absurd (not_before (popped_waits.within.0, on)) | inr off ↦ off ]
+  module _ (not_before : ¬ IsSettled (node_states e.node)) where
+    fresh : (node_states e.node).final ≡ false
+    fresh = elim (true_or_false (node_states e.node).final) [ inl on ↦ absurd (not_before (popped_waits.within.0, on)) | inr off ↦ off ]
 
     pub has_none : label b e.node ≡ None
-    has_none = is.labelled e.node ∙ label_of_other (marks e.node) not_before
+    has_none = is.labelled e.node ∙ label_of_other (node_states e.node) not_before
 
     -- no shorter walk to its node was found
-    nearest_known : e.dist ≤ (marks e.node).dist
+    nearest_known : e.dist ≤ (node_states e.node).dist
     nearest_known =
         let q = is.waits.pending e.node popped_waits.within.0 fresh in
-        let o : Reach ℕ = record { dist = (marks e.node).dist; node = e.node; pred = q.0 } in
+        let o : Reach ℕ = record { dist = (node_states e.node).dist; node = e.node; pred = q.0 } in
         elim (has_cases e front p.before moved o q.1) [
           | inl same ↦ let s = ap (λ (o : Reach ℕ). o.dist) same in omega (arith, s)
           | inr old ↦ All-contains (λ (o : Reach ℕ). e.dist ≤ o.dist) front o p.nearest old
         ]
 
-    module _ (marked : ℕ → Known) (sets : Sets marks e.node (settled e.dist) marked) where
-      marked_kept : (v : ℕ) → IsSettled (marks v) → marked v ≡ marks v
-      marked_kept v s = sets.there v (λ same. not_before (subst (λ w. IsSettled (marks w)) same s))
+    module _ (marked : ℕ → Known) (sets : Sets node_states e.node (settled e.dist) marked) where
+      marked_kept : (v : ℕ) → IsSettled (node_states v) → marked v ≡ node_states v
+      marked_kept v s = sets.there v (λ same. not_before (subst (λ w. IsSettled (node_states w)) same s))
 
       marked_settled : IsSettled (marked e.node)
       marked_settled = subst IsSettled (sym sets.here) (refl, refl)
 
-      marked_count : settled_count marked a.nodes ≡ settled_count marks a.nodes + 1
-      marked_count = settled_count-more marks marked e.node a.nodes popped_lawful.node sets.there (off_from (marks e.node) not_before) (on_from (marked e.node) marked_settled)
+      marked_count : settled_count marked a.nodes ≡ settled_count node_states a.nodes + 1
+      marked_count = settled_count-more node_states marked e.node a.nodes popped_lawful.node sets.there (off_from (node_states e.node) not_before) (on_from (marked e.node) marked_settled)
 
-      marked_within : (v d : ℕ) → IsReachedWithin (marks v) d → IsReachedWithin (marked v) d
+      marked_within : (v d : ℕ) → IsReachedWithin (node_states v) d → IsReachedWithin (marked v) d
       marked_within v d w = elim (cases_eq v e.node) [
         | inl same ↦
-            let w' : IsReachedWithin (marks e.node) d = subst (λ u. IsReachedWithin (marks u) d) same w in
+            let w' : IsReachedWithin (node_states e.node) d = subst (λ u. IsReachedWithin (node_states u) d) same w in
             subst (λ u. IsReachedWithin (marked u) d) (sym same) (subst (λ k. IsReachedWithin k d) (sym sets.here) (refl, omega (arith, w'.1, nearest_known)))
         | inr apart ↦ subst (λ k. IsReachedWithin k d) (sym (sets.there v apart)) w
       ]
@@ -428,7 +428,7 @@ module _ (a : Adjacency) (b : BlockValue) (marks : ℕ → Known) (e : Reach ℕ
       marked_waiting o h =
           let w = is.waits.waiting o (has_old e front p.before moved o h) in
           record {
-            way = way_stays a marks marked marked_kept o w.way;
+            way = way_stays a node_states marked marked_kept o w.way;
             beyond = All-contains (λ (o : Reach ℕ). e.dist ≤ o.dist) front o p.nearest h;
             within = marked_within o.node o.dist w.within;
             bound = subst (λ n. o.dist ≤ a.greatest * n) (sym marked_count) (omega (arith, w.bound));
@@ -462,23 +462,23 @@ module _ (a : Adjacency) (b : BlockValue) (marks : ℕ → Known) (e : Reach ℕ
         waits = marked_front;
       }
 
-      module _ (marks' : ℕ → Known) (front' : List (Reach ℕ)) (r : Relaxes a e.node e.dist marked front marks' front') where
-        count_after : settled_count marks' a.nodes ≡ settled_count marks a.nodes + 1
-        count_after = lowers_count marked marks' a.nodes r.lowers ∙ marked_count
+      module _ (node_states' : ℕ → Known) (front' : List (Reach ℕ)) (r : Relaxes a e.node e.dist marked front node_states' front') where
+        count_after : settled_count node_states' a.nodes ≡ settled_count node_states a.nodes + 1
+        count_after = lowers_count marked node_states' a.nodes r.lowers ∙ marked_count
 
-        pub visited_less : work a marks' front' ≤ work a marks front
+        pub visited_less : work a node_states' front' ≤ work a node_states front
         visited_less =
-            let c = settled_count marks a.nodes in
+            let c = settled_count node_states a.nodes in
             let k = a.nodes - (c + 1) in
-            let below : c + 1 ≤ a.nodes = omega (arith, settled_count-le marks' a.nodes, count_after) in
+            let below : c + 1 ≤ a.nodes = omega (arith, settled_count-le node_states' a.nodes, count_after) in
             let left : a.nodes - c ≡ k + 1 = omega (arith, below) in
             rw (count_after, left, times_more k (length a.hops.items + 1)) (omega (arith, r.few))
 
       abbrev pub added : Label
       added = record { dist = pos e.dist; id = e.node; pred = e.pred }
 
-      pub added_pred : label b e.pred ≡ Some (pos (marks e.pred).dist)
-      added_pred = is.labelled e.pred ∙ label_of_settled (marks e.pred) popped_waits.way.pred
+      pub added_pred : label b e.pred ≡ Some (pos (node_states e.pred).dist)
+      added_pred = is.labelled e.pred ∙ label_of_settled (node_states e.pred) popped_waits.way.pred
 
       pub added_label : IsLabel a.nodes added
       added_label =
@@ -491,47 +491,47 @@ module _ (a : Adjacency) (b : BlockValue) (marks : ℕ → Known) (e : Reach ℕ
       module _ (adds : AddsLabel b added) where
         added_made : IsMade a (with_label b added) added
         added_made = record {
-          base = (marks e.pred).dist;
+          base = (node_states e.pred).dist;
           weight = popped_waits.way.weight;
-          pred = label_stays b added has_none adds e.pred (pos (marks e.pred).dist) added_pred;
+          pred = label_stays b added has_none adds e.pred (pos (node_states e.pred).dist) added_pred;
           hop = popped_waits.way.hop;
           adds = ap pos popped_waits.way.adds;
         }
 
-        module _ (lawful : IsBlock a.nodes (with_label b added)) (marks' : ℕ → Known) (front' : List (Reach ℕ)) (r : Relaxes a e.node e.dist marked front marks' front') where
-          abbrev lowers : Lowers marked marks'
+        module _ (lawful : IsBlock a.nodes (with_label b added)) (node_states' : ℕ → Known) (front' : List (Reach ℕ)) (r : Relaxes a e.node e.dist marked front node_states' front') where
+          abbrev lowers : Lowers marked node_states'
           lowers = r.lowers
 
-          labelled_after : (u : ℕ) → label (with_label b added) u ≡ settled_label (marks' u)
+          labelled_after : (u : ℕ) → label (with_label b added) u ≡ settled_label (node_states' u)
           labelled_after u = elim (cases_eq e.node u) [
-            | inl same ↦ subst (λ w. label (with_label b added) w ≡ settled_label (marks' w)) same
-                (label_new b added has_none adds ∙ sym (lowers_label marked marks' lowers e.node ∙ (ap settled_label sets.here ∙ label_of_settled (settled e.dist) (refl, refl))))
-            | inr apart ↦ label_other b added has_none adds u apart ∙ (is.labelled u ∙ sym (lowers_label marked marks' lowers u ∙ ap settled_label (sets.there u (λ same. apart (sym same)))))
+            | inl same ↦ subst (λ w. label (with_label b added) w ≡ settled_label (node_states' w)) same
+                (label_new b added has_none adds ∙ sym (lowers_label marked node_states' lowers e.node ∙ (ap settled_label sets.here ∙ label_of_settled (settled e.dist) (refl, refl))))
+            | inr apart ↦ label_other b added has_none adds u apart ∙ (is.labelled u ∙ sym (lowers_label marked node_states' lowers u ∙ ap settled_label (sets.there u (λ same. apart (sym same)))))
           ]
 
-          passed_after : (u : ℕ) → IsSettled (marks' u) → All (IsHopPassed marks' (marks' u).dist) (out a u)
+          passed_after : (u : ℕ) → IsSettled (node_states' u) → All (IsHopPassed node_states' (node_states' u).dist) (out a u)
           passed_after u s =
-              let same_mark = lowers.none u s in
+              let same_node_state = lowers.none u s in
               elim (cases_eq u e.node) [
                 | inl same ↦
-                    let at : marks' e.node ≡ settled e.dist = subst (λ w. marks' w ≡ marked w) same same_mark ∙ sets.here in
-                    subst (λ w. All (IsHopPassed marks' (marks' w).dist) (out a w)) (sym same) (subst (λ (k : Known). All (IsHopPassed marks' k.dist) (out a e.node)) (sym at) r.passed)
+                    let at : node_states' e.node ≡ settled e.dist = subst (λ w. node_states' w ≡ marked w) same same_node_state ∙ sets.here in
+                    subst (λ w. All (IsHopPassed node_states' (node_states' w).dist) (out a w)) (sym same) (subst (λ (k : Known). All (IsHopPassed node_states' k.dist) (out a e.node)) (sym at) r.passed)
                 | inr apart ↦
-                    let at : marks' u ≡ marks u = same_mark ∙ sets.there u apart in
-                    let d = (marks u).dist in
-                    subst (λ (k : Known). All (IsHopPassed marks' k.dist) (out a u)) (sym at)
-                    (All-weaker (IsHopPassed marks d) (IsHopPassed marks' d) (λ h q. lowers.within h.head (d + h.weight) (marked_within h.head (d + h.weight) q)) (out a u) (is.passed u (subst IsSettled at s)))
+                    let at : node_states' u ≡ node_states u = same_node_state ∙ sets.there u apart in
+                    let d = (node_states u).dist in
+                    subst (λ (k : Known). All (IsHopPassed node_states' k.dist) (out a u)) (sym at)
+                    (All-weaker (IsHopPassed node_states d) (IsHopPassed node_states' d) (λ h q. lowers.within h.head (d + h.weight) (marked_within h.head (d + h.weight) q)) (out a u) (is.passed u (subst IsSettled at s)))
               ]
 
           nearer_before : All (λ (l : Label). l.dist ≤ℤ pos e.dist) b.labels
           nearer_before = All-weaker (λ (l : Label). l.dist ≤ℤ pos is.floor) (λ (l : Label). l.dist ≤ℤ pos e.dist) (λ l h. omega (arith, ints, h, popped_waits.beyond)) b.labels is.low
 
-          pub visited : IsPathSearch a (with_label b added) marks' front'
+          pub visited : IsPathSearch a (with_label b added) node_states' front'
           visited = record {
             floor = e.dist;
             waits = r.waits;
             labelled = labelled_after;
-            counted = omega (arith, count_after marks' front' r, is.counted, length-append b.labels (added ∷ []));
+            counted = omega (arith, count_after node_states' front' r, is.counted, length-append b.labels (added ∷ []));
             unbounded = is.unbounded;
             lawful = lawful;
             made = All-push (IsMade a (with_label b added)) b.labels added (All-weaker (IsMade a b) (IsMade a (with_label b added)) (made_stays b added has_none adds a) b.labels is.made) added_made;
@@ -541,8 +541,8 @@ module _ (a : Adjacency) (b : BlockValue) (marks : ℕ → Known) (e : Reach ℕ
           }
 
 -- ---- the start of a search
-module _ (a : Adjacency) (source : ℕ) (marks started : ℕ → Known) (is : AreByNode a) (node : IsNode a.nodes source) (unknown : AreUnknown marks) (sets : Sets marks source (settled 0) started) where
-  unsettled_before : (v : ℕ) → ¬ IsSettled (marks v)
+module _ (a : Adjacency) (source : ℕ) (node_states started : ℕ → Known) (is : AreByNode a) (node : IsNode a.nodes source) (unknown : AreUnknown node_states) (sets : Sets node_states source (settled 0) started) where
+  unsettled_before : (v : ℕ) → ¬ IsSettled (node_states v)
   unsettled_before v s = let f = s.0 in let g = unknown v in cc
 
   only_source : (v : ℕ) → IsSettled (started v) → v ≡ source
@@ -556,8 +556,8 @@ module _ (a : Adjacency) (source : ℕ) (marks started : ℕ → Known) (is : Ar
 
   start_count : settled_count started a.nodes ≡ 1
   start_count =
-      let zero_before = settled_count-none marks a.nodes unsettled_before in
-      let more = settled_count-more marks started source a.nodes node sets.there (off_from (marks source) (unsettled_before source)) (on_from (started source) start_settled) in
+      let zero_before = settled_count-none node_states a.nodes unsettled_before in
+      let more = settled_count-more node_states started source a.nodes node sets.there (off_from (node_states source) (unsettled_before source)) (on_from (started source) start_settled) in
       omega (arith, zero_before, more)
 
   start_front : IsFront a 0 started []
@@ -583,56 +583,56 @@ module _ (a : Adjacency) (source : ℕ) (marks started : ℕ → Known) (is : Ar
   abbrev bare : BlockValue
   bare = record { source = source; radius = None; labels = [] }
 
-  module _ (lawful : IsBlock a.nodes bare) (marks' : ℕ → Known) (front' : List (Reach ℕ)) (r : Relaxes a source 0 started [] marks' front') where
-    abbrev fallen : Lowers started marks'
+  module _ (lawful : IsBlock a.nodes bare) (node_states' : ℕ → Known) (front' : List (Reach ℕ)) (r : Relaxes a source 0 started [] node_states' front') where
+    abbrev fallen : Lowers started node_states'
     fallen = r.lowers
 
-    start_labelled : (u : ℕ) → label bare u ≡ settled_label (marks' u)
+    start_labelled : (u : ℕ) → label bare u ≡ settled_label (node_states' u)
     start_labelled u = elim (eqb_tells source u) [
-      | inl same ↦ ap (λ t. if t then Some (pos 0) else None) same.0 ∙ sym (lowers_label started marks' fallen u ∙ (ap settled_label (subst (λ w. started w ≡ settled 0) same.1 sets.here) ∙ label_of_settled (settled 0) (refl, refl)))
-      | inr other ↦ ap (λ t. if t then Some (pos 0) else None) other.0 ∙ sym (lowers_label started marks' fallen u ∙ label_of_other (started u) (λ s. other.1 (sym (only_source u s))))
+      | inl same ↦ ap (λ t. if t then Some (pos 0) else None) same.0 ∙ sym (lowers_label started node_states' fallen u ∙ (ap settled_label (subst (λ w. started w ≡ settled 0) same.1 sets.here) ∙ label_of_settled (settled 0) (refl, refl)))
+      | inr other ↦ ap (λ t. if t then Some (pos 0) else None) other.0 ∙ sym (lowers_label started node_states' fallen u ∙ label_of_other (started u) (λ s. other.1 (sym (only_source u s))))
     ]
 
-    pub start_search : IsPathSearch a bare marks' front'
+    pub start_search : IsPathSearch a bare node_states' front'
     start_search = record {
       floor = 0;
       waits = r.waits;
       labelled = start_labelled;
-      counted = omega (arith, lowers_count started marks' a.nodes fallen, start_count);
+      counted = omega (arith, lowers_count started node_states' a.nodes fallen, start_count);
       unbounded = refl;
       lawful = lawful;
       made = All-nil (IsMade a bare);
       low = All-nil (λ (l : Label). l.dist ≤ℤ pos 0);
       nearest_first = nearest_first_none;
       passed = λ u s.
-          let at : marks' u ≡ started u = fallen.none u s in
+          let at : node_states' u ≡ started u = fallen.none u s in
           let same = only_source u (subst IsSettled at s) in
-          let mark : marks' source ≡ settled 0 = subst (λ w. marks' w ≡ started w) same at ∙ sets.here in
-          subst (λ w. All (IsHopPassed marks' (marks' w).dist) (out a w)) (sym same) (subst (λ (k : Known). All (IsHopPassed marks' k.dist) (out a source)) (sym mark) r.passed);
+          let node_state : node_states' source ≡ settled 0 = subst (λ w. node_states' w ≡ started w) same at ∙ sets.here in
+          subst (λ w. All (IsHopPassed node_states' (node_states' w).dist) (out a w)) (sym same) (subst (λ (k : Known). All (IsHopPassed node_states' k.dist) (out a source)) (sym node_state) r.passed);
     }
 
 -- ---- the end of a search
-module _ (a : Adjacency) (b : BlockValue) (marks : ℕ → Known) (is : IsPathSearch a b marks []) where
+module _ (a : Adjacency) (b : BlockValue) (node_states : ℕ → Known) (is : IsPathSearch a b node_states []) where
   over_positive : (v : ℕ) (z : ℤ) → label b v ≡ Some z → (d : ℕ) × (z ≡ pos d)
-  over_positive v z h = elim (settled_tells (marks v)) [
-    | inl on ↦ let e = sym h ∙ (is.labelled v ∙ label_of_settled (marks v) on.1) in ((marks v).dist, cc)
-    | inr off ↦ absurd (let e = sym h ∙ (is.labelled v ∙ label_of_other (marks v) off.1) in cc)
+  over_positive v z h = elim (settled_tells (node_states v)) [
+    | inl on ↦ let e = sym h ∙ (is.labelled v ∙ label_of_settled (node_states v) on.1) in ((node_states v).dist, cc)
+    | inr off ↦ absurd (let e = sym h ∙ (is.labelled v ∙ label_of_other (node_states v) off.1) in cc)
   ]
 
-  over_settled : (v : ℕ) → (marks v).found ≡ true → IsSettled (marks v)
-  over_settled v f = elim (true_or_false (marks v).final) [
+  over_settled : (v : ℕ) → (node_states v).found ≡ true → IsSettled (node_states v)
+  over_settled v f = elim (true_or_false (node_states v).final) [
     | inl on ↦ (f, on)
     | inr off ↦ let q = is.waits.pending v f off in absurd (omega (arith, q.1.1))
   ]
 
   over_closed : IsClosed a b
-  over_closed u d h = elim (settled_tells (marks u)) [
+  over_closed u d h = elim (settled_tells (node_states u)) [
     | inl on ↦
-        let e : Some (pos d) ≡ Some (pos (marks u).dist) = sym h ∙ (is.labelled u ∙ label_of_settled (marks u) on.1) in
-        let same : d ≡ (marks u).dist = cc in
-        All-weaker (IsHopPassed marks (marks u).dist) (λ hop. (e : ℕ) × (label b hop.head ≡ Some (pos e)) × (e ≤ d + hop.weight))
-        (λ hop w. ((marks hop.head).dist, is.labelled hop.head ∙ label_of_settled (marks hop.head) (over_settled hop.head w.0), omega (arith, w.1, same))) (out a u) (is.passed u on.1)
-    | inr off ↦ absurd (let e = sym h ∙ (is.labelled u ∙ label_of_other (marks u) off.1) in cc)
+        let e : Some (pos d) ≡ Some (pos (node_states u).dist) = sym h ∙ (is.labelled u ∙ label_of_settled (node_states u) on.1) in
+        let same : d ≡ (node_states u).dist = cc in
+        All-weaker (IsHopPassed node_states (node_states u).dist) (λ hop. (e : ℕ) × (label b hop.head ≡ Some (pos e)) × (e ≤ d + hop.weight))
+        (λ hop w. ((node_states hop.head).dist, is.labelled hop.head ∙ label_of_settled (node_states hop.head) (over_settled hop.head w.0), omega (arith, w.1, same))) (out a u) (is.passed u on.1)
+    | inr off ↦ absurd (let e = sym h ∙ (is.labelled u ∙ label_of_other (node_states u) off.1) in cc)
   ]
 
   pub over_tree : (source : ℕ) → b.source ≡ source → IsPathTree a source b

@@ -38,14 +38,14 @@ pub fn solve_min<N: Network>(
     ensures { SolvesMin instance.now limit result }
 {
     match solve_min_flow(alloc, instance, limit)? {
-        Descent::Bottom(flow, potentials) => told(alloc, instance, &flow, potentials),
+        Descent::Bottom(flow, potentials) => outcome(alloc, instance, &flow, potentials),
         Descent::Nowhere(set) => Ok(MinAnswer::Infeasible(set)),
         Descent::GaveUp => Ok(MinAnswer::GaveUp),
     }
 }
 
 /// The answer for a flow of least cost; `GaveUp` if its cost is out of range.
-fn told<N: Network>(
+fn outcome<N: Network>(
     alloc: Global,
     instance: &MinInstance<N>,
     flow: &Flow,

@@ -13,7 +13,7 @@ use crate::adjacency::{Adjacency, by_tail};
 use crate::distance::Distance;
 use crate::error::SolveError;
 use crate::frontier::Frontier;
-use crate::marks::Marks;
+use crate::node_states::NodeStates;
 use crate::search::search;
 use dimacs_claims::Labels;
 use dimacs_instance::{Graph, Queries};
@@ -74,13 +74,13 @@ fn solve_all<D: Distance>(
     queries: &Queries,
 ) -> Result<Labels, Memory>
     requires adjacent { AreByNode adjacency.now }
-    requires room { adjacency.now.nodes * adjacency.now.greatest < D.limit }
+    requires bounded { adjacency.now.nodes * adjacency.now.greatest < D.limit }
     requires few { length (sources_asked (asked queries.now)) ≤ most_count }
     requires sources { All (IsNode adjacency.now.nodes) (sources_asked (asked queries.now)) }
     requires same { length (query_lines (asked queries.now)) ≡ length (sources_asked (asked queries.now)) }
     ensures { IfOk result (AreSolved adjacency.now (sources_asked (asked queries.now))) }
 {
-    let mut marks: Marks<D> = Marks::new(alloc);
+    let mut node_states: NodeStates<D> = NodeStates::new(alloc);
     let mut frontier = Frontier::new(alloc);
     let mut done = NodeSet::new(alloc);
     let mut labels = Labels::new(alloc, adjacency.nodes());
@@ -91,7 +91,7 @@ fn solve_all<D: Distance>(
                 alloc,
                 adjacency,
                 source,
-                &mut marks,
+                &mut node_states,
                 &mut frontier,
                 &mut labels,
             )?;
@@ -106,23 +106,23 @@ fn solve_one<D: Distance>(
     alloc: Global,
     adjacency: &Adjacency,
     source: u32,
-    marks: &mut Marks<D>,
+    node_states: &mut NodeStates<D>,
     frontier: &mut Frontier<D>,
     labels: &mut Labels,
 ) -> Result<(), Memory>
     requires adjacent { AreByNode adjacency.now }
-    requires room { adjacency.now.nodes * adjacency.now.greatest < D.limit }
+    requires bounded { adjacency.now.nodes * adjacency.now.greatest < D.limit }
     requires nodes { labels.old.nodes ≡ adjacency.now.nodes }
     requires source { IsNode adjacency.now.nodes source }
     requires new { (b : BlockValue) → b.source ≡ source → IsNewSource labels.old.blocks b }
     requires few { length labels.old.blocks < most_count }
-    requires rounds { marks.old.round ≡ length labels.old.blocks }
+    requires rounds { node_states.old.round ≡ length labels.old.blocks }
     requires empty { frontier.old ≡ [] }
     ensures block { OnOk result (AddsBlock adjacency.now source labels.old labels.new) }
-    ensures rounds { OnOk result (marks.new.round ≡ length labels.new.blocks) }
+    ensures rounds { OnOk result (node_states.new.round ≡ length labels.new.blocks) }
     ensures empty { OnOk result (frontier.new ≡ []) }
 {
-    let block = search(alloc, adjacency, source, marks, frontier)?;
+    let block = search(alloc, adjacency, source, node_states, frontier)?;
     labels.push(block)?;
     Ok(())
 }

@@ -4,13 +4,13 @@ ghost use Rattle.std.specs.Prelude.{◌≡◌, ◌<◌, ◌≤◌, ◌+◌, ◌*
 ghost use Rattle.dimacs_lines.specs.Limits.{IsNode};
 ghost use Rattle.dimacs_solve.specs.Adjacency.{AreByNode};
 ghost use Rattle.dimacs_solve.specs.Frontiers.{way_of};
-ghost use Rattle.dimacs_solve.specs.inside.Marks.{known};
+ghost use Rattle.dimacs_solve.specs.inside.NodeStates.{known};
 ghost use Rattle.dimacs_solve.specs.inside.Search.{IsPopped, IsReady, IsPathSearch, IsPathTree, Offers, Relaxes, work};
 
 use crate::adjacency::Adjacency;
 use crate::distance::Distance;
 use crate::frontier::{Frontier, Reach};
-use crate::marks::Marks;
+use crate::node_states::NodeStates;
 use dimacs_claims::{Block, Label};
 use dimacs_lines::Memory;
 use std::alloc::Global;
@@ -21,24 +21,24 @@ pub(crate) fn search<D: Distance>(
     alloc: Global,
     adjacency: &Adjacency,
     source: u32,
-    marks: &mut Marks<D>,
+    node_states: &mut NodeStates<D>,
     frontier: &mut Frontier<D>,
 ) -> Result<Block, Memory>
     requires adjacent { AreByNode adjacency.now }
-    requires room { adjacency.now.nodes * adjacency.now.greatest < D.limit }
+    requires bounded { adjacency.now.nodes * adjacency.now.greatest < D.limit }
     requires source { IsNode adjacency.now.nodes source }
-    requires rounds { marks.old.round + 1 < 4294967296 }
+    requires rounds { node_states.old.round + 1 < 4294967296 }
     requires empty { frontier.old ≡ [] }
     ensures tree { IfOk result (IsPathTree adjacency.now source) }
-    ensures round { OnOk result (marks.new.round ≡ marks.old.round + 1) }
+    ensures round { OnOk result (node_states.new.round ≡ node_states.old.round + 1) }
     ensures empty { OnOk result (frontier.new ≡ []) }
 {
-    marks.next_round();
+    node_states.next_round();
     let mut block = Block::new(alloc, source);
-    marks.settle(source, D::zero())?;
-    relax(adjacency, source, D::zero(), marks, frontier)?;
+    node_states.settle(source, D::zero())?;
+    relax(adjacency, source, D::zero(), node_states, frontier)?;
     while let Some(reach) = frontier.pop() {
-        visit(adjacency, reach, marks, frontier, &mut block)?;
+        visit(adjacency, reach, node_states, frontier, &mut block)?;
     }
     Ok(block)
 }
@@ -47,18 +47,18 @@ pub(crate) fn search<D: Distance>(
 fn visit<D: Distance>(
     adjacency: &Adjacency,
     reach: Reach<D>,
-    marks: &mut Marks<D>,
+    node_states: &mut NodeStates<D>,
     frontier: &mut Frontier<D>,
     block: &mut Block,
 ) -> Result<(), Memory>
-    requires room { adjacency.now.nodes * adjacency.now.greatest < D.limit }
-    requires popped { IsPopped adjacency.now block.old (known D.value marks.old) (way_of D.value reach) frontier.old }
-    ensures search { OnOk result (IsPathSearch adjacency.now block.new (known D.value marks.new) frontier.new) }
-    ensures less { OnOk result (work adjacency.now (known D.value marks.new) frontier.new ≤ work adjacency.now (known D.value marks.old) frontier.old) }
+    requires bounded { adjacency.now.nodes * adjacency.now.greatest < D.limit }
+    requires popped { IsPopped adjacency.now block.old (known D.value node_states.old) (way_of D.value reach) frontier.old }
+    ensures search { OnOk result (IsPathSearch adjacency.now block.new (known D.value node_states.new) frontier.new) }
+    ensures less { OnOk result (work adjacency.now (known D.value node_states.new) frontier.new ≤ work adjacency.now (known D.value node_states.old) frontier.old) }
     ensures source { OnOk result (block.new.source ≡ block.old.source) }
-    ensures round { OnOk result (marks.new.round ≡ marks.old.round) }
+    ensures round { OnOk result (node_states.new.round ≡ node_states.old.round) }
 {
-    if marks.is_settled(reach.node) {
+    if node_states.is_settled(reach.node) {
         return Ok(());
     }
     block.add(Label {
@@ -66,8 +66,8 @@ fn visit<D: Distance>(
         id: reach.node,
         pred: reach.pred,
     })?;
-    marks.settle(reach.node, reach.dist)?;
-    relax(adjacency, reach.node, reach.dist, marks, frontier)?;
+    node_states.settle(reach.node, reach.dist)?;
+    relax(adjacency, reach.node, reach.dist, node_states, frontier)?;
     Ok(())
 }
 
@@ -76,13 +76,13 @@ fn relax<D: Distance>(
     adjacency: &Adjacency,
     node: u32,
     dist: D,
-    marks: &mut Marks<D>,
+    node_states: &mut NodeStates<D>,
     frontier: &mut Frontier<D>,
 ) -> Result<(), Memory>
-    requires room { adjacency.now.nodes * adjacency.now.greatest < D.limit }
-    requires ready { IsReady adjacency.now node (D.value dist) (known D.value marks.old) frontier.old }
-    ensures relaxes { OnOk result (Relaxes adjacency.now node (D.value dist) (known D.value marks.old) frontier.old (known D.value marks.new) frontier.new) }
-    ensures round { OnOk result (marks.new.round ≡ marks.old.round) }
+    requires bounded { adjacency.now.nodes * adjacency.now.greatest < D.limit }
+    requires ready { IsReady adjacency.now node (D.value dist) (known D.value node_states.old) frontier.old }
+    ensures relaxes { OnOk result (Relaxes adjacency.now node (D.value dist) (known D.value node_states.old) frontier.old (known D.value node_states.new) frontier.new) }
+    ensures round { OnOk result (node_states.new.round ≡ node_states.old.round) }
 {
     let hops = adjacency.leaving(node);
     for hop in hops {
@@ -91,7 +91,7 @@ fn relax<D: Distance>(
             node: hop.head,
             pred: node,
         };
-        offer(reach, marks, frontier)?;
+        offer(reach, node_states, frontier)?;
     }
     Ok(())
 }
@@ -100,15 +100,15 @@ fn relax<D: Distance>(
 #[inline(always)]
 fn offer<D: Distance>(
     reach: Reach<D>,
-    marks: &mut Marks<D>,
+    node_states: &mut NodeStates<D>,
     frontier: &mut Frontier<D>,
 ) -> Result<(), Memory>
-    ensures offers { OnOk result (Offers (way_of D.value reach) (known D.value marks.old) frontier.old (known D.value marks.new) frontier.new) }
-    ensures round { OnOk result (marks.new.round ≡ marks.old.round) }
+    ensures offers { OnOk result (Offers (way_of D.value reach) (known D.value node_states.old) frontier.old (known D.value node_states.new) frontier.new) }
+    ensures round { OnOk result (node_states.new.round ≡ node_states.old.round) }
 {
-    if marks.is_within(reach.node, reach.dist) {
+    if node_states.is_within(reach.node, reach.dist) {
         return Ok(());
     }
-    marks.reach(reach.node, reach.dist)?;
+    node_states.reach(reach.node, reach.dist)?;
     frontier.push(reach)
 }

@@ -1,7 +1,7 @@
 //! Lines as they are written, alone and over one page.
 
 use crate::checks::{holds, same};
-use dimacs_lines::{DeviceFault, FlakySink, MemorySink, Page};
+use dimacs_lines::{DeviceFault, FlakySink, MemorySink, OutputBuffer};
 use dimacs_records::{Part, Record, put_line, write_line, write_record};
 use std::test::Fail;
 
@@ -28,7 +28,7 @@ fn lines_have_one_blank_between_words_and_numbers(rt: HostRuntime) -> Result<(),
 #[test]
 fn records_and_lines_come_in_order_over_one_page(rt: HostRuntime) -> Result<(), Fail> {
     let mut sink = MemorySink::new(rt.alloc());
-    let mut page = Page::new();
+    let mut page = OutputBuffer::new();
     let problem = Record::GraphProblem { nodes: 2, arcs: 1 };
     write_record(&mut page, &mut sink, &problem);
     let (tail, head, weight) = (1, 2, -5);

@@ -247,7 +247,7 @@ certify-paths cycle near full | < cycle;< near;- cycle;- near;> full;= full;p di
 solve-max pipe a b | < pipe;> a;> b;- pipe;= a;s 3;f 1 2 3;= b;p cut 2 1;u 1; | v max 3; |  | 0
 solve-max pipe a b --limit 0 | < pipe;> a;> b;- pipe;= a;= b; | g limit; |  | 5
 solve-max flow a b | < flow;> a;> b;- flow;= a;= b; | x instance 1 1 UnknownLine; |  | 1
-solve-min supply a b | < supply;> a;> b;- supply;= a;s 3;f 1 2 1;= b;p pot 2 1;y 2 -3; | v min 3; |  | 0
+solve-min supply a b | < supply;> a;> b;- supply;= a;s 3;f 1 2 1;= b;p pot 2 1;y 1 3; | v min 3; |  | 0
 solve-min unmet a b | < unmet;> a;> b;- unmet;= a;= b;p cut 2 2;u 1;u 2; | v infeasible; |  | 0
 solve-paths cycle source a | < cycle;< source;> a;- cycle;- source;= a;p dist 4 1;t 1 1;d 2 5 1; | v sp ss 1; |  | 0
 solve-paths negative source a | < negative;< source;> a;- negative;- source;= a; | x arc 1 NegativeWeight; |  | 1

@@ -11,7 +11,7 @@ use dimacs_decide::{
 use dimacs_instance::{Graph, MaxInstance, MinInstance, read_graph, read_max, read_min};
 use dimacs_judge::{Flow, JudgeError, feasible_max, feasible_min, judge_infeasible};
 use dimacs_lines::{MemorySink, MemorySource};
-use dimacs_network::{Links, Network, Side};
+use dimacs_network::{AdjacencyLists, Network, Side};
 use dimacs_nodes::NodeMap;
 use std::alloc::Global;
 use std::process::Abort;
@@ -292,7 +292,7 @@ fn links_are_lent(rt: HostRuntime) -> Result<(), Fail> {
     let alloc = rt.alloc();
     let graph = read_graph(alloc, &mut MemorySource::new(GRAPH))?;
     assert!(&rt; graph.network().nodes() >= 3);
-    let links = Links::new(alloc, graph.network(), Side::Tail)?;
+    let links = AdjacencyLists::new(alloc, graph.network(), Side::Tail)?;
     let distances = [i64::MAX, 1, 0].as_slice();
     let claim = DistancesByNode { distances };
     let answer = decide_distances_over(alloc, &graph, &links, 3, &claim);

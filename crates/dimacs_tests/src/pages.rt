@@ -1,11 +1,11 @@
 //! What is written through a page: nothing before it is full, and nothing after a fault.
 
 use crate::checks::same;
-use dimacs_lines::{DeviceFault, FlakySink, Page};
+use dimacs_lines::{DeviceFault, FlakySink, OutputBuffer};
 
 /// Writes so many lines of eight bytes, of which a page takes 2,048, and answers what was put before the end.
 fn write_lines(sink: &mut FlakySink<'_>, count: usize) -> (usize, Result<(), DeviceFault>) {
-    let mut page = Page::new();
+    let mut page = OutputBuffer::new();
     for _ in 0..count {
         page.line_of_three(sink, b'a', 1, 2, 3);
     }

@@ -33,25 +33,25 @@ abbrev pub AreLedBelow : (ℕ → Option ℤ) → (ℕ → Bool) → ℕ → Typ
 AreLedBelow claim led n = (v : ℕ) → v < n → IsSome (claim v) → led v ≡ true
 
 -- the way back from v: nodes with distances, each the predecessor of the one before; the next is `end`
-abbrev pub IsWayBack : (ℕ → Option ℤ) → (ℕ → ℕ) → ℕ → List ℕ → ℕ → Type 0
-IsWayBack claim pred v [] end = v ≡ end
-IsWayBack claim pred v (u ∷ way) end = (v ≡ u) × IsSome (claim v) × IsWayBack claim pred (pred v) way end
+abbrev pub IsPathBack : (ℕ → Option ℤ) → (ℕ → ℕ) → ℕ → List ℕ → ℕ → Type 0
+IsPathBack claim pred v [] end = v ≡ end
+IsPathBack claim pred v (u ∷ path) end = (v ≡ u) × IsSome (claim v) × IsPathBack claim pred (pred v) path end
 
 -- the node is at most the first on the way
 abbrev pub ComesFirst : ℕ → List ℕ → Type 0
 ComesFirst v [] = Unit {0}
-ComesFirst v (u ∷ way) = All (λ w. w ≢ v) way
+ComesFirst v (u ∷ path) = All (λ w. w ≢ v) path
 
 -- how many of the nodes below n have another start than v
 abbrev pub others : (ℕ → ℕ) → ℕ → ℕ → ℕ
 others roots v n = count_below (λ u. not (roots u == v)) n
 
 -- the way back from v to `end`; v is the start of its nodes, and of no others
-pub record IsClimbing (claim : ℕ → Option ℤ) (pred : ℕ → ℕ) (led : ℕ → Bool) (v : ℕ) (roots : ℕ → ℕ) (way : List ℕ) (end : ℕ) : Type 0 where
-  pub goes : IsWayBack claim pred v way end
+pub record IsClimbing (claim : ℕ → Option ℤ) (pred : ℕ → ℕ) (led : ℕ → Bool) (v : ℕ) (roots : ℕ → ℕ) (path : List ℕ) (end : ℕ) : Type 0 where
+  pub goes : IsPathBack claim pred v path end
   pub few : (u : ℕ) → roots u ≤ v
-  pub begun : ((v ≡ end) × (way ≡ [])) ⊎ (roots v ≡ v)
-  pub once : ComesFirst v way
+  pub begun : ((v ≡ end) × (path ≡ [])) ⊎ (roots v ≡ v)
+  pub once : ComesFirst v path
   pub closed : (u : ℕ) → roots u ≡ v → (roots (pred u) ≡ v) ⊎ (pred u ≡ end)
   pub unled : (u : ℕ) → roots u ≡ v → led u ≡ false
 

@@ -29,6 +29,6 @@ IsWiderBy p shift = (v : ℕ) × IsNode p.nodes v × (¬ IsWhole (potential_of p
 
 -- the answer with this cost and these potentials, in an array if they fit with a number added to each
 abbrev pub IsLeastBy : ℤ → PotentialsValue → MinCertified → Type 0
-IsLeastBy total p (Optimal told potentials) = (told ≡ total) × ((shift : ℤ) × AreShifted p shift potentials.items)
-IsLeastBy total p (Wide told q) = (told ≡ total) × (q ≡ p) × IsWider p
+IsLeastBy total p (Optimal outcome potentials) = (outcome ≡ total) × ((shift : ℤ) × AreShifted p shift potentials.items)
+IsLeastBy total p (Wide outcome q) = (outcome ≡ total) × (q ≡ p) × IsWider p
 IsLeastBy total p (Better y) = ⊥

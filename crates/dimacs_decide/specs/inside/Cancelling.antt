@@ -7,12 +7,12 @@ use Rattle.dimacs_judge.specs.Rows.{amount_at}
 use Rattle.dimacs_network.specs.Arcs.{arc_at}
 use Rattle.dimacs_decide.specs.Bounds.{KeepsBounds}
 use Rattle.dimacs_decide.specs.inside.Cycles.{ending_of, gain_after, node_after, residual_at}
-use Rattle.dimacs_decide.specs.inside.Rooms.{room_on}
+use Rattle.dimacs_decide.specs.inside.ResidualCapacities.{residual_capacity_on}
 
 -- the amount is positive, and the first n residual arcs have capacity for it
-pub record IsRoomFor (arcs : List ArcView) (x : List ℤ) (cycle : List ResidualArc) (n : ℕ) (amount : ℤ) : Type 0 where
+pub record HasCapacityFor (arcs : List ArcView) (x : List ℤ) (cycle : List ResidualArc) (n : ℕ) (amount : ℤ) : Type 0 where
   pub some : pos 0 <ℤ amount
-  pub each : (j : ℕ) → j < n → amount ≤ℤ room_on arcs x (residual_at cycle j).side (residual_at cycle j).arc
+  pub each : (j : ℕ) → j < n → amount ≤ℤ residual_capacity_on arcs x (residual_at cycle j).side (residual_at cycle j).arc
 
 -- the amount was sent along the first n residual arcs, which costs less by their gain for each unit
 pub record IsCancelling (arcs : List ArcView) (x y : List ℤ) (cycle : List ResidualArc) (n : ℕ) (amount : ℤ) : Type 0 where

@@ -1,12 +1,12 @@
 -- Inside: cycles of residual arcs.
 use Rattle.std.specs.Prelude.{ℕ, suc, zero, ◌≡◌, ◌≢◌, ◌<◌, ◌-◌, List, length, get_or, ℤ, pos, ◌+ℤ◌, ◌<ℤ◌}
 use Rattle.dimacs_network.specs.declared.network.ArcView.{ArcView}
-use Rattle.dimacs_network.specs.declared.links.Side.TheVariants.{Tail}
-use Rattle.dimacs_network.specs.Links.{end_of, other_end}
+use Rattle.dimacs_network.specs.declared.adjacency_lists.Side.TheVariants.{Tail}
+use Rattle.dimacs_network.specs.AdjacencyLists.{end_of, other_end}
 use Rattle.dimacs_methods.specs.declared.potentials.claim.ResidualArc.{ResidualArc}
 use Rattle.dimacs_network.specs.Arcs.{arc_at}
 use Rattle.dimacs_decide.specs.inside.Heights.{gain_at}
-use Rattle.dimacs_decide.specs.inside.Rooms.{room_on}
+use Rattle.dimacs_decide.specs.inside.ResidualCapacities.{residual_capacity_on}
 
 abbrev pub residual_at : List ResidualArc → ℕ → ResidualArc
 residual_at cycle j = get_or cycle j (record { arc = 0; side = Tail })
@@ -26,7 +26,7 @@ gain_of arcs r = gain_at r.side (arc_at arcs r.arc)
 pub record LeadsFrom (arcs : List ArcView) (x : List ℤ) (from : ℕ) (r : ResidualArc) : Type 0 where
   pub within : r.arc < length arcs
   pub begins : beginning_of arcs r ≡ from
-  pub room : pos 0 <ℤ room_on arcs x r.side r.arc
+  pub residual_capacity : pos 0 <ℤ residual_capacity_on arcs x r.side r.arc
 
 -- the node after this many residual arcs of a cycle
 abbrev pub node_after : List ArcView → List ResidualArc → ℕ → ℕ

@@ -1,9 +1,12 @@
 -- Inside: blocks that label few nodes.
-use Rattle.std.specs.Prelude.{ℕ, ◌≡◌, ◌<◌, Bool, false, List, length, get_or, Option, Some, None, ℤ}
+use Rattle.std.specs.Prelude.{ℕ, ◌≡◌, ◌<◌, Bool, false, List, Contains, length, get_or, IfSome, Option, Some, None, ℤ}
 use Rattle.dimacs_network.specs.declared.network.ArcView.{ArcView}
-use Rattle.dimacs_network.specs.Arcs.{arc_at}
+use Rattle.dimacs_network.specs.Arcs.{NetworkValue, arc_at}
+use Rattle.dimacs_network.specs.AdjacencyLists.{AreAdjacencyLists}
+use Rattle.dimacs_network.specs.declared.adjacency_lists.Side.TheVariants.{Tail}
 use Rattle.dimacs_records.specs.declared.reasons.Reason.{Reason}
 use Rattle.dimacs_judge.specs.CertificateTests.{RelaxFails}
+use Rattle.dimacs_judge.specs.inside.Leaving.{Covers}
 use Rattle.dimacs_nodes.specs.Tables.{value_of}
 use Rattle.dimacs_claims.specs.Labels.{BlockValue, distance_in, no_label}
 use Rattle.dimacs_decide.specs.declared.few_labels.Tables.{Tables}
@@ -24,6 +27,19 @@ ArePassedFrom arcs claim v = (k : ℕ) → k < length arcs → (arc_at arcs k).t
 abbrev pub IsUnreached : (ℕ → Bool) → Type 0
 IsUnreached reached = (v : ℕ) → reached v ≡ false
 
--- a search can begin in these tables
-abbrev pub AreFree : Tables → Type 0
-AreFree tables = IsUnreached (value_of tables.reached)
+-- each of the least arcs is one of all, and each of all has one of the least with its ends that weighs no more
+pub record AreLightest (all least : List ArcView) : Type 0 where
+  pub within : (a : ArcView) → Contains least a → Contains all a
+  pub cover : (a : ArcView) → Contains all a → (b : ArcView) × Contains least b × Covers b a
+
+-- the arcs of this network, if there is one
+abbrev pub arcs_followed : List ArcView → Option NetworkValue → List ArcView
+arcs_followed arcs None = arcs
+arcs_followed arcs (Some least) = least.arcs
+
+-- a search can begin in these tables, over the lightest arcs of the graph
+pub record AreFree (g : NetworkValue) (tables : Tables) : Type 0 where
+  pub unreached : IsUnreached (value_of tables.reached)
+  pub nodes : IfSome tables.lightest (λ least. least.nodes ≡ g.nodes)
+  pub lightest : IfSome tables.lightest (λ least. AreLightest g.arcs least.arcs)
+  pub lists : AreAdjacencyLists Tail (arcs_followed g.arcs tables.lightest) tables.lists

@@ -3,14 +3,14 @@ use Rattle.std.specs.Prelude.{ℕ, suc, zero, ◌≡◌, ◌≢◌, ◌⊎◌, �
 use Rattle.dimacs_network.specs.declared.network.ArcView.{ArcView}
 use Rattle.dimacs_instance.specs.MinFlows.{positive_part}
 use Rattle.dimacs_network.specs.Arcs.{arc_at}
-use Rattle.dimacs_network.specs.declared.links.Side.{Side}
-use Rattle.dimacs_network.specs.declared.links.Side.TheVariants.{Tail, Head}
-use Rattle.dimacs_network.specs.Links.{end_of, other_end}
+use Rattle.dimacs_network.specs.declared.adjacency_lists.Side.{Side}
+use Rattle.dimacs_network.specs.declared.adjacency_lists.Side.TheVariants.{Tail, Head}
+use Rattle.dimacs_network.specs.AdjacencyLists.{end_of, other_end}
 use Rattle.dimacs_decide.specs.declared.heights.Label.{Label}
-use Rattle.dimacs_decide.specs.inside.Rooms.{room_on}
+use Rattle.dimacs_decide.specs.inside.ResidualCapacities.{residual_capacity_on}
 
 abbrev pub unraised : Label
-unraised = record { height = pos 0; via = 0; side = Tail }
+unraised = record { height = pos 0; parent_arc = 0; side = Tail }
 
 abbrev pub height_of : (ℕ → Label) → ℕ → ℤ
 height_of labels v = (labels v).height
@@ -22,7 +22,7 @@ gain_at Head a = a.cost
 
 -- the node from which a label was raised; 0 for none
 abbrev pub below_of : List ArcView → Label → ℕ
-below_of arcs l = if l.via == 0 then 0 else end_of l.side (arc_at arcs (l.via - 1))
+below_of arcs l = if l.parent_arc == 0 then 0 else end_of l.side (arc_at arcs (l.parent_arc - 1))
 
 -- the greatest height after this many steps
 abbrev pub bound : ℕ → ℤ
@@ -34,18 +34,18 @@ BelowBound n labels = (v : ℕ) → height_of labels v ≤ℤ bound n
 -- the residual arc from this side can't raise its other end
 abbrev pub IsSettled : List ArcView → List ℤ → (ℕ → Label) → Side → ℕ → Type 0
 IsSettled arcs x labels side k =
-    pos 0 <ℤ room_on arcs x side k → (height_of labels (end_of side (arc_at arcs k)) +ℤ gain_at side (arc_at arcs k)) ≤ℤ height_of labels (other_end side (arc_at arcs k))
+    pos 0 <ℤ residual_capacity_on arcs x side k → (height_of labels (end_of side (arc_at arcs k)) +ℤ gain_at side (arc_at arcs k)) ≤ℤ height_of labels (other_end side (arc_at arcs k))
 
 abbrev pub AreSettled : List ArcView → List ℤ → ℕ → (ℕ → Label) → Type 0
 AreSettled arcs x n labels = (k : ℕ) → k < n → (side : Side) → IsSettled arcs x labels side k
 
 -- v was raised along a residual arc, to at most its tail's height plus the gain; if to just that, after its tail
 pub record IsRaised (arcs : List ArcView) (x : List ℤ) (height : ℕ → ℤ) (time : ℕ → ℕ) (v : ℕ) (l : Label) : Type 0 where
-  pub within : l.via ≤ length arcs
-  pub to : other_end l.side (arc_at arcs (l.via - 1)) ≡ v
-  pub room : pos 0 <ℤ room_on arcs x l.side (l.via - 1)
-  pub low : height v ≤ℤ (height (end_of l.side (arc_at arcs (l.via - 1))) +ℤ gain_at l.side (arc_at arcs (l.via - 1)))
-  pub strict : (height v <ℤ (height (end_of l.side (arc_at arcs (l.via - 1))) +ℤ gain_at l.side (arc_at arcs (l.via - 1)))) ⊎ (time (end_of l.side (arc_at arcs (l.via - 1))) < time v)
+  pub within : l.parent_arc ≤ length arcs
+  pub to : other_end l.side (arc_at arcs (l.parent_arc - 1)) ≡ v
+  pub residual_capacity : pos 0 <ℤ residual_capacity_on arcs x l.side (l.parent_arc - 1)
+  pub low : height v ≤ℤ (height (end_of l.side (arc_at arcs (l.parent_arc - 1))) +ℤ gain_at l.side (arc_at arcs (l.parent_arc - 1)))
+  pub strict : (height v <ℤ (height (end_of l.side (arc_at arcs (l.parent_arc - 1))) +ℤ gain_at l.side (arc_at arcs (l.parent_arc - 1)))) ⊎ (time (end_of l.side (arc_at arcs (l.parent_arc - 1))) < time v)
 
 -- heights that came from raising, each node at its own time
 pub record AreHeights (arcs : List ArcView) (x : List ℤ) (labels : ℕ → Label) : Type 0 where
@@ -53,19 +53,19 @@ pub record AreHeights (arcs : List ArcView) (x : List ℤ) (labels : ℕ → Lab
   pub now : ℕ
   pub earlier : (v : ℕ) → time v < now
   pub least : (v : ℕ) → pos 0 ≤ℤ height_of labels v
-  pub low : (v : ℕ) → (labels v).via ≡ 0 → (height_of labels v ≤ℤ height_of labels 0) × (height_of labels v ≤ℤ bound 0)
-  pub raised : (v : ℕ) → 0 < (labels v).via → IsRaised arcs x (height_of labels) time v (labels v)
+  pub low : (v : ℕ) → (labels v).parent_arc ≡ 0 → (height_of labels v ≤ℤ height_of labels 0) × (height_of labels v ≤ℤ bound 0)
+  pub raised : (v : ℕ) → 0 < (labels v).parent_arc → IsRaised arcs x (height_of labels) time v (labels v)
 
 -- start heights: no node is higher than node 0, which has no arc
 abbrev pub AreStarted : (ℕ → Label) → Type 0
-AreStarted labels = (v : ℕ) → ((labels v).via ≡ 0) × (pos 0 ≤ℤ height_of labels v) × (height_of labels v ≤ℤ height_of labels 0) × (height_of labels v ≤ℤ bound 0)
+AreStarted labels = (v : ℕ) → ((labels v).parent_arc ≡ 0) × (pos 0 ≤ℤ height_of labels v) × (height_of labels v ≤ℤ height_of labels 0) × (height_of labels v ≤ℤ bound 0)
 
 -- the other end of the arc is raised from this side
 pub record Lifted (arcs : List ArcView) (x : List ℤ) (side : Side) (k : ℕ) (labels labels' : ℕ → Label) : Type 0 where
-  pub room : pos 0 <ℤ room_on arcs x side k
+  pub residual_capacity : pos 0 <ℤ residual_capacity_on arcs x side k
   pub rises : height_of labels (other_end side (arc_at arcs k)) <ℤ (height_of labels (end_of side (arc_at arcs k)) +ℤ gain_at side (arc_at arcs k))
   pub height : height_of labels' (other_end side (arc_at arcs k)) ≡ height_of labels (end_of side (arc_at arcs k)) +ℤ gain_at side (arc_at arcs k)
-  pub via : (labels' (other_end side (arc_at arcs k))).via ≡ k + 1
+  pub parent_arc : (labels' (other_end side (arc_at arcs k))).parent_arc ≡ k + 1
   pub side_is : (labels' (other_end side (arc_at arcs k))).side ≡ side
   pub others : (v : ℕ) → v ≢ other_end side (arc_at arcs k) → labels' v ≡ labels v
 

@@ -11,15 +11,15 @@ use Rattle.dimacs_decide.specs.declared.send.Sending.TheVariants.{Sent, Stuck}
 use Rattle.dimacs_decide.specs.inside.Raising.{Shifts}
 
 -- y is x with an amount sent from a node with that much excess to one with that much deficit
-pub record IsSent (nodes : ℕ) (arcs : List ArcView) (x y : List ℤ) (surplus : ℕ → ℤ) : Type 0 where
+pub record IsSent (nodes : ℕ) (arcs : List ArcView) (x y : List ℤ) (imbalance : ℕ → ℤ) : Type 0 where
   pub from : ℕ
   pub to : ℕ
   pub amount : ℤ
   pub from_within : IsNode nodes from
   pub to_within : IsNode nodes to
   pub some : pos 0 <ℤ amount
-  pub enough : amount ≤ℤ surplus from
-  pub lacked : (amount +ℤ surplus to) ≤ℤ pos 0
+  pub enough : amount ≤ℤ imbalance from
+  pub lacked : (amount +ℤ imbalance to) ≤ℤ pos 0
   pub within : KeepsBounds arcs y
   pub shifts : Shifts arcs x y from to amount
 
@@ -28,16 +28,16 @@ abbrev pub IsShutAt : (ℕ → Bool) → ArcView → ℤ → Type 0
 IsShutAt set a x = (leaves set a ≡ true → x ≡ a.cap) × (enters set a ≡ true → x ≡ a.low)
 
 -- no more can leave the set, and no node of it has a deficit
-pub record IsShut (nodes : ℕ) (arcs : List ArcView) (x : List ℤ) (surplus : ℕ → ℤ) (set : ℕ → Bool) : Type 0 where
+pub record IsShut (nodes : ℕ) (arcs : List ArcView) (x : List ℤ) (imbalance : ℕ → ℤ) (set : ℕ → Bool) : Type 0 where
   pub shut : AllZip (IsShutAt set) arcs x
-  pub none_lacks : (v : ℕ) → IsNode nodes v → set v ≡ true → pos 0 ≤ℤ surplus v
+  pub none_lacks : (v : ℕ) → IsNode nodes v → set v ≡ true → pos 0 ≤ℤ imbalance v
 
 -- the set has this number of nodes in all, and contains the nodes that were reached before
-pub record IsStuck (nodes : ℕ) (arcs : List ArcView) (x : List ℤ) (surplus : ℕ → ℤ) (reached : ℕ → Type 0) (set : CutValue) : Type 0 where
+pub record IsStuck (nodes : ℕ) (arcs : List ArcView) (x : List ℤ) (imbalance : ℕ → ℤ) (reached : ℕ → Type 0) (set : CutValue) : Type 0 where
   pub of : set.nodes ≡ nodes
   pub has : (v : ℕ) → IsNode nodes v → reached v → members set v ≡ true
-  pub shut : IsShut nodes arcs x surplus (members set)
+  pub shut : IsShut nodes arcs x imbalance (members set)
 
 abbrev pub IsRightSending : ℕ → List ArcView → List ℤ → (ℕ → ℤ) → (ℕ → Type 0) → Sending → Type 0
-IsRightSending nodes arcs x surplus reached (Sent y) = IsSent nodes arcs x y surplus
-IsRightSending nodes arcs x surplus reached (Stuck set) = IsStuck nodes arcs x surplus reached set
+IsRightSending nodes arcs x imbalance reached (Sent y) = IsSent nodes arcs x y imbalance
+IsRightSending nodes arcs x imbalance reached (Stuck set) = IsStuck nodes arcs x imbalance reached set

@@ -69,9 +69,9 @@ impl Begun for CountedGraph {
 
     ghost begun_by = { λ counted rs. IsGraphCountedBy counted rs };
 
-    ghost told = { λ counted r. counted_lines counted };
+    ghost noted = { λ counted r. counted_lines counted };
 
-    ghost told_end = { λ counted. counted_lines counted };
+    ghost noted_end = { λ counted. counted_lines counted };
 
     ghost gives = { λ rs summary. GivesGraphSummary rs summary };
 

@@ -99,9 +99,9 @@ impl Begun for CountedMax {
 
     ghost begun_by = { λ counted rs. IsMaxCountedBy counted rs };
 
-    ghost told = { λ counted r. before counted r };
+    ghost noted = { λ counted r. before counted r };
 
-    ghost told_end = { λ counted. before_end counted };
+    ghost noted_end = { λ counted. before_end counted };
 
     ghost gives = { λ rs summary. GivesMaxSummary rs summary };
 

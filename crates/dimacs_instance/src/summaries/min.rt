@@ -93,9 +93,9 @@ impl Begun for CountedMin {
 
     ghost begun_by = { λ counted rs. IsMinCountedBy counted rs };
 
-    ghost told = { λ counted r. before counted r };
+    ghost noted = { λ counted r. before counted r };
 
-    ghost told_end = { λ counted. after_lines counted };
+    ghost noted_end = { λ counted. after_lines counted };
 
     ghost gives = { λ rs summary. GivesMinSummary rs summary };
 

@@ -17,7 +17,7 @@ pub struct ResidualArc {
 
 /// Whether an arc can carry more, and whether it can carry less.
 #[derive(Clone, Copy)]
-pub(crate) struct Room {
+pub(crate) struct ResidualCapacity {
     pub more: bool,
     pub less: bool,
 }
@@ -65,13 +65,13 @@ impl<'a, N: Network> Claim<'a, N> {
 
     /// Whether the arc with this index can carry more, and less.
     #[inline(always)]
-    pub(crate) fn room(&self, i: u32, arc: ArcView) -> Room {
+    pub(crate) fn residual_capacity(&self, i: u32, arc: ArcView) -> ResidualCapacity {
         match self.amounts.get(i as usize) {
-            Some(&amount) => Room {
+            Some(&amount) => ResidualCapacity {
                 more: amount < arc.cap,
                 less: arc.low < amount,
             },
-            None => Room {
+            None => ResidualCapacity {
                 more: false,
                 less: false,
             },

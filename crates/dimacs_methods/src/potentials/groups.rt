@@ -118,8 +118,8 @@ impl<V: Number> Groups<V> {
             let Some(arc) = claim.arc(i) else {
                 continue;
             };
-            let room = claim.room(i, arc);
-            if room.more && room.less {
+            let residual_capacity = claim.residual_capacity(i, arc);
+            if residual_capacity.more && residual_capacity.less {
                 let tail = claim.numbering.of(arc.tail);
                 let head = claim.numbering.of(arc.head);
                 if !self.tie(tail, head, V::of(arc.cost)) {

@@ -31,13 +31,6 @@ impl<V: Number> Listed for Link<V> {
     }
 }
 
-/// All links, unless a residual arc within a group costs too little.
-#[derive(Drop)]
-pub(crate) enum Linked<V> {
-    Links(Vec<Link<V>>),
-    Torn,
-}
-
 impl<V: Number> Link<V> {
     /// The link of an arc that can carry either more or less, but not both.
     #[inline(always)]
@@ -47,14 +40,14 @@ impl<V: Number> Link<V> {
         i: u32,
     ) -> Option<Link<V>> {
         let arc = claim.arc(i)?;
-        let room = claim.room(i, arc);
-        if room.more == room.less {
+        let residual_capacity = claim.residual_capacity(i, arc);
+        if residual_capacity.more == residual_capacity.less {
             return None;
         }
         let tail = places.of(claim.numbering.of(arc.tail));
         let head = places.of(claim.numbering.of(arc.head));
         let cost = V::of(arc.cost);
-        if room.more {
+        if residual_capacity.more {
             Some(Link::between(tail, cost, head))
         } else {
             Some(Link::between(head, cost.negated(), tail))
@@ -95,12 +88,12 @@ impl<V: Number> Link<V> {
     }
 }
 
-/// The links between groups.
+/// The links between groups. None if a residual arc within a group costs too little.
 pub(crate) fn all_links<N: Network, V: Number>(
     alloc: Global,
     claim: &Claim<'_, N>,
     places: &Places<V>,
-) -> Result<Linked<V>, Memory> {
+) -> Result<Option<Vec<Link<V>>>, Memory> {
     let mut links = Vec::with_capacity(alloc, claim.arcs() as usize)?;
     for i in 0..claim.arcs() {
         let Some(link) = Link::of(claim, places, i) else {
@@ -109,14 +102,17 @@ pub(crate) fn all_links<N: Network, V: Number>(
         if !link.is_within() {
             links.push(link)?;
         } else if link.cost.is_negative() {
-            return Ok(Linked::Torn);
+            return Ok(None);
         }
     }
-    Ok(Linked::Links(links))
+    Ok(Some(links))
 }
 
-/// The links between groups that were joined.
-pub(crate) fn joined_links<V: Number>(links: Vec<Link<V>>, joints: &Places<V>) -> Linked<V> {
+/// The links between groups that were joined, likewise.
+pub(crate) fn joined_links<V: Number>(
+    links: Vec<Link<V>>,
+    joints: &Places<V>,
+) -> Option<Vec<Link<V>>> {
     let mut links = links;
     let mut torn = false;
     links.retain_mut(|link| {
@@ -125,9 +121,9 @@ pub(crate) fn joined_links<V: Number>(links: Vec<Link<V>>, joints: &Places<V>) -
         !link.is_within()
     });
     if torn {
-        return Linked::Torn;
+        return None;
     }
-    Linked::Links(links)
+    Some(links)
 }
 
 /// Relaxes all links once, in order. Returns how many lowered a distance.

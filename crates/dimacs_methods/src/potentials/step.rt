@@ -36,12 +36,12 @@ impl<V: Number> Step<V> {
     /// The step along an arc from this side, if the arc can carry more, or less, that way.
     pub(crate) fn of<N: Network>(claim: &Claim<'_, N>, i: u32, side: Side) -> Option<Step<V>> {
         let arc = claim.arc(i)?;
-        let room = claim.room(i, arc);
-        let (has_room, cost) = match side {
-            Side::Tail => (room.more, V::of(arc.cost)),
-            Side::Head => (room.less, V::of(arc.cost).negated()),
+        let residual_capacity = claim.residual_capacity(i, arc);
+        let (has_residual_capacity, cost) = match side {
+            Side::Tail => (residual_capacity.more, V::of(arc.cost)),
+            Side::Head => (residual_capacity.less, V::of(arc.cost).negated()),
         };
-        if !has_room {
+        if !has_residual_capacity {
             return None;
         }
         Some(Step {

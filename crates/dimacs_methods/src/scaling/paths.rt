@@ -1,7 +1,7 @@
 //! Short paths of arcs with negative reduced cost.
 
 use crate::number::Number;
-use crate::scaling::residual::Node;
+use crate::residual::Node;
 use crate::scaling::{LONGEST, Scaling};
 use dimacs_lines::Memory;
 
@@ -52,7 +52,7 @@ impl<V: Number> Scaling<V> {
         let mut least = V::greatest();
         let mut place = node.cursor;
         for half in self.residual.between(node.cursor, node.end) {
-            if half.room > 0 {
+            if half.residual_capacity > 0 {
                 let reduced = self.residual.reduced(node.price, half);
                 if reduced.is_negative() {
                     return Scan::Negative(place);
@@ -85,7 +85,7 @@ impl<V: Number> Scaling<V> {
     fn least_before(&self, node: &Node<V>) -> V {
         let mut least = V::greatest();
         for half in self.residual.between(node.start, node.cursor) {
-            if half.room > 0 {
+            if half.residual_capacity > 0 {
                 least = least.lesser(self.residual.reduced(node.price, half));
             }
         }
@@ -111,7 +111,7 @@ impl<V: Number> Scaling<V> {
         for place in &self.path {
             let half = self.residual.half(*place);
             let excess = self.residual.node(from).excess;
-            let amount = V::of(half.room).lesser(excess).narrow();
+            let amount = V::of(half.residual_capacity).lesser(excess).narrow();
             self.residual.send(from, *place, amount);
             let after = self.residual.node(half.to).excess;
             if after.is_positive() && !V::of(amount).is_below(after) {

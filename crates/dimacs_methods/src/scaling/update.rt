@@ -1,31 +1,39 @@
 //! The global update: prices fall by the nodes' distances to a deficit.
 
+use crate::levels::Levels;
 use crate::number::Number;
+use crate::residual::{Half, Node};
 use crate::scaling::Scaling;
-use crate::scaling::ranks::Ranks;
-use crate::scaling::residual::{Half, Node};
-use dimacs_lines::Memory;
-use std::alloc::Global;
+
+/// Halved so often, each number is 0 or -1.
+const ANY_COST: u32 = 127;
 
 impl<V: Number> Scaling<V> {
     /// Lowers the price of each node by the tolerance times its rank, its distance to a deficit. False if some excess
     /// reaches no deficit within the ranks.
     pub(crate) fn update(&mut self) -> bool {
+        let most = self.rank_all(self.level);
+        lower(&mut self.residual.nodes, self.level, most);
+        most < self.ranks.count()
+    }
+
+    /// Ranks the nodes by their distance to a deficit, until all excess is found, and returns the greatest rank that
+    /// this takes; the number of ranks if some isn't found. A half-arc counts once, and again for each 2 to the power of
+    /// `level` in its reduced cost.
+    fn rank_all(&mut self, level: u32) -> u32 {
         let count = self.ranks.count();
         let mut left = rank_deficits(&mut self.residual.nodes, &mut self.ranks);
         for rank in 0..count {
-            left = left.minus(self.settle(rank, left));
+            left = left.minus(self.settle(rank, level, left));
             if !left.is_positive() {
-                lower(&mut self.residual.nodes, self.level, rank);
-                return true;
+                return rank;
             }
         }
-        lower(&mut self.residual.nodes, self.level, count);
-        false
+        count
     }
 
     /// Settles the nodes of a rank, until the excess found at them reaches `left`. Returns how much was found.
-    fn settle(&mut self, rank: u32, left: V) -> V {
+    fn settle(&mut self, rank: u32, level: u32, left: V) -> V {
         let mut found = V::of(0);
         for _ in 0..u64::MAX {
             if !found.is_below(left) {
@@ -37,7 +45,7 @@ impl<V: Number> Scaling<V> {
             let node = self.residual.node(number);
             for place in node.start..node.end {
                 let half = self.residual.half(place);
-                self.reach(&node, &half);
+                self.reach(&node, &half, level);
             }
             if node.excess.is_positive() {
                 found = found.plus(node.excess);
@@ -48,15 +56,15 @@ impl<V: Number> Scaling<V> {
 
     /// Ranks the node at the other end, if an arc from it makes it nearer.
     #[inline(always)]
-    fn reach(&mut self, node: &Node<V>, half: &Half<V>) {
+    fn reach(&mut self, node: &Node<V>, half: &Half<V>, level: u32) {
         let other = self.residual.node(half.to);
         if other.rank <= node.rank {
             return;
         }
         let gap = V::of(i64::from(other.rank.wrapping_sub(node.rank)));
         let reduced = other.price.minus(node.price).minus(half.cost);
-        let farther = reduced.halved(self.level).plus(V::of(1));
-        if !farther.is_below(gap) || self.residual.room_back(half) == 0 {
+        let farther = reduced.halved(level).plus(V::of(1));
+        if !farther.is_below(gap) || half.residual_capacity_back == 0 {
             return;
         }
         if other.rank < self.ranks.count() {
@@ -65,7 +73,7 @@ impl<V: Number> Scaling<V> {
         // A negative number counts as 0.
         let farther = u32::try_from(farther.narrow()).unwrap_or(0);
         let rank = node.rank.wrapping_add(farther);
-        self.ranks.put(half.to, rank);
+        self.ranks.insert(half.to, rank);
         if let Some(other) = self.residual.nodes.get_mut(half.to as usize) {
             other.rank = rank;
         }
@@ -74,52 +82,22 @@ impl<V: Number> Scaling<V> {
     /// Gives up the excess of nodes that reach no deficit. Returns whether there is some.
     ///
     /// No flow can leave these nodes any more, so they stay cut off.
-    pub(crate) fn park(&mut self, alloc: Global) -> Result<bool, Memory> {
-        let reaching = self.reaching(alloc)?;
+    pub(crate) fn park(&mut self) -> bool {
+        let none = self.ranks.count();
+        self.rank_all(ANY_COST);
         let mut parked = false;
-        let mut number: u32 = 0;
-        for reaches in &reaching {
-            if !*reaches && self.residual.leave_excess(number) {
+        for node in &mut self.residual.nodes {
+            if node.rank >= none && node.excess.is_positive() {
+                node.excess = V::of(0);
                 parked = true;
             }
-            number = number.wrapping_add(1);
         }
-        Ok(parked)
-    }
-
-    /// Which nodes reach a deficit.
-    fn reaching(&self, alloc: Global) -> Result<Vec<bool>, Memory> {
-        let mut reaching = vec![in alloc; false; self.residual.nodes.len()]?;
-        let mut waiting = Vec::new(alloc);
-        mark_deficits(&self.residual.nodes, &mut reaching, &mut waiting)?;
-        for _ in 0..u64::MAX {
-            let Some(number) = waiting.pop() else {
-                break;
-            };
-            self.mark_before(number, &mut reaching, &mut waiting)?;
-        }
-        Ok(reaching)
-    }
-
-    /// Marks the nodes with a residual arc to this one, and puts those that weren't marked on the list.
-    fn mark_before(
-        &self,
-        number: u32,
-        marks: &mut [bool],
-        waiting: &mut Vec<u32>,
-    ) -> Result<(), Memory> {
-        let node = self.residual.node(number);
-        for half in self.residual.between(node.start, node.end) {
-            if self.residual.room_back(half) > 0 && mark(marks, half.to) {
-                waiting.push(half.to)?;
-            }
-        }
-        Ok(())
+        parked
     }
 }
 
 /// Gives rank 0 to the nodes with a deficit, and none to others. Returns the sum of the excesses.
-fn rank_deficits<V: Number>(nodes: &mut [Node<V>], ranks: &mut Ranks) -> V {
+fn rank_deficits<V: Number>(nodes: &mut [Node<V>], ranks: &mut Levels) -> V {
     ranks.clear();
     let none = ranks.count();
     let mut sum = V::of(0);
@@ -128,7 +106,7 @@ fn rank_deficits<V: Number>(nodes: &mut [Node<V>], ranks: &mut Ranks) -> V {
         node.rank = none;
         if node.excess.is_negative() {
             node.rank = 0;
-            ranks.put(number, 0);
+            ranks.insert(number, 0);
         } else {
             sum = sum.plus(node.excess);
         }
@@ -145,34 +123,5 @@ fn lower<V: Number>(nodes: &mut [Node<V>], level: u32, most: u32) {
             node.price = node.price.minus(V::of(i64::from(rank)).doubled(level));
             node.cursor = node.start;
         }
-    }
-}
-
-/// Marks the nodes with a deficit, and puts them on the list.
-fn mark_deficits<V: Number>(
-    nodes: &[Node<V>],
-    marks: &mut [bool],
-    waiting: &mut Vec<u32>,
-) -> Result<(), Memory> {
-    let mut number: u32 = 0;
-    for node in nodes {
-        if node.excess.is_negative() {
-            mark(marks, number);
-            waiting.push(number)?;
-        }
-        number = number.wrapping_add(1);
-    }
-    Ok(())
-}
-
-/// Marks a node; false if it was marked before.
-fn mark(marks: &mut [bool], number: u32) -> bool {
-    match marks.get_mut(number as usize) {
-        Some(mark) => {
-            let is_new = !*mark;
-            *mark = true;
-            is_new
-        }
-        None => false,
     }
 }

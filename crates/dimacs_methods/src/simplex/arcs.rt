@@ -37,7 +37,7 @@ pub(crate) struct Arcs<V: Number> {
     pub prices: Vec<Price<V>>,
     states: Vec<i8>,
     /// The capacity less the lower bound; at the end the amount less the lower bound, if it isn't 0.
-    rooms: Vec<i64>,
+    residual_capacities: Vec<i64>,
 }
 
 impl<V: Number> Price<V> {
@@ -65,11 +65,11 @@ impl<V: Number> Arcs<V> {
         let count = problem.network().arcs() as usize;
         let prices = vec![in alloc; nowhere(); count]?;
         let states = vec![in alloc; AT_LOW; count]?;
-        let rooms = vec![in alloc; 0i64; count]?;
+        let residual_capacities = vec![in alloc; 0i64; count]?;
         let mut arcs = Arcs {
             prices,
             states,
-            rooms,
+            residual_capacities,
         };
         arcs.fill(problem);
         Ok(arcs)
@@ -90,9 +90,9 @@ impl<V: Number> Arcs<V> {
     }
 
     #[inline(always)]
-    fn put(&mut self, position: u32, price: Price<V>, room: i64) {
+    fn put(&mut self, position: u32, price: Price<V>, residual_capacity: i64) {
         set_member(&mut self.prices, position, price);
-        self.set_room(position, room);
+        self.set_residual_capacity(position, residual_capacity);
     }
 
     #[inline(always)]
@@ -111,13 +111,13 @@ impl<V: Number> Arcs<V> {
     }
 
     #[inline(always)]
-    pub(crate) fn room(&self, position: u32) -> i64 {
-        member(&self.rooms, position, 0)
+    pub(crate) fn residual_capacity(&self, position: u32) -> i64 {
+        member(&self.residual_capacities, position, 0)
     }
 
     /// Sets the capacity less the lower bound; at the end, for a tree arc, the amount less the lower bound.
-    pub(crate) fn set_room(&mut self, position: u32, room: i64) {
-        set_member(&mut self.rooms, position, room);
+    pub(crate) fn set_residual_capacity(&mut self, position: u32, residual_capacity: i64) {
+        set_member(&mut self.residual_capacities, position, residual_capacity);
     }
 
     /// The amount less the lower bound, after `settle`.
@@ -125,7 +125,7 @@ impl<V: Number> Arcs<V> {
         if self.state(position) == AT_LOW {
             return 0;
         }
-        self.room(position)
+        self.residual_capacity(position)
     }
 
     /// Of the arcs from `start` to `end` that should change their state, the one with the least reduced cost.

@@ -29,7 +29,7 @@ struct Climb<V> {
     at: u32,
     depth: u32,
     /// The least residual capacity so far, and the node whose arc has it.
-    room: V,
+    residual_capacity: V,
     narrow: Option<u32>,
 }
 
@@ -39,9 +39,9 @@ impl<V: Number> Cycle<V> {
     /// If several arcs come to a bound, the last one on the cycle leaves, seen from the join in the direction of the
     /// flow: the first one on the path up from `first`, the last one on the path up from `second`. That keeps residual
     /// capacity towards the root everywhere in the tree, so that pivots without flow don't cycle for ever.
-    pub(crate) fn find(tree: &Tree<V>, first: u32, second: u32, room: V) -> Cycle<V> {
-        let mut down = Climb::start(tree, first, room);
-        let mut up = Climb::start(tree, second, room);
+    pub(crate) fn find(tree: &Tree<V>, first: u32, second: u32, residual_capacity: V) -> Cycle<V> {
+        let mut down = Climb::start(tree, first, residual_capacity);
+        let mut up = Climb::start(tree, second, residual_capacity);
         let mut steps: u64 = 0;
         for _ in 0..tree.nodes.len().saturating_mul(2) {
             if down.at == up.at {
@@ -59,7 +59,7 @@ impl<V: Number> Cycle<V> {
             first,
             second,
             join: down.at,
-            amount: down.room.lesser(up.room),
+            amount: down.residual_capacity.lesser(up.residual_capacity),
             leaving,
             steps,
         }
@@ -67,11 +67,11 @@ impl<V: Number> Cycle<V> {
 }
 
 impl<V: Number> Climb<V> {
-    fn start(tree: &Tree<V>, at: u32, room: V) -> Climb<V> {
+    fn start(tree: &Tree<V>, at: u32, residual_capacity: V) -> Climb<V> {
         Climb {
             at,
             depth: tree.place(at).depth,
-            room,
+            residual_capacity,
             narrow: None,
         }
     }
@@ -80,8 +80,8 @@ impl<V: Number> Climb<V> {
     #[inline(always)]
     fn climb_against(&mut self, tree: &Tree<V>) {
         let node = tree.node(self.at);
-        if node.down.is_below(self.room) {
-            self.room = node.down;
+        if node.down.is_below(self.residual_capacity) {
+            self.residual_capacity = node.down;
             self.narrow = Some(self.at);
         }
         self.at = node.parent;
@@ -92,8 +92,8 @@ impl<V: Number> Climb<V> {
     #[inline(always)]
     fn climb_along(&mut self, tree: &Tree<V>) {
         let node = tree.node(self.at);
-        if !self.room.is_below(node.up) {
-            self.room = node.up;
+        if !self.residual_capacity.is_below(node.up) {
+            self.residual_capacity = node.up;
             self.narrow = Some(self.at);
         }
         self.at = node.parent;
@@ -105,7 +105,7 @@ impl<V: Number> Climb<V> {
 /// arc, and it before those on the path to `first`.
 fn narrowest<V: Number>(down: &Climb<V>, up: &Climb<V>) -> Leaving {
     if let Some(node) = up.narrow
-        && !down.room.is_below(up.room)
+        && !down.residual_capacity.is_below(up.residual_capacity)
     {
         return Leaving::OnSecond(node);
     }

@@ -65,10 +65,10 @@ impl<V: Number> Node<V> {
         } else {
             excess
         };
-        let room = V::greatest().minus(flow);
+        let residual_capacity = V::greatest().minus(flow);
         Node {
-            up: if has_deficit { flow } else { room },
-            down: if has_deficit { room } else { flow },
+            up: if has_deficit { flow } else { residual_capacity },
+            down: if has_deficit { residual_capacity } else { flow },
             parent: root,
             arc: ARTIFICIAL,
             before,
@@ -96,17 +96,6 @@ impl<V: Number> Tree<V> {
     /// The root.
     pub(crate) fn root(&self) -> u32 {
         u32::try_from(self.names.len()).unwrap_or(0)
-    }
-
-    /// The number of artificial arcs.
-    pub(crate) fn artificial_arcs(&self) -> usize {
-        let mut count: usize = 0;
-        for node in &self.nodes {
-            if node.arc == ARTIFICIAL {
-                count = count.wrapping_add(1);
-            }
-        }
-        count
     }
 
     #[inline(always)]

@@ -9,7 +9,7 @@ use Rattle.dimacs_solve.specs.declared.frontier.Reach.{Reach}
 use Rattle.dimacs_solve.specs.Adjacency.{AreByNode, out}
 use Rattle.dimacs_solve.specs.inside.Adjacency.{hop_to}
 use Rattle.dimacs_solve.specs.inside.Frontiers.{IsNearest}
-use Rattle.dimacs_solve.specs.inside.Marks.{Known, IsSettled, IsReachedWithin, Sets, reached}
+use Rattle.dimacs_solve.specs.inside.NodeStates.{Known, IsSettled, IsReachedWithin, Sets, reached}
 use Rattle.dimacs_solve.specs.Paths.{IsNearestFirst}
 
 abbrev pub is_settled : Known → Bool
@@ -17,38 +17,38 @@ is_settled k = k.found && k.final
 
 -- how many of the nodes 1 to n are settled
 unfoldable pub settled_count : (ℕ → Known) → ℕ → ℕ
-settled_count marks zero = 0
-settled_count marks (suc n) = settled_count marks n + cond (is_settled (marks (suc n))) 1 0
+settled_count node_states zero = 0
+settled_count node_states (suc n) = settled_count node_states n + cond (is_settled (node_states (suc n))) 1 0
 
 -- the distance of a settled node; none for the others
 abbrev pub settled_label : Known → Option ℤ
 settled_label k = if is_settled k then Some (pos k.dist) else None
 
 -- the walk ends with a hop from a settled node
-pub record IsWay (a : Adjacency) (marks : ℕ → Known) (e : Reach ℕ) : Type 0 where
+pub record IsWay (a : Adjacency) (node_states : ℕ → Known) (e : Reach ℕ) : Type 0 where
   pub weight : ℕ
   pub node : IsNode a.nodes e.pred
-  pub pred : IsSettled (marks e.pred)
+  pub pred : IsSettled (node_states e.pred)
   pub hop : Contains (out a e.pred) (hop_to e.node weight)
-  pub adds : e.dist ≡ (marks e.pred).dist + weight
+  pub adds : e.dist ≡ (node_states e.pred).dist + weight
 
 -- a walk in the queue: at least as long as the floor, and as the mark of its node
-pub record IsWayWaiting (a : Adjacency) (floor : ℕ) (marks : ℕ → Known) (e : Reach ℕ) : Type 0 where
-  pub way : IsWay a marks e
+pub record IsWayWaiting (a : Adjacency) (floor : ℕ) (node_states : ℕ → Known) (e : Reach ℕ) : Type 0 where
+  pub way : IsWay a node_states e
   pub beyond : floor ≤ e.dist
-  pub within : IsReachedWithin (marks e.node) e.dist
-  pub bound : e.dist ≤ a.greatest * settled_count marks a.nodes
+  pub within : IsReachedWithin (node_states e.node) e.dist
+  pub bound : e.dist ≤ a.greatest * settled_count node_states a.nodes
 
 -- the queue has a walk to v of this length
 abbrev pub IsPending : List (Reach ℕ) → ℕ → ℕ → Type 0
 IsPending front v d = (p : ℕ) × Contains front (record { dist = d; node = v; pred = p })
 
 -- the marks and the queue agree, and no settled node is farther than the floor
-pub record IsFront (a : Adjacency) (floor : ℕ) (marks : ℕ → Known) (front : List (Reach ℕ)) : Type 0 where
+pub record IsFront (a : Adjacency) (floor : ℕ) (node_states : ℕ → Known) (front : List (Reach ℕ)) : Type 0 where
   pub adjacent : AreByNode a
-  pub waiting : (e : Reach ℕ) → Contains front e → IsWayWaiting a floor marks e
-  pub pending : (v : ℕ) → (marks v).found ≡ true → (marks v).final ≡ false → IsPending front v (marks v).dist
-  pub below : (v : ℕ) → IsSettled (marks v) → (marks v).dist ≤ floor
+  pub waiting : (e : Reach ℕ) → Contains front e → IsWayWaiting a floor node_states e
+  pub pending : (v : ℕ) → (node_states v).found ≡ true → (node_states v).final ≡ false → IsPending front v (node_states v).dist
+  pub below : (v : ℕ) → IsSettled (node_states v) → (node_states v).dist ≤ floor
 
 -- settled nodes stay settled as they were, no others become settled, and no mark rises
 pub record Lowers (old new : ℕ → Known) : Type 0 where
@@ -58,21 +58,21 @@ pub record Lowers (old new : ℕ → Known) : Type 0 where
 
 -- a walk is put into the queue if it is shorter than its node's mark
 abbrev pub Offers : Reach ℕ → (ℕ → Known) → List (Reach ℕ) → (ℕ → Known) → List (Reach ℕ) → Type 0
-Offers e marks front marks' front' =
-    (IsReachedWithin (marks e.node) e.dist × (marks' ≡ marks) × (front' ≡ front))
-    ⊎ ((¬ IsReachedWithin (marks e.node) e.dist) × Sets marks e.node (reached e.dist) marks' × IsPermutation (e ∷ front) front')
+Offers e node_states front node_states' front' =
+    (IsReachedWithin (node_states e.node) e.dist × (node_states' ≡ node_states) × (front' ≡ front))
+    ⊎ ((¬ IsReachedWithin (node_states e.node) e.dist) × Sets node_states e.node (reached e.dist) node_states' × IsPermutation (e ∷ front) front')
 
 -- the head of the hop has a mark of at most d plus the weight
 abbrev pub IsHopPassed : (ℕ → Known) → ℕ → Hop → Type 0
-IsHopPassed marks d hop = IsReachedWithin (marks hop.head) (d + hop.weight)
+IsHopPassed node_states d hop = IsReachedWithin (node_states hop.head) (d + hop.weight)
 
 -- the node was settled at this distance, no settled node is farther, and one more hop stays below the limit
-pub record IsReady (a : Adjacency) (v dist : ℕ) (marks : ℕ → Known) (front : List (Reach ℕ)) : Type 0 where
+pub record IsReady (a : Adjacency) (v dist : ℕ) (node_states : ℕ → Known) (front : List (Reach ℕ)) : Type 0 where
   pub node : IsNode a.nodes v
-  pub settled : IsSettled (marks v)
-  pub at : (marks v).dist ≡ dist
-  pub bound : dist + a.greatest ≤ a.greatest * settled_count marks a.nodes
-  pub waits : IsFront a dist marks front
+  pub settled : IsSettled (node_states v)
+  pub at : (node_states v).dist ≡ dist
+  pub bound : dist + a.greatest ≤ a.greatest * settled_count node_states a.nodes
+  pub waits : IsFront a dist node_states front
 
 -- all hops from the node were relaxed
 pub record Relaxes (a : Adjacency) (v dist : ℕ) (old : ℕ → Known) (ways : List (Reach ℕ)) (new : ℕ → Known) (front : List (Reach ℕ)) : Type 0 where
@@ -90,28 +90,28 @@ pub record IsMade (a : Adjacency) (b : BlockValue) (l : Label) : Type 0 where
   pub adds : l.dist ≡ pos (base + weight)
 
 -- the state of the search between two entries of the queue
-pub record IsPathSearch (a : Adjacency) (b : BlockValue) (marks : ℕ → Known) (front : List (Reach ℕ)) : Type 0 where
+pub record IsPathSearch (a : Adjacency) (b : BlockValue) (node_states : ℕ → Known) (front : List (Reach ℕ)) : Type 0 where
   pub floor : ℕ
-  pub waits : IsFront a floor marks front
-  pub labelled : (v : ℕ) → label b v ≡ settled_label (marks v)
-  pub counted : settled_count marks a.nodes ≡ length b.labels + 1
+  pub waits : IsFront a floor node_states front
+  pub labelled : (v : ℕ) → label b v ≡ settled_label (node_states v)
+  pub counted : settled_count node_states a.nodes ≡ length b.labels + 1
   pub unbounded : b.radius ≡ None
   pub lawful : IsBlock a.nodes b
   pub made : All (IsMade a b) b.labels
   pub low : All (λ (l : Label). l.dist ≤ℤ pos floor) b.labels
   pub nearest_first : IsNearestFirst b.labels
-  pub passed : (u : ℕ) → IsSettled (marks u) → All (IsHopPassed marks (marks u).dist) (out a u)
+  pub passed : (u : ℕ) → IsSettled (node_states u) → All (IsHopPassed node_states (node_states u).dist) (out a u)
 
 -- the nearest walk was removed from the queue
-pub record IsPopped (a : Adjacency) (b : BlockValue) (marks : ℕ → Known) (e : Reach ℕ) (front : List (Reach ℕ)) : Type 0 where
+pub record IsPopped (a : Adjacency) (b : BlockValue) (node_states : ℕ → Known) (e : Reach ℕ) (front : List (Reach ℕ)) : Type 0 where
   pub before : List (Reach ℕ)
   pub moved : IsPermutation before (e ∷ front)
   pub nearest : IsNearest e front
-  pub search : IsPathSearch a b marks before
+  pub search : IsPathSearch a b node_states before
 
 -- a bound on the steps left: it falls with each walk removed from the queue
 abbrev pub work : Adjacency → (ℕ → Known) → List (Reach ℕ) → ℕ
-work a marks front = (a.nodes - settled_count marks a.nodes) * (length a.hops.items + 1) + length front
+work a node_states front = (a.nodes - settled_count node_states a.nodes) * (length a.hops.items + 1) + length front
 
 -- each hop from a labelled node leads to a node with a label, which is at most the first label plus the weight
 abbrev pub IsClosed : Adjacency → BlockValue → Type 0

@@ -4,6 +4,6 @@ use Rattle.dimacs_arrays.proofs.certify_infeasible.certify_over.Goals as goal
 
 pub returns-in_ok-bytes_of-in-Infeasible : goal.returns-in_ok-bytes_of-in-Infeasible
 returns-in_ok-bytes_of-in-Infeasible g c =
-    let told : ShowsNoFlow c.args.instance.now c.in-Infeasible.set = rw c.in-Infeasible.is at c.in_ok-flow.ensures in
+    let outcome : ShowsNoFlow c.args.instance.now c.in-Infeasible.set = rw c.in-Infeasible.is at c.in_ok-flow.ensures in
     let bytes = c.in_ok-bytes_of-in-Infeasible in
-    infeasible_by c.args.instance.now c.in-Infeasible.set bytes.field-0.items told bytes.ensures.one_each bytes.ensures.marked bytes.ensures.bits
+    infeasible_by c.args.instance.now c.in-Infeasible.set bytes.field-0.items outcome bytes.ensures.one_each bytes.ensures.marked bytes.ensures.bits

@@ -17,8 +17,8 @@ pub returns-in_err-feasible_max : goal.returns-in_err-feasible_max
 returns-in_err-feasible_max g c =
     let i = c.args.instance.now in
     let x = c.args.flows.now in
-    let told = subst (λ (y : List ℤ). Refutes (λ (done : Unit {0}). FeasibleMax i y) (feasible_max_rows i y) c.in_err-feasible_max.field-0.0) c.in_ok-flow.ensures c.in_err-feasible_max.ensures in
-    refuted_settles (λ (done : Unit {0}). FeasibleMax i x) (CertifiesMaxFlow i x) (feasible_max_rows i x) (max_feasible i x) _ told _ c.from_residual-in_err-feasible_max.ensures.1
+    let outcome = subst (λ (y : List ℤ). Refutes (λ (done : Unit {0}). FeasibleMax i y) (feasible_max_rows i y) c.in_err-feasible_max.field-0.0) c.in_ok-flow.ensures c.in_err-feasible_max.ensures in
+    refuted_settles (λ (done : Unit {0}). FeasibleMax i x) (CertifiesMaxFlow i x) (feasible_max_rows i x) (max_feasible i x) _ outcome _ c.from_residual-in_err-feasible_max.ensures.1
 
 pub bytes_of-requires : goal.bytes_of-requires
 bytes_of-requires g c = subst (λ (k : CutValue). IsCut k) c.cut.view_is c.cut.invariant.0
@@ -27,8 +27,8 @@ pub returns : goal.returns
 returns g c =
     let i = c.args.instance.now in
     let x = c.args.flows.now in
-    let told = subst (λ (d : MaxDecision). DecidesMax i c.in_ok-flow.flow d) c.in-Optimal.is c.in_ok-better.ensures in
-    let decided = subst (λ (y : List ℤ). DecidesMax i y (Optimal c.in-Optimal.cut)) c.in_ok-flow.ensures told in
+    let outcome = subst (λ (d : MaxDecision). DecidesMax i c.in_ok-flow.flow d) c.in-Optimal.is c.in_ok-better.ensures in
+    let decided = subst (λ (y : List ℤ). DecidesMax i y (Optimal c.in-Optimal.cut)) c.in_ok-flow.ensures outcome in
     let bytes = c.in_ok-bytes_of-in-Optimal in
     let fits : SFits w128 c.value_of.result = search rules in
     let total = to_z-of_z w128 c.value_of.result fits ∙ c.value_of.ensures ∙ ap (value i) c.in_ok-flow.ensures in

@@ -7,7 +7,7 @@ use Rattle.dimacs_decide.specs.Claims.{claimed_by_node}
 use Rattle.dimacs_arrays.specs.Paths.{pred_by_node}
 use Rattle.dimacs_arrays.specs.inside.LabelTrees.{IsLabelTree}
 use Rattle.dimacs_arrays.proofs.DistanceLemmas.{distance_within}
-use Rattle.dimacs_arrays.proofs.WayLemmas.{led_so}
+use Rattle.dimacs_arrays.proofs.PathLemmas.{led_so}
 use Rattle.dimacs_arrays.proofs.labels.label_tree.Goals as goal
 
 pub lead-requires-clause-tree : goal.lead-requires-clause-tree

@@ -24,12 +24,12 @@ predecessors_of-requires g c =
 pub returns : goal.returns
 returns g c =
     let value = c.args.graph.now in
-    let told = rw c.in_ok-all_from.ensures at c.in-Ok.ensures in
-    let produced = told.2 in
+    let outcome = rw c.in_ok-all_from.ensures at c.in-Ok.ensures in
+    let produced = outcome.2 in
     let labels = c.in-Ok.labels in
     let b = c.index-blocks-0.result in
     let alone : labels.blocks ≡ b ∷ [] = one_block labels.blocks b (one_alone value c.args.source labels produced) (rw c.blocks-2.ensures.blocks at c.index-blocks-0.is) in
     let lawful : IsBlock value.nodes b = rw (← produced.shows.passes.nodes) (All-head (IsBlock labels.nodes) b [] (rw alone at c.blocks-2.ensures.lawful.blocks)) in
     let are : AreDistancesOf value.nodes b c.in-Some.distances.items = rw (c.in-Some.is, c.nodes-nodes.ensures, c.network.ensures.nodes) at c.in_ok-distances.ensures.distances in
     let named : ArePredsOf value.nodes b.labels c.in_ok-predecessors.predecessors.items = rw (c.nodes-nodes.ensures, c.network.ensures.nodes) at c.in_ok-predecessors.ensures in
-    (told.1, found_by value c.args.source labels b produced alone c.in-Some.distances.items c.in_ok-predecessors.predecessors.items lawful c.network.ensures.lawful.joined are named)
+    (outcome.1, found_by value c.args.source labels b produced alone c.in-Some.distances.items c.in_ok-predecessors.predecessors.items lawful c.network.ensures.lawful.joined are named)

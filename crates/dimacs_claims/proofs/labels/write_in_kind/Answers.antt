@@ -22,7 +22,7 @@ next_block f first bs i d below =
 pub loop-block-init : goal.loop-block-init
 loop-block-init g c =
     let start = g.S.Sink.seen c.args.sink.now in
-    line_after start _ _ [] (in_kind c.args.kind (LabelsProblem c.nodes-nodes.result (length c.blocks-blocks.result.now))) (rw c.in_kind.ensures at (c.write_record.ensures start [] (c.new-page.ensures.written start)))
+    line_after start _ _ [] (in_kind c.args.kind (LabelsProblem c.nodes-nodes.result (length c.blocks-blocks.result.now))) (rw c.in_kind.ensures at (c.write_record.ensures start [] (c.new-output.ensures.written start)))
 
 pub loop-block-preserved : goal.loop-block-preserved
 loop-block-preserved g c =

@@ -16,9 +16,9 @@ returns-in_err-block g c =
     let blocks = c.args.distances.now.blocks in
     let inside : c.loop-i.i < length blocks = rw c.blocks-blocks.ensures.blocks at c.loop-i-test.true in
     let b : c.index-blocks-i.result ≡ block_at blocks c.loop-i.i = same_block blocks c.loop-i.i c.index-blocks-i.result inside (rw c.blocks-blocks.ensures.blocks at c.index-blocks-i.is) in
-    let told = decided_here value c.index-blocks-i.result (block_at blocks c.loop-i.i) c.index-blocks-i.result.source (label c.index-blocks-i.result) (Err c.in_err-block.field-0.0) b refl (λ v. refl) c.in_err-block.ensures.decides in
+    let outcome = decided_here value c.index-blocks-i.result (block_at blocks c.loop-i.i) c.index-blocks-i.result.source (label c.index-blocks-i.result) (Err c.in_err-block.field-0.0) b refl (λ v. refl) c.in_err-block.ensures.decides in
     let lawful : AreLabels c.args.distances.now = c.blocks-blocks.ensures.lawful.0 in
-    refused_at value c.network-network.ensures.lawful.joined blocks c.loop-i.i c.in_err-block.field-0.0 inside (sources_within value.nodes c.args.distances.now c.requires lawful) c.loop-i.invariant.hold told _ c.from_residual.ensures.1
+    refused_at value c.network-network.ensures.lawful.joined blocks c.loop-i.i c.in_err-block.field-0.0 inside (sources_within value.nodes c.args.distances.now c.requires lawful) c.loop-i.invariant.hold outcome _ c.from_residual-in_err-block.ensures.1
 
 pub push-requires-clause-source : goal.push-requires-clause-source
 push-requires-clause-source g c =
@@ -26,8 +26,8 @@ push-requires-clause-source g c =
     let blocks = c.args.distances.now.blocks in
     let inside : c.loop-i.i < length blocks = rw c.blocks-blocks.ensures.blocks at c.loop-i-test.true in
     let b : c.index-blocks-i.result ≡ block_at blocks c.loop-i.i = same_block blocks c.loop-i.i c.index-blocks-i.result inside (rw c.blocks-blocks.ensures.blocks at c.index-blocks-i.is) in
-    let told = decided_here value c.index-blocks-i.result (block_at blocks c.loop-i.i) c.index-blocks-i.result.source (label c.index-blocks-i.result) (Ok c.in_ok-block.block) b refl (λ v. refl) c.in_ok-block.ensures.decides in
-    next_source value blocks c.loop-i.labels.blocks c.loop-i.i inside c.loop-i.invariant.made c.blocks-blocks.ensures.lawful.0.sources c.in_ok-block.block told.1.source
+    let outcome = decided_here value c.index-blocks-i.result (block_at blocks c.loop-i.i) c.index-blocks-i.result.source (label c.index-blocks-i.result) (Ok c.in_ok-block.block) b refl (λ v. refl) c.in_ok-block.ensures.decides in
+    next_source value blocks c.loop-i.labels.blocks c.loop-i.i inside c.loop-i.invariant.made c.blocks-blocks.ensures.lawful.0.sources c.in_ok-block.block outcome.1.source
 
 pub push-requires-clause-few : goal.push-requires-clause-few
 push-requires-clause-few g c =
@@ -41,14 +41,14 @@ loop-i-preserved g c =
     let blocks = c.args.distances.now.blocks in
     let inside : c.loop-i.i < length blocks = rw c.blocks-blocks.ensures.blocks at c.loop-i-test.true in
     let b : c.index-blocks-i.result ≡ block_at blocks c.loop-i.i = same_block blocks c.loop-i.i c.index-blocks-i.result inside (rw c.blocks-blocks.ensures.blocks at c.index-blocks-i.is) in
-    let told = decided_here value c.index-blocks-i.result (block_at blocks c.loop-i.i) c.index-blocks-i.result.source (label c.index-blocks-i.result) (Ok c.in_ok-block.block) b refl (λ v. refl) c.in_ok-block.ensures.decides in
+    let outcome = decided_here value c.index-blocks-i.result (block_at blocks c.loop-i.i) c.index-blocks-i.result.source (label c.index-blocks-i.result) (Ok c.in_ok-block.block) b refl (λ v. refl) c.in_ok-block.ensures.decides in
     let pushed = c.in_ok-push.ensures.pushed in
     record {
       nodes = ap (λ (l : LabelsValue). l.nodes) pushed ∙ c.loop-i.invariant.nodes;
-      made = rw (ap (λ (l : LabelsValue). l.blocks) pushed) (made_more value blocks c.loop-i.labels.blocks c.loop-i.i c.in_ok-block.block inside c.loop-i.invariant.made told.1);
-      links = c.in_ok-block.ensures.links;
+      made = rw (ap (λ (l : LabelsValue). l.blocks) pushed) (made_more value blocks c.loop-i.labels.blocks c.loop-i.i c.in_ok-block.block inside c.loop-i.invariant.made outcome.1);
+      lists = c.in_ok-block.ensures.lists;
       free = c.in_ok-block.ensures.free;
-      hold = All-more (λ (d : BlockValue). AreDistancesFrom value d.source (label d)) blocks c.loop-i.i _ inside c.loop-i.invariant.hold told.0;
+      hold = All-more (λ (d : BlockValue). AreDistancesFrom value d.source (label d)) blocks c.loop-i.i _ inside c.loop-i.invariant.hold outcome.0;
     }
 
 pub returns : goal.returns

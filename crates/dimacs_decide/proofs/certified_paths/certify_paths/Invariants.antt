@@ -1,8 +1,8 @@
 use Rattle.std.proofs.Common.{◌≡◌, take}
 use Rattle.std.specs.List.{AllZip}
 use Rattle.std.specs.Prelude.{IfSome}
-use Rattle.dimacs_network.specs.Links.{AreLinksOf}
-use Rattle.dimacs_network.specs.declared.links.Side.TheVariants.{Tail}
+use Rattle.dimacs_network.specs.AdjacencyLists.{AreAdjacencyLists}
+use Rattle.dimacs_network.specs.declared.adjacency_lists.Side.TheVariants.{Tail}
 use Rattle.dimacs_decide.specs.CertifiedPaths.{AreAllDistances}
 use Rattle.dimacs_decide.specs.inside.DistanceBlocks.{IsMadeOf}
 use Rattle.dimacs_decide.specs.inside.FewLabels.{AreFree}
@@ -13,7 +13,7 @@ abbrev pub invariant-loop-i : goal.invariant-loop-i
 invariant-loop-i g l = record {
   nodes : l.labels.nodes ≡ l.graph.nodes;
   made : AllZip (IsMadeOf l.graph) (take l.i l.distances.blocks) l.labels.blocks;
-  links : IfSome l.links (AreLinksOf Tail l.graph.arcs);
-  free : IfSome l.tables AreFree;
+  lists : IfSome l.lists (AreAdjacencyLists Tail l.graph.arcs);
+  free : IfSome l.tables (AreFree l.graph);
   hold : AreAllDistances l.graph (take l.i l.distances.blocks);
 }

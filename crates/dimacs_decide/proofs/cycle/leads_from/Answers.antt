@@ -3,19 +3,19 @@ use Rattle.std.proofs.lemmas.Int.{ints, to_z-of_z}
 use Rattle.std.proofs.lemmas.Option.{get_or_from_slice_get}
 use Rattle.std.proofs.lemmas.Slice.Zip.{AllZip-long}
 use Rattle.dimacs_network.specs.declared.network.ArcView.{ArcView}
-use Rattle.dimacs_network.specs.Links.{end_of}
+use Rattle.dimacs_network.specs.AdjacencyLists.{end_of}
 use Rattle.dimacs_judge.specs.Rows.{amount_at}
 use Rattle.dimacs_network.specs.Arcs.{arc_at, no_arc}
 use Rattle.dimacs_judge.proofs.Passing.{pair_at}
-use Rattle.dimacs_decide.specs.inside.Rooms.{room_at, room_on}
+use Rattle.dimacs_decide.specs.inside.ResidualCapacities.{residual_capacity_at, residual_capacity_on}
 use Rattle.dimacs_decide.proofs.HeightLemmas.{arc_bounds}
 use Rattle.dimacs_decide.proofs.cycle.leads_from.Goals as goal
 
 pub amount-requires : goal.amount-requires
 amount-requires g c = omega (arith, c.if-residual-arcs.false, c.arcs.ensures, AllZip-long _ _ _ c.requires.within)
 
-pub room_from-requires-clause-least : goal.room_from-requires-clause-least
-room_from-requires-clause-least g c =
+pub residual_capacity_from-requires-clause-least : goal.residual_capacity_from-requires-clause-least
+residual_capacity_from-requires-clause-least g c =
     let arcs = g.N.Network.list c.args.network.now in
     let k = c.args.residual.arc in
     let within : k < length arcs = omega (arith, c.if-residual-arcs.false, c.arcs.ensures) in
@@ -23,8 +23,8 @@ room_from-requires-clause-least g c =
     let low = ap (λ (a : ArcView). a.low) is in
     omega (arith, ints, low, (arc_bounds arcs k c.requires.bounds within).0)
 
-pub room_from-requires-clause-low : goal.room_from-requires-clause-low
-room_from-requires-clause-low g c =
+pub residual_capacity_from-requires-clause-low : goal.residual_capacity_from-requires-clause-low
+residual_capacity_from-requires-clause-low g c =
     let arcs = g.N.Network.list c.args.network.now in
     let x = c.args.flow.now in
     let k = c.args.residual.arc in
@@ -36,8 +36,8 @@ room_from-requires-clause-low g c =
     let bounds = pair_at _ arcs x k no_arc (pos 0) c.requires.within within in
     rw (to_z-of_z w64 c.amount.result fits) (omega (arith, ints, bounds.0, carries, low))
 
-pub room_from-requires-clause-high : goal.room_from-requires-clause-high
-room_from-requires-clause-high g c =
+pub residual_capacity_from-requires-clause-high : goal.residual_capacity_from-requires-clause-high
+residual_capacity_from-requires-clause-high g c =
     let arcs = g.N.Network.list c.args.network.now in
     let x = c.args.flow.now in
     let k = c.args.residual.arc in
@@ -58,11 +58,11 @@ returns-then-near-from g c =
     let is : arc_at arcs r.arc ≡ c.arc-arc.result = get_or_from_slice_get arcs r.arc c.arc-arc.result no_arc c.arc-arc.ensures in
     let carries : amount_at x r.arc ≡ c.amount.result = get_or_from_slice_get x r.arc c.amount.result (pos 0) c.amount.ensures in
     let fits : SFits w64 c.amount.result = search rules in
-    let fits_room : SFits w64 c.room_from.result = search rules in
-    let told : c.room_from.result ≡ room_at r.side c.arc-arc.result c.amount.result = rw (to_z-of_z w64 c.amount.result fits) at c.room_from.ensures in
-    let room : c.room_from.result ≡ room_on arcs x r.side r.arc = rw (is, carries) told in
-    rw (to_z-of_z w64 c.room_from.result fits_room) (λ some. record {
+    let fits_residual_capacity : SFits w64 c.residual_capacity_from.result = search rules in
+    let outcome : c.residual_capacity_from.result ≡ residual_capacity_at r.side c.arc-arc.result c.amount.result = rw (to_z-of_z w64 c.amount.result fits) at c.residual_capacity_from.ensures in
+    let residual_capacity : c.residual_capacity_from.result ≡ residual_capacity_on arcs x r.side r.arc = rw (is, carries) outcome in
+    rw (to_z-of_z w64 c.residual_capacity_from.result fits_residual_capacity) (λ some. record {
       within = within;
       begins = ap (end_of r.side) is ∙ sym c.near.ensures ∙ c.if-near-from.true;
-      room = let more : pos 0 <ℤ c.room_from.result = search rules in omega (arith, ints, more, room);
+      residual_capacity = let more : pos 0 <ℤ c.residual_capacity_from.result = search rules in omega (arith, ints, more, residual_capacity);
     })

@@ -8,5 +8,5 @@ use Rattle.dimacs_decide.proofs.cycle.raised_along.Given as goal
 abbrev pub invariant-loop-k : goal.invariant-loop-k
 invariant-loop-k g l = record {
   long : length l.residuals.items ≡ l.k;
-  told : (i : ℕ) → i < l.k → residual_at l.residuals.items i ≡ residual_by (value_of l.labels (slice_index l.cycle.path.items (l.last - i - 1)));
+  outcome : (i : ℕ) → i < l.k → residual_at l.residuals.items i ≡ residual_by (value_of l.labels (slice_index l.cycle.path.items (l.last - i - 1)));
 }

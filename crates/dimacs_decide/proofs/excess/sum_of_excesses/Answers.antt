@@ -7,27 +7,27 @@ use Rattle.dimacs_decide.proofs.ExcessLemmas.{excess_more, excess_none}
 use Rattle.dimacs_decide.proofs.excess.sum_of_excesses.Goals as goal
 
 pub loop-id-init : goal.loop-id-init
-loop-id-init c = excess_none (value_of c.args.surplus.now)
+loop-id-init c = excess_none (value_of c.args.imbalance.now)
 
 pub overflow_add-sum : goal.overflow_add-sum
 overflow_add-sum c =
     let id = c.loop-id.id in
-    let surplus = value_of c.args.surplus.now in
+    let imbalance = value_of c.args.imbalance.now in
     let sum = to_z w128 c.loop-id.sum-bits in
     let fits : SFits w128 c.excess_of-sum.result = search rules in
     let fits_got : SFits w128 c.get.result = search rules in
-    let more : c.excess_of-sum.result ≡ pos (positive_part (surplus id)) = rw (to_z-of_z w128 c.get.result fits_got, c.get.ensures.value) at c.excess_of-sum.ensures in
-    let next = excess_more surplus id sum c.loop-id.auto.id (c.requires.sizes id) c.loop-id.invariant in
+    let more : c.excess_of-sum.result ≡ pos (positive_part (imbalance id)) = rw (to_z-of_z w128 c.get.result fits_got, c.get.ensures.value) at c.excess_of-sum.ensures in
+    let next = excess_more imbalance id sum c.loop-id.auto.id (c.requires.sizes id) c.loop-id.invariant in
     rw (to_z-of_z w128 c.excess_of-sum.result fits) (omega (arith, ints, more, next.least, next.most, c.loop-id-test.true, c.requires.few_nodes))
 
 pub loop-id-preserved : goal.loop-id-preserved
 loop-id-preserved c =
     let id = c.loop-id.id in
-    let surplus = value_of c.args.surplus.now in
+    let imbalance = value_of c.args.imbalance.now in
     let sum = to_z w128 c.loop-id.sum-bits in
     let fits : SFits w128 c.excess_of-sum.result = search rules in
     let fits_got : SFits w128 c.get.result = search rules in
-    let more : c.excess_of-sum.result ≡ pos (positive_part (surplus id)) = rw (to_z-of_z w128 c.get.result fits_got, c.get.ensures.value) at c.excess_of-sum.ensures in
-    let next = excess_more surplus id sum c.loop-id.auto.id (c.requires.sizes id) c.loop-id.invariant in
+    let more : c.excess_of-sum.result ≡ pos (positive_part (imbalance id)) = rw (to_z-of_z w128 c.get.result fits_got, c.get.ensures.value) at c.excess_of-sum.ensures in
+    let next = excess_more imbalance id sum c.loop-id.auto.id (c.requires.sizes id) c.loop-id.invariant in
     let fits_sum : SFits w128 (sum +ℤ c.excess_of-sum.result) = omega (arith, ints, more, next.least, next.most, c.loop-id-test.true, c.requires.few_nodes) in
     rw (to_z-of_z w128 c.excess_of-sum.result fits, to_z-of_z w128 (sum +ℤ c.excess_of-sum.result) fits_sum, more) next

@@ -2,8 +2,8 @@ use Rattle.std.proofs.Common.{◌≡◌, ◌∙◌, ◌-◌, ◌<◌, length, No
 use Rattle.std.specs.Prelude.{slice_index}
 use Rattle.std.proofs.lemmas.Option.{get_or_from_slice_get}
 use Rattle.dimacs_network.specs.Arcs.{arc_at, no_arc}
-use Rattle.dimacs_network.specs.Links.{IsLast}
-use Rattle.dimacs_network.specs.declared.links.Side.TheVariants.{Tail}
+use Rattle.dimacs_network.specs.AdjacencyLists.{IsLast}
+use Rattle.dimacs_network.specs.declared.adjacency_lists.Side.TheVariants.{Tail}
 use Rattle.dimacs_judge.specs.CertificateTests.{RelaxFails}
 use Rattle.dimacs_decide.proofs.FewLemmas.{passed_on}
 use Rattle.dimacs_decide.proofs.RisingLemmas.{no_fault}
@@ -20,12 +20,12 @@ loop-next-preserved g c =
     let arcs = g.N.Network.list c.args.network.now in
     let claim = g.C.DistanceClaim.claimed c.args.claim.now in
     let is = c.loop-next.invariant in
-    let via = c.loop-next.next - 1 in
+    let arc_index = c.loop-next.next - 1 in
     let a = c.arc.result in
-    let inside : via < length arcs = omega (arith, c.loop-next-test.true, is.within) in
-    let same : arc_at arcs via ≡ a = get_or_from_slice_get arcs via a no_arc c.arc.ensures in
+    let inside : arc_index < length arcs = omega (arith, c.loop-next-test.true, is.within) in
+    let same : arc_at arcs arc_index ≡ a = get_or_from_slice_get arcs arc_index a no_arc c.arc.ensures in
     let passes = no_fault (RelaxFails None (claim a.tail) (claim a.head) a.cost) c.arc_fault.result (sym c.is_some.ensures ∙ c.if-is_some.false) c.arc_fault.ensures in
-    let last : IsLast Tail arcs via c.args.node c.before-next.result = subst (IsLast Tail arcs via c.args.node) (sym c.before-next.ensures) (subst (λ v. IsLast Tail arcs via v (slice_index c.args.links.now.before.items via)) (is.found c.loop-next-test.true) (c.requires.last_before via inside)) in
+    let last : IsLast Tail arcs arc_index c.args.node c.before-next.result = subst (IsLast Tail arcs arc_index c.args.node) (sym c.before-next.ensures) (subst (λ v. IsLast Tail arcs arc_index v (slice_index c.args.lists.now.before.items arc_index)) (is.found c.loop-next-test.true) (c.requires.last_before arc_index inside)) in
     record {
       within = omega (arith, last.within, inside);
       found = last.found;

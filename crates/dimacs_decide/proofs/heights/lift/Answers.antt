@@ -5,63 +5,63 @@ use Rattle.std.proofs.lemmas.Option.{get_or_from_slice_get}
 use Rattle.std.proofs.lemmas.Slice.Zip.{AllZip-long}
 use Rattle.dimacs_network.specs.declared.network.ArcView.{ArcView}
 use Rattle.dimacs_instance.specs.MinFlows.{HasBounds}
-use Rattle.dimacs_network.specs.Links.{end_of, other_end}
+use Rattle.dimacs_network.specs.AdjacencyLists.{end_of, other_end}
 use Rattle.dimacs_judge.specs.Rows.{amount_at}
 use Rattle.dimacs_network.specs.Arcs.{arc_at, no_arc}
 use Rattle.dimacs_judge.proofs.Passing.{pair_at}
 use Rattle.dimacs_nodes.specs.Tables.{value_of}
 use Rattle.dimacs_decide.specs.declared.heights.Label.{Label}
 use Rattle.dimacs_decide.specs.inside.Heights.{gain_at, height_of}
-use Rattle.dimacs_decide.specs.inside.Rooms.{room_at}
+use Rattle.dimacs_decide.specs.inside.ResidualCapacities.{residual_capacity_at}
 use Rattle.dimacs_decide.proofs.HeightLemmas.{arc_bounds, gain_least, gain_most}
 use Rattle.dimacs_decide.proofs.heights.lift.Goals as goal
 
 pub amount-requires : goal.amount-requires
-amount-requires g c = omega (arith, c.requires.via, AllZip-long _ _ _ c.requires.within)
+amount-requires g c = omega (arith, c.requires.parent_arc, AllZip-long _ _ _ c.requires.within)
 
-pub room_from-requires-clause-least : goal.room_from-requires-clause-least
-room_from-requires-clause-least g c =
+pub residual_capacity_from-requires-clause-least : goal.residual_capacity_from-requires-clause-least
+residual_capacity_from-requires-clause-least g c =
     let arcs = g.N.Network.list c.args.network.now in
-    let is : arc_at arcs c.args.via ≡ c.arc-arc.result = get_or_from_slice_get arcs c.args.via c.arc-arc.result no_arc c.arc-arc.ensures in
+    let is : arc_at arcs c.args.parent_arc ≡ c.arc-arc.result = get_or_from_slice_get arcs c.args.parent_arc c.arc-arc.result no_arc c.arc-arc.ensures in
     let low = ap (λ (a : ArcView). a.low) is in
-    omega (arith, ints, low, (arc_bounds arcs c.args.via c.requires.bounds c.requires.via).0)
+    omega (arith, ints, low, (arc_bounds arcs c.args.parent_arc c.requires.bounds c.requires.parent_arc).0)
 
-pub room_from-requires-clause-low : goal.room_from-requires-clause-low
-room_from-requires-clause-low g c =
+pub residual_capacity_from-requires-clause-low : goal.residual_capacity_from-requires-clause-low
+residual_capacity_from-requires-clause-low g c =
     let arcs = g.N.Network.list c.args.network.now in
-    let is : arc_at arcs c.args.via ≡ c.arc-arc.result = get_or_from_slice_get arcs c.args.via c.arc-arc.result no_arc c.arc-arc.ensures in
+    let is : arc_at arcs c.args.parent_arc ≡ c.arc-arc.result = get_or_from_slice_get arcs c.args.parent_arc c.arc-arc.result no_arc c.arc-arc.ensures in
     let low = ap (λ (a : ArcView). a.low) is in
-    let carries : amount_at c.args.flow.now c.args.via ≡ c.amount.result = get_or_from_slice_get c.args.flow.now c.args.via c.amount.result (pos 0) c.amount.ensures in
+    let carries : amount_at c.args.flow.now c.args.parent_arc ≡ c.amount.result = get_or_from_slice_get c.args.flow.now c.args.parent_arc c.amount.result (pos 0) c.amount.ensures in
     let fits : SFits w64 c.amount.result = search rules in
-    let bounds = pair_at _ arcs c.args.flow.now c.args.via no_arc (pos 0) c.requires.within c.requires.via in
+    let bounds = pair_at _ arcs c.args.flow.now c.args.parent_arc no_arc (pos 0) c.requires.within c.requires.parent_arc in
     rw (to_z-of_z w64 c.amount.result fits) (omega (arith, ints, bounds.0, carries, low))
 
-pub room_from-requires-clause-high : goal.room_from-requires-clause-high
-room_from-requires-clause-high g c =
+pub residual_capacity_from-requires-clause-high : goal.residual_capacity_from-requires-clause-high
+residual_capacity_from-requires-clause-high g c =
     let arcs = g.N.Network.list c.args.network.now in
-    let is : arc_at arcs c.args.via ≡ c.arc-arc.result = get_or_from_slice_get arcs c.args.via c.arc-arc.result no_arc c.arc-arc.ensures in
+    let is : arc_at arcs c.args.parent_arc ≡ c.arc-arc.result = get_or_from_slice_get arcs c.args.parent_arc c.arc-arc.result no_arc c.arc-arc.ensures in
     let cap = ap (λ (a : ArcView). a.cap) is in
-    let carries : amount_at c.args.flow.now c.args.via ≡ c.amount.result = get_or_from_slice_get c.args.flow.now c.args.via c.amount.result (pos 0) c.amount.ensures in
+    let carries : amount_at c.args.flow.now c.args.parent_arc ≡ c.amount.result = get_or_from_slice_get c.args.flow.now c.args.parent_arc c.amount.result (pos 0) c.amount.ensures in
     let fits : SFits w64 c.amount.result = search rules in
-    let bounds = pair_at _ arcs c.args.flow.now c.args.via no_arc (pos 0) c.requires.within c.requires.via in
+    let bounds = pair_at _ arcs c.args.flow.now c.args.parent_arc no_arc (pos 0) c.requires.within c.requires.parent_arc in
     rw (to_z-of_z w64 c.amount.result fits) (omega (arith, ints, bounds.1, carries, cap))
 
-pub returns-then-room_from-le0 : goal.returns-then-room_from-le0
-returns-then-room_from-le0 g c =
+pub returns-then-residual_capacity_from-le0 : goal.returns-then-residual_capacity_from-le0
+returns-then-residual_capacity_from-le0 g c =
     let arcs = g.N.Network.list c.args.network.now in
-    let is : arc_at arcs c.args.via ≡ c.arc-arc.result = get_or_from_slice_get arcs c.args.via c.arc-arc.result no_arc c.arc-arc.ensures in
-    let carries : amount_at c.args.flow.now c.args.via ≡ c.amount.result = get_or_from_slice_get c.args.flow.now c.args.via c.amount.result (pos 0) c.amount.ensures in
+    let is : arc_at arcs c.args.parent_arc ≡ c.arc-arc.result = get_or_from_slice_get arcs c.args.parent_arc c.arc-arc.result no_arc c.arc-arc.ensures in
+    let carries : amount_at c.args.flow.now c.args.parent_arc ≡ c.amount.result = get_or_from_slice_get c.args.flow.now c.args.parent_arc c.amount.result (pos 0) c.amount.ensures in
     let fits : SFits w64 c.amount.result = search rules in
-    let told : c.room_from.result ≡ room_at c.args.side c.arc-arc.result c.amount.result = rw (to_z-of_z w64 c.amount.result fits) at c.room_from.ensures in
-    let room_is : c.room_from.result ≡ room_at c.args.side (arc_at arcs c.args.via) (amount_at c.args.flow.now c.args.via) = rw (is, carries) told in
-    let none = c.if-room_from-le0.true in
-    (λ v. refl, λ room. absurd (omega (arith, ints, room, room_is, none)))
+    let outcome : c.residual_capacity_from.result ≡ residual_capacity_at c.args.side c.arc-arc.result c.amount.result = rw (to_z-of_z w64 c.amount.result fits) at c.residual_capacity_from.ensures in
+    let residual_capacity_is : c.residual_capacity_from.result ≡ residual_capacity_at c.args.side (arc_at arcs c.args.parent_arc) (amount_at c.args.flow.now c.args.parent_arc) = rw (is, carries) outcome in
+    let none = c.if-residual_capacity_from-le0.true in
+    (λ v. refl, λ residual_capacity. absurd (omega (arith, ints, residual_capacity, residual_capacity_is, none)))
 
 pub overflow_add-height : goal.overflow_add-height
 overflow_add-height g c =
     let arcs = g.N.Network.list c.args.network.now in
-    let is : arc_at arcs c.args.via ≡ c.arc-arc.result = get_or_from_slice_get arcs c.args.via c.arc-arc.result no_arc c.arc-arc.ensures in
-    let has : HasBounds c.arc-arc.result = subst HasBounds is (arc_bounds arcs c.args.via c.requires.bounds c.requires.via) in
+    let is : arc_at arcs c.args.parent_arc ≡ c.arc-arc.result = get_or_from_slice_get arcs c.args.parent_arc c.arc-arc.result no_arc c.arc-arc.ensures in
+    let has : HasBounds c.arc-arc.result = subst HasBounds is (arc_bounds arcs c.args.parent_arc c.requires.bounds c.requires.parent_arc) in
     let height : c.get.result.height ≡ height_of (value_of c.args.labels.now) c.near.result = ap (λ (l : Label). l.height) c.get.ensures.value in
     let fits_height : SFits w128 c.get.result.height = search rules in
     let fits_gain : SFits w128 c.gain.result = search rules in
@@ -71,31 +71,31 @@ pub returns-then-height-get : goal.returns-then-height-get
 returns-then-height-get g c =
     let arcs = g.N.Network.list c.args.network.now in
     let labels = value_of c.args.labels.now in
-    let is : arc_at arcs c.args.via ≡ c.arc-arc.result = get_or_from_slice_get arcs c.args.via c.arc-arc.result no_arc c.arc-arc.ensures in
-    let near : c.near.result ≡ end_of c.args.side (arc_at arcs c.args.via) = c.near.ensures ∙ ap (end_of c.args.side) (sym is) in
-    let far : c.far-to.result ≡ other_end c.args.side (arc_at arcs c.args.via) = c.far-to.ensures ∙ ap (other_end c.args.side) (sym is) in
-    let has : HasBounds c.arc-arc.result = subst HasBounds is (arc_bounds arcs c.args.via c.requires.bounds c.requires.via) in
-    let gain : c.gain.result ≡ gain_at c.args.side (arc_at arcs c.args.via) = c.gain.ensures ∙ ap (gain_at c.args.side) (sym is) in
-    let from : c.get.result.height ≡ height_of labels (end_of c.args.side (arc_at arcs c.args.via)) = ap (λ (l : Label). l.height) c.get.ensures.value ∙ ap (height_of labels) near in
-    let to : c.get-2.result.height ≡ height_of labels (other_end c.args.side (arc_at arcs c.args.via)) = ap (λ (l : Label). l.height) c.get-2.ensures.value ∙ ap (height_of labels) far in
+    let is : arc_at arcs c.args.parent_arc ≡ c.arc-arc.result = get_or_from_slice_get arcs c.args.parent_arc c.arc-arc.result no_arc c.arc-arc.ensures in
+    let near : c.near.result ≡ end_of c.args.side (arc_at arcs c.args.parent_arc) = c.near.ensures ∙ ap (end_of c.args.side) (sym is) in
+    let far : c.far-to.result ≡ other_end c.args.side (arc_at arcs c.args.parent_arc) = c.far-to.ensures ∙ ap (other_end c.args.side) (sym is) in
+    let has : HasBounds c.arc-arc.result = subst HasBounds is (arc_bounds arcs c.args.parent_arc c.requires.bounds c.requires.parent_arc) in
+    let gain : c.gain.result ≡ gain_at c.args.side (arc_at arcs c.args.parent_arc) = c.gain.ensures ∙ ap (gain_at c.args.side) (sym is) in
+    let from : c.get.result.height ≡ height_of labels (end_of c.args.side (arc_at arcs c.args.parent_arc)) = ap (λ (l : Label). l.height) c.get.ensures.value ∙ ap (height_of labels) near in
+    let to : c.get-2.result.height ≡ height_of labels (other_end c.args.side (arc_at arcs c.args.parent_arc)) = ap (λ (l : Label). l.height) c.get-2.ensures.value ∙ ap (height_of labels) far in
     let fits_height : SFits w128 c.get.result.height = search rules in
     let fits_gain : SFits w128 c.gain.result = search rules in
-    let fits_sum : SFits w128 (c.get.result.height +ℤ c.gain.result) = omega (arith, ints, from, c.gain.ensures, c.requires.least (end_of c.args.side (arc_at arcs c.args.via)), c.requires.bounded (end_of c.args.side (arc_at arcs c.args.via)), gain_most c.args.side c.arc-arc.result has, gain_least c.args.side c.arc-arc.result has) in
+    let fits_sum : SFits w128 (c.get.result.height +ℤ c.gain.result) = omega (arith, ints, from, c.gain.ensures, c.requires.least (end_of c.args.side (arc_at arcs c.args.parent_arc)), c.requires.bounded (end_of c.args.side (arc_at arcs c.args.parent_arc)), gain_most c.args.side c.arc-arc.result has, gain_least c.args.side c.arc-arc.result has) in
     let low = rw (to_z-of_z w128 c.get.result.height fits_height, to_z-of_z w128 c.gain.result fits_gain) at c.if-height-get.true in
-    (λ v. refl, λ room. omega (arith, ints, from, to, gain, low, fits_sum))
+    (λ v. refl, λ residual_capacity. omega (arith, ints, from, to, gain, low, fits_sum))
 
 pub returns : goal.returns
 returns g c =
     let arcs = g.N.Network.list c.args.network.now in
     let labels = value_of c.args.labels.now in
-    let k = c.args.via in
+    let k = c.args.parent_arc in
     let is : arc_at arcs k ≡ c.arc-arc.result = get_or_from_slice_get arcs k c.arc-arc.result no_arc c.arc-arc.ensures in
-    let has : HasBounds c.arc-arc.result = subst HasBounds is (arc_bounds arcs k c.requires.bounds c.requires.via) in
+    let has : HasBounds c.arc-arc.result = subst HasBounds is (arc_bounds arcs k c.requires.bounds c.requires.parent_arc) in
     let carries : amount_at c.args.flow.now k ≡ c.amount.result = get_or_from_slice_get c.args.flow.now k c.amount.result (pos 0) c.amount.ensures in
     let fits : SFits w64 c.amount.result = search rules in
-    let told : c.room_from.result ≡ room_at c.args.side c.arc-arc.result c.amount.result = rw (to_z-of_z w64 c.amount.result fits) at c.room_from.ensures in
-    let room_is : c.room_from.result ≡ room_at c.args.side (arc_at arcs k) (amount_at c.args.flow.now k) = rw (is, carries) told in
-    let some = c.if-room_from-le0.false in
+    let outcome : c.residual_capacity_from.result ≡ residual_capacity_at c.args.side c.arc-arc.result c.amount.result = rw (to_z-of_z w64 c.amount.result fits) at c.residual_capacity_from.ensures in
+    let residual_capacity_is : c.residual_capacity_from.result ≡ residual_capacity_at c.args.side (arc_at arcs k) (amount_at c.args.flow.now k) = rw (is, carries) outcome in
+    let some = c.if-residual_capacity_from-le0.false in
     let near : c.near.result ≡ end_of c.args.side (arc_at arcs k) = c.near.ensures ∙ ap (end_of c.args.side) (sym is) in
     let far : c.far-to.result ≡ other_end c.args.side (arc_at arcs k) = c.far-to.ensures ∙ ap (other_end c.args.side) (sym is) in
     let gain : c.gain.result ≡ gain_at c.args.side (arc_at arcs k) = c.gain.ensures ∙ ap (gain_at c.args.side) (sym is) in
@@ -105,13 +105,13 @@ returns g c =
     let fits_gain : SFits w128 c.gain.result = search rules in
     let more = rw (to_z-of_z w128 c.get.result.height fits_height, to_z-of_z w128 c.gain.result fits_gain) at c.if-height-get.false in
     let fits_sum : SFits w128 (c.get.result.height +ℤ c.gain.result) = omega (arith, ints, from, c.gain.ensures, c.requires.least (end_of c.args.side (arc_at arcs k)), c.requires.bounded (end_of c.args.side (arc_at arcs k)), gain_most c.args.side c.arc-arc.result has, gain_least c.args.side c.arc-arc.result has) in
-    let set : value_of c.set.new.self (other_end c.args.side (arc_at arcs k)) ≡ record { height = c.get.result.height +ℤ c.gain.result; via = k + 1; side = c.args.side } = rw (far, to_z-of_z w128 c.get.result.height fits_height, to_z-of_z w128 c.gain.result fits_gain, to_z-of_z w128 (c.get.result.height +ℤ c.gain.result) fits_sum) at c.in_ok-set.ensures.set in
+    let set : value_of c.set.new.self (other_end c.args.side (arc_at arcs k)) ≡ record { height = c.get.result.height +ℤ c.gain.result; parent_arc = k + 1; side = c.args.side } = rw (far, to_z-of_z w128 c.get.result.height fits_height, to_z-of_z w128 c.gain.result fits_gain, to_z-of_z w128 (c.get.result.height +ℤ c.gain.result) fits_sum) at c.in_ok-set.ensures.set in
     let sum = ap (λ (l : Label). l.height) set in
     record {
-      room = omega (arith, ints, some, room_is);
+      residual_capacity = omega (arith, ints, some, residual_capacity_is);
       rises = omega (arith, ints, more, from, to, gain);
       height = omega (arith, ints, sum, from, gain);
-      via = ap (λ (l : Label). l.via) set;
+      parent_arc = ap (λ (l : Label). l.parent_arc) set;
       side_is = ap (λ (l : Label). l.side) set;
       others = λ v ne. c.in_ok-set.ensures.others v (λ e. ne (e ∙ far));
     }

@@ -7,7 +7,7 @@ pub returns-clause-begun : goal.returns-clause-begun
 returns-clause-begun c nodes arcs x node =
     let old = c.new-search.result in
     let new = c.begin.new.self in
-    let same : value_of old.surplus ≡ value_of c.set-2.new.self = ap value_of c.new-search.ensures.surplus in
-    let kept : value_of new.surplus ≡ value_of old.surplus = ap value_of c.in_ok-begin.ensures.surplus in
+    let same : value_of old.imbalance ≡ value_of c.set-2.new.self = ap value_of c.new-search.ensures.imbalance in
+    let kept : value_of new.imbalance ≡ value_of old.imbalance = ap value_of c.in_ok-begin.ensures.imbalance in
     let none = subst (λ (s : ℕ → ℤ). IsResidualSearch nodes arcs x s (value_of old.visits) old.queue.items 0) (sym same) (c.new-search.ensures.begun nodes arcs x) in
     subst (λ (s : ℕ → ℤ). IsResidualSearch nodes arcs x s (value_of new.visits) new.queue.items 0) (sym kept) (c.in_ok-begin.ensures.begun nodes arcs x node none)

@@ -3,7 +3,7 @@ use Rattle.dimacs_judge.specs.Cuts.{members}
 use Rattle.dimacs_nodes.specs.Tables.{value_of}
 use Rattle.dimacs_decide.specs.inside.Residual.{rank_of}
 use Rattle.dimacs_decide.specs.inside.Sending.{IsSent, IsStuck}
-use Rattle.dimacs_decide.specs.inside.Surpluses.{AreEnds}
+use Rattle.dimacs_decide.specs.inside.Imbalances.{AreEnds}
 use Rattle.dimacs_decide.proofs.MaximumLemmas.{bounds_from_capacities, max_bounds, sent_tells, stuck_tells}
 use Rattle.dimacs_decide.proofs.maximum.decide_max_over.Goals as goal
 
@@ -16,19 +16,19 @@ send-requires-clause-within g c = rw c.network-network.ensures.arcs (bounds_from
 pub returns-in-Sent : goal.returns-in-Sent
 returns-in-Sent g c =
     let i = c.args.instance.now in
-    let surplus = value_of c.in_ok-search.search.surplus in
-    let ends : AreEnds i.source i.sink surplus = rw (c.source.ensures, c.sink.ensures) at c.in_ok-search.ensures.ends in
-    let sent : IsSent i.nodes i.arcs c.args.flow.now c.in-Sent.better surplus = rw (c.network-network.ensures.nodes, c.network-network.ensures.arcs, c.in-Sent.is) at c.in_ok-better.ensures in
-    sent_tells i c.args.flow.now surplus c.network-network.ensures.lawful c.requires.feasible ends c.in-Sent.better sent
+    let imbalance = value_of c.in_ok-search.search.imbalance in
+    let ends : AreEnds i.source i.sink imbalance = rw (c.source.ensures, c.sink.ensures) at c.in_ok-search.ensures.ends in
+    let sent : IsSent i.nodes i.arcs c.args.flow.now c.in-Sent.better imbalance = rw (c.network-network.ensures.nodes, c.network-network.ensures.arcs, c.in-Sent.is) at c.in_ok-better.ensures in
+    sent_tells i c.args.flow.now imbalance c.network-network.ensures.lawful c.requires.feasible ends c.in-Sent.better sent
 
 pub returns-in-Stuck : goal.returns-in-Stuck
 returns-in-Stuck g c =
     let i = c.args.instance.now in
     let law = c.network-network.ensures.lawful in
     let search = c.in_ok-search.search in
-    let surplus = value_of search.surplus in
-    let ends : AreEnds i.source i.sink surplus = rw (c.source.ensures, c.sink.ensures) at c.in_ok-search.ensures.ends in
+    let imbalance = value_of search.imbalance in
+    let ends : AreEnds i.source i.sink imbalance = rw (c.source.ensures, c.sink.ensures) at c.in_ok-search.ensures.ends in
     let begun : 0 < rank_of (value_of search.visits) i.source = rw c.source.ensures at c.in_ok-search.ensures.reached in
-    let stuck : IsStuck i.nodes i.arcs c.args.flow.now surplus (λ v. 0 < rank_of (value_of search.visits) v) c.in-Stuck.cut = rw (c.network-network.ensures.nodes, c.network-network.ensures.arcs, c.in-Stuck.is) at c.in_ok-better.ensures in
-    let (best, tight) = stuck_tells i c.args.flow.now surplus law c.requires.feasible ends (members c.in-Stuck.cut) stuck.shut (stuck.has i.source law.source_within begun) in
+    let stuck : IsStuck i.nodes i.arcs c.args.flow.now imbalance (λ v. 0 < rank_of (value_of search.visits) v) c.in-Stuck.cut = rw (c.network-network.ensures.nodes, c.network-network.ensures.arcs, c.in-Stuck.is) at c.in_ok-better.ensures in
+    let (best, tight) = stuck_tells i c.args.flow.now imbalance law c.requires.feasible ends (members c.in-Stuck.cut) stuck.shut (stuck.has i.source law.source_within begun) in
     (best, tight, stuck.of)

@@ -12,4 +12,4 @@ returns g c =
     let x = c.args.flow.now in
     let inside : set i.source ≡ true = rw c.source-source.ensures at (sym c.contains.ensures ∙ c.if-not-contains.false) in
     let outside : set i.sink ≡ false = rw c.sink-sink.ensures at (sym c.contains-2.ensures ∙ c.if-contains.false) in
-    decided _ (cut_rows i set x) (cut_is_tight i set x c.requires) (tight_cut_clear i set x) c.arcs_tight.result (cut_told i set x c.arcs_tight.result inside outside (rw c.network.ensures.arcs at c.arcs_tight.ensures))
+    decided _ (cut_rows i set x) (cut_is_tight i set x c.requires) (tight_cut_clear i set x) c.arcs_hold.result (cut_told i set x c.arcs_hold.result inside outside (rw c.network.ensures.arcs at c.arcs_hold.ensures))

@@ -8,10 +8,10 @@ pub returns-in_err-feasible : goal.returns-in_err-feasible
 returns-in_err-feasible g c =
     let i = c.args.instance.now in
     let x = c.args.flow.now in
-    let told = rw (c.network.ensures.nodes, c.network.ensures.arcs) at c.in_err-feasible.ensures in
-    error_settles _ (feasible_min_rows i x) (bound_one_way i.arcs x, (balance_one_way i.nodes i.arcs (min_demand i) x, tt)) (λ done holds. feasible_min_clear i x holds) c.in_err-feasible.field-0.0 told _ c.from_residual.ensures.1
+    let outcome = rw (c.network.ensures.nodes, c.network.ensures.arcs) at c.in_err-feasible.ensures in
+    error_settles _ (feasible_min_rows i x) (bound_one_way i.arcs x, (balance_one_way i.nodes i.arcs (min_demand i) x, tt)) (λ done holds. feasible_min_clear i x holds) c.in_err-feasible.field-0.0 outcome _ c.from_residual.ensures.1
 
 pub returns : goal.returns
 returns g c =
-    let told = rw (c.network.ensures.nodes, c.network.ensures.arcs) at c.in_ok-feasible.ensures in
-    feasible_min_holds c.args.instance.now c.args.flow.now c.requires told.1
+    let outcome = rw (c.network.ensures.nodes, c.network.ensures.arcs) at c.in_ok-feasible.ensures in
+    feasible_min_holds c.args.instance.now c.args.flow.now c.requires outcome.1

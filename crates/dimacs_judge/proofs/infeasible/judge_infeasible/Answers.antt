@@ -8,8 +8,8 @@ use Rattle.dimacs_judge.proofs.infeasible.judge_infeasible.Goals as goal
 
 pub returns-in_err-nodes_agree-clause-judges : goal.returns-in_err-nodes_agree-clause-judges
 returns-in_err-nodes_agree-clause-judges g c =
-    let told = rw (c.nodes.ensures, c.network.ensures.nodes, c.nodes-2.ensures) at c.in_err-nodes_agree.ensures in
-    infeasible_judged c.args.instance.now c.args.set.now _ (inl told) _ c.from_residual.ensures.1
+    let outcome = rw (c.nodes.ensures, c.network.ensures.nodes, c.nodes-2.ensures) at c.in_err-nodes_agree.ensures in
+    infeasible_judged c.args.instance.now c.args.set.now _ (inl outcome) _ c.from_residual.ensures.1
 
 pub returns-in_err-set_is_violated-clause-judges : goal.returns-in_err-set_is_violated-clause-judges
 returns-in_err-set_is_violated-clause-judges g c =

@@ -7,12 +7,12 @@ use Rattle.dimacs_judge.proofs.labels.has_arc_of_weight.Goals as goal
 pub returns-in_default : goal.returns-in_default
 returns-in_default g c =
     let none = rw (to_z-of_z w128 c.args.base c.ranges.base) at c.loop-k.invariant in
-    (λ told. absurd (let f : IsTrue false = told in cc), λ has. absurd (none_left _ c.args.label c.args.base c.loop-k.k c.in_default.ensures none has))
+    (λ outcome. absurd (let f : IsTrue false = outcome in cc), λ has. absurd (none_left _ c.args.label c.args.base c.loop-k.k c.in_default.ensures none has))
 
 pub returns-then-is_made : goal.returns-then-is_made
 returns-then-is_made g c =
     let made = rw (to_z-of_z w128 c.args.base c.ranges.base) at (c.if-is_made.ensures.0 refl) in
-    (λ told. arc_found _ c.args.label c.args.base c.loop-k.k c.in-Some.i c.arc.result c.arc.ensures c.in-Some.ensures made, λ has. refl)
+    (λ outcome. arc_found _ c.args.label c.args.base c.loop-k.k c.in-Some.i c.arc.result c.arc.ensures c.in-Some.ensures made, λ has. refl)
 
 pub loop-k-preserved : goal.loop-k-preserved
 loop-k-preserved g c =
@@ -23,6 +23,6 @@ loop-k-preserved g c =
 pub returns : goal.returns
 returns g c =
     let none = rw (to_z-of_z w128 c.args.base c.ranges.base) at c.loop-k.invariant in (
-      λ told. absurd (let f : IsTrue false = told in cc),
+      λ outcome. absurd (let f : IsTrue false = outcome in cc),
       λ has. absurd (none_left _ c.args.label c.args.base c.loop-k.k (few_between (g.N.Network.list c.args.network.now) c.args.label c.args.base c.loop-k.k (omega (arith, c.arcs-k-end.ensures))) none has),
     )

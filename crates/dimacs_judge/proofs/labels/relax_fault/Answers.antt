@@ -1,7 +1,7 @@
 use Rattle.std.proofs.Common.{Some, ◌∙◌, ap, rules, w64, SFits}
 use Rattle.std.specs.Int.{w128}
 use Rattle.std.proofs.lemmas.Int.{to_z-of_z}
-use Rattle.dimacs_judge.proofs.MarkLemmas.{told_between}
+use Rattle.dimacs_judge.proofs.NodeLabelLemmas.{told_between}
 use Rattle.dimacs_judge.proofs.labels.relax_fault.Goals as goal
 
 pub returns : goal.returns

@@ -17,8 +17,8 @@ pub returns-in_err-nodes_agree : goal.returns-in_err-nodes_agree
 returns-in_err-nodes_agree g c = λ s is.
     let i = c.args.instance.now in
     let x = c.in_ok-flow.flow.now in
-    let told = rw (c.nodes.ensures, c.network-network.ensures.nodes, c.nodes-2.ensures.nodes) at c.in_err-nodes_agree.ensures in
-    min_judged i s c.args.potentials.now _ (nodes_refused i s c.args.potentials.now x (c.in_ok-flow.ensures.claim s is) _ _ told) _ c.from_residual-in_err-nodes_agree.ensures.1
+    let outcome = rw (c.nodes.ensures, c.network-network.ensures.nodes, c.nodes-2.ensures.nodes) at c.in_err-nodes_agree.ensures in
+    min_judged i s c.args.potentials.now _ (nodes_refused i s c.args.potentials.now x (c.in_ok-flow.ensures.claim s is) _ _ outcome) _ c.from_residual-in_err-nodes_agree.ensures.1
 
 pub slack_tests-requires : goal.slack_tests-requires
 slack_tests-requires g c = AllZip-long _ c.args.instance.now.arcs c.in_ok-flow.flow.now c.in_ok-flow.ensures.feasible.within

@@ -23,8 +23,8 @@ returns-in_err-feasible-clause-refuted g c =
     rw (p.1, p.2) (λ s is.
     let i = c.args.instance.now in
     let carries = rw c.requires.network at (c.in_ok-flow.ensures.carried s.entries is.entries) in
-    let told = rw (c.network-network.ensures.nodes, c.network-network.ensures.arcs) at c.in_err-feasible.ensures in
-    refusal_refutes _ (min_claim_rows i s) (claim_one_way i s) (claim_clear i s) _ (flow_refused i s c.in_ok-flow.flow.now carries _ told))
+    let outcome = rw (c.network-network.ensures.nodes, c.network-network.ensures.arcs) at c.in_err-feasible.ensures in
+    refusal_refutes _ (min_claim_rows i s) (claim_one_way i s) (claim_clear i s) _ (flow_refused i s c.in_ok-flow.flow.now carries _ outcome))
 
 pub returns-in_err-cost-clause-refuted : goal.returns-in_err-cost-clause-refuted
 returns-in_err-cost-clause-refuted g c =
@@ -34,8 +34,8 @@ returns-in_err-cost-clause-refuted g c =
     let x = c.in_ok-flow.flow.now in
     let carries = rw c.requires.network at (c.in_ok-flow.ensures.carried s.entries is.entries) in
     let feasible = rw (c.network-network.ensures.nodes, c.network-network.ensures.arcs) at c.in_ok-feasible.ensures in
-    let told = rw c.network-network.ensures.arcs at c.in_err-cost.ensures in
-    refusal_refutes _ (min_claim_rows i s) (claim_one_way i s) (claim_clear i s) (Refused c.in_err-cost.field-0.0.0 c.in_err-cost.field-0.0.1) (cost_refused i s x carries feasible.1 _ _ told))
+    let outcome = rw c.network-network.ensures.arcs at c.in_err-cost.ensures in
+    refusal_refutes _ (min_claim_rows i s) (claim_one_way i s) (claim_clear i s) (Refused c.in_err-cost.field-0.0.0 c.in_err-cost.field-0.0.1) (cost_refused i s x carries feasible.1 _ _ outcome))
 
 pub returns-in_err-value_agrees-clause-refuted : goal.returns-in_err-value_agrees-clause-refuted
 returns-in_err-value_agrees-clause-refuted g c =
@@ -47,8 +47,8 @@ returns-in_err-value_agrees-clause-refuted g c =
     let feasible = rw (c.network-network.ensures.nodes, c.network-network.ensures.arcs) at c.in_ok-feasible.ensures in
     let costs = rw c.network-network.ensures.arcs at c.in_ok-cost.ensures in
     let fits : SFits w128 c.in_ok-cost.cost = search rules in
-    let told = rw (to_z-of_z w128 c.in_ok-cost.cost fits, costs.0, is.value_is, is.line_is) at c.in_err-value_agrees.ensures in
-    refusal_refutes _ (min_claim_rows i s) (claim_one_way i s) (claim_clear i s) (Refused c.in_err-value_agrees.field-0.0.0 c.in_err-value_agrees.field-0.0.1) (value_refused i s x carries feasible.1 costs.1 _ _ told))
+    let outcome = rw (to_z-of_z w128 c.in_ok-cost.cost fits, costs.0, is.value_is, is.line_is) at c.in_err-value_agrees.ensures in
+    refusal_refutes _ (min_claim_rows i s) (claim_one_way i s) (claim_clear i s) (Refused c.in_err-value_agrees.field-0.0.0 c.in_err-value_agrees.field-0.0.1) (value_refused i s x carries feasible.1 costs.1 _ _ outcome))
 
 pub returns-clause-claim : goal.returns-clause-claim
 returns-clause-claim g c = λ s is.
@@ -66,5 +66,5 @@ returns-clause-feasible g c =
     let i = c.args.instance.now in
     let x = c.in_ok-flow.flow.now in
     let long : length x ≡ length i.arcs = c.in_ok-flow.ensures.one_each ∙ ap length c.requires.network in
-    let told = rw (c.network-network.ensures.nodes, c.network-network.ensures.arcs) at c.in_ok-feasible.ensures in
-    feasible_min_holds i x long told.1
+    let outcome = rw (c.network-network.ensures.nodes, c.network-network.ensures.arcs) at c.in_ok-feasible.ensures in
+    feasible_min_holds i x long outcome.1

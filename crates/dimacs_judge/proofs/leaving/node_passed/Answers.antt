@@ -4,14 +4,14 @@ use Rattle.std.proofs.lemmas.Int.{to_z-of_z}
 use Rattle.std.proofs.lemmas.Option.{get_or_from_slice_get}
 use Rattle.dimacs_records.specs.Ranges.{IsWide}
 use Rattle.dimacs_network.specs.declared.network.ArcView.{ArcView}
-use Rattle.dimacs_network.specs.declared.links.Side.TheVariants.{Tail}
-use Rattle.dimacs_network.specs.Links.{IsLast}
+use Rattle.dimacs_network.specs.declared.adjacency_lists.Side.TheVariants.{Tail}
+use Rattle.dimacs_network.specs.AdjacencyLists.{IsLast}
 use Rattle.dimacs_claims.specs.Labels.{IsNear}
 use Rattle.dimacs_judge.specs.inside.Leaving.{IsPassed, WeightsFall, arcs_in}
-use Rattle.dimacs_judge.specs.inside.Marks.{known}
+use Rattle.dimacs_judge.specs.inside.NodeLabels.{known}
 use Rattle.dimacs_network.specs.Arcs.{arc_at, no_arc}
 use Rattle.dimacs_judge.proofs.LeavingLemmas.{ArePassedOn, at_place, no_reason, node_beyond, node_done, node_more, passed_still, passed_this}
-use Rattle.dimacs_judge.proofs.MarkLemmas.{known_after, known_wide, label_wide}
+use Rattle.dimacs_judge.proofs.NodeLabelLemmas.{known_after, known_wide, label_wide}
 use Rattle.dimacs_judge.proofs.leaving.node_passed.Goals as goal
 
 pub loop-next-init : goal.loop-next-init
@@ -20,11 +20,11 @@ loop-next-init g c =
     let last : IsLast Tail chosen (length c.args.least.now.order.items) c.args.node c.last-next.result =
     subst (IsLast Tail chosen (length c.args.least.now.order.items) c.args.node) (sym c.last-next.ensures) (c.requires.least.linked.last_at c.args.node) in
     record {
-      marked = c.requires.marked;
+      labelled = c.requires.labelled;
       kept = λ a is. is;
       within = last.within;
       found = last.found;
-      passed = λ p after there here. absurd {A = IsPassed c.args.block.now (known g.D.Distance.value c.args.marks.now) (arc_at chosen p)} (last.none_after p after there here);
+      passed = λ p after there here. absurd {A = IsPassed c.args.block.now (known g.D.Distance.value c.args.node_labels.now) (arc_at chosen p)} (last.none_after p after there here);
     }
 
 pub leads_past-requires : goal.leads_past-requires
@@ -38,7 +38,7 @@ returns-then-leads_past-clause-passed g c = λ yes.
     let order = c.args.least.now.order.items in
     let b = c.args.block.now in
     let is = c.loop-next.invariant in
-    let at = known g.D.Distance.value c.loop-next.marks in
+    let at = known g.D.Distance.value c.loop-next.node_labels in
     let node = c.args.node in
     let place = c.loop-next.next - 1 in
     let a = c.arc-arc.result in
@@ -51,26 +51,26 @@ returns-then-leads_past-clause-passed g c = λ yes.
     let beyond : ¬ IsNear b.radius (c.args.from +ℤ (arc_at (arcs_in arcs order) place).cost) =
     subst (λ (z : ℤ). ¬ IsNear b.radius (c.args.from +ℤ z)) (ap (λ (c : ArcView). c.cost) (sym same)) (subst (λ (radius : Option ℤ). ¬ IsNear radius (c.args.from +ℤ a.cost)) c.radius-radius.ensures far) in
     let on : ArePassedOn arcs order b at node (place + 1) = subst (ArePassedOn arcs order b at node) next_is is.passed in
-    node_done arcs order b at node is.marked.known c.requires.least.covering (node_beyond arcs order b at node c.requires.lawful.0 c.args.from place c.requires.lawful.1 is.marked.known c.requires.label fall inside beyond on)
+    node_done arcs order b at node is.labelled.known c.requires.least.covering (node_beyond arcs order b at node c.requires.lawful.0 c.args.from place c.requires.lawful.1 is.labelled.known c.requires.label fall inside beyond on)
 
 pub pass_arc-requires-clause-blank : goal.pass_arc-requires-clause-blank
-pass_arc-requires-clause-blank g c = c.loop-next.invariant.marked.blank
+pass_arc-requires-clause-blank g c = c.loop-next.invariant.labelled.blank
 
 pub pass_arc-requires-clause-wide : goal.pass_arc-requires-clause-wide
-pass_arc-requires-clause-wide g c = known_wide c.requires.lawful.0 (g.N.Network.list c.args.network.now) c.args.block.now (known g.D.Distance.value c.loop-next.marks) c.requires.lawful.1 c.loop-next.invariant.marked.known
+pass_arc-requires-clause-wide g c = known_wide c.requires.lawful.0 (g.N.Network.list c.args.network.now) c.args.block.now (known g.D.Distance.value c.loop-next.node_labels) c.requires.lawful.1 c.loop-next.invariant.labelled.known
 
-pub returns-then-is_err-clause-marked : goal.returns-then-is_err-clause-marked
-returns-then-is_err-clause-marked g c =
+pub returns-then-is_err-clause-labelled : goal.returns-then-is_err-clause-labelled
+returns-then-is_err-clause-labelled g c =
     let value = g.D.Distance.value in
     record {
       blank = c.pass_arc.ensures.blank;
-      known = known_after c.arc-arc.result (known value c.loop-next.marks) (known value c.pass_arc.new.marks) c.args.block.now c.pass_arc.ensures.marks (g.N.Network.list c.args.network.now) c.loop-next.invariant.marked.known c.arc_at.result c.arc-arc.ensures;
+      known = known_after c.arc-arc.result (known value c.loop-next.node_labels) (known value c.pass_arc.new.node_labels) c.args.block.now c.pass_arc.ensures.node_labels (g.N.Network.list c.args.network.now) c.loop-next.invariant.labelled.known c.arc_at.result c.arc-arc.ensures;
     }
 
 pub returns-then-is_err-clause-kept : goal.returns-then-is_err-clause-kept
 returns-then-is_err-clause-kept g c = λ a passed.
     let value = g.D.Distance.value in
-    passed_still c.arc-arc.result (known value c.loop-next.marks) (known value c.pass_arc.new.marks) c.args.block.now c.pass_arc.ensures.marks a (c.loop-next.invariant.kept a passed)
+    passed_still c.arc-arc.result (known value c.loop-next.node_labels) (known value c.pass_arc.new.node_labels) c.args.block.now c.pass_arc.ensures.node_labels a (c.loop-next.invariant.kept a passed)
 
 pub loop-next-preserved : goal.loop-next-preserved
 loop-next-preserved g c =
@@ -79,9 +79,9 @@ loop-next-preserved g c =
     let chosen = arcs_in arcs order in
     let b = c.args.block.now in
     let is = c.loop-next.invariant in
-    let old = known g.D.Distance.value c.loop-next.marks in
-    let new = known g.D.Distance.value c.pass_arc.new.marks in
-    let passes = c.pass_arc.ensures.marks in
+    let old = known g.D.Distance.value c.loop-next.node_labels in
+    let new = known g.D.Distance.value c.pass_arc.new.node_labels in
+    let passes = c.pass_arc.ensures.node_labels in
     let node = c.args.node in
     let place = c.loop-next.next - 1 in
     let i = c.arc_at.result in
@@ -91,10 +91,10 @@ loop-next-preserved g c =
     let same : arc_at chosen place ≡ a = at_place arcs order place inside ∙ (ap (arc_at arcs) (sym c.arc_at.ensures) ∙ get_or_from_slice_get arcs i a no_arc c.arc-arc.ensures) in
     let here : (arc_at chosen place).tail ≡ node = is.found c.loop-next-test.true in
     let last : IsLast Tail chosen place node c.before-next.result = subst (IsLast Tail chosen place node) (sym c.before-next.ensures) (subst (λ v. IsLast Tail chosen place v (slice_index c.args.least.now.before.items place)) here (c.requires.least.linked.last_before place inside)) in
-    let this = passed_this a old new b passes arcs i c.arc-arc.ensures is.marked.known (no_reason _ c.pass_arc.result (sym c.is_err.ensures.value ∙ c.if-is_err.false) c.pass_arc.ensures.told) in
+    let this = passed_this a old new b passes arcs i c.arc-arc.ensures is.labelled.known (no_reason _ c.pass_arc.result (sym c.is_err.ensures.value ∙ c.if-is_err.false) c.pass_arc.ensures.outcome) in
     let on : ArePassedOn arcs order b old node (place + 1) = subst (ArePassedOn arcs order b old node) next_is is.passed in
     record {
-      marked = record { blank = c.pass_arc.ensures.blank; known = known_after a old new b passes arcs is.marked.known i c.arc-arc.ensures };
+      labelled = record { blank = c.pass_arc.ensures.blank; known = known_after a old new b passes arcs is.labelled.known i c.arc-arc.ensures };
       kept = λ d passed. passed_still a old new b passes d (is.kept d passed);
       within = omega (arith, last.within, inside);
       found = last.found;
@@ -107,5 +107,5 @@ returns-clause-passed g c = λ yes.
     let order = c.args.least.now.order.items in
     let is = c.loop-next.invariant in
     let none : c.loop-next.next ≡ 0 = omega (arith, c.loop-next-test.false) in
-    let at = known g.D.Distance.value c.loop-next.marks in
-    node_done arcs order c.args.block.now at c.args.node is.marked.known c.requires.least.covering (subst (ArePassedOn arcs order c.args.block.now at c.args.node) none is.passed)
+    let at = known g.D.Distance.value c.loop-next.node_labels in
+    node_done arcs order c.args.block.now at c.args.node is.labelled.known c.requires.least.covering (subst (ArePassedOn arcs order c.args.block.now at c.args.node) none is.passed)

@@ -18,8 +18,8 @@ returns-in_err-nodes_agree g c = λ s is.
     let i = c.args.instance.now in
     let law = c.network-network.ensures.lawful in
     let x = c.in_ok-flow.flow.now in
-    let told = rw (c.nodes.ensures, c.network-network.ensures.nodes, c.nodes-2.ensures) at c.in_err-nodes_agree.ensures in
-    max_judged i s c.args.cut.now law _ (nodes_refused i s c.args.cut.now law x (c.in_ok-flow.ensures.claim s is) _ _ told) _ c.from_residual-in_err-nodes_agree.ensures.1
+    let outcome = rw (c.nodes.ensures, c.network-network.ensures.nodes, c.nodes-2.ensures) at c.in_err-nodes_agree.ensures in
+    max_judged i s c.args.cut.now law _ (nodes_refused i s c.args.cut.now law x (c.in_ok-flow.ensures.claim s is) _ _ outcome) _ c.from_residual-in_err-nodes_agree.ensures.1
 
 pub cut_tests-requires : goal.cut_tests-requires
 cut_tests-requires g c = AllZip-long _ c.args.instance.now.arcs c.in_ok-flow.flow.now c.in_ok-flow.ensures.feasible.within

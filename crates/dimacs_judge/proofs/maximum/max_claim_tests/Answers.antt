@@ -21,8 +21,8 @@ returns-in_err-balances-clause-refuted g c =
     rw (p.1, p.2) (λ s is.
     let i = c.args.instance.now in
     let carries = rw c.requires.network at (c.in_ok-flow.ensures.carried s.entries is.entries) in
-    let told = rw (c.network-network.ensures.nodes, c.network-network.ensures.arcs) at c.in_err-balances.ensures in
-    refusal_refutes _ (max_claim_rows i s) (claim_one_way i s) (claim_clear i s c.network-network.ensures.lawful) _ (flow_refused i s c.in_ok-flow.flow.now carries _ told))
+    let outcome = rw (c.network-network.ensures.nodes, c.network-network.ensures.arcs) at c.in_err-balances.ensures in
+    refusal_refutes _ (max_claim_rows i s) (claim_one_way i s) (claim_clear i s c.network-network.ensures.lawful) _ (flow_refused i s c.in_ok-flow.flow.now carries _ outcome))
 
 pub returns-in_err-value_holds-clause-refuted : goal.returns-in_err-value_holds-clause-refuted
 returns-in_err-value_holds-clause-refuted g c =
@@ -32,8 +32,8 @@ returns-in_err-value_holds-clause-refuted g c =
     let x = c.in_ok-flow.flow.now in
     let carries = rw c.requires.network at (c.in_ok-flow.ensures.carried s.entries is.entries) in
     let balances = rw (c.network-network.ensures.nodes, c.network-network.ensures.arcs) at c.in_ok-balances.ensures in
-    let told = rw (is.value_is, is.line_is) at (c.in_err-value_holds.ensures x balances.0) in
-    refusal_refutes _ (max_claim_rows i s) (claim_one_way i s) (claim_clear i s c.network-network.ensures.lawful) (Refused c.in_err-value_holds.field-0.0.0 c.in_err-value_holds.field-0.0.1) (value_refused i s x carries balances.1 _ _ told))
+    let outcome = rw (is.value_is, is.line_is) at (c.in_err-value_holds.ensures x balances.0) in
+    refusal_refutes _ (max_claim_rows i s) (claim_one_way i s) (claim_clear i s c.network-network.ensures.lawful) (Refused c.in_err-value_holds.field-0.0.0 c.in_err-value_holds.field-0.0.1) (value_refused i s x carries balances.1 _ _ outcome))
 
 pub returns-clause-claim : goal.returns-clause-claim
 returns-clause-claim g c = λ s is.
@@ -49,5 +49,5 @@ returns-clause-feasible g c =
     let i = c.args.instance.now in
     let x = c.in_ok-flow.flow.now in
     let long : length x ≡ length i.arcs = c.in_ok-flow.ensures.one_each ∙ ap length c.requires.network in
-    let told = rw (c.network-network.ensures.nodes, c.network-network.ensures.arcs) at c.in_ok-balances.ensures in
-    feasible_max_holds i x c.network-network.ensures.lawful long told.1
+    let outcome = rw (c.network-network.ensures.nodes, c.network-network.ensures.arcs) at c.in_ok-balances.ensures in
+    feasible_max_holds i x c.network-network.ensures.lawful long outcome.1

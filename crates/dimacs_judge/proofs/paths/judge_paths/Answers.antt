@@ -21,14 +21,14 @@ returns-in_err-numbers g c =
     let refused = blocks_refused c.args.graph.now (asked c.args.queries.now) c.args.labels.now nodes named _ c.in_err-numbers.ensures in
     paths_judged c.args.graph.now (asked c.args.queries.now) c.args.labels.now _ refused _ c.from_residual-in_err-numbers.ensures.1
 
-pub returns-in_err-marked_blocks_hold : goal.returns-in_err-marked_blocks_hold
-returns-in_err-marked_blocks_hold g c =
+pub returns-in_err-labelled_blocks_hold : goal.returns-in_err-labelled_blocks_hold
+returns-in_err-labelled_blocks_hold g c =
     let nodes = rw (c.nodes.ensures, c.nodes-nodes.ensures, c.network-network.ensures.nodes) at c.in_ok-nodes_agree.ensures in
     let named = rw (c.nodes-nodes.ensures, c.network-network.ensures.nodes) at c.in_ok-query_nodes_hold.ensures.tests in
-    let error = c.in_err-marked_blocks_hold.field-0.0 in
-    let told = subst (λ (arcs : List ArcView). TellsAll (label_rows arcs c.args.labels.now.blocks) (Err error)) c.network-network.ensures.arcs c.in_err-marked_blocks_hold.ensures.tests in
-    let refused = labels_refused c.args.graph.now (asked c.args.queries.now) c.args.labels.now nodes named c.in_ok-numbers.ensures.1 error told in
-    paths_judged c.args.graph.now (asked c.args.queries.now) c.args.labels.now _ refused _ c.from_residual-in_err-marked_blocks_hold.ensures.1
+    let error = c.in_err-labelled_blocks_hold.field-0.0 in
+    let outcome = subst (λ (arcs : List ArcView). TellsAll (label_rows arcs c.args.labels.now.blocks) (Err error)) c.network-network.ensures.arcs c.in_err-labelled_blocks_hold.ensures.tests in
+    let refused = labels_refused c.args.graph.now (asked c.args.queries.now) c.args.labels.now nodes named c.in_ok-numbers.ensures.1 error outcome in
+    paths_judged c.args.graph.now (asked c.args.queries.now) c.args.labels.now _ refused _ c.from_residual-in_err-labelled_blocks_hold.ensures.1
 
 pub returns : goal.returns
 returns g c =
@@ -36,6 +36,6 @@ returns g c =
     let labels = c.args.labels.now in
     let nodes = rw (c.nodes.ensures, c.nodes-nodes.ensures, c.network-network.ensures.nodes) at c.in_ok-nodes_agree.ensures in
     let named = rw (c.nodes-nodes.ensures, c.network-network.ensures.nodes) at c.in_ok-query_nodes_hold.ensures.tests in
-    let told = c.in_ok-marked_blocks_hold.ensures in
-    let clear : AllClear (paths_rows graph (asked c.args.queries.now) labels) = (nodes, (named, (c.in_ok-numbers.ensures.1, rw c.network-network.ensures.arcs at told.tests))) in
-    (clear, paths_shown graph (asked c.args.queries.now) labels told.lawful clear, c.in_ok-answers.ensures)
+    let outcome = c.in_ok-labelled_blocks_hold.ensures in
+    let clear : AllClear (paths_rows graph (asked c.args.queries.now) labels) = (nodes, (named, (c.in_ok-numbers.ensures.1, rw c.network-network.ensures.arcs at outcome.tests))) in
+    (clear, paths_shown graph (asked c.args.queries.now) labels outcome.lawful clear, c.in_ok-answers.ensures)

@@ -10,4 +10,4 @@ returns g c =
     let arcs = c.args.instance.now.arcs in
     let p = potential_of c.args.potentials.now in
     let x = c.args.flow.now in
-    decided _ (slack_row arcs p x ∷ []) (λ clear. potentials_slack arcs p x c.requires clear.0) (λ slack. (slack_clear arcs p x slack, tt)) c.arcs_slack.result (last_row _ _ (rw c.network.ensures.arcs at c.arcs_slack.ensures))
+    decided _ (slack_row arcs p x ∷ []) (λ clear. potentials_slack arcs p x c.requires clear.0) (λ slack. (slack_clear arcs p x slack, tt)) c.arcs_hold.result (last_row _ _ (rw c.network.ensures.arcs at c.arcs_hold.ensures))

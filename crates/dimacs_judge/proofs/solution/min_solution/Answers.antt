@@ -23,10 +23,10 @@ returns-clause-some g c =
     let x = c.args.flow.now in
     let es = c.in_ok-entries.entries.items in
     let fits : SFits w128 c.in-Ok.value = search rules in
-    let told : (c.in-Ok.value ≡ cost i.arcs x) × Clear (cost_row i.arcs x) = rw c.network-network.ensures.arcs at c.in-Ok.ensures in
+    let outcome : (c.in-Ok.value ≡ cost i.arcs x) × Clear (cost_row i.arcs x) = rw c.network-network.ensures.arcs at c.in-Ok.ensures in
     let all : AreEntriesOf i.arcs es = rw c.network-network.ensures.arcs at c.in_ok-entries.ensures.all in
     let carries : Carries i.arcs es x = rw (← c.in_ok-entries.ensures.flows) (carried i.arcs es all) in
     rw (to_z-of_z w128 c.in-Ok.value fits) (
       record { value_first = refl; all_arcs = all },
-      record { carries = carries; feasible = c.requires; costs_wide = costs_wide i.arcs x told.1; cost_is = sym told.0 },
+      record { carries = carries; feasible = c.requires; costs_wide = costs_wide i.arcs x outcome.1; cost_is = sym outcome.0 },
     )

@@ -12,4 +12,4 @@ returns-then-ends_at-clause-run c =
     run_of_digits (drop c.args.at line) n c.in_ok-count.ensures.count (λ more. rw (get_or-drop c.args.at line n 0) (ends (omega (arith, more, length-drop c.args.at line))))
 
 pub returns-then-ends_at-clause-digits : goal.returns-then-ends_at-clause-digits
-returns-then-ends_at-clause-digits c = All-digits (drop c.args.at c.args.line.now) c.in_ok-count.count c.in_ok-count.ensures.count
+returns-then-ends_at-clause-digits c = All-digits 8 (drop c.args.at c.args.line.now) c.in_ok-count.count c.in_ok-count.ensures.count

@@ -7,5 +7,5 @@ returns g c = λ below are.
     let start = g.S.Sink.seen c.args.sink.now in
     let first = c.args.first.now in
     let rest = below c.args.count in
-    let begun = c.write_all.ensures start [] (c.new-page.ensures.written start) in
+    let begun = c.write_all.ensures start [] (c.new-output.ensures.written start) in
     c.finish.ensures start _ (lines_after start _ _ [] first rest (first ++ rest) refl (c.write_lines.ensures below are start _ begun))

@@ -1,5 +1,5 @@
 use Rattle.std.proofs.Common.{◌≡◌, ◌++◌, ◌+◌, subst, arith}
-use Rattle.dimacs_lines.specs.Pages.{IsWritten}
+use Rattle.dimacs_lines.specs.OutputBuffers.{IsWritten}
 use Rattle.dimacs_records.specs.Canonical.{canonical_text, said_lines}
 use Rattle.dimacs_records.proofs.WrittenLemmas.{lines_after}
 use Rattle.dimacs_records.proofs.canonical.write_lines.Goals as goal
@@ -16,4 +16,4 @@ loop-i-preserved g c = record {
 pub returns : goal.returns
 returns g c = λ below are start text h.
     let end : c.loop-i.i ≡ c.args.count = omega (arith, c.loop-i-test.false, c.loop-i.invariant.within) in
-    subst (λ i. IsWritten start (text ++ canonical_text (below i)) (g.S.Sink.seen c.loop-i.sink) c.loop-i.page) end (c.loop-i.invariant.written below are start text h)
+    subst (λ i. IsWritten start (text ++ canonical_text (below i)) (g.S.Sink.seen c.loop-i.sink) c.loop-i.output) end (c.loop-i.invariant.written below are start text h)

@@ -1,5 +1,5 @@
 use Rattle.std.proofs.Common.{ℕ, List, ◌≤◌}
-use Rattle.dimacs_lines.specs.Pages.{Appends}
+use Rattle.dimacs_lines.specs.OutputBuffers.{Appends}
 use Rattle.dimacs_records.specs.declared.records.Record.{Record}
 use Rattle.dimacs_records.specs.Canonical.{AreLines, canonical_text}
 use Rattle.dimacs_records.proofs.canonical.write_lines.Given as goal
@@ -8,5 +8,5 @@ use Rattle.dimacs_records.proofs.canonical.write_lines.Given as goal
 abbrev pub invariant-loop-i : goal.invariant-loop-i
 invariant-loop-i g l = record {
   within : l.i ≤ l.count;
-  written : (below : ℕ → List Record) → AreLines (goal.F-post g l.line) l.count below → Appends (canonical_text (below l.i)) (g.S.Sink.seen l.fn.sink) l.fn.page (g.S.Sink.seen l.sink) l.page;
+  written : (below : ℕ → List Record) → AreLines (goal.F-post g l.line) l.count below → Appends (canonical_text (below l.i)) (g.S.Sink.seen l.fn.sink) l.fn.output (g.S.Sink.seen l.sink) l.output;
 }

@@ -7,12 +7,18 @@ use Rattle.dimacs_records.proofs.plain.arc_line.Goals as goal
 
 pub returns : goal.returns
 returns c =
-    let n = c.in_ok-size.number in
-    let fits : SFits w64 n = search rules in
-    let tail = c.in_ok-after_tail in
-    let head = c.in_ok-after_head in
-    let size = c.in_ok-size.size in
+    let bytes = c.args.bytes.now in
+    let letter = c.args.letter in
+    let start = c.in_ok-numbers.ensures.left in
+    let tail = c.in_ok-tail in
+    let head = c.in_ok-head in
+    let number = c.in_ok-number in
+    let fits : SFits w64 number.number = search rules in
     let types = Id ∷ Id ∷ Whole ∷ [] in
-    let says = rw (to_z-of_z w64 n fits) at c.in_ok-said.ensures in
-    let line = ends_stand c.args.bytes.now c.args.letter tail.tail head.head tail.after_tail head.after_head size n (c.if-not-begins_with.ensures refl) tail.ensures.stands tail.ensures.range head.ensures.stands head.ensures.range c.in_ok-size.ensures.stands fits in
-    plain_says c.args.kind (form (c.args.letter ∷ []) types) c.args.bytes.now c.args.letter size c.in_ok-said.said says.among says.of_kind says.of_letter refl refl (subst (λ parts. IsPlainLine c.args.bytes.now c.args.letter types parts size) (sym says.parts) line)
+    let size = c.whole.new.self.at in
+    let says = rw (to_z-of_z w64 number.number fits) at c.in_ok-said.ensures in
+    let line = ends_stand bytes letter tail.tail head.head c.id.new.self.at c.id-2.new.self.at size number.number c.in_ok-numbers.ensures.begins
+    (rw start at tail.ensures.stands) tail.ensures.range (rw (tail.ensures.bytes, start) at head.ensures.stands) head.ensures.range
+    (rw (head.ensures.bytes, tail.ensures.bytes, start) at number.ensures.stands) fits in
+    rw c.at-size.ensures
+    (plain_says c.args.kind (form (letter ∷ []) types) bytes letter size c.in_ok-said.said says.among says.of_kind says.of_letter refl refl (subst (λ parts. IsPlainLine bytes letter types parts size) (sym says.parts) line))

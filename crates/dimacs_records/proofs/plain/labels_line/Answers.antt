@@ -10,12 +10,16 @@ use Rattle.dimacs_records.proofs.plain.labels_line.Goals as goal
 
 pub returns : goal.returns
 returns c =
-    let id = c.in_ok-after_id in
-    let dist = c.in_ok-after_dist in
-    let pred = c.in_ok-size in
+    let bytes = c.args.bytes.now in
+    let start = c.in_ok-numbers.ensures.left in
+    let id = c.in_ok-id in
+    let dist = c.in_ok-dist in
+    let pred = c.in_ok-pred in
     let wide = c.from.result in
     let dist_fits : SFits w64 dist.dist = search rules in
     let wide_fits : SFits w128 wide = search rules in
-    rw (to_z-of_z w128 wide wide_fits, c.from.ensures, to_z-of_z w64 dist.dist dist_fits)
-    (plain_says Labels (form (codes "d") (Id ∷ Wide ∷ Id ∷ [])) c.args.bytes.now 100 pred.size (LabelsNode id.id dist.dist pred.pred) (3, lit< tt, refl) refl refl refl refl
-    (label_stands c.args.bytes.now id.id pred.pred id.after_id dist.after_dist pred.size dist.dist (c.if-not-begins_with.ensures refl) id.ensures.stands id.ensures.range dist.ensures.stands dist_fits pred.ensures.stands pred.ensures.range))
+    rw (to_z-of_z w128 wide wide_fits, c.from.ensures, to_z-of_z w64 dist.dist dist_fits, c.at-size.ensures)
+    (plain_says Labels (form (codes "d") (Id ∷ Wide ∷ Id ∷ [])) bytes 100 c.id-2.new.self.at (LabelsNode id.id dist.dist pred.pred) (3, lit< tt, refl) refl refl refl refl
+    (label_stands bytes id.id pred.pred c.id.new.self.at c.whole.new.self.at c.id-2.new.self.at dist.dist c.in_ok-numbers.ensures.begins
+    (rw start at id.ensures.stands) id.ensures.range (rw (id.ensures.bytes, start) at dist.ensures.stands) dist_fits
+    (rw (dist.ensures.bytes, id.ensures.bytes, start) at pred.ensures.stands) pred.ensures.range))

@@ -8,9 +8,9 @@ use Rattle.dimacs_runs.proofs.texts_in_turn.place_solution.Goals as goal
 pub returns-in-Ok-clause-reads : goal.returns-in-Ok-clause-reads
 returns-in-Ok-clause-reads g c = λ a coming.
     let read = c.in-Ok.ensures.reads a coming in
-    one_placed (λ s placed. IsPlaced placed.value placed.value_line (g.E.Place.stands_for placed.place) s) (says kinds.Solution GivesSolution a) read.told c.in-Ok.placed read.alike read.reads
+    one_placed (λ s placed. IsPlaced placed.value placed.value_line (g.E.Place.stands_for placed.place) s) (says kinds.Solution GivesSolution a) read.noted c.in-Ok.placed read.alike read.reads
 
 pub returns-in-Err-clause-reads : goal.returns-in-Err-clause-reads
 returns-in-Err-clause-reads g c = λ a coming.
     let read = c.in-Err.ensures.reads a coming in
-    (c.of.ensures.named, rw c.of.ensures.error (none_placed (λ s placed. IsPlaced placed.value placed.value_line (g.E.Place.stands_for placed.place) s) (says kinds.Solution GivesSolution a) read.told c.in-Err.error read.alike read.reads))
+    (c.of.ensures.named, rw c.of.ensures.error (none_placed (λ s placed. IsPlaced placed.value placed.value_line (g.E.Place.stands_for placed.place) s) (says kinds.Solution GivesSolution a) read.noted c.in-Err.error read.alike read.reads))

@@ -12,12 +12,12 @@ pub loop-step-preserved : goal.loop-step-preserved
 loop-step-preserved g c =
     let i = c.args.instance.now in
     let x = c.loop-step.flow in
-    let told : (¬ Least i x) × KeepsBounds i.arcs c.in-Better.better × IsBetter i x c.in-Better.better = rw c.in-Better.is at c.in_ok-slack.ensures in
-    next_step i c.loop-step._step x c.in-Better.better c.loop-step.invariant told.0 told.1 told.2
+    let outcome : (¬ Least i x) × KeepsBounds i.arcs c.in-Better.better × IsBetter i x c.in-Better.better = rw c.in-Better.is at c.in_ok-slack.ensures in
+    next_step i c.loop-step._step x c.in-Better.better c.loop-step.invariant outcome.0 outcome.1 outcome.2
 
 pub returns : goal.returns
 returns g c =
     let i = c.args.instance.now in
     let x = c.loop-step.flow in
-    let told : (¬ Least i x) × KeepsBounds i.arcs c.in-Better-2._better × IsBetter i x c.in-Better-2._better = rw c.in-Better-2.is at c.in_ok-slack-2.ensures in
-    out_of_steps i c.loop-step._step c.args.limit x (omega (arith, c.loop-step-test.false, c.loop-step.auto._step-end)) c.loop-step.invariant told.0
+    let outcome : (¬ Least i x) × KeepsBounds i.arcs c.in-Better-2._better × IsBetter i x c.in-Better-2._better = rw c.in-Better-2.is at c.in_ok-slack-2.ensures in
+    out_of_steps i c.loop-step._step c.args.limit x (omega (arith, c.loop-step-test.false, c.loop-step.auto._step-end)) c.loop-step.invariant outcome.0

@@ -34,7 +34,7 @@ loop-i-init g c =
     let blocks : c.new-labels.result.blocks ≡ [] = ap (λ (l : LabelsValue). l.blocks) made in
     record {
       solved = solved_none c.args.adjacency.now c.new-labels.result (rw c.nodes.ensures at made) c.new-labels.ensures.lawful;
-      rounds = c.new-marks.ensures ∙ sym (ap length blocks);
+      rounds = c.new-node_states.ensures ∙ sym (ap length blocks);
       done = rw (blocks, c.new-done.ensures) (λ id. contains-empty nat_cmp id);
       few = omega (arith, ap length blocks);
       empty = c.new-frontier.ensures;
@@ -49,24 +49,24 @@ loop-i-preserved g c =
     let inside : i < length sources = omega (arith, c.loop-i-test.true, c.len-i-end.ensures, c.requires.same) in
     let is : get_or sources i 0 ≡ source = get_or_from_slice_get sources i source 0 c.source_asked-source.ensures in
     let taken : take (i + 1) sources ≡ take i sources ++ source ∷ [] = take_more sources i 0 inside ∙ ap (λ s. take i sources ++ s ∷ []) is in
-    let told : c.contains.result ≡ list_any (has_source source) c.loop-i.labels.blocks = c.contains.ensures ∙ c.loop-i.invariant.done source in
+    let outcome : c.contains.result ≡ list_any (has_source source) c.loop-i.labels.blocks = c.contains.ensures ∙ c.loop-i.invariant.done source in
     elim c.if-not-contains.branch [
       | then-not-contains+in_ok-solve_one+in_ok-insert w ↦
           let e = w.in_ok-solve_one.ensures in
-          let fresh : list_any (has_source source) c.loop-i.labels.blocks ≡ false = sym told ∙ w.if-not-contains.true in
+          let fresh : list_any (has_source source) c.loop-i.labels.blocks ≡ false = sym outcome ∙ w.if-not-contains.true in
           let blocks = ap (λ (l : LabelsValue). l.blocks) e.block.with in
           record {
             solved = rw (taken, w.labels-is) (solved_more a (take i sources) source c.loop-i.labels w.solve_one.new.labels fresh e.block c.loop-i.invariant.solved);
-            rounds = rw (w.labels-is, w.marks-is) e.rounds;
+            rounds = rw (w.labels-is, w.node_states-is) e.rounds;
             done = rw (w.done-is, w.labels-is, w.in_ok-insert.ensures.inserted) (e.block.sources c.loop-i.done c.loop-i.invariant.done);
             few = rw w.labels-is (omega (arith, c.loop-i.invariant.few, ap length blocks, length-append c.loop-i.labels.blocks (e.block.block ∷ [])));
             empty = w.frontier-is ∙ e.empty;
           }
       | else-not-contains w ↦
-          let there : list_any (has_source source) c.loop-i.labels.blocks ≡ true = sym told ∙ w.if-not-contains.false in
+          let there : list_any (has_source source) c.loop-i.labels.blocks ≡ true = sym outcome ∙ w.if-not-contains.false in
           record {
             solved = rw (taken, w.labels-is) (solved_again a (take i sources) source c.loop-i.labels there c.loop-i.invariant.solved);
-            rounds = rw (w.labels-is, w.marks-is) c.loop-i.invariant.rounds;
+            rounds = rw (w.labels-is, w.node_states-is) c.loop-i.invariant.rounds;
             done = rw (w.done-is, w.labels-is) c.loop-i.invariant.done;
             few = rw w.labels-is (omega (arith, c.loop-i.invariant.few));
             empty = w.frontier-is ∙ c.loop-i.invariant.empty;

@@ -8,7 +8,7 @@ use Rattle.dimacs_solve.proofs.paths.solve_all.Given as goal
 abbrev pub invariant-loop-i : goal.invariant-loop-i
 invariant-loop-i g l = record {
   solved : AreSolved l.adjacency (take l.i (sources_asked (asked l.queries))) l.labels;
-  rounds : l.marks.round ≡ length l.labels.blocks;
+  rounds : l.node_states.round ≡ length l.labels.blocks;
   done : AreSources l.done l.labels.blocks;
   few : length l.labels.blocks ≤ l.i;
   empty : l.frontier ≡ [];

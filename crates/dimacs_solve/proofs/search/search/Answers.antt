@@ -1,7 +1,7 @@
 use Rattle.std.proofs.Common.{◌∙◌, [], None, ap, arith}
 use Rattle.std.proofs.lemmas.List.Sorted.{IsPermutation-sym, length_permutation}
 use Rattle.dimacs_claims.specs.Labels.{BlockValue, IsBlock}
-use Rattle.dimacs_solve.specs.inside.Marks.{Sets, known, settled}
+use Rattle.dimacs_solve.specs.inside.NodeStates.{Sets, known, settled}
 use Rattle.dimacs_solve.specs.inside.Search.{IsPathSearch, Relaxes}
 use Rattle.dimacs_solve.proofs.SearchLemmas.{over_tree, start_ready, start_search}
 use Rattle.dimacs_solve.proofs.search.search.Goals as goal
@@ -9,25 +9,25 @@ use Rattle.dimacs_solve.proofs.search.search.Goals as goal
 pub relax-requires-clause-ready : goal.relax-requires-clause-ready
 relax-requires-clause-ready g c =
     let value = g.D.Distance.value in
-    let marks = known value c.next_round.new.self in
+    let node_states = known value c.next_round.new.self in
     let started = known value c.settle.new.self in
-    let sets : Sets marks c.args.source (settled 0) started = rw c.zero.ensures at c.in_ok-settle.ensures.settled in
-    rw (c.zero-2.ensures, c.requires.empty) (start_ready c.args.adjacency.now c.args.source marks started c.requires.adjacent c.requires.source c.next_round.ensures.unknown sets)
+    let sets : Sets node_states c.args.source (settled 0) started = rw c.zero.ensures at c.in_ok-settle.ensures.settled in
+    rw (c.zero-2.ensures, c.requires.empty) (start_ready c.args.adjacency.now c.args.source node_states started c.requires.adjacent c.requires.source c.next_round.ensures.unknown sets)
 
 pub loop-reach-init : goal.loop-reach-init
 loop-reach-init g c =
     let value = g.D.Distance.value in
     let a = c.args.adjacency.now in
     let source = c.args.source in
-    let marks = known value c.next_round.new.self in
+    let node_states = known value c.next_round.new.self in
     let started = known value c.settle.new.self in
-    let marks' = known value c.relax.new.marks in
-    let sets : Sets marks source (settled 0) started = rw c.zero.ensures at c.in_ok-settle.ensures.settled in
+    let node_states' = known value c.relax.new.node_states in
+    let sets : Sets node_states source (settled 0) started = rw c.zero.ensures at c.in_ok-settle.ensures.settled in
     let made = c.new-block.ensures.made in
     let lawful : IsBlock a.nodes (record { source = source; radius = None; labels = [] }) = rw made at (c.new-block.ensures.lawful a.nodes c.requires.source) in
-    let relaxes : Relaxes a source 0 started [] marks' c.relax.new.frontier = rw (c.zero-2.ensures, c.requires.empty) at c.in_ok-relax.ensures.relaxes in
+    let relaxes : Relaxes a source 0 started [] node_states' c.relax.new.frontier = rw (c.zero-2.ensures, c.requires.empty) at c.in_ok-relax.ensures.relaxes in
     record {
-      search = rw made (start_search a source marks started c.requires.adjacent c.requires.source c.next_round.ensures.unknown sets lawful marks' c.relax.new.frontier relaxes);
+      search = rw made (start_search a source node_states started c.requires.adjacent c.requires.source c.next_round.ensures.unknown sets lawful node_states' c.relax.new.frontier relaxes);
       from = ap (λ (b : BlockValue). b.source) made;
       round = c.in_ok-relax.ensures.round ∙ (c.in_ok-settle.ensures.round ∙ c.next_round.ensures.round);
     }
@@ -47,6 +47,6 @@ loop-reach-smaller g c =
 
 pub returns-clause-tree : goal.returns-clause-tree
 returns-clause-tree g c =
-    let marks = known g.D.Distance.value c.loop-reach.marks in
-    let is : IsPathSearch c.args.adjacency.now c.loop-reach.block marks [] = rw c.in_default.ensures.0 at c.loop-reach.invariant.search in
-    over_tree c.args.adjacency.now c.loop-reach.block marks is c.args.source c.loop-reach.invariant.from
+    let node_states = known g.D.Distance.value c.loop-reach.node_states in
+    let is : IsPathSearch c.args.adjacency.now c.loop-reach.block node_states [] = rw c.in_default.ensures.0 at c.loop-reach.invariant.search in
+    over_tree c.args.adjacency.now c.loop-reach.block node_states is c.args.source c.loop-reach.invariant.from

@@ -4,7 +4,7 @@ use Rattle.std.specs.Int.{w128}
 use Rattle.std.proofs.lemmas.Int.{to_z-of_z}
 use Rattle.dimacs_claims.specs.Labels.{IsBlock, IsNear, with_label}
 use Rattle.dimacs_solve.specs.Frontiers.{way_of}
-use Rattle.dimacs_solve.specs.inside.Marks.{IsSettled, known}
+use Rattle.dimacs_solve.specs.inside.NodeStates.{IsSettled, known}
 use Rattle.dimacs_solve.proofs.SearchLemmas.{AddsLabel, added, added_few, added_label, added_pred, has_none, marked_ready, popped_again, popped_small, visited, visited_less}
 use Rattle.dimacs_solve.proofs.search.visit.Goals as goal
 
@@ -13,20 +13,20 @@ returns-then-is_settled-clause-search g c =
     let value = g.D.Distance.value in
     let a = c.args.adjacency.now in
     let b = c.args.block.now in
-    let marks = known value c.args.marks.now in
+    let node_states = known value c.args.node_states.now in
     let e = way_of value c.args.reach in
     let front = c.args.frontier.now in
-    popped_again a b marks e front c.requires.popped (c.is_settled.ensures.0 c.if-is_settled.true)
+    popped_again a b node_states e front c.requires.popped (c.is_settled.ensures.0 c.if-is_settled.true)
 
 pub to_i128-requires : goal.to_i128-requires
 to_i128-requires g c =
     let value = g.D.Distance.value in
     let a = c.args.adjacency.now in
     let b = c.args.block.now in
-    let marks = known value c.args.marks.now in
+    let node_states = known value c.args.node_states.now in
     let e = way_of value c.args.reach in
     let front = c.args.frontier.now in
-    let small : e.dist < 2 ^ 90 = popped_small a b marks e front c.requires.popped in
+    let small : e.dist < 2 ^ 90 = popped_small a b node_states e front c.requires.popped in
     omega (arith, small)
 
 pub add-requires : goal.add-requires
@@ -34,54 +34,54 @@ add-requires g c =
     let value = g.D.Distance.value in
     let a = c.args.adjacency.now in
     let b = c.args.block.now in
-    let marks = known value c.args.marks.now in
+    let node_states = known value c.args.node_states.now in
     let e = way_of value c.args.reach in
     let front = c.args.frontier.now in
-    let not_before : ¬ IsSettled (marks e.node) = λ s. let t : c.is_settled.result ≡ true = c.is_settled.ensures.1 s in let f = c.if-is_settled.false in cc in
-    has_none a b marks e front c.requires.popped not_before
+    let not_before : ¬ IsSettled (node_states e.node) = λ s. let t : c.is_settled.result ≡ true = c.is_settled.ensures.1 s in let f = c.if-is_settled.false in cc in
+    has_none a b node_states e front c.requires.popped not_before
 
 pub relax-requires-clause-ready : goal.relax-requires-clause-ready
 relax-requires-clause-ready g c =
     let value = g.D.Distance.value in
     let a = c.args.adjacency.now in
     let b = c.args.block.now in
-    let marks = known value c.args.marks.now in
+    let node_states = known value c.args.node_states.now in
     let e = way_of value c.args.reach in
     let front = c.args.frontier.now in
-    let not_before : ¬ IsSettled (marks e.node) = λ s. let t : c.is_settled.result ≡ true = c.is_settled.ensures.1 s in let f = c.if-is_settled.false in cc in
+    let not_before : ¬ IsSettled (node_states e.node) = λ s. let t : c.is_settled.result ≡ true = c.is_settled.ensures.1 s in let f = c.if-is_settled.false in cc in
     let marked = known value c.settle.new.self in
     let sets = c.in_ok-settle.ensures.settled in
-    marked_ready a b marks e front c.requires.popped not_before marked sets
+    marked_ready a b node_states e front c.requires.popped not_before marked sets
 
 pub returns-clause-search : goal.returns-clause-search
 returns-clause-search g c =
     let value = g.D.Distance.value in
     let a = c.args.adjacency.now in
     let b = c.args.block.now in
-    let marks = known value c.args.marks.now in
+    let node_states = known value c.args.node_states.now in
     let e = way_of value c.args.reach in
     let front = c.args.frontier.now in
-    let not_before : ¬ IsSettled (marks e.node) = λ s. let t : c.is_settled.result ≡ true = c.is_settled.ensures.1 s in let f = c.if-is_settled.false in cc in
+    let not_before : ¬ IsSettled (node_states e.node) = λ s. let t : c.is_settled.result ≡ true = c.is_settled.ensures.1 s in let f = c.if-is_settled.false in cc in
     let marked = known value c.settle.new.self in
     let sets = c.in_ok-settle.ensures.settled in
-    let l = added a b marks e front c.requires.popped not_before marked sets in
+    let l = added a b node_states e front c.requires.popped not_before marked sets in
     let fits : SFits w128 c.to_i128.result = search rules in
     let whole = to_z-of_z w128 c.to_i128.result fits in
     let adds : AddsLabel b l = rw (c.in_ok-add.ensures.added, whole, c.to_i128.ensures) at c.in_ok-add.ensures.labels in
     let keeps = rw (c.in_ok-add.ensures.added, whole, c.to_i128.ensures) at c.in_ok-add.ensures.lawful in
     let near : IsNear b.radius l.dist = subst (λ radius. IsNear radius l.dist) (sym c.requires.popped.search.unbounded) tt in
-    let lawful : IsBlock a.nodes (with_label b l) = keeps a.nodes c.requires.popped.search.lawful (added_label a b marks e front c.requires.popped not_before marked sets) (added_few a b marks e front c.requires.popped not_before marked sets) (ap is_some (added_pred a b marks e front c.requires.popped not_before marked sets)) near in
-    rw (c.in_ok-add.ensures.added, whole, c.to_i128.ensures) (visited a b marks e front c.requires.popped not_before marked sets adds lawful (known value c.relax.new.marks) c.relax.new.frontier c.in_ok-relax.ensures.relaxes)
+    let lawful : IsBlock a.nodes (with_label b l) = keeps a.nodes c.requires.popped.search.lawful (added_label a b node_states e front c.requires.popped not_before marked sets) (added_few a b node_states e front c.requires.popped not_before marked sets) (ap is_some (added_pred a b node_states e front c.requires.popped not_before marked sets)) near in
+    rw (c.in_ok-add.ensures.added, whole, c.to_i128.ensures) (visited a b node_states e front c.requires.popped not_before marked sets adds lawful (known value c.relax.new.node_states) c.relax.new.frontier c.in_ok-relax.ensures.relaxes)
 
 pub returns-clause-less : goal.returns-clause-less
 returns-clause-less g c =
     let value = g.D.Distance.value in
     let a = c.args.adjacency.now in
     let b = c.args.block.now in
-    let marks = known value c.args.marks.now in
+    let node_states = known value c.args.node_states.now in
     let e = way_of value c.args.reach in
     let front = c.args.frontier.now in
-    let not_before : ¬ IsSettled (marks e.node) = λ s. let t : c.is_settled.result ≡ true = c.is_settled.ensures.1 s in let f = c.if-is_settled.false in cc in
+    let not_before : ¬ IsSettled (node_states e.node) = λ s. let t : c.is_settled.result ≡ true = c.is_settled.ensures.1 s in let f = c.if-is_settled.false in cc in
     let marked = known value c.settle.new.self in
     let sets = c.in_ok-settle.ensures.settled in
-    visited_less a b marks e front c.requires.popped not_before marked sets (known value c.relax.new.marks) c.relax.new.frontier c.in_ok-relax.ensures.relaxes
+    visited_less a b node_states e front c.requires.popped not_before marked sets (known value c.relax.new.node_states) c.relax.new.frontier c.in_ok-relax.ensures.relaxes

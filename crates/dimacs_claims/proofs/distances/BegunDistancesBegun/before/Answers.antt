@@ -1,25 +1,25 @@
 use Rattle.std.proofs.Common.{◌≡◌, None, ap, ap₂, false, refl, subst, sym, ◌∙◌}
 use Rattle.dimacs_records.specs.declared.order.Earlier.{Earlier}
 use Rattle.dimacs_records.specs.declared.records.Record.TheVariants.{DistancesNode, DistancesProblem, LabelsBlock}
-use Rattle.dimacs_records.specs.Tests.{told_of}
+use Rattle.dimacs_records.specs.Tests.{noted_before}
 use Rattle.dimacs_claims.specs.LabelsReading.{LabelsBegun, before, before_bare}
 use Rattle.dimacs_claims.proofs.DistanceStates.{tells_bare}
 use Rattle.dimacs_claims.proofs.distances.BegunDistancesBegun.before.Goals as goal
 
-pub returns-in-DistancesBlock-clause-told : goal.returns-in-DistancesBlock-clause-told
-returns-in-DistancesBlock-clause-told c =
+pub returns-in-DistancesBlock-clause-noted : goal.returns-in-DistancesBlock-clause-noted
+returns-in-DistancesBlock-clause-noted c =
     let line = c.in-DistancesBlock in
     rw line.is (subst (λ (t : LabelsBegun). c.before_block.result ≡ before t (LabelsBlock line.source line.count None)) c.self.view_is (c.before_block.ensures line.count None))
 
 pub returns-in-DistancesBlock-clause-so : goal.returns-in-DistancesBlock-clause-so
-returns-in-DistancesBlock-clause-so c = λ rs h. rw (h, returns-in-DistancesBlock-clause-told c) (tells_bare c.args.self.now c.args.said c.requires.spelled.for_kind)
+returns-in-DistancesBlock-clause-so c = λ rs h. rw (h, returns-in-DistancesBlock-clause-noted c) (tells_bare c.args.self.now c.args.said c.requires.spelled.for_kind)
 
 pub returns-in-DistancesNode-clause-so : goal.returns-in-DistancesNode-clause-so
 returns-in-DistancesNode-clause-so c = λ rs h.
     let line = c.in-DistancesNode in
     let said = DistancesNode line.id line.dist in
-    let told = ap (λ (e : Earlier). record e { pred_unknown = false; past_radius = false }) c.before_label.ensures in
-    told ∙ (ap (λ (t : LabelsBegun). before_bare t said) c.self.view_is ∙ (tells_bare c.args.self.now said refl ∙ ap₂ told_of (sym h) (sym line.is)))
+    let noted = ap (λ (e : Earlier). record e { pred_unknown = false; past_radius = false }) c.before_label.ensures in
+    noted ∙ (ap (λ (t : LabelsBegun). before_bare t said) c.self.view_is ∙ (tells_bare c.args.self.now said refl ∙ ap₂ noted_before (sym h) (sym line.is)))
 
 pub returns-in-DistancesProblem-clause-so : goal.returns-in-DistancesProblem-clause-so
 returns-in-DistancesProblem-clause-so c = λ rs h.

@@ -9,4 +9,4 @@ pub returns : goal.returns
 returns c = λ count radius.
     let source = c.args.source in
     let blocks = ap (λ (t : LabelsBegun). list_any (has_source source) t.blocks) c.self.view_is in
-    rw (c.before_end.ensures.told, c.contains.ensures ∙ (c.self.invariant.1 source ∙ (blocks ∙ sym (source_told c.args.self.now source)))) refl
+    rw (c.before_end.ensures.noted, c.contains.ensures ∙ (c.self.invariant.1 source ∙ (blocks ∙ sym (source_told c.args.self.now source)))) refl

@@ -5,12 +5,12 @@ use Rattle.dimacs_records.specs.declared.records.Record.TheVariants.{LabelsNode,
 use Rattle.dimacs_claims.proofs.BegunLemmas.{tells}
 use Rattle.dimacs_claims.proofs.labels.BegunLabelsBegun.before.Goals as goal
 
-pub returns-in-LabelsBlock-clause-told : goal.returns-in-LabelsBlock-clause-told
-returns-in-LabelsBlock-clause-told c =
+pub returns-in-LabelsBlock-clause-noted : goal.returns-in-LabelsBlock-clause-noted
+returns-in-LabelsBlock-clause-noted c =
     rw c.in-LabelsBlock.is (c.before_block.ensures c.in-LabelsBlock.count c.in-LabelsBlock.radius)
 
 pub returns-in-LabelsBlock-clause-so : goal.returns-in-LabelsBlock-clause-so
-returns-in-LabelsBlock-clause-so c = λ rs h. rw (h, returns-in-LabelsBlock-clause-told c) (tells c.args.self.now c.args.said c.requires.spelled.for_kind)
+returns-in-LabelsBlock-clause-so c = λ rs h. rw (h, returns-in-LabelsBlock-clause-noted c) (tells c.args.self.now c.args.said c.requires.spelled.for_kind)
 
 pub returns-in-LabelsNode-clause-so : goal.returns-in-LabelsNode-clause-so
 returns-in-LabelsNode-clause-so c = λ rs h.

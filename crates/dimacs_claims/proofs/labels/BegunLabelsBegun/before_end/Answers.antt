@@ -4,8 +4,8 @@ use Rattle.dimacs_claims.proofs.BegunLemmas.{end_tells}
 use Rattle.dimacs_claims.proofs.LabelRecords.{short_told}
 use Rattle.dimacs_claims.proofs.labels.BegunLabelsBegun.before_end.Goals as goal
 
-pub returns-clause-told : goal.returns-clause-told
-returns-clause-told c =
+pub returns-clause-noted : goal.returns-clause-noted
+returns-clause-noted c =
     let are : AreLabelsBegun c.args.self.now = rw c.self.view_is at c.self.invariant.0 in
     rw (c.lines.ensures, ap (λ (t : LabelsBegun). t.missing) c.self.view_is, ← short_told c.args.self.now are.none_lack) refl
 

@@ -5,8 +5,8 @@ use Rattle.dimacs_claims.proofs.potentials.BegunPotentialsBegun.before.Goals as 
 
 pub returns-in-PotentialsNode-clause-so : goal.returns-in-PotentialsNode-clause-so
 returns-in-PotentialsNode-clause-so c = λ rs h.
-    rw (c.before_end.ensures.told, c.is_some.ensures, c.get.ensures, c.in-PotentialsNode.is, ← c.self.view_is)
+    rw (c.before_end.ensures.noted, c.is_some.ensures, c.get.ensures, c.in-PotentialsNode.is, ← c.self.view_is)
     (tells _ (PotentialsNode c.in-PotentialsNode.id c.in-PotentialsNode.value) refl rs (rw (← c.self.view_is) at h))
 
 pub returns-in-PotentialsProblem-clause-so : goal.returns-in-PotentialsProblem-clause-so
-returns-in-PotentialsProblem-clause-so c = λ rs h. rw (c.before_end-in-PotentialsProblem.ensures.told, c.in-PotentialsProblem.is) (tells _ (PotentialsProblem c.in-PotentialsProblem.nodes c.in-PotentialsProblem.count) refl rs h)
+returns-in-PotentialsProblem-clause-so c = λ rs h. rw (c.before_end-in-PotentialsProblem.ensures.noted, c.in-PotentialsProblem.is) (tells _ (PotentialsProblem c.in-PotentialsProblem.nodes c.in-PotentialsProblem.count) refl rs h)

@@ -8,8 +8,8 @@ use Rattle.dimacs_claims.proofs.solution.SolutionReadingReading.finish.Goals as 
 pub returns-in_err-test_end-clause-refused : goal.returns-in_err-test_end-clause-refused
 returns-in_err-test_end-clause-refused g c =
     let p = err_from_is_err_and c.from_residual.result c.from_residual.ensures.1 in
-    let told = rw c.earlier.ensures at c.in_err-test_end.ensures.told in
-    rw (p.1, p.2) (λ rs h. end_refused_told Solution _ (records_of rs) _ told (end_tells (g.P.Place.stands_for c.args.self.place) rs c.args.self.value h))
+    let noted = rw c.earlier.ensures at c.in_err-test_end.ensures.noted in
+    rw (p.1, p.2) (λ rs h. end_refused_told Solution _ (records_of rs) _ noted (end_tells (g.P.Place.stands_for c.args.self.place) rs c.args.self.value h))
 
 pub returns-clause-complete : goal.returns-clause-complete
 returns-clause-complete g c = λ rs h.

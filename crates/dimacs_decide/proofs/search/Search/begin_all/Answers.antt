@@ -8,19 +8,19 @@ use Rattle.dimacs_decide.proofs.search.Search.begin_all.Goals as goal
 
 pub loop-id-preserved : goal.loop-id-preserved
 loop-id-preserved c =
-    let surplus = value_of c.args.self.now.surplus in
+    let imbalance = value_of c.args.self.now.imbalance in
     let visits = value_of c.loop-id.self.visits in
     let queue = c.loop-id.self.queue.items in
     let id = c.loop-id.id in
     let nodes = c.args.nodes in
     let now = c.loop-id.invariant in
-    let same : value_of c.loop-id.self.surplus ≡ surplus = ap value_of now.surplus in
-    let here : c.get.result ≡ surplus id = c.get.ensures.value ∙ ap (λ (s : ℕ → ℤ). s id) same in
+    let same : value_of c.loop-id.self.imbalance ≡ imbalance = ap value_of now.imbalance in
+    let here : c.get.result ≡ imbalance id = c.get.ensures.value ∙ ap (λ (s : ℕ → ℤ). s id) same in
     elim c.if-get-gt0.branch [
       | then-get-gt0+in_ok-begin w ↦
           let b = w.in_ok-begin.ensures in
           rw w.self-is record {
-            surplus = b.surplus ∙ now.surplus;
+            imbalance = b.imbalance ∙ now.imbalance;
             reached = λ v some less more. elim (cases_order v id) [
               | inl e ↦ subst (λ u. 0 < rank_of (value_of w.begin.new.self.visits) u) (sym e) b.reached
               | inr apart ↦ elim apart [
@@ -35,9 +35,9 @@ loop-id-preserved c =
           }
       | else-get-gt0 w ↦
           rw w.self-is record {
-            surplus = now.surplus;
+            imbalance = now.imbalance;
             reached = λ v some less more. elim (cases_order v id) [
-              | inl e ↦ absurd (let f : surplus v ≡ surplus id = ap surplus e in let no = w.if-get-gt0.false in omega (arith, ints, f, here, more, no))
+              | inl e ↦ absurd (let f : imbalance v ≡ imbalance id = ap imbalance e in let no = w.if-get-gt0.false in omega (arith, ints, f, here, more, no))
               | inr apart ↦ elim apart [ inl low ↦ now.reached v some low more | inr high ↦ absurd (omega (arith, high, less)) ]
             ];
             none = λ v h. now.none v (omega (arith, h));

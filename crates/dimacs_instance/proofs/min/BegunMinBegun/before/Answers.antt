@@ -5,5 +5,5 @@ use Rattle.dimacs_instance.proofs.min.BegunMinBegun.before.Goals as goal
 
 pub returns-in-MinNode-clause-so : goal.returns-in-MinNode-clause-so
 returns-in-MinNode-clause-so g c = λ rs h.
-    rw (c.before_end-in-MinNode.ensures.told, c.arcs.ensures, c.is_some.ensures, c.get.ensures, c.in-MinNode.is, ← c.self.view_is)
+    rw (c.before_end-in-MinNode.ensures.noted, c.arcs.ensures, c.is_some.ensures, c.get.ensures, c.in-MinNode.is, ← c.self.view_is)
     (tells _ (MinNode c.in-MinNode.id c.in-MinNode.supply) refl rs (rw (← c.self.view_is) at h))

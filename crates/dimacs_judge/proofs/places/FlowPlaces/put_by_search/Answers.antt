@@ -20,7 +20,7 @@ returns-clause-puts g c =
     let fits : SFits w64 c.args.entry.flow = search rules in
     let found = rw (← c.self.view_is) at c.in-Some-kth.ensures in
     let came = rw (← c.self.view_is) at c.came-came.ensures in
-    let searched : c.self.inside.out_of_order ≡ true = rw (← c.self.view_is) at c.requires.searched in
+    let searched : c.self.inside.out_of_order ≡ true = rw (← c.self.view_is) at c.requires.out_of_order in
     let first = rw (← c.self.view_is) at c.in-Some.ensures in
     let room : c.in-Some.first < length c.self.inside.counts.items = omega (arith, first.0, c.self.invariant.0.counts) in
     rw (← c.self.view_is, c.set.ensures, to_z-of_z w64 c.args.entry.flow fits) (λ before placed. found_placed _ before c.args.entry placed searched c.in-Some.first c.came-came.result c.in-Some-kth.arc first came found room)

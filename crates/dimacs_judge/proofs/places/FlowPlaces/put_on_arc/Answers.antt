@@ -1,6 +1,6 @@
 use Rattle.std.proofs.Common.{refl, w64, SFits, rules, arith}
 use Rattle.std.proofs.lemmas.Int.{to_z-of_z}
-use Rattle.dimacs_judge.proofs.PlaceLemmas.{placed_in_any_order, next_placed}
+use Rattle.dimacs_judge.proofs.PlaceLemmas.{next_placed}
 use Rattle.dimacs_judge.proofs.places.FlowPlaces.put_on_arc.Goals as goal
 
 pub overflow_add-self : goal.overflow_add-self
@@ -13,6 +13,3 @@ returns-then-is_next-clause-puts g c =
     let fits : SFits w64 c.args.entry.flow = search rules in
     let next = rw (← c.self.view_is) at (c.if-is_next.ensures refl) in
     rw (← c.self.view_is, c.set.ensures, to_z-of_z w64 c.args.entry.flow fits) (λ before placed. next_placed _ before c.args.entry placed next.0 next.1 next.2)
-
-pub returns-clause-puts : goal.returns-clause-puts
-returns-clause-puts g c = λ before placed. rw c.leave_order.ensures at (c.put_by_search.ensures.puts before (rw c.leave_order.ensures (placed_in_any_order _ before c.args.entry placed)))

@@ -6,17 +6,17 @@ use Rattle.dimacs_network.proofs.plain_arcs.PlainArcs.push.Goals as goal
 
 pub invariant_of-self-2 : goal.invariant_of-self-2
 invariant_of-self-2 g c =
-    let ends = c.self.inside.with_ends.items in
-    let apart = c.self.inside.apart.items in
-    let long = kept_long g.A.KeptArc.arc_of ends apart c.self.invariant.1 in
+    let ends = c.self.inside.ends.items in
+    let numbers = c.self.inside.numbers in
+    let long = kept_long g.A.KeptArc.arc_of ends numbers c.self.invariant.1 in
     let few = rw (← c.self.view_is) at c.requires in
     let room : length ends < most_count = omega (arith, few, long) in
-    let longer : length c.push.new.self.items ≡ length ends + 1 = ap length c.in_ok-push.ensures.items ∙ length_push ends _ in
-    let more : length c.push_reserved.new.self.items ≡ length apart + 1 = ap length c.push_reserved.ensures.items ∙ length_push _ c.parts-with_ends.result.1 ∙ ap (λ items. length items + 1) c.in_ok-reserve.ensures.items in
-    (omega (arith, room, longer), omega (arith, longer, more, c.self.invariant.1))
+    let longer : length c.push.new.self ≡ length numbers + 1 = ap length c.in_ok-push.ensures.pushed ∙ length_push numbers _ in
+    let more : length c.push_reserved.new.self.items ≡ length ends + 1 = ap length c.push_reserved.ensures.items ∙ length_push _ c.parts-numbers.result.0 ∙ ap (λ items. length items + 1) c.in_ok-reserve.ensures.items in
+    (omega (arith, room, more), omega (arith, longer, more, c.self.invariant.1))
 
 pub returns-clause-pushed : goal.returns-clause-pushed
 returns-clause-pushed g c =
-    let ends = c.self.inside.with_ends.items in
-    let apart = c.self.inside.apart.items in
-    rw (← c.self.view_is, c.in_ok-push.ensures.items, c.push_reserved.ensures.items, c.in_ok-reserve.ensures.items, kept_push g.A.KeptArc.arc_of ends apart c.self.invariant.1 _ _, c.parts-with_ends.ensures) refl
+    let ends = c.self.inside.ends.items in
+    let numbers = c.self.inside.numbers in
+    rw (← c.self.view_is, c.in_ok-push.ensures.pushed, c.push_reserved.ensures.items, c.in_ok-reserve.ensures.items, kept_push g.A.KeptArc.arc_of ends numbers c.self.invariant.1 _ _, c.parts-numbers.ensures) refl

@@ -12,6 +12,6 @@ returns-in_default-clause-refused g c = λ rs h.
 pub returns-in_err-test_end-clause-refused : goal.returns-in_err-test_end-clause-refused
 returns-in_err-test_end-clause-refused g c =
     let p = err_from_is_err_and c.from_residual.result c.from_residual.ensures.1 in
-    let told = rw c.kind.ensures.kind at c.in_err-test_end.ensures.told in
+    let noted = rw c.kind.ensures.kind at c.in_err-test_end.ensures.noted in
     let so = rw c.in-Some.is at c.before_end.ensures.so in
-    rw (p.1, p.2) (λ rs h. end_refused_told g.B.Begun.kind c.before_end.result (records_of rs) _ told (so (records_of rs) (rw c.in-Some.is at h)))
+    rw (p.1, p.2) (λ rs h. end_refused_told g.B.Begun.kind c.before_end.result (records_of rs) _ noted (so (records_of rs) (rw c.in-Some.is at h)))

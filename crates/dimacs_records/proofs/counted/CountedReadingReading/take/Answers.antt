@@ -3,7 +3,7 @@ use Rattle.std.proofs.lemmas.Result.{err_from_is_err_and}
 use Rattle.dimacs_records.specs.Conditions.{needs_problem}
 use Rattle.dimacs_records.specs.Readings.{records_of}
 use Rattle.dimacs_records.specs.Spelling.{kind_of}
-use Rattle.dimacs_records.proofs.OrderLemmas.{allowed_told, refused_told}
+use Rattle.dimacs_records.proofs.OrderLemmas.{allowed_told, refused_noted}
 use Rattle.dimacs_records.proofs.counted.CountedReadingReading.take.Goals as goal
 
 pub returns-in_err-test_first-in-None-clause-refused : goal.returns-in_err-test_first-in-None-clause-refused
@@ -26,4 +26,4 @@ returns-in_err-test_record-in-Some-clause-refused g c =
     let p = err_from_is_err_and c.from_residual.result c.from_residual.ensures.1 in
     rw (p.1, p.2) (λ rs h.
     let begun = rw c.in-Some.is at h in
-    refused_told c.before-in-Some.result (records_of rs) c.args.said _ c.in_err-test_record-in-Some.ensures.told (c.before-in-Some.ensures.so (records_of rs) begun))
+    refused_noted c.before-in-Some.result (records_of rs) c.args.said _ c.in_err-test_record-in-Some.ensures.noted (c.before-in-Some.ensures.so (records_of rs) begun))

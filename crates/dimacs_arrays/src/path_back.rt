@@ -1,0 +1,96 @@
+//! Going back from a node, predecessor by predecessor, to one with a label.
+
+ghost use Rattle.std.specs.Prelude.{ℕ, ◌≡◌, ◌≢◌, ◌⊎◌, ◌<◌, ◌≤◌, ◌↔◌, None, true, false, length, IfOk, IsSome, IsTrue, OnOk};
+ghost use Rattle.dimacs_lines.specs.Limits.{most_nodes};
+ghost use Rattle.dimacs_nodes.specs.Tables.{value_of};
+ghost use Rattle.dimacs_decide.specs.Claims.{claimed_by_node};
+ghost use Rattle.dimacs_arrays.specs.Paths.{LeadsBack, pred_by_node};
+ghost use Rattle.dimacs_arrays.specs.inside.LabelTrees.{AreLedBelow, IsClimbing, IsLabelTree, Keeps, Leads};
+
+use crate::label_tree::{LabelTree, distance_of, predecessor_of};
+use dimacs_lines::Memory;
+use dimacs_nodes::NodeTable;
+use std::alloc::Global;
+
+/// The way back from a node, and for each node the start of the last way that had it.
+#[derive(Drop)]
+pub(crate) struct PathBack {
+    path: Vec<u32>,
+    roots: NodeTable<u32>,
+}
+
+impl PathBack {
+    /// The empty way. Allocates nothing.
+    pub(crate) fn new(alloc: Global) -> PathBack
+        ensures { (v : ℕ) → value_of result.roots v ≡ 0 }
+    {
+        PathBack {
+            path: Vec::new(alloc),
+            roots: NodeTable::new(alloc, 0),
+        }
+    }
+
+    /// Labels a node and those on the way back from it, if it leads back to the source. Returns whether it does; true
+    /// if the node has no distance.
+    pub(crate) fn lead(
+        &mut self,
+        tree: &mut LabelTree,
+        distances: &[i64],
+        predecessors: &[u32],
+        from: u32,
+    ) -> Result<bool, Memory>
+        requires few_nodes { length distances.now ≤ most_nodes }
+        requires tree { IsLabelTree (length distances.now) tree.old.block.source
+            (claimed_by_node distances.now) (pred_by_node predecessors.now) tree.old.block (value_of tree.old.led) }
+        requires preds { (v : ℕ) → claimed_by_node distances.now v ≡ None → pred_by_node predecessors.now v ≡ 0 }
+        requires earlier { AreLedBelow (claimed_by_node distances.now) (value_of tree.old.led) from }
+        requires roots { (v : ℕ) → value_of self.old.roots v < from }
+        ensures tree { OnOk result (IsLabelTree (length distances.now) tree.old.block.source
+            (claimed_by_node distances.now) (pred_by_node predecessors.now) tree.new.block (value_of tree.new.led)) }
+        ensures keeps { OnOk result (Keeps (value_of tree.old.led) (value_of tree.new.led)) }
+        ensures roots { OnOk result ((v : ℕ) → value_of self.new.roots v ≤ from) }
+        ensures led { IfOk result (Leads (pred_by_node predecessors.now) tree.old.block.source (claimed_by_node distances.now) (value_of tree.new.led) from) }
+    {
+        let end = self.climb(tree, distances, predecessors, from)?;
+        if !tree.is_led(end) {
+            return Ok(distance_of(distances, from).is_none());
+        }
+        while let Some(node) = self.path.pop() {
+            tree.place(distances, predecessors, node)?;
+        }
+        Ok(true)
+    }
+
+    /// Goes back from a node to the first that has a label or no distance, or that this way has already. Returns that
+    /// node.
+    fn climb(
+        &mut self,
+        tree: &LabelTree,
+        distances: &[i64],
+        predecessors: &[u32],
+        from: u32,
+    ) -> Result<u32, Memory>
+        requires roots { (v : ℕ) → value_of self.old.roots v < from }
+        ensures climbing { IfOk result (IsClimbing (claimed_by_node distances.now) (pred_by_node predecessors.now)
+            (value_of tree.now.led) from (value_of self.new.roots) self.new.path.items) }
+        ensures stops { IfOk result (λ end. (claimed_by_node distances.now end ≡ None)
+            ⊎ ((value_of tree.now.led end ≡ true) ⊎ (value_of self.new.roots end ≡ from))) }
+    {
+        self.path.clear();
+        let mut at = from;
+        while self.goes_on(tree, distances, from, at) {
+            self.roots.set(at, from)?;
+            self.path.push(at)?;
+            at = predecessor_of(predecessors, at);
+        }
+        Ok(at)
+    }
+
+    /// Whether a node has a distance and no label, and isn't on the way from this start.
+    #[inline(always)]
+    fn goes_on(&self, tree: &LabelTree, distances: &[i64], from: u32, at: u32) -> bool
+        ensures { IsTrue result ↔ (IsSome (claimed_by_node distances.now at) × (value_of tree.now.led at ≡ false) × (value_of self.now.roots at ≢ from)) }
+    {
+        distance_of(distances, at).is_some() && !tree.is_led(at) && self.roots.get(at) != from
+    }
+}

@@ -1,7 +1,0 @@
-use Rattle.std.proofs.Common.{◌≡◌, drop}
-use Rattle.dimacs_claims.specs.Labels.{distance_in}
-use Rattle.dimacs_claims.proofs.label_list.LabelList.distance.Given as goal
-
--- the labels so far are of other nodes
-abbrev pub invariant-loop-place : goal.invariant-loop-place
-invariant-loop-place l = distance_in (drop l.place l.self) l.fn.id ≡ distance_in l.self l.fn.id

@@ -1,0 +1,27 @@
+use Rattle.std.proofs.Common.{◌≡◌, pos, ◌<ℤ◌, arith}
+use Rattle.std.proofs.lemmas.Int.{ints}
+use Rattle.dimacs_nodes.specs.Tables.{value_of}
+use Rattle.dimacs_decide.proofs.FeasibleLemmas.{stands_even, stands_none, stands_short}
+use Rattle.dimacs_decide.proofs.imbalance.assess.Goals.{then-amount-lt0, else-amount-lt0}
+use Rattle.dimacs_decide.proofs.imbalance.assess.Goals as goal
+
+pub loop-id-init : goal.loop-id-init
+loop-id-init c = stands_none c.args.nodes (value_of c.args.imbalance.now)
+
+pub loop-id-preserved : goal.loop-id-preserved
+loop-id-preserved c =
+    let imbalance = value_of c.args.imbalance.now in
+    let nodes = c.args.nodes in
+    let id = c.loop-id.id in
+    let is = c.get-amount.ensures.value in
+    let no = c.if-amount-gt0.false in
+    elim c.if-amount-lt0.branch [
+      | then-amount-lt0 w ↦
+          let yes_is = w.if-amount-lt0.true in
+          let less : imbalance id <ℤ pos 0 = omega (arith, ints, is, yes_is) in
+          rw w.standing-is (stands_short nodes id imbalance c.loop-id.standing c.loop-id.invariant (omega arith, omega arith) less)
+      | else-amount-lt0 w ↦
+          let none = w.if-amount-lt0.false in
+          let even : imbalance id ≡ pos 0 = omega (arith, ints, is, no, none) in
+          rw w.standing-is (stands_even nodes id imbalance c.loop-id.standing c.loop-id.invariant even)
+    ]

@@ -1,0 +1,74 @@
+use Rattle.std.proofs.Common.{rules, ◌≡◌, ◌∙◌, ◌^◌, inl, inr, pos, ◌-ℤ◌, sym, subst, arith, w64, SFits}
+use Rattle.std.specs.Int.{w128}
+use Rattle.std.proofs.lemmas.Bool.{cases_eq}
+use Rattle.std.proofs.lemmas.Int.{ints, to_z-of_z}
+use Rattle.std.proofs.lemmas.Slice.Zip.{AllZip-long}
+use Rattle.dimacs_judge.specs.Flows.{net}
+use Rattle.dimacs_judge.specs.inside.Ranges.{IsOfSize}
+use Rattle.dimacs_judge.proofs.Passing.{same_number}
+use Rattle.dimacs_nodes.specs.Tables.{value_of}
+use Rattle.dimacs_decide.specs.FeasibilityDecision.{imbalance_at}
+use Rattle.dimacs_decide.proofs.FeasibleLemmas.{imbalances_all, imbalances_more, imbalances_none, imbalances_skip}
+use Rattle.dimacs_decide.proofs.SumLemmas.{net_size}
+use Rattle.dimacs_decide.proofs.imbalance.imbalances.Goals.{then-is_some+in_ok-set, else-is_some}
+use Rattle.dimacs_decide.proofs.imbalance.imbalances.Goals as goal
+
+pub new-requires-clause-one_each : goal.new-requires-clause-one_each
+new-requires-clause-one_each g c = rw c.network-network.ensures.arcs (AllZip-long _ c.args.instance.now.arcs c.args.flow.now c.requires)
+
+pub overflow_sub-imbalance : goal.overflow_sub-imbalance
+overflow_sub-imbalance g c =
+    let i = c.args.instance.now in
+    let law = c.network-network.ensures.lawful in
+    let size = net_size i.arcs c.args.flow.now c.loop-id.id law.bounds c.requires in
+    let is : c.of.result ≡ net i.arcs c.args.flow.now c.loop-id.id = rw (c.of.ensures, c.in_ok-balances.ensures c.loop-id.id, c.network-network.ensures.arcs) (search rules) in
+    let fits : SFits w128 c.of.result = search rules in
+    let fits_from : SFits w128 c.from.result = search rules in
+    let fits_supply : SFits w64 c.supply.result = search rules in
+    let from = c.from.ensures ∙ to_z-of_z w64 c.supply.result fits_supply in
+    rw (to_z-of_z w128 c.of.result fits, to_z-of_z w128 c.from.result fits_from) (omega (arith, ints, is, size, from, fits_supply, law.arcs_few))
+
+pub loop-id-init : goal.loop-id-init
+loop-id-init g c = record {
+  are = imbalances_none c.args.instance.now c.args.flow.now (value_of c.new-table.result) c.new-table.ensures.values;
+  sizes = λ v. omega (arith, ints, c.new-table.ensures.values v);
+}
+
+pub loop-id-preserved : goal.loop-id-preserved
+loop-id-preserved g c =
+    let i = c.args.instance.now in
+    let x = c.args.flow.now in
+    let id = c.loop-id.id in
+    let old = value_of c.loop-id.table in
+    let law = c.network-network.ensures.lawful in
+    let size = net_size i.arcs x id law.bounds c.requires in
+    let is : c.of.result ≡ net i.arcs x id = rw (c.of.ensures, c.in_ok-balances.ensures id, c.network-network.ensures.arcs) (search rules) in
+    let fits : SFits w128 c.of.result = search rules in
+    let fits_from : SFits w128 c.from.result = search rules in
+    let fits_supply : SFits w64 c.supply.result = search rules in
+    let from = c.from.ensures ∙ to_z-of_z w64 c.supply.result fits_supply in
+    let fits_all : SFits w128 (c.from.result -ℤ c.of.result) = omega (arith, ints, is, size, from, fits_supply, law.arcs_few) in
+    let imbalance : c.from.result -ℤ c.of.result ≡ imbalance_at i x id = omega (arith, ints, is, from, c.supply.ensures) in
+    let small : IsOfSize (2 ^ 99) (c.from.result -ℤ c.of.result) = (omega (arith, ints, is, size, from, fits_supply, law.arcs_few), omega (arith, ints, is, size, from, fits_supply, law.arcs_few)) in
+    let outcome = rw (to_z-of_z w128 c.from.result fits_from, to_z-of_z w128 c.of.result fits, to_z-of_z w128 (c.from.result -ℤ c.of.result) fits_all) at c.is_some.ensures in
+    elim c.if-is_some.branch [
+      | then-is_some+in_ok-set w ↦
+          let new = value_of w.set.new.self in
+          let here : new id ≡ c.from.result -ℤ c.of.result = rw (to_z-of_z w128 c.from.result fits_from, to_z-of_z w128 c.of.result fits, to_z-of_z w128 (c.from.result -ℤ c.of.result) fits_all) at w.in_ok-set.ensures.set in
+          rw w.table-is record {
+            are = imbalances_more i x id old new c.loop-id.invariant.are (here ∙ imbalance) w.in_ok-set.ensures.others;
+            sizes = λ v. elim (cases_eq v id) [
+              | inl same ↦ subst (λ u. IsOfSize (2 ^ 99) (new u)) (sym same) (subst (IsOfSize (2 ^ 99)) (sym here) small)
+              | inr ne ↦ subst (IsOfSize (2 ^ 99)) (sym (w.in_ok-set.ensures.others v ne)) (c.loop-id.invariant.sizes v)
+            ];
+          }
+      | else-is_some w ↦
+          let none : c.from.result -ℤ c.of.result ≡ pos 0 = same_number (c.from.result -ℤ c.of.result) (pos 0) (λ ne. absurd (let t = outcome.1 ne in let f = w.if-is_some.false in cc)) in
+          rw w.table-is record {
+            are = imbalances_skip i x id old c.loop-id.invariant.are (sym imbalance ∙ none);
+            sizes = c.loop-id.invariant.sizes;
+          }
+    ]
+
+pub returns-clause-values : goal.returns-clause-values
+returns-clause-values g c = imbalances_all c.args.instance.now c.args.flow.now c.loop-id.id (value_of c.loop-id.table) (omega (arith, c.loop-id-test.false, c.nodes-id-end.ensures, c.network-network.ensures.nodes)) c.loop-id.invariant.are

@@ -1,0 +1,16 @@
+-- Adjacency lists in both directions.
+use Rattle.std.specs.Prelude.{List}
+use Rattle.dimacs_network.specs.declared.network.ArcView.{ArcView}
+use Rattle.dimacs_network.specs.declared.adjacency_lists.AdjacencyLists.{AdjacencyLists}
+use Rattle.dimacs_network.specs.declared.adjacency_lists.Side.{Side}
+use Rattle.dimacs_network.specs.declared.adjacency_lists.Side.TheVariants.{Tail, Head}
+use Rattle.dimacs_network.specs.AdjacencyLists.{AreAdjacencyLists}
+use Rattle.dimacs_decide.specs.declared.incidence.Incidence.{Incidence}
+
+abbrev pub links_at : Side → Incidence → AdjacencyLists
+links_at Tail i = i.leaving
+links_at Head i = i.entering
+
+-- the arcs by tail, and by head
+abbrev pub IsIncidenceOf : List ArcView → Incidence → Type 0
+IsIncidenceOf arcs i = (side : Side) → AreAdjacencyLists side arcs (links_at side i)

@@ -1,0 +1,30 @@
+-- Inside: the excess of each node; a deficit is negative.
+use Rattle.std.specs.Prelude.{ℕ, ◌≡◌, ◌≢◌, ◌<◌, ◌≤◌, List, ℤ, pos, ◌≤ℤ◌, ◌<ℤ◌}
+use Rattle.dimacs_instance.specs.MinFlows.{MinValue}
+use Rattle.dimacs_lines.specs.Limits.{IsNode}
+use Rattle.dimacs_nodes.specs.Tables.{value_of}
+use Rattle.dimacs_decide.specs.FeasibilityDecision.{DecidesFeasible, imbalance_at}
+use Rattle.dimacs_decide.specs.declared.feasible.Look.{Look}
+use Rattle.dimacs_decide.specs.declared.feasible.Look.TheVariants as looks
+use Rattle.dimacs_decide.specs.declared.imbalance.Standing.{Standing}
+use Rattle.dimacs_decide.specs.declared.imbalance.Standing.TheVariants.{Even, Excess, Short}
+
+abbrev pub AreImbalances : MinValue → List ℤ → (ℕ → ℤ) → Type 0
+AreImbalances i x imbalance = (v : ℕ) → IsNode i.nodes v → imbalance v ≡ imbalance_at i x v
+
+-- no node below this one has excess: none has a deficit, or some do; or some node has excess
+abbrev pub Stands : ℕ → ℕ → (ℕ → ℤ) → Standing → Type 0
+Stands nodes id imbalance Even = (v : ℕ) → 1 ≤ v → v < id → imbalance v ≡ pos 0
+Stands nodes id imbalance Short = ((v : ℕ) → 1 ≤ v → v < id → imbalance v ≤ℤ pos 0) × ((v : ℕ) × IsNode nodes v × (imbalance v <ℤ pos 0))
+Stands nodes id imbalance Excess = (v : ℕ) × IsNode nodes v × (pos 0 <ℤ imbalance v)
+
+-- the result of looking at the nodes: a decision, or the excess of each node, if some have one
+abbrev pub IsLook : MinValue → List ℤ → Look → Type 0
+IsLook i x (looks.Decided decision) = DecidesFeasible i x decision
+IsLook i x (looks.Excess imbalance) = AreImbalances i x (value_of imbalance) × ((v : ℕ) × IsNode i.nodes v × (pos 0 <ℤ value_of imbalance v))
+
+-- the source has excess, the sink a deficit, and no other node either
+pub record AreEnds (from to : ℕ) (imbalance : ℕ → ℤ) : Type 0 where
+  pub source : pos 0 <ℤ imbalance from
+  pub sink : imbalance to <ℤ pos 0
+  pub others : (v : ℕ) → v ≢ from → v ≢ to → imbalance v ≡ pos 0

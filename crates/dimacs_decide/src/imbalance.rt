@@ -1,0 +1,74 @@
+//! The excess of each node under a flow; a deficit is negative.
+
+ghost use Rattle.std.specs.Prelude.{◌≡◌, ◌≢◌, ◌≤◌, ◌+◌, ◌^◌, ◌↔◌, ℕ, IsTrue, pos, IfOk};
+ghost use Rattle.dimacs_lines.specs.Limits.{most_nodes};
+ghost use Rattle.dimacs_judge.specs.inside.Ranges.{IsOfSize};
+ghost use Rattle.dimacs_nodes.specs.Tables.{value_of};
+ghost use Rattle.dimacs_decide.specs.Bounds.{KeepsBounds};
+ghost use Rattle.dimacs_decide.specs.inside.Imbalances.{AreImbalances, Stands};
+
+use dimacs_instance::MinInstance;
+use dimacs_judge::{Balances, Flow};
+use dimacs_lines::Memory;
+use dimacs_network::Network;
+use dimacs_nodes::NodeTable;
+use std::alloc::Global;
+
+/// The excess of each node: its supply less its balance. Takes memory for the ends of arcs and the nodes whose excess
+/// isn't 0.
+pub(crate) fn imbalances<N: Network>(
+    alloc: Global,
+    instance: &MinInstance<N>,
+    flow: &Flow,
+) -> Result<NodeTable<i128>, Memory>
+    requires { KeepsBounds instance.now.arcs flow.now }
+    ensures values { IfOk result (λ table. AreImbalances instance.now flow.now (value_of table)) }
+    ensures sizes { IfOk result (λ table. (v : ℕ) → IsOfSize (2 ^ 99) (value_of table v)) }
+{
+    let network = instance.network();
+    let balances = Balances::new(alloc, network, flow)?;
+    let mut table = NodeTable::new(alloc, 0i128);
+    for id in 1..network.nodes() + 1 {
+        let imbalance = i128::from(instance.supply(id)) - balances.of(id);
+        if is_some(imbalance) {
+            table.set(id, imbalance)?;
+        }
+    }
+    Ok(table)
+}
+
+/// Whether there is an excess or a deficit.
+fn is_some(imbalance: i128) -> bool
+    ensures { IsTrue result ↔ (imbalance ≢ pos 0) }
+{
+    imbalance != 0
+}
+
+/// The excesses of all nodes, summed up.
+#[derive(Clone, Copy)]
+pub(crate) enum Standing {
+    /// No node has an excess or a deficit.
+    Even,
+    /// Some nodes have a deficit, and none has an excess.
+    Short,
+    /// Some node has an excess.
+    Excess,
+}
+
+/// Sums up the excesses of all nodes.
+pub(crate) fn assess(nodes: u32, imbalance: &NodeTable<i128>) -> Standing
+    requires { nodes ≤ most_nodes }
+    ensures { Stands nodes (nodes + 1) (value_of imbalance.now) result }
+{
+    let mut standing = Standing::Even;
+    for id in 1..nodes + 1 {
+        let amount = imbalance.get(id);
+        if amount > 0 {
+            return Standing::Excess;
+        }
+        if amount < 0 {
+            standing = Standing::Short;
+        }
+    }
+    standing
+}

@@ -1,0 +1,38 @@
+//! Adjacency lists in both directions.
+
+ghost use Rattle.std.specs.Prelude.{◌≡◌, IfOk};
+ghost use Rattle.dimacs_decide.specs.Incidence.{IsIncidenceOf, links_at};
+
+use dimacs_lines::Memory;
+use dimacs_network::{AdjacencyLists, Network, Side};
+use std::alloc::Global;
+
+/// The arcs of a network by their ends: for each node those that leave it and those that enter it.
+#[derive(Drop)]
+pub struct Incidence {
+    leaving: AdjacencyLists,
+    entering: AdjacencyLists,
+}
+
+impl Incidence {
+    /// Goes over the arcs once for each direction. Takes 8 bytes for each arc, and 8 for each node that has one.
+    pub fn new<N: Network>(alloc: Global, network: &N) -> Result<Incidence, Memory>
+        ensures { IfOk result (IsIncidenceOf (N.list network.now)) }
+    {
+        Ok(Incidence {
+            leaving: AdjacencyLists::new(alloc, network, Side::Tail)?,
+            entering: AdjacencyLists::new(alloc, network, Side::Head)?,
+        })
+    }
+
+    /// The adjacency lists of this side.
+    #[inline(always)]
+    pub(crate) fn lists(&self, side: Side) -> &AdjacencyLists
+        ensures { result.now ≡ links_at side self.now }
+    {
+        match side {
+            Side::Tail => &self.leaving,
+            Side::Head => &self.entering,
+        }
+    }
+}

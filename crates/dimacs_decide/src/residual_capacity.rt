@@ -1,0 +1,38 @@
+//! Residual capacities, and sending flow along residual arcs.
+
+ghost use Rattle.std.specs.Prelude.{◌≡◌, ◌<◌, ◌≤ℤ◌, pos, length, set};
+ghost use Rattle.dimacs_records.specs.Ranges.{IsWhole};
+ghost use Rattle.dimacs_judge.specs.Rows.{amount_at};
+ghost use Rattle.dimacs_decide.specs.inside.ResidualCapacities.{carried_after, residual_capacity_at};
+
+use dimacs_judge::Flow;
+use dimacs_network::{ArcView, Side};
+
+/// The residual capacity of an arc from this side.
+#[inline(always)]
+pub(crate) fn residual_capacity_from(side: Side, arc: ArcView, amount: i64) -> i64
+    requires least { pos 0 ≤ℤ arc.low }
+    requires low { arc.low ≤ℤ amount }
+    requires high { amount ≤ℤ arc.cap }
+    ensures { result ≡ residual_capacity_at side arc amount }
+{
+    match side {
+        Side::Tail => arc.cap - amount,
+        Side::Head => amount - arc.low,
+    }
+}
+
+/// Sends the amount along the arc with this index, from 0, from this side.
+#[inline(always)]
+pub(crate) fn send_from(side: Side, arc_index: u32, amount: i64, flow: &mut Flow)
+    requires arc_index { arc_index < length flow.old }
+    requires whole { IsWhole (carried_after side amount (amount_at flow.old arc_index)) }
+    ensures { flow.new ≡ set flow.old arc_index (carried_after side amount (amount_at flow.old arc_index)) }
+{
+    let carried = flow.amount(arc_index);
+    let carries = match side {
+        Side::Tail => carried + amount,
+        Side::Head => carried - amount,
+    };
+    flow.set(arc_index, carries);
+}

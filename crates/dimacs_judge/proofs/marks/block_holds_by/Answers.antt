@@ -1,7 +1,0 @@
-use Rattle.std.proofs.lemmas.Result.{err_from_is_err_and}
-use Rattle.dimacs_judge.proofs.marks.block_holds_by.Goals as goal
-
-pub returns-in_err-block_passed-clause-tests : goal.returns-in_err-block_passed-clause-tests
-returns-in_err-block_passed-clause-tests g c =
-    let p = err_from_is_err_and c.from_residual-in_err-block_passed.result c.from_residual-in_err-block_passed.ensures.1 in
-    rw (p.1, p.2) c.in_err-block_passed.ensures.tests

@@ -1,0 +1,15 @@
+use Rattle.std.proofs.Common.{IfSome, take}
+use Rattle.dimacs_judge.specs.CertificateTests.{label_rows}
+use Rattle.dimacs_judge.specs.inside.Leaving.{AreLeast}
+use Rattle.dimacs_judge.specs.inside.NodeLabels.{AllBlank, AreAsTested}
+use Rattle.dimacs_judge.specs.Tests.{AllClear}
+use Rattle.dimacs_judge.proofs.node_labels.labelled_blocks_hold.Given as goal
+
+-- all tests of the blocks so far pass
+abbrev pub invariant-loop-i : goal.invariant-loop-i
+invariant-loop-i g l = record {
+  clear : AllClear (label_rows (g.N.Network.list l.network) (take l.i l.labels.blocks));
+  blank : AllBlank l.tables;
+  tested : AreAsTested (g.N.Network.list l.network) l.weights;
+  least : IfSome l.least (AreLeast (g.N.Network.list l.network));
+}

@@ -1,0 +1,89 @@
+//! The entry of a node in a judge's table of labels.
+
+ghost use Rattle.std.specs.Prelude.{◌≡◌, ◌+◌, ◌^◌};
+
+use crate::distance::Distance;
+use dimacs_claims::Label;
+
+/// The label of a node in the block that is judged. Relaxing an arc looks up two marks, so small ones keep more of the
+/// table in the processor's cache.
+#[derive(Clone, Copy)]
+pub(crate) struct NodeLabel<D> {
+    /// None if the node has no label in the block.
+    pub(crate) dist: D,
+    /// The predecessor, plus `MADE` once a tight arc from it was found.
+    pred: u32,
+}
+
+/// Greater than every ID.
+const MADE: u32 = 1 << 31;
+
+impl<D: Distance> NodeLabel<D> {
+    ghost use Rattle.std.specs.Prelude.{◌≡◌, ◌+◌, ◌^◌, ◌↔◌, pos, Some, None, IsTrue, if◌then◌else◌, false, true};
+    ghost use Rattle.dimacs_judge.specs.inside.Distances.{Fits};
+    ghost use Rattle.dimacs_judge.specs.inside.NodeLabels.{is_made, known_by};
+
+    /// The mark of a node without a label.
+    pub(crate) fn none() -> NodeLabel<D>
+        ensures { D.value result.dist ≡ None }
+    {
+        NodeLabel {
+            dist: D::none(),
+            pred: MADE,
+        }
+    }
+
+    /// The mark of the source, whose label needs no tight arc.
+    pub(crate) fn of_source() -> NodeLabel<D>
+        ensures dist { D.value result.dist ≡ Some (pos 0) }
+        ensures made { is_made (known_by D.value result) ≡ true }
+    {
+        NodeLabel {
+            dist: D::zero(),
+            pred: MADE,
+        }
+    }
+
+    /// The mark of a label for which no tight arc was found yet.
+    #[inline(always)]
+    pub(crate) fn of(label: Label) -> NodeLabel<D>
+        requires { Fits D.low D.end label.dist }
+        ensures dist { D.value result.dist ≡ Some label.dist }
+        ensures pred { result.pred ≡ label.pred }
+    {
+        NodeLabel {
+            dist: D::of(label.dist),
+            pred: label.pred,
+        }
+    }
+
+    /// Whether a tight arc for the label was found.
+    #[inline(always)]
+    pub(crate) fn is_made(self) -> bool
+        ensures { result ≡ is_made (known_by D.value self) }
+    {
+        self.pred >= MADE
+    }
+
+    /// The same mark, with the tight arc found if `made`. It adds, since the compiler turns a choice between two
+    /// numbers into a branch, which would be mispredicted for every second arc.
+    #[inline(always)]
+    pub(crate) fn made_if(self, made: bool) -> NodeLabel<D>
+        requires { IsTrue made → is_made (known_by D.value self) ≡ false }
+        ensures dist { result.dist ≡ self.dist }
+        ensures pred { result.pred ≡ self.pred + (if made then 2 ^ 31 else 0) }
+    {
+        NodeLabel {
+            dist: self.dist,
+            pred: self.pred + (u32::from(made) << 31),
+        }
+    }
+
+    /// Whether this node is the predecessor, and no tight arc for the label was found yet.
+    #[inline(always)]
+    pub(crate) fn waits_for(self, node: u32) -> bool
+        ensures { IsTrue result ↔ ((self.pred ≡ node) × (is_made (known_by D.value self) ≡ false)) }
+    {
+        (self.pred == node) & !self.is_made()
+    }
+}

@@ -1,0 +1,110 @@
+//! Nodes by level.
+
+use crate::tables::{count_of, member, set_member};
+use dimacs_lines::Memory;
+use std::alloc::Global;
+
+/// No node.
+pub(crate) const NONE: u32 = u32::MAX;
+
+/// The nodes before and after a node on its level.
+#[derive(Clone, Copy)]
+struct Link {
+    before: u32,
+    after: u32,
+}
+
+const ALONE: Link = Link {
+    before: NONE,
+    after: NONE,
+};
+
+/// A linked list of the nodes of each level. Takes 8 bytes for each node and 4 for each level.
+#[derive(Drop)]
+pub(crate) struct Levels {
+    first: Vec<u32>,
+    links: Vec<Link>,
+    highest: u32,
+}
+
+impl Levels {
+    /// Without nodes. Numbers of levels and nodes are below these.
+    pub(crate) fn new(alloc: Global, levels: usize, nodes: usize) -> Result<Levels, Memory> {
+        Ok(Levels {
+            first: vec![in alloc; NONE; levels]?,
+            links: vec![in alloc; ALONE; nodes]?,
+            highest: 0,
+        })
+    }
+
+    /// The number of levels.
+    pub(crate) fn count(&self) -> u32 {
+        count_of(&self.first)
+    }
+
+    /// Removes all nodes.
+    pub(crate) fn clear(&mut self) {
+        self.first.fill(NONE);
+        self.highest = 0;
+    }
+
+    /// The highest level at which a node was inserted.
+    pub(crate) fn highest(&self) -> u32 {
+        self.highest
+    }
+
+    /// The first node of a level.
+    #[inline(always)]
+    pub(crate) fn first(&self, level: u32) -> u32 {
+        member(&self.first, level, NONE)
+    }
+
+    /// The next node of the same level.
+    pub(crate) fn after(&self, node: u32) -> u32 {
+        member(&self.links, node, ALONE).after
+    }
+
+    pub(crate) fn insert(&mut self, node: u32, level: u32) {
+        let after = self.first(level);
+        let link = Link {
+            before: NONE,
+            after,
+        };
+        set_member(&mut self.links, node, link);
+        if let Some(later) = self.links.get_mut(after as usize) {
+            later.before = node;
+        }
+        set_member(&mut self.first, level, node);
+        self.highest = self.highest.max(level);
+    }
+
+    pub(crate) fn remove(&mut self, node: u32, level: u32) {
+        let link = member(&self.links, node, ALONE);
+        if let Some(earlier) = self.links.get_mut(link.before as usize) {
+            earlier.after = link.after;
+        } else {
+            set_member(&mut self.first, level, link.after);
+        }
+        if let Some(later) = self.links.get_mut(link.after as usize) {
+            later.before = link.before;
+        }
+    }
+
+    /// Takes any node of a level.
+    pub(crate) fn take(&mut self, level: u32) -> Option<u32> {
+        let node = self.first(level);
+        if node == NONE {
+            return None;
+        }
+        self.remove(node, level);
+        Some(node)
+    }
+
+    /// Removes all nodes above a level.
+    pub(crate) fn forget_above(&mut self, level: u32) {
+        for above in level..self.highest {
+            set_member(&mut self.first, above.wrapping_add(1), NONE);
+        }
+        self.highest = self.highest.min(level);
+    }
+}

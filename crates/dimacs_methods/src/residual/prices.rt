@@ -1,0 +1,62 @@
+//! Potentials for the unscaled costs.
+
+use crate::number::Number;
+use crate::residual::{Node, Residual};
+use dimacs_lines::Memory;
+use std::alloc::Global;
+
+impl<V: Number> Residual<V> {
+    /// The prices less a residue, divided by the scale of the costs and rounded down.
+    ///
+    /// If the scaled reduced cost of a residual arc isn't negative, its reduced cost isn't either, whatever the residue
+    /// is. If it is -1, the same holds unless the residue is that of its head's price. There are more residues than
+    /// nodes, so some residue is free of such heads.
+    pub(crate) fn potentials(&self, alloc: Global) -> Result<Vec<i128>, Memory> {
+        let residue = self.free_residue(alloc)?;
+        let mut potentials = Vec::with_capacity(alloc, self.nodes.len())?;
+        for node in &self.nodes {
+            let price = node.price.wide().wrapping_sub(residue);
+            potentials.push(price.halved(self.doublings))?;
+        }
+        Ok(potentials)
+    }
+
+    fn free_residue(&self, alloc: Global) -> Result<i128, Memory> {
+        let taken = self.taken_residues(alloc)?;
+        let mut residue: i128 = 0;
+        for is_taken in &taken {
+            if !*is_taken {
+                return Ok(residue);
+            }
+            residue = residue.wrapping_add(1);
+        }
+        Ok(0)
+    }
+
+    /// The residues of the prices of heads of arcs with negative reduced cost.
+    fn taken_residues(&self, alloc: Global) -> Result<Vec<bool>, Memory> {
+        let residues = usize::try_from(1i128.doubled(self.doublings)).unwrap_or(0);
+        let mut taken = vec![in alloc; false; residues]?;
+        for node in &self.nodes {
+            self.take_residues(node, &mut taken);
+        }
+        Ok(taken)
+    }
+
+    /// Marks the residues of the prices of heads of arcs with negative reduced cost out of this node.
+    fn take_residues(&self, node: &Node<V>, taken: &mut [bool]) {
+        for half in self.between(node.start, node.end) {
+            if half.residual_capacity > 0 && self.reduced(node.price, half).is_negative() {
+                let residue = self.residue(self.price(half.to));
+                if let Some(is_taken) = taken.get_mut(residue) {
+                    *is_taken = true;
+                }
+            }
+        }
+    }
+
+    fn residue(&self, price: V) -> usize {
+        let floor = price.halved(self.doublings).doubled(self.doublings);
+        usize::try_from(price.minus(floor).wide()).unwrap_or(0)
+    }
+}

@@ -1,6 +1,0 @@
-use Rattle.dimacs_nodes.specs.Tables.{value_of}
-use Rattle.dimacs_network.specs.Links.{AreLinked}
-use Rattle.dimacs_network.proofs.links.Links.new.Given as goal
-
-abbrev pub invariant-loop-i : goal.invariant-loop-i
-invariant-loop-i g l = AreLinked l.side (g.N.Network.list l.network) l.i (value_of l.last) l.before.items

@@ -1,0 +1,103 @@
+//! The table of a search: what it knows about the nodes.
+
+ghost use Rattle.std.specs.Prelude.{◌≡◌, ◌≤◌, ◌<◌, ◌+◌, ℕ, IsTrue, OnOk, ◌↔◌};
+ghost use Rattle.dimacs_nodes.specs.Tables.{value_of};
+
+use crate::distance::Distance;
+use dimacs_lines::Memory;
+use dimacs_nodes::NodeTable;
+use std::alloc::Global;
+
+/// What a search knows about a node. A mark from an earlier round counts as none.
+#[derive(Clone, Copy)]
+struct NodeState<D> {
+    dist: D,
+    round: u32,
+    settled: bool,
+}
+
+/// What the current search knows about the nodes. A new round takes no time and keeps the memory.
+#[derive(Drop)]
+pub(crate) struct NodeStates<D> {
+    round: u32,
+    node_states: NodeTable<NodeState<D>>,
+    ghost no_later: { (v : ℕ) → (value_of node_states v).round ≤ round },
+}
+
+impl<D: Distance> NodeStates<D> {
+    ghost use Rattle.dimacs_solve.specs.inside.NodeStates.{AreUnknown, IsSettled, IsReachedWithin, Sets, known, reached, settled};
+
+    /// Round 0, without marks. Allocates nothing.
+    pub(crate) fn new(alloc: Global) -> NodeStates<D>
+        ensures { result.round ≡ 0 }
+    {
+        let unknown = NodeState {
+            dist: D::zero(),
+            round: 0,
+            settled: false,
+        };
+        NodeStates {
+            round: 0,
+            node_states: NodeTable::new(alloc, unknown),
+        }
+    }
+
+    /// Begins a new round: forgets all nodes.
+    pub(crate) fn next_round(&mut self)
+        requires { self.old.round + 1 < 4294967296 }
+        ensures round { self.new.round ≡ self.old.round + 1 }
+        ensures unknown { AreUnknown (known D.value self.new) }
+    {
+        self.round += 1;
+    }
+
+    /// Whether a walk of at most this length to the node was found.
+    #[inline]
+    pub(crate) fn is_within(&self, node: u32, dist: D) -> bool
+        ensures { IsTrue result ↔ IsReachedWithin (known D.value self.now node) (D.value dist) }
+    {
+        let node_state = self.node_states.get(node);
+        node_state.round == self.round && node_state.dist <= dist
+    }
+
+    /// Whether the node's distance is final.
+    #[inline]
+    pub(crate) fn is_settled(&self, node: u32) -> bool
+        ensures { IsTrue result ↔ IsSettled (known D.value self.now node) }
+    {
+        let node_state = self.node_states.get(node);
+        node_state.round == self.round && node_state.settled
+    }
+
+    /// Marks the node with the length of a walk to it.
+    #[inline]
+    pub(crate) fn reach(&mut self, node: u32, dist: D) -> Result<(), Memory>
+        ensures round { OnOk result (self.new.round ≡ self.old.round) }
+        ensures reached { OnOk result (Sets (known D.value self.old) node (reached (D.value dist)) (known D.value self.new)) }
+    {
+        let round = self.round;
+        let node_state = NodeState {
+            dist,
+            round,
+            settled: false,
+        };
+        self.node_states.set(node, node_state)?;
+        Ok(())
+    }
+
+    /// Marks the node with its distance, as final.
+    #[inline]
+    pub(crate) fn settle(&mut self, node: u32, dist: D) -> Result<(), Memory>
+        ensures round { OnOk result (self.new.round ≡ self.old.round) }
+        ensures settled { OnOk result (Sets (known D.value self.old) node (settled (D.value dist)) (known D.value self.new)) }
+    {
+        let round = self.round;
+        let node_state = NodeState {
+            dist,
+            round,
+            settled: true,
+        };
+        self.node_states.set(node, node_state)?;
+        Ok(())
+    }
+}
