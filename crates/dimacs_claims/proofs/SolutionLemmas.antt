@@ -251,7 +251,7 @@ module _ {W : Type 0} (value : W → ℤ) (value_line : W → ℕ) (holds : W �
   -- the result for the lines and the solution that they give is that of a reader of solutions
   read_as : (text : List ℕ) (result : Result W ReadError) (noted : Result SolutionValue ReadError) → ReadsLines kinds.Solution GivesSolution (lines text) noted → AnswersAlike like noted result → ReadsLike like text result
   read_as text result noted reads alike = record {
-    noted = noted;
+    answer = noted;
     reads = reads_exactly kinds.Solution GivesSolution (lines text) noted solution_faultless one_solution reads;
     lawful = lawful_read (lines text) noted reads;
     alike = alike;

@@ -39,11 +39,11 @@ IsPlacedLawful value value_line holds = (s : texts.SolutionValue) × IsPlaced va
 abbrev pub AnswersAlike : {V W : Type 0} → (V → W → Type 0) → Result V ReadError → Result W ReadError → Type 0
 AnswersAlike like (Ok v) (Ok w) = like v w
 AnswersAlike like (Err e) (Err f) = e ≡ f
-AnswersAlike like noted other = ⊥
+AnswersAlike like one other = ⊥
 
 -- the result of reading a solution, with a related value in place of the solution
 pub record ReadsLike {W : Type 0} (like : texts.SolutionValue → W → Type 0) (text : List ℕ) (result : Result W ReadError) : Type 0 where
-  pub noted : Result texts.SolutionValue ReadError
-  pub reads : Reads (SpellsSolution text) (Fault kinds.Solution (lines text)) noted
-  pub lawful : IfOk noted IsLawful
-  pub alike : AnswersAlike like noted result
+  pub answer : Result texts.SolutionValue ReadError
+  pub reads : Reads (SpellsSolution text) (Fault kinds.Solution (lines text)) answer
+  pub lawful : IfOk answer IsLawful
+  pub alike : AnswersAlike like answer result

@@ -8,17 +8,17 @@ use dimacs_nodes::{ShortForm, WideningList};
 
 /// Labels in the order in which they were added. A label takes 12 bytes while all distances fit into 32 bits, 16 while
 /// they fit into 64, otherwise 32.
-pub type LabelList = WideningList<NearLabel, WideningList<FarLabel, Vec<Label>>>;
+pub type LabelList = WideningList<Label32, WideningList<Label64, Vec<Label>>>;
 
 /// A label whose distance fits into 32 bits.
 #[derive(Clone, Copy)]
-pub struct NearLabel {
+pub struct Label32 {
     dist: i32,
     id: u32,
     pred: u32,
 }
 
-impl ShortForm for NearLabel {
+impl ShortForm for Label32 {
     type Long = Label;
 
     ghost widened = { widened };
@@ -26,15 +26,15 @@ impl ShortForm for NearLabel {
     ghost no_item = { no_label };
 
     #[inline(always)]
-    fn narrow(label: Label) -> Option<NearLabel> {
+    fn narrow(label: Label) -> Option<Label32> {
         let Label { id, pred, .. } = label;
         let dist = i32::try_from(label.dist).ok()?;
-        Some(NearLabel { dist, id, pred })
+        Some(Label32 { dist, id, pred })
     }
 
     #[inline(always)]
     fn widen(self) -> Label {
-        let NearLabel { dist, id, pred } = self;
+        let Label32 { dist, id, pred } = self;
         Label {
             dist: i128::from(dist),
             id,
@@ -45,13 +45,13 @@ impl ShortForm for NearLabel {
 
 /// A label whose distance fits into 64 bits.
 #[derive(Clone, Copy)]
-pub struct FarLabel {
+pub struct Label64 {
     dist: i64,
     id: u32,
     pred: u32,
 }
 
-impl ShortForm for FarLabel {
+impl ShortForm for Label64 {
     type Long = Label;
 
     ghost widened = { lengthened };
@@ -59,15 +59,15 @@ impl ShortForm for FarLabel {
     ghost no_item = { no_label };
 
     #[inline(always)]
-    fn narrow(label: Label) -> Option<FarLabel> {
+    fn narrow(label: Label) -> Option<Label64> {
         let Label { id, pred, .. } = label;
         let dist = i64::try_from(label.dist).ok()?;
-        Some(FarLabel { dist, id, pred })
+        Some(Label64 { dist, id, pred })
     }
 
     #[inline(always)]
     fn widen(self) -> Label {
-        let FarLabel { dist, id, pred } = self;
+        let Label64 { dist, id, pred } = self;
         Label {
             dist: i128::from(dist),
             id,

@@ -12,7 +12,8 @@ use Rattle.dimacs_judge.specs.CertificateTests.{RelaxFails}
 use Rattle.dimacs_judge.specs.Labels.{HasTightArc}
 use Rattle.dimacs_judge.specs.Tests.{Clear}
 use Rattle.dimacs_judge.specs.Walks.{IsWalk}
-use Rattle.dimacs_judge.specs.inside.Leaving.{AreCovering, Covers, arcs_in}
+use Rattle.dimacs_judge.specs.LightestArcs.{AreCovering, Covers}
+use Rattle.dimacs_judge.specs.inside.Leaving.{arcs_in}
 use Rattle.dimacs_decide.specs.Distances.{IsTight, claim_row}
 use Rattle.dimacs_decide.specs.inside.FewLabels.{AreLightest}
 use Rattle.dimacs_decide.specs.inside.TightTrees.{IsTightTree}

@@ -28,7 +28,7 @@ pub(crate) struct TightTree {
 }
 
 impl TightTree {
-    /// The search that has reached only its source, over a table that marks no node yet.
+    /// The search that has reached only its source, over a table with no node reached yet.
     pub fn new<N: Network, C: DistanceClaim>(
         alloc: Global,
         network: &N,
@@ -64,7 +64,7 @@ impl TightTree {
         self.block
     }
 
-    /// The labels of the nodes that were reached, and the table, with no node marked. Takes time in proportion to the
+    /// The labels of the nodes that were reached, and the table, with no node reached. Takes time in proportion to the
     /// labels.
     pub fn into_parts(self) -> Result<(Block, NodeTable<bool>), Memory>
         requires { (v : ℕ) → value_of self.reached v ≡ is_some (label self.block v) }
@@ -231,8 +231,8 @@ fn leads_to(from: i128, weight: i64, to: i128) -> bool
     to == from + i128::from(weight)
 }
 
-/// All nodes that paths of tight arcs lead to from the source, in the order of the search, over a table that marks no
-/// node yet.
+/// All nodes that paths of tight arcs lead to from the source, in the order of the search, over a table with no node
+/// reached yet.
 pub(crate) fn tight_tree<N: Network, C: DistanceClaim>(
     alloc: Global,
     network: &N,

@@ -15,14 +15,15 @@ use Rattle.dimacs_claims.specs.declared.block.Label.{Label}
 use Rattle.dimacs_claims.specs.Labels.{BlockValue, IsBlock, IsNear, label, no_label}
 use Rattle.dimacs_claims.proofs.BlockLemmas.{has_pred}
 use Rattle.dimacs_judge.specs.CertificateTests.{RelaxFails, relax_row}
-use Rattle.dimacs_judge.specs.inside.Leaving.{AreCovering, ArePassedFrom, Covers, IsPassed, WeightsFall, arcs_in}
-use Rattle.dimacs_judge.specs.inside.NodeLabels.{AreMade, IsKnown, Known, NodeLabelsArc}
+use Rattle.dimacs_judge.specs.LightestArcs.{AreCovering, Covers}
+use Rattle.dimacs_judge.specs.inside.Leaving.{ArePassedFrom, IsPassed, WeightsFall, arcs_in}
+use Rattle.dimacs_judge.specs.inside.NodeLabels.{AreMade, IsKnown, Known, RelaxesArc}
 use Rattle.dimacs_network.specs.Arcs.{arc_at, no_arc}
 use Rattle.dimacs_judge.specs.Tests.{Clear}
 use Rattle.dimacs_judge.specs.inside.Tests.{TellsReason}
 use Rattle.dimacs_judge.proofs.Distances.{near_label}
 use Rattle.dimacs_judge.proofs.LabelsPassing.{stays_near}
-use Rattle.dimacs_judge.proofs.NodeLabelLemmas.{node_labels_still, node_labels_this, some_makes}
+use Rattle.dimacs_judge.proofs.NodeLabelLemmas.{labels_still, labels_this, some_makes}
 
 -- ---- one arc
 near_less : (radius : Option ℤ) (x y : ℤ) → x ≤ℤ y → IsNear radius y → IsNear radius x
@@ -88,14 +89,14 @@ no_reason fails (Ok x) none tells = tells
 no_reason fails (Err why) none tells = absurd (cc)
 
 -- after relaxing an arc
-module _ (a : ArcView) (old new : ℕ → Known) (b : BlockValue) (passes : NodeLabelsArc a old new) where
+module _ (a : ArcView) (old new : ℕ → Known) (b : BlockValue) (passes : RelaxesArc a old new) where
   pub passed_still : (c : ArcView) → IsPassed b old c → IsPassed b new c
-  passed_still c is = record { holds = is.holds; labelled = node_labels_still a old new b passes c is.labelled }
+  passed_still c is = record { holds = is.holds; labelled = labels_still a old new b passes c is.labelled }
 
   pub passed_this : (arcs : List ArcView) (i : ℕ) → slice_get arcs i ≡ Some a → IsKnown arcs b old → ((reason : Reason) → ¬ RelaxFails b.radius (old a.tail).dist (old a.head).dist a.cost reason) → IsPassed b new a
   passed_this arcs i here are holds = record {
     holds = rw (← are.labels a.tail, ← are.labels a.head) holds;
-    labelled = node_labels_this a old new b passes arcs are i here;
+    labelled = labels_this a old new b passes arcs are i here;
   }
 
 -- ---- the arcs of a node

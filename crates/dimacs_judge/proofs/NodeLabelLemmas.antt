@@ -27,7 +27,7 @@ use Rattle.dimacs_judge.specs.CertificateTests.{RelaxFails, relax_row, support_r
 use Rattle.dimacs_judge.specs.inside.CertificateTests.{distance_rows}
 use Rattle.dimacs_judge.specs.Labels.{HasTightArc}
 use Rattle.dimacs_judge.specs.inside.Distances.{LeadsAside, LeadsTo}
-use Rattle.dimacs_judge.specs.inside.NodeLabels.{AreBlank, AreMade, AreMadeAlone, AreMadeBelow, AreWide, IsBlank, IsKnown, IsTight, Known, Makes, NodeLabelsArc, NodeLabelsMade, SaysSame, is_made, made_count}
+use Rattle.dimacs_judge.specs.inside.NodeLabels.{AreBlank, AreMade, AreMadeAlone, AreMadeBelow, AreWide, IsBlank, IsKnown, IsTight, Known, Makes, RelaxesArc, LabelsMade, SaysSame, is_made, made_count}
 use Rattle.dimacs_network.specs.Arcs.{arc_at, no_arc}
 use Rattle.dimacs_judge.specs.Tests.{Clear, ClearBelow, FirstOfRow, TellsRow}
 use Rattle.dimacs_judge.specs.inside.Tests.{Tells, TellsReason}
@@ -218,14 +218,14 @@ module _ (a : ArcView) (old : ℕ → Known) where
   pred_kept true new pred unmade = absurd (let yes = made_from new (omega (arith, pred)) in cc)
   pred_kept false new pred unmade = omega (arith, pred)
 
-  pub passes_same : (¬ IsTight a old) → NodeLabelsArc a old old
+  pub passes_same : (¬ IsTight a old) → RelaxesArc a old old
   passes_same off = record {
     others = λ v apart. refl;
     head = record { dist = refl; pred = λ unmade. refl };
     made = (λ m. inl m, λ e. elim e [ inl m ↦ m | inr tight ↦ absurd (off tight) ]);
   }
 
-  pub passes_put : (new : ℕ → Known) (made : Bool) → ((v : ℕ) → v ≢ a.head → new v ≡ old v) → (new a.head).dist ≡ (old a.head).dist → (new a.head).pred ≡ (old a.head).pred + (if made then 2 ^ 31 else 0) → (IsTrue made ↔ IsTight a old) → NodeLabelsArc a old new
+  pub passes_put : (new : ℕ → Known) (made : Bool) → ((v : ℕ) → v ≢ a.head → new v ≡ old v) → (new a.head).dist ≡ (old a.head).dist → (new a.head).pred ≡ (old a.head).pred + (if made then 2 ^ 31 else 0) → (IsTrue made ↔ IsTight a old) → RelaxesArc a old new
   passes_put new made others dist pred is = record {
     others = others;
     head = record { dist = dist; pred = pred_kept made (new a.head) pred };
@@ -273,13 +273,13 @@ count_all p xs all x has = by (p x) refl
     by false off = absurd (omega (arith, all, count_more p (λ y. true) xs (λ y on. refl) x has off refl, count_by-le-length (λ y. true) xs))
 
 -- ---- after relaxing an arc
-pub same_dists : (a : ArcView) (old new : ℕ → Known) → NodeLabelsArc a old new → (v : ℕ) → (new v).dist ≡ (old v).dist
+pub same_dists : (a : ArcView) (old new : ℕ → Known) → RelaxesArc a old new → (v : ℕ) → (new v).dist ≡ (old v).dist
 same_dists a old new passes v = elim (cases_eq v a.head) [
   | inl same ↦ ap (λ w. (new w).dist) same ∙ (passes.head.dist ∙ ap (λ w. (old w).dist) (sym same))
   | inr off ↦ ap (λ (k : Known). k.dist) (passes.others v off)
 ]
 
-module _ (a : ArcView) (old new : ℕ → Known) (b : BlockValue) (passes : NodeLabelsArc a old new) where
+module _ (a : ArcView) (old new : ℕ → Known) (b : BlockValue) (passes : RelaxesArc a old new) where
   says_same : (v : ℕ) → SaysSame (old v) (new v)
   says_same v = elim (cases_eq v a.head) [
     | inl same ↦ subst (λ w. SaysSame (old w) (new w)) (sym same) passes.head
@@ -303,8 +303,8 @@ module _ (a : ArcView) (old new : ℕ → Known) (b : BlockValue) (passes : Node
   unmade_before : (v : ℕ) → is_made (new v) ≡ false → is_made (old v) ≡ false
   unmade_before v unmade = not_yes (is_made (old v)) (λ made. let yes = made_still v made in cc)
 
-  pub node_labels_still : (c : ArcView) → NodeLabelsMade b old c → NodeLabelsMade b new c
-  node_labels_still c node_labels l has makes = made_still l.id (node_labels l has makes)
+  pub labels_still : (c : ArcView) → LabelsMade b old c → LabelsMade b new c
+  labels_still c node_labels l has makes = made_still l.id (node_labels l has makes)
 
   count_still : made_count b old ≤ made_count b new
   count_still = count_less (λ (l : Label). is_made (old l.id)) (λ (l : Label). is_made (new l.id)) b.labels (λ l. made_still l.id)
@@ -371,8 +371,8 @@ module _ (a : ArcView) (old new : ℕ → Known) (b : BlockValue) (passes : Node
         sound = alone_after;
       }
 
-      pub node_labels_this : NodeLabelsMade b new a
-      node_labels_this l has makes = by (is_made (old l.id)) refl
+      pub labels_this : LabelsMade b new a
+      labels_this l has makes = by (is_made (old l.id)) refl
         where
           by : (before : Bool) → is_made (old l.id) ≡ before → is_made (new l.id) ≡ true
           by true made = made_still l.id made
@@ -380,8 +380,8 @@ module _ (a : ArcView) (old new : ℕ → Known) (b : BlockValue) (passes : Node
 
       pub made_after : AreMadeBelow arcs b i old → AreMadeBelow arcs b (i + 1) new
       made_after made k less = elim (cases_eq k i) [
-        | inl same ↦ subst (NodeLabelsMade b new) (sym (ap (arc_at arcs) same ∙ this_arc)) node_labels_this
-        | inr off ↦ node_labels_still (arc_at arcs k) (made k (omega (arith, less, off)))
+        | inl same ↦ subst (LabelsMade b new) (sym (ap (arc_at arcs) same ∙ this_arc)) labels_this
+        | inr off ↦ labels_still (arc_at arcs k) (made k (omega (arith, less, off)))
       ]
 
       pub clear_after : ClearBelow (relax_row arcs b) i → ((reason : Reason) → ¬ RelaxFails b.radius (old a.tail).dist (old a.head).dist a.cost reason) → ClearBelow (relax_row arcs b) (i + 1)

@@ -37,7 +37,7 @@ pub fn cut_tests<N: Network>(
     arcs_hold(instance.network(), flow, cut)
 }
 
-/// Whether an arc leaves the cut with room, or enters it with flow.
+/// Whether an arc leaves the cut with residual capacity, or enters it with flow.
 impl ArcTest for Cut {
     ghost fails = { λ cut. TightFails (members cut) };
 

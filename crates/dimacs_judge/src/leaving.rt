@@ -27,7 +27,7 @@ pub(crate) fn labels_few<N: Network>(block: &Block, network: &N) -> bool {
 }
 
 /// Relaxes the lightest arcs that leave labelled nodes, up to the first that fails. Returns whether none fails: then no
-/// other arc fails, or is tight for a label that these don't mark.
+/// other arc fails, or is tight for a label that these aren't.
 pub(crate) fn leaving_passed<N: Network, D: Distance>(
     network: &N,
     block: &Block,

@@ -5,8 +5,8 @@ ghost use Rattle.std.specs.Prelude.{◌≡◌, ◌+◌, ◌^◌};
 use crate::distance::Distance;
 use dimacs_claims::Label;
 
-/// The label of a node in the block that is judged. Relaxing an arc looks up two marks, so small ones keep more of the
-/// table in the processor's cache.
+/// The label of a node in the block that is judged. Relaxing an arc looks up two entries, so small ones keep more of
+/// the table in the processor's cache.
 #[derive(Clone, Copy)]
 pub(crate) struct NodeLabel<D> {
     /// None if the node has no label in the block.
@@ -23,7 +23,7 @@ impl<D: Distance> NodeLabel<D> {
     ghost use Rattle.dimacs_judge.specs.inside.Distances.{Fits};
     ghost use Rattle.dimacs_judge.specs.inside.NodeLabels.{is_made, known_by};
 
-    /// The mark of a node without a label.
+    /// The entry of a node without a label.
     pub(crate) fn none() -> NodeLabel<D>
         ensures { D.value result.dist ≡ None }
     {
@@ -33,7 +33,7 @@ impl<D: Distance> NodeLabel<D> {
         }
     }
 
-    /// The mark of the source, whose label needs no tight arc.
+    /// The entry of the source, whose label needs no tight arc.
     pub(crate) fn of_source() -> NodeLabel<D>
         ensures dist { D.value result.dist ≡ Some (pos 0) }
         ensures made { is_made (known_by D.value result) ≡ true }
@@ -44,7 +44,7 @@ impl<D: Distance> NodeLabel<D> {
         }
     }
 
-    /// The mark of a label for which no tight arc was found yet.
+    /// The entry of a label for which no tight arc was found yet.
     #[inline(always)]
     pub(crate) fn of(label: Label) -> NodeLabel<D>
         requires { Fits D.low D.end label.dist }
@@ -65,7 +65,7 @@ impl<D: Distance> NodeLabel<D> {
         self.pred >= MADE
     }
 
-    /// The same mark, with the tight arc found if `made`. It adds, since the compiler turns a choice between two
+    /// The same entry, with the tight arc found if `made`. It adds, since the compiler turns a choice between two
     /// numbers into a branch, which would be mispredicted for every second arc.
     #[inline(always)]
     pub(crate) fn made_if(self, made: bool) -> NodeLabel<D>

@@ -11,7 +11,7 @@ ghost use Rattle.dimacs_judge.specs.CertificateTests.{RelaxFails, label_rows, re
 ghost use Rattle.dimacs_judge.specs.inside.CertificateTests.{distance_rows};
 ghost use Rattle.dimacs_judge.specs.inside.Distances.{Fits, LeadsAside};
 ghost use Rattle.dimacs_judge.specs.inside.Leaving.{AreLeast};
-ghost use Rattle.dimacs_judge.specs.inside.NodeLabels.{AllBlank, AreAsTested, AreBlank, AreMade, AreMadeBelow, AreWide, IsBlank, IsLabelled, IsTight, NodeLabelsArc, known};
+ghost use Rattle.dimacs_judge.specs.inside.NodeLabels.{AllBlank, AreAsTested, AreBlank, AreMade, AreMadeBelow, AreWide, IsBlank, IsLabelled, IsTight, RelaxesArc, known};
 ghost use Rattle.dimacs_judge.specs.Tests.{Clear, TellsRow};
 ghost use Rattle.dimacs_judge.specs.inside.Tests.{Tells, TellsAll, TellsReason};
 
@@ -28,8 +28,8 @@ use dimacs_nodes::{NodeTable, Slot};
 use dimacs_records::Reason;
 use std::alloc::Global;
 
-/// Tables of marks for three widths of distances. A block is judged with the narrowest that holds all its distances.
-/// Between blocks no node is marked.
+/// Tables of labels for three widths of distances. A block is judged with the narrowest that holds all its distances.
+/// Between blocks no node has a label.
 #[derive(Drop)]
 pub(crate) struct Tables {
     bits32: NodeTable<NodeLabel<i32>>,
@@ -157,7 +157,7 @@ fn lie_within(labels: &LabelList, low: i64, end: i64) -> bool
     true
 }
 
-/// Judges a block with marks that hold its distances: first its labels, then the arcs.
+/// Judges a block with entries that hold its distances: first its labels, then the arcs.
 fn block_holds_by<N: Network, D: Distance>(
     network: &N,
     block: &Block,
@@ -177,7 +177,7 @@ fn block_holds_by<N: Network, D: Distance>(
     Ok(())
 }
 
-/// Marks the nodes that have a label in the block.
+/// Enters the labels of the block.
 #[inline(never)]
 fn note_labels<D: Distance>(
     block: &Block,
@@ -197,7 +197,7 @@ fn note_labels<D: Distance>(
     Ok(())
 }
 
-/// Clears the marks of a block. Their memory is kept for the next one.
+/// Clears the entries of a block. Their memory is kept for the next one.
 fn blank_labels<D: Distance>(
     block: &Block,
     node_labels: &mut NodeTable<NodeLabel<D>>,
@@ -309,7 +309,7 @@ fn rest_passed<N: Network, D: Distance>(
     }
 }
 
-/// Relaxes one arc: marks its head if the arc is tight for its label. Returns whether it is the first such arc, or why
+/// Relaxes one arc: the head's label is made if the arc is tight for it. Returns whether it is the first such arc, or why
 /// the arc fails. No branch depends on whether an arc is tight, so none is mispredicted if the labels are right.
 #[inline(always)]
 pub(crate) fn pass_arc<D: Distance>(
@@ -321,7 +321,7 @@ pub(crate) fn pass_arc<D: Distance>(
     requires wide { AreWide (known D.value node_labels.old) }
     ensures outcome { TellsReason (RelaxFails block.now.radius (known D.value node_labels.old arc.tail).dist (known D.value node_labels.old arc.head).dist arc.cost)
         (result_err result) }
-    ensures node_labels { NodeLabelsArc arc (known D.value node_labels.old) (known D.value node_labels.new) }
+    ensures relaxes { RelaxesArc arc (known D.value node_labels.old) (known D.value node_labels.new) }
     ensures made { IfOk result (λ made. IsTrue made ↔ IsTight arc (known D.value node_labels.old)) }
     ensures blank { IsBlank D.value node_labels.new }
 {
@@ -361,7 +361,7 @@ fn arc_fault<D: Distance>(
     relax_fault_from(from, to, block.radius(), weight)
 }
 
-/// Tests that each label has a tight arc, by the marks; the error names the first that has none.
+/// Tests that each label has a tight arc, by the table; the error names the first that has none.
 fn labels_made<D: Distance>(
     labels: &LabelList,
     node_labels: &NodeTable<NodeLabel<D>>,

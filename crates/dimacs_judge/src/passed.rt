@@ -3,7 +3,7 @@
 ghost use Rattle.std.specs.Prelude.{◌≡◌, ◌<◌, ◌≤◌, ◌+◌, ◌^◌, List, Some, true, IfOk, IfSome, IsTrue, OnOk, length};
 ghost use Rattle.dimacs_network.specs.declared.network.ArcView.{ArcView};
 ghost use Rattle.dimacs_network.specs.Arcs.{IsKthBetween, arc_at, joins};
-ghost use Rattle.dimacs_judge.specs.inside.Passed.{HavePassed, IsFirstBetween, chain_of};
+ghost use Rattle.dimacs_judge.specs.inside.Passed.{AreChained, IsFirstBetween, chain_of};
 
 use dimacs_claims::Entry;
 use dimacs_lines::Memory;
@@ -30,7 +30,7 @@ pub(crate) struct Passed {
 impl Passed {
     /// No arcs, with room for those of a network: 8 to 12 bytes for each.
     pub(crate) fn room<N: Network>(alloc: Global, network: &N) -> Result<Passed, Memory>
-        ensures { IfOk result (HavePassed (N.list network.now)) }
+        ensures { IfOk result (AreChained (N.list network.now)) }
     {
         let arcs = network.arcs();
         let chains = (arcs.max(1) as usize).next_power_of_two();
@@ -50,8 +50,8 @@ impl Passed {
         entry: Entry,
         start: u32,
     ) -> Option<u32>
-        requires { HavePassed (N.list network.now) self.old }
-        ensures passed { HavePassed (N.list network.now) self.new }
+        requires { AreChained (N.list network.now) self.old }
+        ensures passed { AreChained (N.list network.now) self.new }
         ensures first { IfSome result (IsFirstBetween (N.list network.now) entry.tail entry.head) }
     {
         let arcs = network.arcs();
@@ -73,11 +73,11 @@ impl Passed {
     /// Passes the next arc, which has this index.
     #[inline(always)]
     fn pass<N: Network>(&mut self, network: &N, i: u32) -> Result<(), Memory>
-        requires passed { HavePassed (N.list network.now) self.old }
+        requires passed { AreChained (N.list network.now) self.old }
         requires next { length self.old.before.items ≡ i }
         requires inside { i < length (N.list network.now) }
         requires few { i + 1 < 2 ^ 32 }
-        ensures passed { HavePassed (N.list network.now) self.new }
+        ensures passed { AreChained (N.list network.now) self.new }
         ensures one_more { OnOk result (length self.new.before.items ≡ i + 1) }
     {
         let chain = chain_of(network.arc(i), self.step, self.last.len());
@@ -89,7 +89,7 @@ impl Passed {
     /// Whether this arc, which has the ends of the entry, is the first that has them.
     #[inline(always)]
     fn is_first<N: Network>(&self, network: &N, entry: Entry, arc: u32) -> bool
-        requires passed { HavePassed (N.list network.now) self.now }
+        requires passed { AreChained (N.list network.now) self.now }
         requires arc { arc < length self.now.before.items }
         requires joins { joins entry.tail entry.head (arc_at (N.list network.now) arc) ≡ true }
         ensures { IsTrue result → IsFirstBetween (N.list network.now) entry.tail entry.head arc }

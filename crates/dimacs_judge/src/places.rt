@@ -49,7 +49,7 @@ pub struct FlowPlaces<'a, N: Network> {
 impl<'a, N: Network> Model for FlowPlaces<'a, N> {
     ghost use Rattle.dimacs_judge.specs.Claims.{Carries, entry_row};
     ghost use Rattle.dimacs_judge.specs.Places.{PlacesValue, HaveRoom, IsIndexFor};
-    ghost use Rattle.dimacs_judge.specs.inside.Passed.{HavePassedIf};
+    ghost use Rattle.dimacs_judge.specs.inside.Passed.{AreChainedIf};
 
     ghost Value = { PlacesValue };
 
@@ -59,7 +59,7 @@ impl<'a, N: Network> Model for FlowPlaces<'a, N> {
     ghost invariant = { λ p. HaveRoom (record
         { arcs = N.list p.network.now; flow = p.flow; counts = p.counts.items; in_order = p.in_order; out_of_order = p.out_of_order; searched = p.searched; refusal = p.refusal })
         × IsIndexFor (N.list p.network.now) p.searched p.index
-        × HavePassedIf (N.list p.network.now) p.passed };
+        × AreChainedIf (N.list p.network.now) p.passed };
 }
 
 impl<'a, N: Network> FlowPlaces<'a, N> {

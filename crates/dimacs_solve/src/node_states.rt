@@ -8,7 +8,7 @@ use dimacs_lines::Memory;
 use dimacs_nodes::NodeTable;
 use std::alloc::Global;
 
-/// What a search knows about a node. A mark from an earlier round counts as none.
+/// What a search knows about a node. A state from an earlier round counts as none.
 #[derive(Clone, Copy)]
 struct NodeState<D> {
     dist: D,
@@ -27,7 +27,7 @@ pub(crate) struct NodeStates<D> {
 impl<D: Distance> NodeStates<D> {
     ghost use Rattle.dimacs_solve.specs.inside.NodeStates.{AreUnknown, IsSettled, IsReachedWithin, Sets, known, reached, settled};
 
-    /// Round 0, without marks. Allocates nothing.
+    /// Round 0, without states. Allocates nothing.
     pub(crate) fn new(alloc: Global) -> NodeStates<D>
         ensures { result.round ≡ 0 }
     {
@@ -69,7 +69,7 @@ impl<D: Distance> NodeStates<D> {
         node_state.round == self.round && node_state.settled
     }
 
-    /// Marks the node with the length of a walk to it.
+    /// Notes the length of a walk to the node.
     #[inline]
     pub(crate) fn reach(&mut self, node: u32, dist: D) -> Result<(), Memory>
         ensures round { OnOk result (self.new.round ≡ self.old.round) }
@@ -85,7 +85,7 @@ impl<D: Distance> NodeStates<D> {
         Ok(())
     }
 
-    /// Marks the node with its distance, as final.
+    /// Notes the distance of the node, as final.
     #[inline]
     pub(crate) fn settle(&mut self, node: u32, dist: D) -> Result<(), Memory>
         ensures round { OnOk result (self.new.round ≡ self.old.round) }

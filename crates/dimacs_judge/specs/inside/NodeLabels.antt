@@ -37,11 +37,11 @@ known value node_labels v = known_by value (value_of node_labels v)
 abbrev pub is_made : Known → Bool
 is_made k = nat_le (2 ^ 31) k.pred
 
--- a node that wasn't marked has no label
+-- a node without an entry has no label
 abbrev pub IsBlank : {D : Type 0} → (D → Option ℤ) → NodeTable (NodeLabel D) → Type 0
 IsBlank value node_labels = value (blank_of node_labels).dist ≡ None
 
--- no node is marked
+-- no node has a label
 pub record AreBlank {D : Type 0} (value : D → Option ℤ) (node_labels : NodeTable (NodeLabel D)) : Type 0 where
   pub blank : IsBlank value node_labels
   pub all : (v : ℕ) → (known value node_labels v).dist ≡ None
@@ -67,7 +67,7 @@ pub record IsKnown (arcs : List ArcView) (b : BlockValue) (at : ℕ → Known) :
   pub source : is_made (at b.source) ≡ true
   pub sound : AreMadeAlone arcs b at
 
--- the marks are the labels of the block, and nothing else
+-- the entries are the labels of the block, and nothing else
 pub record IsLabelled {D : Type 0} (value : D → Option ℤ) (arcs : List ArcView) (b : BlockValue) (node_labels : NodeTable (NodeLabel D)) : Type 0 where
   pub blank : IsBlank value node_labels
   pub known : IsKnown arcs b (known value node_labels)
@@ -81,12 +81,12 @@ pub record Makes (b : BlockValue) (a : ArcView) (l : Label) : Type 0 where
   pub adds : (base +ℤ a.cost) ≡ l.dist
 
 -- all labels for which this arc is tight are known to have a tight arc
-abbrev pub NodeLabelsMade : BlockValue → (ℕ → Known) → ArcView → Type 0
-NodeLabelsMade b at a = (l : Label) → Contains b.labels l → Makes b a l → is_made (at l.id) ≡ true
+abbrev pub LabelsMade : BlockValue → (ℕ → Known) → ArcView → Type 0
+LabelsMade b at a = (l : Label) → Contains b.labels l → Makes b a l → is_made (at l.id) ≡ true
 
 -- the same for the first n arcs
 abbrev pub AreMadeBelow : List ArcView → BlockValue → ℕ → (ℕ → Known) → Type 0
-AreMadeBelow arcs b n at = (k : ℕ) → k < n → NodeLabelsMade b at (arc_at arcs k)
+AreMadeBelow arcs b n at = (k : ℕ) → k < n → LabelsMade b at (arc_at arcs k)
 
 -- exactly the labels with a tight arc are known to have one
 abbrev pub AreMade : List ArcView → BlockValue → (ℕ → Known) → Type 0
@@ -110,7 +110,7 @@ pub record SaysSame (old new : Known) : Type 0 where
   pub pred : is_made new ≡ false → new.pred ≡ old.pred
 
 -- the entry of the arc's head has a tight arc if it had one or this arc is tight, and nothing else changes
-pub record NodeLabelsArc (a : ArcView) (old new : ℕ → Known) : Type 0 where
+pub record RelaxesArc (a : ArcView) (old new : ℕ → Known) : Type 0 where
   pub others : (v : ℕ) → v ≢ a.head → new v ≡ old v
   pub head : SaysSame (old a.head) (new a.head)
   pub made : (is_made (new a.head) ≡ true) ↔ ((is_made (old a.head) ≡ true) ⊎ IsTight a old)

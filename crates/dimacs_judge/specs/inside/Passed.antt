@@ -23,12 +23,12 @@ abbrev pub by_chain : Passed → List ArcView → List ArcView
 by_chain p arcs = map (in_chain p.step (length p.last.items)) arcs
 
 -- the first arcs are in their chains
-pub record HavePassed (arcs : List ArcView) (p : Passed) : Type 0 where
+pub record AreChained (arcs : List ArcView) (p : Passed) : Type 0 where
   pub some : 1 ≤ length p.last.items
   pub few : length p.before.items ≤ length arcs
   pub linked : AreLinked Tail (by_chain p arcs) (length p.before.items) (λ chain. get_or p.last.items chain 0) p.before.items
 
 -- the first arcs are in their chains, if they are kept
-abbrev pub HavePassedIf : List ArcView → Option Passed → Type 0
-HavePassedIf arcs None = Unit {0}
-HavePassedIf arcs (Some p) = HavePassed arcs p
+abbrev pub AreChainedIf : List ArcView → Option Passed → Type 0
+AreChainedIf arcs None = Unit {0}
+AreChainedIf arcs (Some p) = AreChained arcs p

@@ -10,11 +10,11 @@ pub record Known : Type 0 where
   pub dist : ℕ
   pub final : Bool
 
--- a mark, read in this round
+-- a state, read in this round
 abbrev pub known_by : {D : Type 0} → (D → ℕ) → ℕ → NodeState D → Known
 known_by value round m = record { found = m.round == round; dist = value m.dist; final = m.settled }
 
--- the mark of a node, read in the current round
+-- the state of a node, read in the current round
 abbrev pub known : {D : Type 0} → (D → ℕ) → NodeStates D → ℕ → Known
 known value m v = known_by value m.round (value_of m.node_states v)
 

@@ -32,7 +32,7 @@ pub record IsWay (a : Adjacency) (node_states : ℕ → Known) (e : Reach ℕ) :
   pub hop : Contains (out a e.pred) (hop_to e.node weight)
   pub adds : e.dist ≡ (node_states e.pred).dist + weight
 
--- a walk in the queue: at least as long as the floor, and as the mark of its node
+-- a walk in the queue: at least as long as the floor, and as the way noted for its node
 pub record IsWayWaiting (a : Adjacency) (floor : ℕ) (node_states : ℕ → Known) (e : Reach ℕ) : Type 0 where
   pub way : IsWay a node_states e
   pub beyond : floor ≤ e.dist
@@ -43,26 +43,26 @@ pub record IsWayWaiting (a : Adjacency) (floor : ℕ) (node_states : ℕ → Kno
 abbrev pub IsPending : List (Reach ℕ) → ℕ → ℕ → Type 0
 IsPending front v d = (p : ℕ) × Contains front (record { dist = d; node = v; pred = p })
 
--- the marks and the queue agree, and no settled node is farther than the floor
+-- the states and the queue agree, and no settled node is farther than the floor
 pub record IsFront (a : Adjacency) (floor : ℕ) (node_states : ℕ → Known) (front : List (Reach ℕ)) : Type 0 where
   pub adjacent : AreByNode a
   pub waiting : (e : Reach ℕ) → Contains front e → IsWayWaiting a floor node_states e
   pub pending : (v : ℕ) → (node_states v).found ≡ true → (node_states v).final ≡ false → IsPending front v (node_states v).dist
   pub below : (v : ℕ) → IsSettled (node_states v) → (node_states v).dist ≤ floor
 
--- settled nodes stay settled as they were, no others become settled, and no mark rises
+-- settled nodes stay settled as they were, no others become settled, and no length rises
 pub record Lowers (old new : ℕ → Known) : Type 0 where
   pub kept : (v : ℕ) → IsSettled (old v) → new v ≡ old v
   pub none : (v : ℕ) → IsSettled (new v) → new v ≡ old v
   pub within : (v d : ℕ) → IsReachedWithin (old v) d → IsReachedWithin (new v) d
 
--- a walk is put into the queue if it is shorter than its node's mark
+-- a walk is put into the queue if it is shorter than what is noted for its node
 abbrev pub Offers : Reach ℕ → (ℕ → Known) → List (Reach ℕ) → (ℕ → Known) → List (Reach ℕ) → Type 0
 Offers e node_states front node_states' front' =
     (IsReachedWithin (node_states e.node) e.dist × (node_states' ≡ node_states) × (front' ≡ front))
     ⊎ ((¬ IsReachedWithin (node_states e.node) e.dist) × Sets node_states e.node (reached e.dist) node_states' × IsPermutation (e ∷ front) front')
 
--- the head of the hop has a mark of at most d plus the weight
+-- for the head of the hop, at most d plus the weight is noted
 abbrev pub IsHopPassed : (ℕ → Known) → ℕ → Hop → Type 0
 IsHopPassed node_states d hop = IsReachedWithin (node_states hop.head) (d + hop.weight)
 

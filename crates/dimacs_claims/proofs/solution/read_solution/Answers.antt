@@ -16,7 +16,7 @@ returns-clause-reads g c = λ text coming.
     let placed = c.in_ok-placed.placed in
     let fits : SFits w128 placed.value = search rules in
     let read = c.in_ok-placed.ensures.reads text coming in
-    let same = kept_solution (λ w. w.value) (λ w. w.value_line) (λ w. w.place.items) read.noted placed read.alike in
+    let same = kept_solution (λ w. w.value) (λ w. w.value_line) (λ w. w.place.items) read.answer placed read.alike in
     rw (to_z-of_z w128 placed.value fits) (subst (λ (noted : Result SolutionValue ReadError). Reads (SpellsSolution text) (Fault Solution (lines text)) noted) same read.reads)
 
 pub returns-clause-lawful : goal.returns-clause-lawful
@@ -28,5 +28,5 @@ returns-clause-lawful g c =
 pub returns-in_err-placed-clause-reads : goal.returns-in_err-placed-clause-reads
 returns-in_err-placed-clause-reads g c = λ text coming.
     let read = c.in_err-placed.ensures.reads text coming in
-    let same = error_kept (λ s w. IsPlaced w.value w.value_line (λ kept. w.place.items ≡ kept) s) read.noted c.in_err-placed.field-0.0 c.from_residual.result read.alike c.from_residual.ensures.1 in
+    let same = error_kept (λ s w. IsPlaced w.value w.value_line (λ kept. w.place.items ≡ kept) s) read.answer c.in_err-placed.field-0.0 c.from_residual.result read.alike c.from_residual.ensures.1 in
     subst (λ (noted : Result SolutionValue ReadError). Reads (SpellsSolution text) (Fault Solution (lines text)) noted) same read.reads

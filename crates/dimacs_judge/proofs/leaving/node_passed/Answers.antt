@@ -64,13 +64,13 @@ returns-then-is_err-clause-labelled g c =
     let value = g.D.Distance.value in
     record {
       blank = c.pass_arc.ensures.blank;
-      known = known_after c.arc-arc.result (known value c.loop-next.node_labels) (known value c.pass_arc.new.node_labels) c.args.block.now c.pass_arc.ensures.node_labels (g.N.Network.list c.args.network.now) c.loop-next.invariant.labelled.known c.arc_at.result c.arc-arc.ensures;
+      known = known_after c.arc-arc.result (known value c.loop-next.node_labels) (known value c.pass_arc.new.node_labels) c.args.block.now c.pass_arc.ensures.relaxes (g.N.Network.list c.args.network.now) c.loop-next.invariant.labelled.known c.arc_at.result c.arc-arc.ensures;
     }
 
 pub returns-then-is_err-clause-kept : goal.returns-then-is_err-clause-kept
 returns-then-is_err-clause-kept g c = λ a passed.
     let value = g.D.Distance.value in
-    passed_still c.arc-arc.result (known value c.loop-next.node_labels) (known value c.pass_arc.new.node_labels) c.args.block.now c.pass_arc.ensures.node_labels a (c.loop-next.invariant.kept a passed)
+    passed_still c.arc-arc.result (known value c.loop-next.node_labels) (known value c.pass_arc.new.node_labels) c.args.block.now c.pass_arc.ensures.relaxes a (c.loop-next.invariant.kept a passed)
 
 pub loop-next-preserved : goal.loop-next-preserved
 loop-next-preserved g c =
@@ -81,7 +81,7 @@ loop-next-preserved g c =
     let is = c.loop-next.invariant in
     let old = known g.D.Distance.value c.loop-next.node_labels in
     let new = known g.D.Distance.value c.pass_arc.new.node_labels in
-    let passes = c.pass_arc.ensures.node_labels in
+    let passes = c.pass_arc.ensures.relaxes in
     let node = c.args.node in
     let place = c.loop-next.next - 1 in
     let i = c.arc_at.result in

@@ -28,7 +28,7 @@ loop-i-preserved g c =
     let value = g.D.Distance.value in
     let old = known value c.loop-i.node_labels in
     let new = known value c.pass_arc.new.node_labels in
-    let passes = c.pass_arc.ensures.node_labels in
+    let passes = c.pass_arc.ensures.relaxes in
     let i = c.loop-i.i in
     let outcome = rw c.in-Ok.is at c.pass_arc.ensures.outcome in
     let made = rw c.in-Ok.is at c.pass_arc.ensures.made in
@@ -44,13 +44,13 @@ rest_passed-requires-clause-labelled g c =
     let value = g.D.Distance.value in
     record {
       blank = c.pass_arc.ensures.blank;
-      known = known_after c.arc.result (known value c.loop-i.node_labels) (known value c.pass_arc.new.node_labels) c.args.block.now c.pass_arc.ensures.node_labels (g.N.Network.list c.args.network.now) c.loop-i.invariant.labelled.known c.loop-i.i c.arc.ensures;
+      known = known_after c.arc.result (known value c.loop-i.node_labels) (known value c.pass_arc.new.node_labels) c.args.block.now c.pass_arc.ensures.relaxes (g.N.Network.list c.args.network.now) c.loop-i.invariant.labelled.known c.loop-i.i c.arc.ensures;
     }
 
 pub rest_passed-requires-clause-made : goal.rest_passed-requires-clause-made
 rest_passed-requires-clause-made g c =
     let value = g.D.Distance.value in
-    made_after c.arc.result (known value c.loop-i.node_labels) (known value c.pass_arc.new.node_labels) c.args.block.now c.pass_arc.ensures.node_labels (g.N.Network.list c.args.network.now) c.loop-i.invariant.labelled.known c.loop-i.i c.arc.ensures c.loop-i.invariant.made
+    made_after c.arc.result (known value c.loop-i.node_labels) (known value c.pass_arc.new.node_labels) c.args.block.now c.pass_arc.ensures.relaxes (g.N.Network.list c.args.network.now) c.loop-i.invariant.labelled.known c.loop-i.i c.arc.ensures c.loop-i.invariant.made
 
 pub returns-in-Err-clause-tests : goal.returns-in-Err-clause-tests
 returns-in-Err-clause-tests g c =
@@ -59,7 +59,7 @@ returns-in-Err-clause-tests g c =
     let is = c.loop-i.invariant in
     let value = g.D.Distance.value in
     let outcome = rw c.in-Err.is at c.pass_arc.ensures.outcome in
-    let first = first_after c.arc.result (known value c.loop-i.node_labels) (known value c.pass_arc.new.node_labels) b c.pass_arc.ensures.node_labels arcs is.labelled.known c.loop-i.i c.arc.ensures c.in-Err.reason is.clear outcome in
+    let first = first_after c.arc.result (known value c.loop-i.node_labels) (known value c.pass_arc.new.node_labels) b c.pass_arc.ensures.relaxes arcs is.labelled.known c.loop-i.i c.arc.ensures c.in-Err.reason is.clear outcome in
     let made = c.labels_made.ensures arcs b (sym c.labels-labels.ensures) c.rest_passed.ensures.made in
     rw c.and.ensures (both_told arcs b c.labels_made.result (Err (Arc (c.loop-i.i + 1), c.in-Err.reason)) made first)
 

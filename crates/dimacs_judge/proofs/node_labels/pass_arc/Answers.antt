@@ -28,8 +28,8 @@ returns-clause-made g c =
     let waits : IsTrue c.waits_for.result ↔ (((old a.head).pred ≡ a.tail) × (is_made (old a.head) ≡ false)) = rw head at c.waits_for.ensures in
     tight_where a old c.leads_to.result c.waits_for.result leads waits
 
-pub returns-clause-node_labels : goal.returns-clause-node_labels
-returns-clause-node_labels g c =
+pub returns-clause-relaxes : goal.returns-clause-relaxes
+returns-clause-relaxes g c =
     let a = c.args.arc in
     let value = g.D.Distance.value in
     let head = c.in-Some-get_slot.ensures.0 in

@@ -21,7 +21,7 @@ loop-i-preserved g c =
     let value = g.D.Distance.value in
     let old = known value c.loop-i.node_labels in
     let new = known value c.pass_arc-passed.new.node_labels in
-    let passes = c.pass_arc-passed.ensures.node_labels in
+    let passes = c.pass_arc-passed.ensures.relaxes in
     record {
       labelled = record { blank = c.pass_arc-passed.ensures.blank; known = known_after a old new b passes arcs is.labelled.known c.loop-i.i c.arc.ensures };
       made = made_after a old new b passes arcs is.labelled.known c.loop-i.i c.arc.ensures is.made;

@@ -1,10 +1,10 @@
 use Rattle.std.proofs.Common.{◌≡◌, length}
-use Rattle.dimacs_judge.specs.inside.Passed.{HavePassed}
+use Rattle.dimacs_judge.specs.inside.Passed.{AreChained}
 use Rattle.dimacs_judge.proofs.passed.Passed.pass_to.Given as goal
 
 -- the arcs before i are passed
 abbrev pub invariant-loop-i : goal.invariant-loop-i
 invariant-loop-i g l = record {
   so_many : length l.self.before.items ≡ l.i;
-  passed : HavePassed (g.N.Network.list l.network) l.self;
+  passed : AreChained (g.N.Network.list l.network) l.self;
 }
