@@ -1,6 +1,6 @@
 // dimacs.hpp: the calls of dimacs.h for C++17 and later: spans and string views in, values out.
 //
-// Each call answers an Answer: a yes, or one of the noes that its type lists.
+// Each call returns an Answer: a yes, or one of the noes that its type lists.
 //
 //     if (auto answer = dimacs::certify_max(instance, flows)) {
 //         use(answer->inside);                                              // a yes: the cut that shows it
@@ -10,12 +10,12 @@
 //         std::cerr << answer.message();                                    // x arc 3 AboveCap
 //     }
 //
-// What says nothing of the claim is thrown: std::bad_alloc if there isn't enough memory, WrongLength if an array
-// has another length than it has to have, and PastLimit, which has the arc or the node, if a number of the instance is
-// past its limit. All calls have the strong guarantee, keep nothing, and may run side by side in several threads.
+// If the claim stays undecided, a call throws: std::bad_alloc if it is out of memory, WrongLength if an array has a
+// wrong length, and PastLimit, which has the arc or the node, if a number of the instance is past its limit. All calls
+// have the strong guarantee, keep nothing, and may run in several threads at once.
 //
-// The caller answers for the memory of a span: it has to be there, and isn't written meanwhile. Nothing here is proved:
-// it is a layer over calls that are. See docs/LIBRARY.md.
+// The caller answers for the memory of a span: it exists, and nothing writes it during the call. Nothing here is
+// proved: it is a layer over calls that are. See docs/LIBRARY.md.
 #ifndef DIMACS_HPP
 #define DIMACS_HPP
 
@@ -62,7 +62,7 @@ using std::span;
 #else
 inline namespace with_own_span {
 
-// Where items begin, and how many there are: std::span for C++17.
+// The first of some items, and how many there are: std::span for C++17.
 template <class T>
 class span {
     template <class Items>
@@ -72,7 +72,7 @@ class span {
     constexpr span() noexcept = default;
     constexpr span(T *at, std::size_t size) noexcept : at_(at), size_(size) {}
 
-    // Of a vector, an array, or whatever else has its items one after another. It has to outlive the span.
+    // From a vector, an array, or anything else with contiguous items. It has to outlive the span.
     template <class Items, class = std::enable_if_t<std::is_convertible_v<item_of<Items> (*)[], T (*)[]>>>
     constexpr span(Items &&items) noexcept : at_(std::data(items)), size_(std::size(items)) {}
 
@@ -91,8 +91,8 @@ class span {
 
 // ---- What is handed in ----
 
-// Nodes and arcs count from 1. The k-th items of the spans by arc describe the k-th arc, and the k-th item of a span
-// by node belongs to node k.
+// Nodes and arcs are numbered from 1. The k-th items of the spans by arc describe the k-th arc, and the k-th item of a
+// span by node belongs to node k.
 using Nodes = span<const std::uint32_t>;
 using Numbers = span<const std::int64_t>;
 
@@ -107,7 +107,7 @@ struct MaxInstance {
 };
 
 // A minimum cost flow instance: an arc carries from its lower bound to its capacity, at a cost for each unit. What
-// leaves a node less what enters it is its supply, which is negative where it demands.
+// leaves a node less what enters it is its supply. A demand is a negative supply.
 struct MinInstance {
     std::uint32_t nodes = 0;
     Nodes tails, heads;
@@ -124,7 +124,7 @@ struct Graph {
 // The distance of a node that isn't reached. Its predecessor is 0, as that of the source.
 inline constexpr std::int64_t unreached = DIMACS_UNREACHED;
 
-// The limit that the command has where none is given.
+// The command's default limit.
 inline constexpr std::uint64_t default_limit = DIMACS_LIMIT;
 
 // Kinds of text, as the command has words for them.
@@ -147,7 +147,7 @@ class Value {
   public:
     Value(std::int64_t number) : digits_(std::to_string(number)) {}
 
-    // A number as the library spells it.
+    // From a number as the library writes it.
     static Value of(std::string_view digits) {
         Value value(0);
         value.digits_ = digits;
@@ -176,7 +176,7 @@ using Inside = std::vector<std::uint8_t>;         // a byte for each node, 1 ins
 using Potentials = std::vector<std::int64_t>;     // a number for each node
 using Predecessors = std::vector<std::uint32_t>;  // a node for each node, or 0
 
-// The value or the cost was judged; of the claims that have none it is that of no flow.
+// The claim is true. The value is that of the flow, or its cost; other claims have none.
 struct Judged {
     std::optional<Value> value;
 };
@@ -241,13 +241,13 @@ struct CertifiedPathsText {
     std::string labels;
 };
 
-// The texts of a solution and of what shows it.
+// The texts of a solution and of its certificate.
 struct SolvedText {
     Value value;
     std::string solution, certificate;
 };
 
-// The answer to a query from one node to another. There is a distance, or no walk, or none within a radius.
+// The answer to a query from one node to another: a distance, or no walk, or none within a radius.
 struct Pair {
     enum class Kind { distance, unreachable, beyond };
 
@@ -271,14 +271,14 @@ struct SolvedPathsText {
 
 // ---- What is answered: a no ----
 
-// Where a text has a fault: its name ("instance", "query", "solution", "distances", "certificate"), and its line and
+// The place of a fault: the text's name ("instance", "query", "solution", "distances", "certificate"), and its line and
 // field from 1. The field 0 is the whole line, and the line 0 the whole text.
 struct InText {
     std::string text;
     std::uint64_t line = 0, field = 0;
 };
 
-// A text has a fault, or a test fails: the first one. What doesn't apply is empty.
+// The first fault of a text, or the first test that fails. What doesn't apply is empty.
 struct Refused {
     std::string line;    // as the command prints it, without its end: "x arc 3 AboveCap"
     std::string reason;  // its word: "AboveCap"
@@ -298,7 +298,7 @@ struct RefusedAt {
     std::string message() const { return (arc ? "arc: " : node ? "node: " : "") + reason; }
 };
 
-// The flow is feasible and is what it claims, and there is a better one.
+// The flow is feasible and has the claimed value, but there is a better one.
 template <class Flow>
 struct NotOptimal {
     std::string line;  // as the command prints it, without its end: "x solution 0 0 NotMaximum"
@@ -336,7 +336,7 @@ struct GaveUp {
 
 // ---- What is thrown ----
 
-// An array has another length than it has to have, or a number names no kind.
+// An array has a wrong length, or a number names no kind.
 class WrongLength : public std::invalid_argument {
   public:
     WrongLength() : std::invalid_argument("an array has another length than it has to have") {}
@@ -385,7 +385,7 @@ class [[nodiscard]] Answer {
     bool has_value() const noexcept { return it_.index() == 0; }
     explicit operator bool() const noexcept { return has_value(); }
 
-    // The yes. Of a no what these do is undefined, as it is of std::optional.
+    // The yes. If it is a no, the behaviour is undefined, as for std::optional.
     const Yes &operator*() const noexcept { return *std::get_if<0>(&it_); }
     const Yes *operator->() const noexcept { return std::get_if<0>(&it_); }
 
@@ -405,7 +405,7 @@ class [[nodiscard]] Answer {
         return std::get_if<It>(&it_);
     }
 
-    // What a no says; of a yes nothing.
+    // The message of a no; empty for a yes.
     std::string message() const {
         return std::visit(
             [](const auto &it) -> std::string {
@@ -555,7 +555,7 @@ std::uint32_t with_rooms(const Call &call, Rooms &...rooms) {
     return std::apply(call, std::tuple_cat(std::make_tuple(rooms.at(), rooms.room(), &rooms.told)...));
 }
 
-// Throws for a status that says nothing of the claim.
+// Throws for a status that leaves the claim undecided.
 inline void throw_for(std::uint32_t status, std::string_view line) {
     if (status == DIMACS_NO_MEMORY) throw std::bad_alloc();
     if (status == DIMACS_MISUSED && line.empty()) throw WrongLength();
@@ -591,7 +591,7 @@ inline const std::uint8_t *bytes(std::string_view text) noexcept {
     return reinterpret_cast<const std::uint8_t *>(text.data());
 }
 
-// As many nodes as an instance may have. One with more of them is refused, and needs no room.
+// As many nodes as an instance may have. One with more is refused, and needs no room.
 inline std::size_t room_for(std::uint32_t nodes) noexcept { return nodes <= (std::uint32_t(1) << 27) ? nodes : 0; }
 
 inline dimacs_nodes array(Nodes it) noexcept { return {it.data(), it.size()}; }
@@ -640,7 +640,7 @@ inline Answer<Judged, Refused> judge_flow(std::uint32_t kind, std::string_view i
     return Judged{value_of(std::get<std::string>(it))};
 }
 
-// What dimacs_certify answers: the line, and the text that shows it.
+// What dimacs_certify hands out: the line, and the certificate or the better solution.
 struct CertifyAnswer {
     bool is_yes;
     std::string line, shown;
@@ -675,7 +675,7 @@ inline Answer<CertifiedText, NotOptimalText, Refused> certify_flow(std::uint32_t
     return NotOptimalText{no.line, shown.empty() ? std::nullopt : std::optional(std::move(shown))};
 }
 
-// What dimacs_solve answers: the lines, and the two texts.
+// What dimacs_solve hands out: the lines, and the two texts.
 struct SolveAnswer {
     std::uint32_t status;
     std::string lines, solution, certificate;
@@ -763,9 +763,9 @@ inline Answer<CertifiedPathsText, Refused> certify_paths(std::string_view graph,
     return CertifiedPathsText{detail::sources_of(line), std::move(shown)};
 }
 
-// Deals a solution out to parallel arcs: adds up the entries of each two ends, and gives each arc with these ends its
-// share, within its bounds if that can be; the text of a solution with an entry for every arc and the claimed value.
-// Refused if a text has a fault, or for an entry that no arc has.
+// Deals a solution out to parallel arcs: adds up the entries with the same ends, and gives each arc with these ends its
+// share, within its bounds if possible; the text of a solution with an entry for every arc and the claimed value.
+// Refused if a text has a fault, or for an entry without an arc.
 inline Answer<std::string, Refused> spread_max(std::string_view instance, std::string_view solution) {
     return detail::spread(DIMACS_MAX, instance, solution);
 }
@@ -817,7 +817,7 @@ inline Answer<std::string, Refused> show(Text kind, std::string_view text) {
 
 // ---- Arrays in memory ----
 
-// Judges that a flow, by arc, is maximum, as the cut shows of the nodes whose byte in `inside` isn't 0. Refused for the
+// Judges that a flow, by arc, is maximum, by the cut of the nodes whose byte in `inside` isn't 0. Refused for the
 // first test that fails; dimacs.h lists them. Each call over arrays throws WrongLength and PastLimit.
 inline Answer<Judged, Refused> judge_max(const MaxInstance &instance, Numbers flows, Marks inside) {
     const dimacs_max arrays = detail::arrays(instance);
@@ -829,8 +829,8 @@ inline Answer<Judged, Refused> judge_max(const MaxInstance &instance, Numbers fl
     return Judged{detail::value_of(line.text())};
 }
 
-// Judges that a flow, by arc, costs least, as the potentials show, by node: the reduced cost of an arc is its cost,
-// less the potential of its tail, and with that of its head. Refused for the first test that fails.
+// Judges that a flow, by arc, costs least, by potentials of the nodes. The reduced cost of an arc is its cost, minus
+// the potential of its tail, plus that of its head. Refused for the first test that fails.
 inline Answer<Judged, Refused> judge_min(const MinInstance &instance, Numbers flows, Numbers potentials) {
     const dimacs_min arrays = detail::arrays(instance);
     detail::TextRoom line;
@@ -842,8 +842,8 @@ inline Answer<Judged, Refused> judge_min(const MinInstance &instance, Numbers fl
     return Judged{detail::value_of(line.text())};
 }
 
-// Judges that an instance has no feasible flow, as the set shows of the nodes whose byte in `inside` isn't 0. The yes
-// has no value. If it is refused, as `x certificate 0 0 NotViolated`, there may be no flow all the same, by another
+// Judges that an instance has no feasible flow, by the set of the nodes whose byte in `inside` isn't 0. The yes has no
+// value. If it is refused by `x certificate 0 0 NotViolated`, there may be no feasible flow all the same, by another
 // set.
 inline Answer<Judged, Refused> judge_infeasible(const MinInstance &instance, Marks inside) {
     const dimacs_min arrays = detail::arrays(instance);
@@ -855,8 +855,8 @@ inline Answer<Judged, Refused> judge_infeasible(const MinInstance &instance, Mar
     return Judged{};
 }
 
-// Judges that the distances from the source, by node, are the least weights of walks, as the predecessors show, by
-// node. The yes has no value. Refused for the first test that fails.
+// Judges that the distances from the source, by node, are the least weights of walks, by the predecessors of the
+// nodes. The yes has no value. Refused for the first test that fails.
 inline Answer<Judged, Refused> judge_paths(const Graph &graph, std::uint32_t source, Numbers distances,
                                            Nodes predecessors) {
     const dimacs_graph arrays = detail::arrays(graph);
@@ -870,8 +870,8 @@ inline Answer<Judged, Refused> judge_paths(const Graph &graph, std::uint32_t sou
 }
 
 // Decides whether a flow, by arc, is maximum: a cut that judge_max accepts; NotOptimal, which has a feasible flow
-// of greater value, if it is feasible and isn't maximum; Refused if it isn't feasible. The time that it takes isn't
-// bounded by the number of arcs.
+// of greater value, if it is feasible but not maximum; Refused if it isn't feasible. The number of arcs doesn't bound
+// the time.
 inline Answer<CertifiedMax<Inside>, NotOptimal<Flows>, Refused> certify_max(const MaxInstance &instance,
                                                                             Numbers flows) {
     const dimacs_max arrays = detail::arrays(instance);
@@ -907,7 +907,7 @@ inline Answer<CertifiedMin<Potentials>, NotOptimal<Flows>, GaveUp, Refused> cert
 }
 
 // Decides whether an instance has no feasible flow: a set that judge_infeasible accepts; Feasible, which has a
-// feasible flow, if there is one. The time that it takes isn't bounded by the number of arcs.
+// feasible flow, if there is one. The number of arcs doesn't bound the time.
 inline Answer<CertifiedInfeasible<Inside>, Feasible<Flows>> certify_infeasible(const MinInstance &instance) {
     const dimacs_min arrays = detail::arrays(instance);
     detail::TextRoom line;
@@ -948,8 +948,8 @@ inline Answer<SolvedMax<Flows, Inside>, GaveUp> solve_max(const MaxInstance &ins
 }
 
 // Makes a flow of least cost, and potentials that judge_min accepts. Infeasible, which has a set by which
-// judge_infeasible says yes, if no flow is feasible; GaveUp after `limit` steps to better flows, or if the least cost
-// or the potentials are out of range.
+// judge_infeasible answers yes, if no flow is feasible; GaveUp after `limit` steps to better flows, or if the least
+// cost or the potentials are out of range.
 inline Answer<SolvedMin<Flows, Potentials>, Infeasible<Inside>, GaveUp> solve_min(const MinInstance &instance,
                                                                                   std::uint64_t limit = default_limit) {
     const dimacs_min arrays = detail::arrays(instance);
@@ -984,12 +984,12 @@ inline Answer<SolvedPaths, GaveUp, Refused> solve_paths(const Graph &graph, std:
 
 namespace detail {
 
-// A number of nodes. One with more than 32 bits is past its limit too.
+// A number of nodes. One of more than 32 bits is past its limit too.
 inline std::uint32_t node_count(std::size_t count) noexcept {
     return static_cast<std::uint32_t>(std::min<std::size_t>(count, std::numeric_limits<std::uint32_t>::max()));
 }
 
-// A number of a map. Those that aren't whole aren't judged, and don't compile.
+// A number of a map. Types that aren't integers don't compile.
 template <class Number>
 std::int64_t whole(Number number) {
     static_assert(std::is_integral_v<Number>, "whole numbers are judged: the values of the map have to be integers");
@@ -1012,7 +1012,7 @@ RefusedOver<Index> refused_over(const Index &index, const Refused &no) {
     return it;
 }
 
-// Makes a call over arrays. What it throws of a number names the graph's own arc or node.
+// Makes a call over arrays. What it throws names the graph's own arc or node.
 template <class Index, class Call>
 auto over(const Index &index, const Call &call) {
     try {
@@ -1094,9 +1094,9 @@ CertifiedPathsOver<Index> certify_paths_over(const Index &index, std::uint32_t s
 
 }  // namespace detail
 
-// Over the graphs and maps of LEMON. Flows, bounds, costs and lengths are maps by arc, supplies and potentials by node,
-// of whatever type LEMON reads; their values have to be integers. Of an undirected graph each edge is two arcs, as
-// LEMON has it. What is handed out are maps too, and refers to the graph.
+// Over the graphs and maps of LEMON. Flows, bounds, costs and lengths are maps by arc, supplies and potentials maps by
+// node, of any type that LEMON reads; their values have to be integers. An edge of an undirected graph is two arcs, as
+// in LEMON. What is handed out are maps too, which refer to the graph.
 namespace lemon {
 
 // Numbers by node or by arc, by the graph's IDs, that LEMON reads as a map.
@@ -1156,7 +1156,7 @@ class Index {
         return numbers;
     }
 
-    // A byte for each node that a map of truth values has.
+    // A byte for each node, from a map of truth values.
     template <class Values>
     std::vector<std::uint8_t> marks(const Values &map) const {
         std::vector<std::uint8_t> marks;
@@ -1164,7 +1164,7 @@ class Index {
         return marks;
     }
 
-    // LEMON adds the potential of the tail to a cost, where here it is taken away; none if that doesn't fit in 64 bits.
+    // LEMON adds the potential of the tail to a cost; here it is subtracted. None if the result doesn't fit in 64 bits.
     static std::optional<std::vector<std::int64_t>> turned(std::vector<std::int64_t> potentials) {
         const auto least = std::numeric_limits<std::int64_t>::min(), most = std::numeric_limits<std::int64_t>::max();
         const auto has = [&](std::int64_t it) {
@@ -1220,9 +1220,8 @@ struct MinArrays {
     std::vector<std::int64_t> lows, caps, costs, supplies;
 };
 
-// Decides whether a flow, as Preflow's flowMap() is one, is maximum: a cut, as minCutMap fills in one; NotOptimal,
-// which has a better flow; RefusedAt the arc that carries too much or less than 0, or the node that keeps or loses
-// some.
+// Decides whether a flow, for example Preflow's flowMap(), is maximum: a cut, as minCutMap fills one in; NotOptimal,
+// which has a better flow; RefusedAt the arc that carries too much or less than 0, or the node out of balance.
 template <class G, class Capacity, class Flow>
 detail::CertifiedMaxOver<Index<G>> certify_max(const G &graph, const Capacity &capacity, typename G::Node source,
                                                typename G::Node target, const Flow &flow) {
@@ -1232,7 +1231,7 @@ detail::CertifiedMaxOver<Index<G>> certify_max(const G &graph, const Capacity &c
                                     flows);
 }
 
-// Judges that a flow is maximum, as a cut shows, a map by node that is true on the source's side.
+// Judges that a flow is maximum, by a cut: a map by node that is true on the source's side.
 template <class G, class Capacity, class Flow, class Cut>
 detail::JudgedOver<Index<G>> judge_max(const G &graph, const Capacity &capacity, typename G::Node source,
                                        typename G::Node target, const Flow &flow, const Cut &cut) {
@@ -1242,9 +1241,9 @@ detail::JudgedOver<Index<G>> judge_max(const G &graph, const Capacity &capacity,
     return detail::judge_over(index, [&] { return dimacs::judge_max(instance, flows, index.marks(cut)); });
 }
 
-// Decides whether a flow, as NetworkSimplex' flowMap fills in one, costs least: potentials, as its potentialMap fills
-// in; NotOptimal, which has a flow that costs less; RefusedAt as certify_max. What leaves a node less what enters it
-// has to be its supply: the sum of supplies is 0.
+// Decides whether a flow, as NetworkSimplex' flowMap fills one in, costs least: potentials, as its potentialMap fills
+// them in; NotOptimal, which has a flow that costs less; RefusedAt as certify_max. What leaves a node less what enters
+// it has to be its supply, so the supplies sum to 0.
 template <class G, class Lower, class Upper, class Cost, class Supply, class Flow>
 detail::CertifiedMinOver<Index<G>> certify_min(const G &graph, const Lower &lower, const Upper &upper, const Cost &cost,
                                                const Supply &supply, const Flow &flow) {
@@ -1253,7 +1252,7 @@ detail::CertifiedMinOver<Index<G>> certify_min(const G &graph, const Lower &lowe
     return detail::certify_min_over(arrays.index, arrays.instance(), flows);
 }
 
-// Decides whether no flow is feasible, as NetworkSimplex answers INFEASIBLE: a set of nodes whose supply can't be met,
+// Decides whether no flow is feasible, as after INFEASIBLE of NetworkSimplex: a set of nodes whose supply can't be met,
 // true in the map; Feasible, which has a feasible flow.
 template <class G, class Lower, class Upper, class Supply>
 detail::CertifiedInfeasibleOver<Index<G>> certify_infeasible(const G &graph, const Lower &lower, const Upper &upper,
@@ -1266,8 +1265,8 @@ detail::CertifiedInfeasibleOver<Index<G>> certify_infeasible(const G &graph, con
     return detail::certify_infeasible_over(index, instance);
 }
 
-// Judges that a flow costs least, as LEMON's potentials show: an arc's reduced cost is its cost, with the potential of
-// its source, less that of its target. Throws std::out_of_range for potentials that don't fit in 64 bits with the other
+// Judges that a flow costs least, by LEMON's potentials: an arc's reduced cost is its cost, plus the potential of its
+// source, minus that of its target. Throws std::out_of_range for potentials that don't fit in 64 bits with the other
 // sign.
 template <class G, class Lower, class Upper, class Cost, class Supply, class Flow, class Potential>
 detail::JudgedOver<Index<G>> judge_min(const G &graph, const Lower &lower, const Upper &upper, const Cost &cost,
@@ -1281,8 +1280,8 @@ detail::JudgedOver<Index<G>> judge_min(const G &graph, const Lower &lower, const
 }
 
 // Decides whether the distances that a search found, as Dijkstra, BellmanFord or Bfs with the lengths 1, are right:
-// reached(v) is whether there is a walk to v, and dist(v) its length. RefusedAt the arc or the node that shows that
-// they aren't.
+// reached(v) is whether there is a walk to v, and dist(v) its length. RefusedAt the arc or the node at which they are
+// wrong.
 template <class G, class Length, class Search>
 detail::CertifiedPathsOver<Index<G>> certify_paths(const G &graph, const Length &length, typename G::Node source,
                                                    const Search &search) {
@@ -1298,8 +1297,7 @@ detail::CertifiedPathsOver<Index<G>> certify_paths(const G &graph, const Length 
 
 }  // namespace lemon
 
-// Over the graphs and property maps of Boost, for graphs whose edges() can be gone over. What is handed out doesn't
-// refer to the graph.
+// Over the graphs and property maps of Boost, for graphs with edges(). What is handed out doesn't refer to the graph.
 namespace boost {
 
 namespace detail {
@@ -1367,7 +1365,7 @@ class VertexMap {
     std::vector<Number> numbers_;
 };
 
-// The edges and vertices of a graph, in the order in which Boost goes over them. Of an undirected graph each edge is an
+// The edges and vertices of a graph, in the order in which Boost goes over them. An edge of an undirected graph is an
 // arc from its source to its target, and then one back.
 template <class G>
 class Index {
@@ -1441,9 +1439,9 @@ inline std::int64_t narrow(Wide number) {
     return it;
 }
 
-// What each edge carries: its capacity less its residual capacity, and nothing if that is below 0, as it is on the
-// reverse of an edge that carries some. The residual capacity of a reverse edge isn't compared with that of its edge:
-// Boost has searches that leave some as they were.
+// What each edge carries: its capacity less its residual capacity, or nothing if that is below 0, as on the reverse of
+// an edge with flow. The residual capacity of a reverse edge isn't compared with that of its edge: some of Boost's
+// searches leave it as it was.
 template <class G, class Capacity, class Residual>
 std::vector<std::int64_t> flows_of(const Index<G> &index, const Capacity &capacity, const Residual &residual) {
     std::vector<std::int64_t> flows;
@@ -1467,10 +1465,10 @@ std::int64_t net(const Index<G> &index, std::uint32_t node, const std::vector<st
 
 }  // namespace detail
 
-// Decides whether the flow that a search left in `residual` is maximum, as push_relabel_max_flow and its like do, whose
-// maps these are: an edge carries its capacity less its residual capacity, or nothing if that is below 0. A cut;
-// NotOptimal, which has a better flow, by edge; RefusedAt an edge that carries more than its capacity, or a vertex that
-// keeps or loses some. Throws std::out_of_range if an edge would carry more than 64 bits.
+// Decides whether the flow that push_relabel_max_flow or another search left in `residual` is maximum. The maps are
+// those of the search: an edge carries its capacity less its residual capacity, or nothing if that is below 0. A cut;
+// NotOptimal, which has a better flow, by edge; RefusedAt an edge that carries more than its capacity, or a vertex out
+// of balance. Throws std::out_of_range if an edge would carry more than 64 bits.
 template <class G, class Capacity, class Residual>
 dimacs::detail::CertifiedMaxOver<Index<G>> certify_max(const G &graph, const typename Index<G>::Node &source_vertex,
                                                        const typename Index<G>::Node &target_vertex,
@@ -1482,8 +1480,8 @@ dimacs::detail::CertifiedMaxOver<Index<G>> certify_max(const G &graph, const typ
 }
 
 // Decides whether that flow costs least of all flows of its value, as successive_shortest_path_nonnegative_weights and
-// cycle_canceling are to make one: potentials, by which the reduced cost of an edge is its weight, less the potential
-// of its source, and with that of its target; else as certify_max.
+// cycle_canceling make one: potentials, by which the reduced cost of an edge is its weight, minus the potential of its
+// source, plus that of its target; else as certify_max.
 template <class G, class Capacity, class Residual, class Weight>
 dimacs::detail::CertifiedMinOver<Index<G>> certify_min(const G &graph, const typename Index<G>::Node &source_vertex,
                                                        const typename Index<G>::Node &target_vertex,
@@ -1502,8 +1500,8 @@ dimacs::detail::CertifiedMinOver<Index<G>> certify_min(const G &graph, const typ
 }
 
 // Decides whether distances, as dijkstra_shortest_paths and bellman_ford_shortest_paths leave them in a map, are right.
-// The greatest number of its type is the distance of a vertex that isn't reached. RefusedAt the edge or the vertex that
-// shows that they aren't.
+// The greatest number of its type is the distance of a vertex that isn't reached. RefusedAt the edge or the vertex at
+// which they are wrong.
 template <class G, class Weight, class Distance>
 dimacs::detail::CertifiedPathsOver<Index<G>> certify_paths(const G &graph, const typename Index<G>::Node &source_vertex,
                                                            const Weight &weight, const Distance &distance) {
