@@ -1,4 +1,4 @@
-"""What calls answer, and what they raise."""
+"""What calls return, and what they raise."""
 
 from __future__ import annotations
 
@@ -16,7 +16,7 @@ class Beyond(NamedTuple):
 
 
 class Pair(NamedTuple):
-    """The answer to a query. The distance is None where there is no walk."""
+    """The answer to a query. The distance is None if there is no walk."""
 
     source: int
     target: int
@@ -40,11 +40,11 @@ class Verdict:
 
 
 class Certified(NamedTuple):
-    """A yes, with what shows it, by which the judge says yes too.
+    """A yes, with a certificate by which the judge answers yes too.
 
-    value is that of the flow, or its cost; None where nothing of that kind is claimed. The certificate is the text of a
-    cut, of potentials, of a set or of labels; of arrays it is what the names below say, for each node: true
-    on the source's side of a cut, a potential, or a predecessor; of a graph a set of nodes, or a dict by node.
+    value is the value of the flow, or its cost; None if the claim has neither. The certificate is the text of a cut, of
+    potentials, of a set or of labels. Over arrays it has an item for each node: true on the source's side of a cut, a
+    potential, or a predecessor. Over a graph it is a set of nodes, or a dict by node.
     """
 
     value: int | None
@@ -67,11 +67,11 @@ class Certified(NamedTuple):
 
 
 class Solved(NamedTuple):
-    """What was made, which was judged before it was handed out.
+    """An answer, which was judged before it was returned.
 
-    value is that of the flow, or its cost. The solution is the text of a solution, of arrays the amount of each arc, or the
-    distance of each node, and of a graph a dict of those; of paths asked for in texts, the answers to queries for pairs. The
-    certificate is what shows it, as in Certified; of paths asked for in texts, labels.
+    value is the value of the flow, or its cost. The solution is a text; over arrays the amount of each arc, or the distance
+    of each node; over a graph a dict of those; for queries in texts the answers to pairs. The certificate is as in
+    Certified; for queries in texts it is the text of labels.
     """
 
     value: int | None
@@ -111,9 +111,9 @@ def _at(arc: Any, node: Any, reason: str) -> str:
 class Refused(Exception):
     """A no: the fault of a text, or the first test that fails.
 
-    Of a text's fault text is "instance", "query", "solution", "distances" or "certificate", and line and field say where, from 1;
-    field 0 is the whole line. Of a test arc is the number of an arc or node the ID of a node, from 1, and in the calls
-    over graphs the edge or the node itself. What doesn't apply is None. reason is the word of the command.
+    A fault has its text ("instance", "query", "solution", "distances" or "certificate"), line and field, from 1; field 0 is
+    the whole line. A test has the number of an arc or the ID of a node, from 1, or over graphs the edge or the node itself.
+    What doesn't apply is None. reason is the command's word.
     """
 
     def __init__(
@@ -143,7 +143,7 @@ class Refused(Exception):
 class PastLimit(ValueError):
     """The first number of an instance in arrays, or of a graph, that is past its limit: nothing was judged.
 
-    arc is the number of an arc or node the ID of a node, as in Refused, and reason says why a text would be refused.
+    arc is the number of an arc, or node the ID of a node, as in Refused. reason is that of a text with this number.
     """
 
     def __init__(self, reason: str, *, arc: Any = None, node: Any = None) -> None:
@@ -157,9 +157,9 @@ class PastLimit(ValueError):
 
 
 class NotOptimal(Refused):
-    """A feasible flow that is what it claims, and there is a better one.
+    """The flow is feasible and has the claimed value, but there is a better one.
 
-    better is such a flow, in the form of the one that came; None where its cost is out of the range of solutions.
+    better is such a flow, in the form of the claimed one; None if its cost is out of the range of solutions.
     """
 
     def __init__(self, reason: str, better: Any = None, **place: Any) -> None:
@@ -168,8 +168,8 @@ class NotOptimal(Refused):
 
 
 class Infeasible(Refused):
-    """No flow is feasible, as the certificate shows: the text of a set, of arrays whether each node is inside of it, or a set
-    of nodes."""
+    """No flow is feasible, as the certificate shows: the text of a set, over arrays whether each node is inside, or over a
+    graph a set of nodes."""
 
     def __init__(self, certificate: Any) -> None:
         super().__init__("Infeasible")
@@ -187,8 +187,8 @@ class Infeasible(Refused):
 class Feasible(Refused):
     """The instance that was claimed to have no feasible flow has one.
 
-    flow is such a flow: the text of a solution, of arrays the amount of each arc, or of a graph a dict of those; None where
-    its cost is out of the range of solutions.
+    flow is such a flow: the text of a solution, over arrays the amount of each arc, or over a graph a dict of those; None
+    if its cost is out of the range of solutions.
     """
 
     def __init__(self, flow: Any = None) -> None:
@@ -200,4 +200,4 @@ class Feasible(Refused):
 
 
 class GaveUp(OverflowError):
-    """A limit was reached before the best was found, or what was found is out of the range of numbers that can say it."""
+    """A limit was reached before the best was found, or the answer has numbers that don't fit."""

@@ -1,14 +1,14 @@
 """The calls over arrays.
 
-Nodes and arcs count from 1. The first items of tails, heads, caps, .. are of arc 1, the first items of supplies, inside,
-distances, .. of node 1. An array is a list, array.array, numpy array, or whatever else has a buffer or can be gone
-through. One whose items have the width that the library takes isn't copied: uint32 for tails, heads and predecessors,
-uint8 or bool for inside, int64 for all others, one after another and at multiples of the width; no other thread may write
-to it meanwhile. Else each number is copied or converted. Of a Series of pandas the places count, and not its labels.
+Nodes and arcs are numbered from 1. The first items of tails, heads, caps, .. belong to arc 1, the first items of supplies,
+inside, distances, .. to node 1. An array is a list, array.array, numpy array, or anything else with a buffer or an
+iterator. It isn't copied if its items are contiguous and aligned and have the library's width: uint32 for tails, heads and
+predecessors, uint8 or bool for inside, int64 for all others; then no other thread may write to it during the call.
+Otherwise each number is copied or converted. A Series of pandas is read by its places, and not by its labels.
 
-ValueError is raised where a number doesn't fit or isn't whole, or where an array is longer or shorter than the others
-want it; and PastLimit, which is a ValueError, where a number is past a limit of instances. TypeError is raised for items
-that are no numbers, and for a dict, a set or a masked array.
+ValueError is raised if a number doesn't fit or isn't whole, or if an array has a wrong length; PastLimit, which is a
+ValueError, if a number is past a limit of instances. TypeError is raised for items that are no numbers, and for a dict, a
+set or a masked array.
 """
 
 from __future__ import annotations
@@ -41,7 +41,7 @@ _PREDECESSORS = _Array("predecessors", IDS, "nodes")
 
 
 class _Instance:
-    """How an instance lies in memory: its numbers, and then where each array is and how many items it has."""
+    """An instance in memory: its numbers, and then the address and the length of each array."""
 
     def __init__(self, numbers: str, *arrays: _Array) -> None:
         self.numbers = numbers.split()
@@ -90,7 +90,7 @@ class _Given:
         return Room(form.items, min(self.length(form), MOST_NODES) if form.each == "nodes" else self.length(form))
 
     def test_lengths(self) -> None:
-        """The library tests the lengths too, but doesn't tell which one is wrong."""
+        """The library tests the lengths too, but doesn't report which one is wrong."""
         for form, buffer in self._arrays:
             if buffer.length != self._count[form.each]:
                 raise ValueError(f"{form.name} has {buffer.length} items, and there are {self.length(form)} {form.each}")
@@ -119,7 +119,7 @@ def _certify(function: Callable[..., int], given: _Given, came: Any, *handed: _A
 def judge_max_arrays(
     nodes: int, source: int, sink: int, tails: Any, heads: Any, caps: Any, flows: Any, inside: Any
 ) -> Verdict:
-    """Judges that a flow is maximum, as the cut shows of the nodes inside. Raises Refused where it doesn't.
+    """Judges that a flow is maximum, by the cut of the nodes inside. Raises Refused if a test fails.
 
     flows has an amount for each arc, inside a byte or bool for each node, which isn't 0 on the source's side.
     """
@@ -132,10 +132,10 @@ def judge_max_arrays(
 def judge_min_arrays(
     nodes: int, tails: Any, heads: Any, lows: Any, caps: Any, costs: Any, supplies: Any, flows: Any, potentials: Any
 ) -> Verdict:
-    """Judges that a flow costs least, as the potentials show. Raises Refused where they don't.
+    """Judges that a flow costs least, by potentials. Raises Refused if a test fails.
 
-    A supply is what leaves a node less what enters it. The reduced cost of an arc is its cost, less the potential of its
-    tail, and with that of its head.
+    A supply is what leaves a node less what enters it. The reduced cost of an arc is its cost, minus the potential of its
+    tail, plus that of its head.
     """
     given = _Given(_MIN, nodes, tails, heads, lows, caps, costs, supplies)
     given.add(_FLOWS, flows)
@@ -146,7 +146,7 @@ def judge_min_arrays(
 def judge_infeasible_arrays(
     nodes: int, tails: Any, heads: Any, lows: Any, caps: Any, costs: Any, supplies: Any, inside: Any
 ) -> Verdict:
-    """Judges that no flow is feasible, as the set of the nodes inside shows. Raises Refused where it doesn't."""
+    """Judges that no flow is feasible, by the set of the nodes inside. Raises Refused if the set isn't violated."""
     given = _Given(_MIN, nodes, tails, heads, lows, caps, costs, supplies)
     given.add(_INSIDE, inside)
     return _judge(library.judge_infeasible_arrays, given)
@@ -155,7 +155,7 @@ def judge_infeasible_arrays(
 def judge_paths_arrays(
     nodes: int, tails: Any, heads: Any, weights: Any, source: int, distances: Any, predecessors: Any
 ) -> Verdict:
-    """Judges that these are the distances from the source, as the predecessors show. Raises Refused where they don't.
+    """Judges that these are the distances from the source, by predecessors. Raises Refused if a test fails.
 
     A node that isn't reached has the distance UNREACHED, or inf in floats, and the predecessor 0, as the source has.
     """
@@ -171,8 +171,8 @@ def certify_max_arrays(
 ) -> Certified:
     """Decides whether a flow is maximum; its value, and for each node whether it is inside a cut that shows it.
 
-    Raises NotOptimal where the flow is feasible, but there is one of greater value, which it has; Refused where the flow
-    isn't feasible. What is handed out is a numpy array where flows is one, array.array where it is that, else a list.
+    Raises NotOptimal with a flow of greater value if the flow is feasible, but not maximum; Refused if it isn't feasible.
+    The result is a numpy array or an array.array if flows is one, else a list.
     """
     given = _Given(_MAX, nodes, source, sink, tails, heads, caps)
     given.add(_FLOWS, flows)
@@ -184,9 +184,8 @@ def certify_min_arrays(
 ) -> Certified:
     """Decides whether a flow costs least; its cost, and for each node a potential, which show it.
 
-    Raises NotOptimal where the flow is feasible, but another costs less, which it has, and Refused, as
-    certify_max_arrays; GaveUp where the flow costs least, and two of the potentials that were found are 2^64
-    or more apart; others may fit.
+    Raises NotOptimal with a cheaper flow if the flow is feasible, but doesn't cost least; Refused as certify_max_arrays;
+    GaveUp if the flow costs least, but two of the potentials that were found are 2^64 or more apart; others may fit.
     """
     given = _Given(_MIN, nodes, tails, heads, lows, caps, costs, supplies)
     given.add(_FLOWS, flows)
@@ -198,7 +197,7 @@ def certify_infeasible_arrays(
 ) -> Certified:
     """Decides whether no flow is feasible; no value, and for each node whether it is inside a set that shows it.
 
-    Raises Feasible where a flow is, which it has. What is handed out has the form of caps, as in certify_max_arrays.
+    Raises Feasible with a flow if one is. The result has the form of caps, as in certify_max_arrays.
     """
     given = _Given(_MIN, nodes, tails, heads, lows, caps, costs, supplies)
     given.test_lengths()
@@ -214,7 +213,7 @@ def certify_paths_arrays(
 ) -> Certified:
     """Decides whether these are the distances from the source; no value, and for each node a predecessor, which show it.
 
-    Raises Refused where they aren't. What is handed out has the form of distances, as in certify_max_arrays.
+    Raises Refused if they aren't. The result has the form of distances, as in certify_max_arrays.
     """
     given = _Given(_GRAPH, nodes, tails, heads, weights)
     given.add_number("source", source)
@@ -237,8 +236,7 @@ def solve_max_arrays(
 ) -> Solved:
     """Makes a maximum flow; its value, the amount of each arc, and for each node whether it is inside a cut that shows it.
 
-    Raises GaveUp after so many flows that aren't maximum. What is handed out has the form of caps, as in
-    certify_max_arrays.
+    Raises GaveUp after `limit` flows that aren't maximum. The result has the form of caps, as in certify_max_arrays.
     """
     given = _Given(_MAX, nodes, source, sink, tails, heads, caps)
     given.add_number("limit", limit, LIMITS)
@@ -251,9 +249,9 @@ def solve_min_arrays(
 ) -> Solved:
     """Makes a flow of least cost; its cost, the amount of each arc, and for each node a potential, which show it.
 
-    Raises Infeasible where no flow is feasible, which has for each node whether it is inside a set that shows it; GaveUp
-    after so many steps to better flows, where the least cost is out of range, or where two of the potentials that were found
-    are 2^64 or more apart. What is handed out has the form of caps.
+    Raises Infeasible if no flow is feasible, with whether each node is inside a set that shows it; GaveUp after `limit`
+    steps to better flows, if the least cost is out of range, or if two of the potentials that were found are 2^64 or more
+    apart. The result has the form of caps.
     """
     given = _Given(_MIN, nodes, tails, heads, lows, caps, costs, supplies)
     given.add_number("limit", limit, LIMITS)
@@ -266,8 +264,8 @@ def solve_min_arrays(
 def solve_paths_arrays(nodes: int, tails: Any, heads: Any, weights: Any, source: int) -> Solved:
     """Makes the distances from the source; no value, and for each node a distance and a predecessor, which show them.
 
-    A node that isn't reached has the distance UNREACHED and the predecessor 0, as the source has. Raises Refused where a
-    weight is negative, and GaveUp where a distance is as great as UNREACHED. What is handed out has the form of weights.
+    A node that isn't reached has the distance UNREACHED and the predecessor 0, as the source has. Raises Refused if a
+    weight is negative, and GaveUp if a distance is as great as UNREACHED. The result has the form of weights.
     """
     given = _Given(_GRAPH, nodes, tails, heads, weights)
     given.add_number("source", source)

@@ -131,7 +131,7 @@ def _from_numbers(numbers: Sequence[Any], items: Items, name: str) -> Buffer:
 
 
 def _from_view(view: memoryview, items: Items) -> Buffer:
-    """Takes a view of such items as it is, or copies it where it doesn't lie at a multiple of their width."""
+    """Takes a view of such items as it is, or copies it if it isn't aligned to their width."""
     address = _address_of(view) if len(view) else 0
     if address % items.width == 0:
         return Buffer(view, address, len(view))
@@ -140,7 +140,7 @@ def _from_view(view: memoryview, items: Items) -> Buffer:
 
 
 def _from_numpy(numpy: Any, numbers: Any, items: Items, name: str) -> Buffer:
-    """Takes a numpy array as it is where its items have the width, and else converts it."""
+    """Takes a numpy array as it is if its items have the width, else converts it."""
     if isinstance(numbers, numpy.ma.MaskedArray):
         raise TypeError(f"{name} is a masked array, and what is masked has no number")
     numbers = numpy.asarray(numbers)  # other subclasses have a least and a greatest item of their own
@@ -207,9 +207,9 @@ def unlabelled(given: Any) -> Any:
 
 
 def array_of(numbers: Any, items: Items, name: str) -> Buffer:
-    """The items of an array: as they lie in memory, where a buffer has them so, and else converted.
+    """The items of an array: as they lie in memory if a buffer has them so, else converted.
 
-    Raises ValueError where one doesn't fit or isn't whole, and TypeError where there are none that are numbers.
+    Raises ValueError if one doesn't fit or isn't whole, and TypeError if they aren't numbers.
     """
     if type(numbers) in (list, tuple):
         return _from_numbers(numbers, items, name)
@@ -257,12 +257,12 @@ class Room:
         return room
 
     def words(self) -> tuple[int, int, Any]:
-        """Where the memory lies, for how many items there is room, and where to tell how many there are."""
+        """The address of the memory, for how many items it has room, and the address of their number."""
         address, length = self._kept.buffer_info()
         return address, length, ctypes.byref(self._told)
 
     def in_form_of(self, came: Any) -> Any:
-        """All items: a numpy array where what came is one, array.array where it is that, else a list. Marks are bools, and
+        """All items: a numpy array or an array.array if the argument is one, else a list. Marks are bools, and
         in array.array bytes that aren't 0 where they are true."""
         if self._told.value != len(self._kept):
             raise RuntimeError(f"the library handed out {self._told.value} items, and there is room for {len(self._kept)}")

@@ -1,4 +1,4 @@
-"""Distances where weights may be negative, from calls that certify and judge."""
+"""Distances for weights that may be negative, from calls that certify and judge."""
 
 from __future__ import annotations
 
@@ -33,8 +33,8 @@ def distances_from(
 ) -> Distances:
     """Makes the distances from a source; they were judged with these weights before they are handed out.
 
-    Where weights are negative it takes the potentials of potentials_of, if they are at hand. Raises NegativeCycle where the
-    source reaches one, and GaveUp where a number that is needed is out of range.
+    For negative weights it takes the potentials of potentials_of, if they are at hand. Raises NegativeCycle if the source
+    reaches one, and GaveUp if a number that is needed is out of range.
     """
     if min(weights, default=0) >= 0:
         solved = solve_paths_arrays(nodes, tails, heads, weights, source)
@@ -76,9 +76,9 @@ def _reached(nodes: int, tails: Sequence[int], heads: Sequence[int], source: int
 
 
 def potentials_of(nodes: int, tails: Sequence[int], heads: Sequence[int], weights: Sequence[int]) -> list[int]:
-    """Potentials by which no arc has a negative reduced weight. Raises NegativeCycle where there is a negative cycle.
+    """Potentials by which no arc has a negative reduced weight. Raises NegativeCycle if there is a negative cycle.
 
-    The flow of zeros costs least, where no arc carries more than 1 and no node has a supply, if there is no such cycle.
+    If no arc carries more than 1 and no node has a supply, the flow of zeros costs least exactly if there is no such cycle.
     """
     none, ones = [0] * len(tails), [1] * len(tails)
     try:

@@ -1,12 +1,11 @@
 """The calls over graphs of networkx, which need not be installed: a DiGraph or MultiDiGraph, whose nodes may be anything.
 
-The attributes of edges and nodes have the names that networkx gives them, and what is missing means what it means there:
-without a capacity, or with inf, an edge carries any amount; without a weight it costs 0, but is 1 long; without a demand
-a node has 0. Flows are dicts, as networkx answers them: flow[u][v], of a MultiDiGraph flow[u][v][key]; an edge without an
-entry carries 0. Numbers may be floats that are whole.
+The attributes of edges and nodes have the names and the defaults of networkx: without a capacity, or with inf, an edge
+carries any amount; without a weight it costs 0, but is 1 long; without a demand a node has 0. Flows are dicts, as networkx
+returns them: flow[u][v], of a MultiDiGraph flow[u][v][key]; an edge without an entry carries 0. Numbers may be whole floats.
 
 Refused and PastLimit name nodes and edges as the graph does: an edge is (u, v), of a MultiDiGraph (u, v, key). ValueError
-is raised where an argument doesn't belong to the graph, and TypeError where it has another shape.
+is raised if an argument doesn't belong to the graph, and TypeError if it has another shape.
 """
 
 from __future__ import annotations
@@ -184,10 +183,10 @@ def _min_words(graph: _Graph) -> tuple[Any, ...]:
 
 
 def judge_networkx_max(graph: Any, source: Any, sink: Any, flow: Any, side: Any) -> Verdict:
-    """Judges what maximum_flow says of a graph, as the source's side of a cut shows: the first set of minimum_cut.
+    """Judges that a flow, as maximum_flow returns it, is maximum, by the source's side of a cut: the first set of minimum_cut.
 
-    The side is a set or list of nodes, or a dict that says of nodes whether they are on it, True or False; a node that isn't
-    in the dict is not. Raises Refused where the side doesn't show it, and TypeError where it is another dict.
+    The side is a set or list of nodes, or a dict that maps the nodes on it to True and others to False; a node that isn't in
+    the dict isn't on it. Raises Refused if a test fails, and TypeError if the side is another dict.
     """
     given = _Graph(graph)
     inside = given.inside(side)
@@ -196,11 +195,11 @@ def judge_networkx_max(graph: Any, source: Any, sink: Any, flow: Any, side: Any)
 
 
 def judge_networkx_min(graph: Any, flow: Any, potentials: Any = None) -> Verdict:
-    """Judges what network_simplex or max_flow_min_cost says of a graph, as the potentials of the nodes show, a dict.
+    """Judges that a flow, as network_simplex or max_flow_min_cost returns it, costs least, by a dict of potentials.
 
-    The reduced cost of an edge is its weight, less the potential of its tail, and with that of its head; a node that isn't
-    in the dict has the potential 0. Raises Refused where they don't show it. Without potentials it is decided, and
-    NotOptimal raised, as by certify_networkx_min.
+    The reduced cost of an edge is its weight, minus the potential of its tail, plus that of its head; a node that isn't in
+    the dict has the potential 0. Raises Refused if a test fails. Without potentials it certifies the flow, as
+    certify_networkx_min.
     """
     if potentials is None:
         return Verdict("min", certify_networkx_min(graph, flow).value)
@@ -213,8 +212,8 @@ def judge_networkx_min(graph: Any, flow: Any, potentials: Any = None) -> Verdict
 def certify_networkx_max(graph: Any, source: Any, sink: Any, flow: Any) -> Certified:
     """Decides whether a flow is maximum; its value, and the set of the nodes on the source's side of a cut that shows it.
 
-    Raises NotOptimal where the flow is feasible, but there is one of greater value, which it has as a dict; Refused where
-    the flow isn't feasible.
+    Raises NotOptimal with a flow of greater value, a dict, if the flow is feasible, but not maximum; Refused if it isn't
+    feasible.
     """
     given = _Graph(graph)
     with given.names():
@@ -225,9 +224,9 @@ def certify_networkx_max(graph: Any, source: Any, sink: Any, flow: Any) -> Certi
 def certify_networkx_min(graph: Any, flow: Any) -> Certified:
     """Decides whether a flow costs least; its cost, and a dict of potentials by node, which show it.
 
-    Raises NotOptimal where the flow is feasible, but another costs less, which it has as a dict, and Refused, as
-    certify_networkx_max; GaveUp where the flow costs least, and two of the potentials that were found are
-    2^64 or more apart; others may fit.
+    Raises NotOptimal with a cheaper flow, a dict, if the flow is feasible, but doesn't cost least; Refused as
+    certify_networkx_max; GaveUp if the flow costs least, but two of the potentials that were found are 2^64 or more apart;
+    others may fit.
     """
     given = _Graph(graph)
     with given.names():
@@ -238,8 +237,8 @@ def certify_networkx_min(graph: Any, flow: Any) -> Certified:
 def certify_networkx_infeasible(graph: Any) -> Certified:
     """Decides whether no flow meets the demands; no value, and a set of nodes that shows it.
 
-    Raises Feasible where a flow does, which it has as a dict; GaveUp where one would have to carry 2^63 or more by edges
-    without a capacity.
+    Raises Feasible with a flow, a dict, if one does; GaveUp if one would have to carry 2^63 or more by edges without a
+    capacity.
     """
     given = _Graph(graph)
     with given.names():
@@ -250,8 +249,8 @@ def certify_networkx_infeasible(graph: Any) -> Certified:
 def certify_networkx_paths(graph: Any, source: Any, distances: Any) -> Certified:
     """Decides whether these are the distances from a source, a dict by node; no value, and a dict of predecessors.
 
-    A node that isn't in the dict, or has inf there, is to be one that can't be reached. Each node that is reached has a
-    predecessor on a shortest path, which the source has not: None. Raises Refused where a distance isn't true.
+    A node that isn't in the dict, or has inf there, is claimed to be unreachable. The predecessor of each node that is
+    reached is on a shortest path to it; that of the source is None. Raises Refused if a distance isn't true.
     """
     given = _Graph(graph)
     weights = given.weights(1)
@@ -265,7 +264,7 @@ def certify_networkx_paths(graph: Any, source: Any, distances: Any) -> Certified
 def solve_networkx_max(graph: Any, source: Any, sink: Any, limit: int = LIMIT) -> Solved:
     """Makes a maximum flow; its value, the flow, and the set of the nodes on the source's side of a cut that shows it.
 
-    Raises GaveUp after so many flows that aren't maximum, or where an edge without a capacity carries 2^63 - 1 or more.
+    Raises GaveUp after `limit` flows that aren't maximum, or if an edge without a capacity carries 2^63 - 1 or more.
     """
     given = _Graph(graph)
     with given.names():
@@ -276,8 +275,8 @@ def solve_networkx_max(graph: Any, source: Any, sink: Any, limit: int = LIMIT) -
 def solve_networkx_min(graph: Any, limit: int = LIMIT) -> Solved:
     """Makes a flow of least cost; its cost, the flow, and a dict of potentials by node, which show it.
 
-    Raises Infeasible where no flow is feasible, which has the set of nodes that shows it; GaveUp as solve_min_arrays, or
-    where an edge without a capacity carries 2^63 - 1 or more, or would have to.
+    Raises Infeasible with a set of nodes that shows it, if no flow is feasible; GaveUp as solve_min_arrays, or if an edge
+    without a capacity carries 2^63 - 1 or more, or would have to.
     """
     given = _Graph(graph)
     with given.names():
@@ -286,8 +285,8 @@ def solve_networkx_min(graph: Any, limit: int = LIMIT) -> Solved:
 
 
 def solve_networkx_paths(graph: Any, source: Any) -> Solved:
-    """Makes the distances from a source; no value, a dict by node, which has the nodes that are reached alone, and a dict of
-    predecessors, as certify_networkx_paths. Raises Refused where a weight is negative."""
+    """Makes the distances from a source; no value, a dict of the nodes that are reached, and a dict of predecessors, as
+    certify_networkx_paths. Raises Refused if a weight is negative."""
     given = _Graph(graph)
     weights = given.weights(1)
     with given.names():

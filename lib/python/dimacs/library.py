@@ -72,7 +72,7 @@ _Line = ctypes.c_char * LINE
 
 
 def _raise_for(status: int, said: bytes) -> None:
-    """Raises what a status means that says nothing of the claim, or that its certificate can't be told."""
+    """Raises the exception of a status that leaves the claim undecided, or whose certificate doesn't fit."""
     if status == NO_MEMORY:
         raise MemoryError("there was not enough memory to judge")
     if status == MISUSED and said:
@@ -85,7 +85,7 @@ def _raise_for(status: int, said: bytes) -> None:
 
 
 def call(function: Callable[..., int], *words: Any) -> tuple[int, bytes]:
-    """Makes a call that hands out a text, twice where that is longer than a line; its status, and the text."""
+    """Makes a call that hands out a text, twice if it is longer than a line; its status, and the text."""
     line, room = _Line(), LINE
     while True:
         told = _size()
@@ -101,7 +101,7 @@ def call(function: Callable[..., int], *words: Any) -> tuple[int, bytes]:
 
 
 def call_for_texts(function: Callable[..., int], *words: Any, rooms: Sequence[int]) -> tuple[int, list[bytes]]:
-    """Makes a call that hands out texts, again where one of them is longer than its room; its status, and the texts."""
+    """Makes a call that hands out texts, again if one of them is longer than its room; its status, and the texts."""
     while True:
         told = [_size() for _ in rooms]
         texts = [ctypes.create_string_buffer(room) for room in rooms]

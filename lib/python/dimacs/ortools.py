@@ -8,8 +8,8 @@
     if solver.solve(source, sink) == solver.OPTIMAL:
         ortools.certify(solver, source, sink)
 
-A solver is asked by the methods that OR-Tools 9.4 and later has, so this module doesn't import it. Nodes and arcs count
-from 0, as they do there.
+It calls the methods of a solver of OR-Tools 9.4 and later, which it doesn't import. Nodes and arcs are numbered from 0, as
+there.
 """
 
 from __future__ import annotations
@@ -33,7 +33,7 @@ class _Solver:
         self.nodes = max([solver.num_nodes(), *(it + 1 for it in self.tails), *(it + 1 for it in self.heads)])
 
     def ends(self) -> tuple[list[int], list[int]]:
-        """Tails and heads as the calls over arrays have them, where nodes count from 1."""
+        """Tails and heads as the calls over arrays have them, numbered from 1."""
         return [it + 1 for it in self.tails], [it + 1 for it in self.heads]
 
     def sent(self) -> list[int]:
@@ -59,11 +59,11 @@ class _Solver:
 def certify(solver: Any, source: int | None = None, sink: int | None = None) -> Certified:
     """Decides whether what a solver found is best: a SimpleMaxFlow or a SimpleMinCostFlow, after solve() was OPTIMAL.
 
-    Of a SimpleMaxFlow the value, and for each node whether it is inside a cut that shows it; source and sink are those of
-    solve(), and may be left out where the flow carries something. Of a SimpleMinCostFlow the cost, and for each node a
-    potential, which show it. Raises NotOptimal where the flow is feasible, but there is a better one, which it has as a list
-    by arc; Refused where the flow isn't feasible, or hasn't the value that the solver answers; TypeError where it is
-    another solver. A solver that hasn't solved yet has no flow to ask for, and may end the process.
+    For a SimpleMaxFlow it returns the value, and for each node whether it is inside a cut that shows it; source and sink are
+    those of solve(), and may be left out if the flow isn't zero. For a SimpleMinCostFlow it returns the cost, and for each
+    node a potential, which show it. Raises NotOptimal with a better flow, a list by arc, if the flow is feasible, but not
+    optimal; Refused if the flow isn't feasible, or doesn't have the solver's value; TypeError for another solver. A solver
+    that hasn't solved yet has no flow, and may end the process.
     """
     methods = ("num_arcs", "num_nodes", "tail", "head", "capacity", "flow")
     if not all(hasattr(solver, it) for it in methods):
@@ -94,7 +94,7 @@ def _certify_min(solver: Any) -> Certified:
 
 
 def _tested(certified: Certified, claimed: int) -> Certified:
-    """What is certified, where the solver answers the same value."""
+    """What was certified, if the solver reports the same value."""
     if certified.value != claimed:
         raise Refused("ValueDiffers", text="solution", line=0, field=0)
     return certified

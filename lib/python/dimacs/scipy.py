@@ -2,8 +2,8 @@
 
     from dimacs.scipy import maximum_flow, shortest_path
 
-It needs SciPy 1.8 or later. Vertices count from 0, as the rows and columns of the matrix do. What is answered was
-judged; certify_maximum_flow decides it of what SciPy answered itself.
+It needs SciPy 1.8 or later. Vertices are numbered from 0, as the rows and columns of the matrix. Each answer was judged;
+certify_maximum_flow certifies one of SciPy's own.
 """
 
 from __future__ import annotations
@@ -27,7 +27,7 @@ _METHODS = ("auto", "FW", "D", "BF", "J")
 
 
 class MaximumFlowResult:
-    """A maximum flow as SciPy answers it, with a cut that shows it.
+    """A maximum flow as SciPy returns it, with a cut that shows it.
 
     flow_value is its value, flow a matrix in CSR format, whose (i, j)'th entry is what goes from i to j less what goes
     from j to i, and inside has for each vertex whether it is on the source's side of the cut.
@@ -66,12 +66,12 @@ class _Network:
             raise ValueError(f"the capacity from {self.tails[arc]} to {self.heads[arc]} is {self.caps[arc]}")
 
     def words(self) -> tuple[Any, ...]:
-        """Those of the calls over arrays, where vertices count from 1."""
+        """Those of the calls over arrays, whose vertices are numbered from 1."""
         ends = self.source + 1, self.sink + 1, _numbers(self.tails), _numbers(self.heads)
         return self.vertices, *ends, self.caps
 
     def matrix(self, flows: Any) -> Any:
-        """A flow as SciPy has it: of 32 bits where all capacities fit those."""
+        """A flow as SciPy has it: of 32 bits if all capacities fit those."""
         fits = len(self.caps) == 0 or self.caps.max() <= np.iinfo(np.int32).max
         ends = np.concatenate((self.tails, self.heads)), np.concatenate((self.heads, self.tails))
         amounts = np.concatenate((flows, -flows))
@@ -123,10 +123,10 @@ def _numbers(vertices: Any) -> Any:
 
 
 def maximum_flow(csgraph: Any, source: int, sink: int, *, method: str = "dinic") -> MaximumFlowResult:
-    """A maximum flow between two vertices, as scipy.sparse.csgraph.maximum_flow answers it, judged by a cut.
+    """A maximum flow between two vertices, as scipy.sparse.csgraph.maximum_flow returns it, judged by a cut.
 
-    Capacities are integers of up to 64 bits, and none is negative. The method isn't used: which flow is found may differ
-    from SciPy's, its value doesn't. TypeError and ValueError are raised as SciPy does; GaveUp as by solve_max_arrays.
+    Capacities are integers of up to 64 bits, and none is negative. The method isn't used: the flow may differ from SciPy's,
+    but not its value. TypeError and ValueError are raised as by SciPy, GaveUp as by solve_max_arrays.
     """
     given = _Network(csgraph, source, sink)
     if method not in ("edmonds_karp", "dinic"):
@@ -138,12 +138,12 @@ def maximum_flow(csgraph: Any, source: int, sink: int, *, method: str = "dinic")
 
 
 def certify_maximum_flow(csgraph: Any, source: int, sink: int, flow: Any) -> Certified:
-    """Decides whether a flow that SciPy answered is maximum; its value, and for each vertex whether it is inside a cut.
+    """Decides whether a flow of SciPy is maximum; its value, and for each vertex whether it is inside a cut.
 
-    flow is the answer of maximum_flow, or the matrix in it: each entry that isn't stored is 0, and the one at (j, i) is
-    that at (i, j) negated. Raises NotOptimal where the flow is feasible, but there is one of greater value, which it has as
-    such a matrix; Refused where the flow isn't feasible, or doesn't have the value that the answer has; ValueError where it
-    is no such matrix. What is refused names a vertex, or an edge as (i, j).
+    flow is the result of maximum_flow, or its matrix: an entry that isn't stored is 0, and the one at (j, i) is that at
+    (i, j) negated. Raises NotOptimal with such a matrix of greater value if the flow is feasible, but not maximum; Refused
+    if the flow isn't feasible, or doesn't have the value of the result; ValueError if it is no such matrix. A refusal names a
+    vertex, or an edge as (i, j).
     """
     given = _Network(csgraph, source, sink)
     given.tails, given.heads, given.caps, flows = _by_pair(given, getattr(flow, "flow", flow))
@@ -211,7 +211,7 @@ def _sources(indices: Any, vertices: int) -> Any:
 
 
 class _Distances:
-    """How the distances from a source are made: by one call, or where weights are negative by more."""
+    """How the distances from a source are made: by one call, or by more if weights are negative."""
 
     def __init__(self, vertices: int, tails: Any, heads: Any, weights: Any, method: str) -> None:
         self._words = vertices, _numbers(tails), _numbers(heads), weights
@@ -229,7 +229,7 @@ class _Distances:
 
 
 def _as_floats(distances: Any, source: int) -> Any:
-    """Distances as SciPy has them. Raises GaveUp where one is no float."""
+    """Distances as SciPy has them. Raises GaveUp if one is no float."""
     found = distances.astype(np.float64)
     with np.errstate(invalid="ignore"):  # 2^63 is past the end
         lost = (found.astype(np.int64) != distances) & (distances != UNREACHED)
@@ -249,11 +249,11 @@ def shortest_path(
     overwrite: bool = False,
     indices: Any = None,
 ) -> Any:
-    """Distances between vertices, as scipy.sparse.csgraph.shortest_path answers them, judged by predecessors.
+    """Distances between vertices, as scipy.sparse.csgraph.shortest_path returns them, judged by predecessors.
 
-    Weights are whole numbers of up to 64 bits, in integers or floats; some may be negative. The method isn't used, but that
-    "BF" takes a negative cycle that no source reaches. Raises ValueError and NegativeCycleError as SciPy does, ValueError
-    where a weight isn't whole, and GaveUp where a distance is above 2^53 and no float.
+    Weights are whole numbers of up to 64 bits, in integers or floats; some may be negative. The method isn't used, except
+    that "BF" allows a negative cycle that no source reaches. Raises ValueError and NegativeCycleError as SciPy, ValueError
+    if a weight isn't whole, and GaveUp if a distance is above 2^53 and no float.
     """
     if method not in _METHODS:
         raise ValueError(f"unrecognized method '{method}'")

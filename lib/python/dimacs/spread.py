@@ -1,7 +1,7 @@
 """Sums between two nodes, dealt out to the arcs of arrays.
 
 A matrix of SciPy and a DiGraph of networkx have one number for all arcs from one node to another. These calls deal it out
-to parallel arcs, as spread_max and spread_min do with texts, by which they go.
+to parallel arcs. They go through texts, and spread_max and spread_min.
 """
 
 from __future__ import annotations
@@ -48,8 +48,8 @@ def spread_max_arrays(
 ) -> Any:
     """Deals sums out to the arcs of a maximum flow instance: sums[k] is carried from pair_tails[k] to pair_heads[k].
 
-    The flow of each arc, in the form of sums: arcs with the same ends carry the sums between these, each within its bounds
-    if that can be. Raises Refused where no arc has the ends of a pair, by its line in a text with the pairs from line 2 on.
+    Returns the flow of each arc, in the form of sums: arcs with the same ends carry the sum between these, each within its
+    bounds if possible. Raises Refused if no arc has the ends of a pair, with its line in a text of the pairs from line 2 on.
     """
     arcs = _columns(("tails", IDS, tails), ("heads", IDS, heads), ("caps", NUMBERS, caps))
     instance = f"p max {nodes} {len(arcs[0])}\nn {source} s\nn {sink} t\n" + _lines("a", arcs)

@@ -24,22 +24,22 @@ def _judge(kind: str, instance: Text, claim: Text, certificate: Text) -> Verdict
 
 
 def judge_max(instance: Text, solution: Text, cut: Text) -> Verdict:
-    """Judges that a solution's flow is maximum, as the cut shows. Raises Refused where it doesn't."""
+    """Judges that a solution's flow is maximum, by a cut. Raises Refused if a test fails."""
     return _judge("max", instance, solution, cut)
 
 
 def judge_min(instance: Text, solution: Text, potentials: Text) -> Verdict:
-    """Judges that a solution's flow costs least, as the potentials show. Raises Refused where they don't."""
+    """Judges that a solution's flow costs least, by potentials. Raises Refused if a test fails."""
     return _judge("min", instance, solution, potentials)
 
 
 def judge_infeasible(instance: Text, cut: Text) -> Verdict:
-    """Judges that no flow is feasible, as the set of nodes shows. Raises Refused where it doesn't."""
+    """Judges that no flow is feasible, by a set of nodes. Raises Refused if a test fails."""
     return _judge("infeasible", instance, b"", cut)
 
 
 def judge_paths(graph: Text, queries: Text, labels: Text) -> Verdict:
-    """Judges that all labels are distances, and answers the queries by them. Raises Refused where one isn't."""
+    """Judges that all labels are distances, and answers the queries by them. Raises Refused if a test fails."""
     return _judge("paths", graph, queries, labels)
 
 
@@ -68,8 +68,8 @@ def _certify_flow(kind: str, instance: Text, solution: Text) -> Certified:
 def certify_max(instance: Text, solution: Text) -> Certified:
     """Decides whether a solution's flow is maximum; its value, and the text of a cut that shows it.
 
-    Raises NotOptimal where the flow is feasible and has the claimed value, but there is a better one, whose text it
-    has; Refused where a text has a fault or the flow isn't what it claims. The certificate is str where the instance is.
+    Raises NotOptimal with the text of a better flow if the flow is feasible and has the claimed value, but isn't maximum;
+    Refused if a text has a fault, or the flow isn't feasible or has another value. The certificate is str if the instance is.
     """
     return _certify_flow("max", instance, solution)
 
@@ -77,8 +77,8 @@ def certify_max(instance: Text, solution: Text) -> Certified:
 def certify_min(instance: Text, solution: Text) -> Certified:
     """Decides whether a solution's flow costs least; its cost, and the text of potentials that show it.
 
-    Raises NotOptimal where the flow is feasible and has the claimed cost, but another costs less, whose text it has,
-    and Refused, as certify_max.
+    Raises NotOptimal with the text of a cheaper flow if the flow is feasible and has the claimed cost, but doesn't cost
+    least; Refused as certify_max.
     """
     return _certify_flow("min", instance, solution)
 
@@ -86,8 +86,8 @@ def certify_min(instance: Text, solution: Text) -> Certified:
 def certify_infeasible(instance: Text) -> Certified:
     """Decides whether an instance has no feasible flow; no value, and the text of a set that shows it.
 
-    Raises Feasible, which has the text of a feasible flow, where there is one; Refused where the text has a fault. The
-    certificate and the flow are str where the instance is.
+    Raises Feasible with the text of a feasible flow if there is one; Refused if the text has a fault. The certificate and the
+    flow are str if the instance is.
     """
     status, said, shown = _certify("infeasible", instance, b"")
     if status == library.REFUSED and said.rstrip().endswith(library.FEASIBLE):
@@ -98,10 +98,10 @@ def certify_infeasible(instance: Text) -> Certified:
 
 
 def certify_paths(graph: Text, distances: Text) -> Certified:
-    """Decides whether claimed distances, the text of a solver without predecessors, are the distances of their nodes, and
-    the nodes without one unreachable; no value, and the text of labels that show it.
+    """Decides whether claimed distances, without predecessors, are the distances of their nodes, and the nodes without one
+    unreachable; no value, and the text of labels that show it.
 
-    Raises Refused where a text has a fault, or for the first test that fails. The certificate is str where the graph is.
+    Raises Refused if a text has a fault, or a test fails. The certificate is str if the graph is.
     """
     status, said, shown = _certify("paths", graph, distances)
     if status == library.REFUSED:
@@ -120,10 +120,10 @@ def _spread(kind: str, instance: Text, solution: Text) -> Any:
 
 
 def spread_max(instance: Text, solution: Text) -> Any:
-    """Deals a solution out to parallel arcs: adds up the entries of each two ends, and gives each arc with these ends its
-    share, within its bounds if that can be; the text of a solution with an entry for every arc and the claimed value.
+    """Deals a solution out to parallel arcs: adds up the entries with the same ends, and gives each arc with these ends its
+    share, within its bounds if possible; the text of a solution with an entry for every arc and the claimed value.
 
-    Raises Refused where a text has a fault or an entry is of no arc. The text is str where the solution is.
+    Raises Refused if a text has a fault or an entry is of no arc. The text is str if the solution is.
     """
     return _spread("max", instance, solution)
 
@@ -151,9 +151,9 @@ def _solve(kind: str, instance: Text, queries: Text, limit: int) -> Solved:
 
 
 def solve_max(instance: Text, limit: int = LIMIT) -> Solved:
-    """Makes a maximum flow; its value, and the texts of a solution and of a cut that shows it, str where the instance is.
+    """Makes a maximum flow; its value, and the texts of a solution and of a cut that shows it, str if the instance is.
 
-    Raises GaveUp after so many flows that aren't maximum, and Refused where the text has a fault.
+    Raises GaveUp after `limit` flows that aren't maximum, and Refused if the text has a fault.
     """
     return _solve("max", instance, b"", limit)
 
@@ -161,8 +161,8 @@ def solve_max(instance: Text, limit: int = LIMIT) -> Solved:
 def solve_min(instance: Text, limit: int = LIMIT) -> Solved:
     """Makes a flow of least cost; its cost, and the texts of a solution and of potentials that show it.
 
-    Raises Infeasible, which has the text of a set, where no flow is feasible; GaveUp after so many steps to better flows, or
-    where the least cost is out of range; and Refused, as solve_max.
+    Raises Infeasible with the text of a set if no flow is feasible; GaveUp after `limit` steps to better flows, or if the
+    least cost is out of range; Refused as solve_max.
     """
     return _solve("min", instance, b"", limit)
 
@@ -170,7 +170,7 @@ def solve_min(instance: Text, limit: int = LIMIT) -> Solved:
 def solve_paths(graph: Text, queries: Text) -> Solved:
     """Makes labels that answer the queries: no value, the answers to queries for pairs, and the text of the labels.
 
-    Raises Refused where a text has a fault, a query names no node, or a weight is negative.
+    Raises Refused if a text has a fault, a query names no node, or a weight is negative.
     """
     return _solve("paths", graph, queries, LIMIT)
 
@@ -187,7 +187,7 @@ def _told(function: Any, kind: str, text: Text) -> Any:
 
 
 def convert(kind: str, text: Text) -> Any:
-    """The canonical form of a text: str where the text is str, else bytes. Raises Refused where it has a fault.
+    """The canonical form of a text: str if the text is str, else bytes. Raises Refused if it has a fault.
 
     kind is "max", "min", "gr", "query", "solution", "cut", "pot", "dist" or "distances".
     """

@@ -3,8 +3,8 @@
     nx.maximum_flow(G, s, t, backend="dimacs")
     nx.config.backend_priority = ["dimacs"]
 
-Where this package is installed networkx finds it by itself. With the second line each function that is answered here is
-called here, and networkx goes on by itself where can_run says no; with backend= it raises NotImplementedError then.
+networkx finds this package by itself once it is installed. With the second line each function of this backend is called
+here, unless can_run answers no: then networkx computes it, or with backend= raises NotImplementedError.
 """
 
 from .costs import cost_of_flow, max_flow_min_cost, min_cost_flow, min_cost_flow_cost, network_simplex

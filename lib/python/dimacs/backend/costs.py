@@ -98,7 +98,7 @@ def _solved(given: Network, caps: list[int], weights: list[int]) -> Any:
 
 
 def _test_potentials(given: Network, limitless: list[int], potentials: list[int]) -> None:
-    """The potentials show that a flow costs least also where an arc without a limit has none here either."""
+    """The potentials show that a flow costs least even if an arc without a limit has none here either."""
     for arc, tail, head in zip(limitless, *given.arcs.some(limitless)):
         if given.weights[arc] - potentials[tail - 1] + potentials[head - 1] < 0:
             raise Unable("the capacities and demands have a sum that is out of range")
@@ -170,7 +170,7 @@ def read_flow(graph: Any, flow: Any, weight: Any) -> tuple[Numbers, Numbers]:
 
 
 def cost_of_flow(G: Any, flowDict: Any, weight: Any = "weight") -> Any:
-    """The cost of a flow: the least cost where each edge has to carry what it carries."""
+    """The cost of a flow: the least cost if each edge has to carry what it carries."""
     graph = graph_of(G)
     number = {node: number for number, node in enumerate(graph, 1)}
     amounts, weights = read_flow(graph, flowDict, weight)

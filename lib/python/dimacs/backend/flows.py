@@ -37,7 +37,7 @@ def _test_graph(graph: Any, source: Any, sink: Any) -> None:
 
 
 def _test_bounded(arcs: Arcs, limitless: list[int], source: int, sink: int) -> None:
-    """Raises NetworkXUnbounded where arcs without a limit lead from the source to the sink."""
+    """Raises NetworkXUnbounded if arcs without a limit lead from the source to the sink."""
     tails, heads = arcs.some(limitless)
     found = solve_paths_arrays(len(arcs.nodes), tails, heads, [0] * len(tails), source)
     if found.distances[sink - 1] != UNREACHED:

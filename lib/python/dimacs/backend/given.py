@@ -20,7 +20,7 @@ MOST_FLOAT = 2**53
 
 
 class Unable(NotImplementedError):
-    """What this backend doesn't answer, and why. Where networkx chooses backends by itself, it takes the next one."""
+    """What this backend doesn't answer, and why. If networkx chooses backends by itself, it takes the next one."""
 
 
 class Graph:
@@ -49,7 +49,7 @@ def graph_of(given: Any) -> Any:
 
 @contextmanager
 def unable() -> Iterator[None]:
-    """Has networkx go on where a number is past a limit, or an answer is out of range."""
+    """Leaves a call to networkx if a number is past a limit, or an answer is out of range."""
     try:
         yield
     except (GaveUp, PastLimit) as it:
@@ -107,7 +107,7 @@ class Numbers(NamedTuple):
 
 
 def of_edges(graph: Any, attribute: Any, missing: Any, name: str, infinite: bool = False) -> Numbers:
-    """The number that each arc has. Raises Unable where one isn't whole, or infinite where that is taken."""
+    """The number that each arc has. Raises Unable if one isn't whole, nor infinite where that is allowed."""
     if graph.is_multigraph():
         every = (keyed.values() for _, heads in graph.adjacency() for keyed in heads.values())
     else:
@@ -123,7 +123,7 @@ def of_nodes(graph: Any, attribute: Any, missing: int, name: str) -> Numbers:
 
 
 def whole_ones(numbers: list[Any], names: Callable[[], Iterable[Any]], said: str, infinite: bool = False) -> Numbers:
-    """Numbers as ints of 64 bits; the names of what they belong to are asked for where they aren't ints already."""
+    """Numbers as ints of 64 bits; the names of what they belong to are asked for only if they aren't ints already."""
     if not numbers or set(map(type, numbers)) == {int} and _fits(min(numbers)) and _fits(max(numbers)):
         return Numbers(numbers, False)
     values = [_whole(number, f"{said} {name!r}", infinite) for number, name in zip(numbers, names())]
@@ -151,7 +151,7 @@ def _whole(number: Any, said: str, infinite: bool) -> Any:
 
 
 def answered(numbers: Iterable[int], are_floats: bool) -> list[Any]:
-    """Numbers that were found, in the form of those that came. Raises Unable where one has no float that is surely it."""
+    """Numbers that were found, in the form of those that came. Raises Unable if one isn't surely a float."""
     found = list(numbers)
     if not are_floats:
         return found

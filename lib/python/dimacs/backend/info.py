@@ -11,7 +11,7 @@ _COST = f"{_NUMBERS} A capacity may be inf. The flow was judged by potentials."
 _SIGNED = f"{_NUMBERS} No function computes the weights. The distances were judged by predecessors."
 _PATHS = f"No weight is negative. {_SIGNED}"
 
-#: What is answered, and what is said of it below the docstring of networkx.
+#: The functions, and what stands of each below the docstring of networkx.
 FUNCTIONS = {
     "maximum_flow": _FLOW,
     "maximum_flow_value": _FLOW,

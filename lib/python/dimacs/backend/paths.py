@@ -12,7 +12,7 @@ from .given import Arcs, Numbers, Unable, answered, edges_of, graph_of, of_edges
 
 
 def weights_of(graph: Any, weight: Any, signed: bool) -> Numbers:
-    """The weight of each arc; where they aren't signed none is negative."""
+    """The weight of each arc; if they aren't signed, none is negative."""
     if callable(weight):
         raise Unable("the weight is a function")
     weights = of_edges(graph, weight, 1, "weight")
@@ -68,7 +68,7 @@ class _Tree:
         return found
 
     def length_to(self, target: Any, cutoff: Any = None) -> Any:
-        """The distance of a node; None where it isn't reached."""
+        """The distance of a node; None if it isn't reached."""
         if target not in self._number:
             return None
         length = self._distances[self._number[target] - 1]

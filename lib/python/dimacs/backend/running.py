@@ -79,7 +79,7 @@ def _signature(name: str) -> inspect.Signature:
 
 
 def can_run(name: str, args: tuple[Any, ...], kwargs: dict[str, Any]) -> bool | Reason:
-    """Whether a call is answered here: yes where each number is whole, or inf as a capacity, and no algorithm is
+    """Whether a call is answered here: yes if each number is whole, or inf as a capacity, and no algorithm is
     named."""
     if name not in _FUNCTIONS:
         return Reason(f"there is no {name} here")
@@ -90,7 +90,7 @@ def can_run(name: str, args: tuple[Any, ...], kwargs: dict[str, Any]) -> bool | 
     except Unable as no:
         return Reason(no)
     except (AttributeError, LookupError, TypeError, ValueError):
-        return True  # what is wrong with the arguments the call itself says
+        return True  # the call itself reports what is wrong with the arguments
     return True
 
 
