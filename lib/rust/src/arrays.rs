@@ -1,9 +1,9 @@
 //! The calls over slices.
 //!
-//! Nodes and arcs count from 1. The k-th items of the slices by arc describe the k-th arc, and the k-th item of a slice
-//! by node belongs to node k. Each call gives [`Error::WrongLength`] if a slice has another length than it has to have,
-//! [`Error::PastLimit`] if a number of the instance is past its limit, and [`Error::OutOfMemory`]; its own text names the
-//! other variants that it gives.
+//! Nodes and arcs are numbered from 1. The k-th items of the slices by arc describe the k-th arc, and the k-th item of a
+//! slice by node belongs to node k. Each call returns [`Error::WrongLength`] if a slice has a wrong length,
+//! [`Error::PastLimit`] if a number of the instance is past its limit, and [`Error::OutOfMemory`]. Its documentation
+//! names the other variants that it returns.
 
 use crate::ffi::{self, Array, Graph as RawGraph, Max, Min, DONE, GAVE_UP, MISUSED, NO_MEMORY, REFUSED};
 use crate::rooms::{room_for, Room, LINE};
@@ -34,7 +34,7 @@ pub struct MaxInstance<'a> {
 }
 
 /// A minimum cost flow instance: an arc carries from its lower bound to its capacity, at a cost for each unit. What leaves
-/// a node less what enters it is its supply, which is negative where it demands.
+/// a node less what enters it is its supply. A demand is a negative supply.
 #[derive(Clone, Copy, Debug)]
 pub struct MinInstance<'a> {
     /// How many nodes there are.
@@ -175,8 +175,7 @@ fn line_or_better(status: u32, line: Room<u8>, better: Room<i64>) -> Result<Stri
     }
 }
 
-/// Judges that a flow, by arc, is maximum, as a cut shows, by node; its value. [`Error::Refused`] for the first test that
-/// fails.
+/// Judges that a flow, by arc, is maximum, by a cut, by node; its value. [`Error::Refused`] for the first test that fails.
 ///
 /// ```
 /// # use dimacs::arrays::{judge_max, MaxInstance};
@@ -203,8 +202,8 @@ pub fn judge_max(instance: &MaxInstance, flows: &[i64], inside: &[bool]) -> Resu
     Ok(value(&line_of(status, line)?))
 }
 
-/// Judges that a flow, by arc, costs least, as potentials show, by node; its cost. The reduced cost of an arc is its cost,
-/// less the potential of its tail, and with that of its head. [`Error::Refused`] for the first test that fails.
+/// Judges that a flow, by arc, costs least, by potentials of the nodes; its cost. The reduced cost of an arc is its cost,
+/// minus the potential of its tail, plus that of its head. [`Error::Refused`] for the first test that fails.
 ///
 /// ```
 /// # use dimacs::arrays::{judge_min, MinInstance};
@@ -231,8 +230,8 @@ pub fn judge_min(instance: &MinInstance, flows: &[i64], potentials: &[i64]) -> R
     Ok(value(&line_of(status, line)?))
 }
 
-/// Judges that an instance has no feasible flow, as a set of nodes shows. [`Error::Refused`] if this set doesn't;
-/// there may be no flow all the same.
+/// Judges that an instance has no feasible flow, by a set of nodes. [`Error::Refused`] if the set isn't violated; there may
+/// be no feasible flow all the same.
 ///
 /// ```
 /// # use dimacs::arrays::{judge_infeasible, MinInstance};
@@ -256,7 +255,7 @@ pub fn judge_infeasible(instance: &MinInstance, inside: &[bool]) -> Result<(), E
     line_of(status, line).map(drop)
 }
 
-/// Judges that distances from the source, by node, are the least weights of walks, as predecessors show, by node.
+/// Judges that distances from the source, by node, are the least weights of walks, by predecessors of the nodes.
 /// [`Error::Refused`] for the first test that fails.
 ///
 /// ```
@@ -284,8 +283,8 @@ pub fn judge_paths(graph: &Graph, source: u32, distances: &[i64], predecessors: 
 }
 
 /// Decides whether a flow, by arc, is maximum: its value and a cut that [`judge_max`] accepts. [`Error::NotOptimal`]
-/// with a feasible flow of greater value, and [`Error::Refused`] if the flow isn't feasible. The time that it takes isn't
-/// bounded by the number of arcs.
+/// with a feasible flow of greater value, and [`Error::Refused`] if the flow isn't feasible. The number of arcs doesn't
+/// bound the time.
 ///
 /// ```
 /// # use dimacs::arrays::{certify_max, Error, MaxInstance};
@@ -354,7 +353,7 @@ pub fn certify_min(instance: &MinInstance, flows: &[i64]) -> Result<CertifiedMin
 }
 
 /// Decides whether an instance has no feasible flow: a set that [`judge_infeasible`] accepts. [`Error::Feasible`] with
-/// a feasible flow, if there is one. The time that it takes isn't bounded by the number of arcs.
+/// a feasible flow, if there is one. The number of arcs doesn't bound the time.
 ///
 /// ```
 /// # use dimacs::arrays::{certify_infeasible, Error, MinInstance};
@@ -450,7 +449,7 @@ pub fn solve_max(instance: &MaxInstance, limit: u64) -> Result<SolvedMax, Error>
 }
 
 /// Makes a flow of least cost, and potentials that [`judge_min`] accepts. [`Error::Infeasible`] with a set by which
-/// [`judge_infeasible`] says yes, if no flow is feasible; [`Error::GaveUp`] after `limit` steps to better flows, or if
+/// [`judge_infeasible`] answers yes, if no flow is feasible; [`Error::GaveUp`] after `limit` steps to better flows, or if
 /// the least cost or the potentials are out of range.
 ///
 /// ```

@@ -24,9 +24,9 @@ pub enum Place {
 /// The fault of a text, the first test that fails, or the first number past its limit.
 #[derive(Clone, Debug, PartialEq, Eq)]
 pub struct Refused {
-    /// Where.
+    /// The place.
     pub place: Place,
-    /// Why, by the word that the command has for it.
+    /// The reason, in the command's word.
     pub reason: String,
 }
 
@@ -48,7 +48,7 @@ impl fmt::Display for Refused {
 pub enum Error<Flow, Set> {
     /// A text has a fault, or a test fails: the first one.
     Refused(Refused),
-    /// The flow is feasible and what it claims, and this one is better.
+    /// The flow is feasible and has the claimed value, but this one is better.
     NotOptimal(Flow),
     /// No flow is feasible, as this set of nodes shows.
     Infeasible(Set),
@@ -58,9 +58,9 @@ pub enum Error<Flow, Set> {
     GaveUp,
     /// A number of an instance in arrays is past its limit: the first one. Nothing was judged.
     PastLimit(Refused),
-    /// An array has another length than it has to have. Nothing was judged.
+    /// An array has a wrong length. Nothing was judged.
     WrongLength,
-    /// There was not enough memory, and nothing is said of the claim.
+    /// Out of memory: the claim is undecided.
     OutOfMemory,
 }
 
@@ -81,7 +81,7 @@ impl<Flow, Set> fmt::Display for Error<Flow, Set> {
 
 impl<Flow: fmt::Debug, Set: fmt::Debug> std::error::Error for Error<Flow, Set> {}
 
-/// A growth that was refused.
+/// An allocation failed.
 pub(crate) struct NoMemory;
 
 impl<Flow, Set> From<NoMemory> for Error<Flow, Set> {

@@ -1,6 +1,6 @@
 //! What `dimacs.h` declares.
 
-/// Where an array begins, and how many items it has.
+/// The address of an array, and how many items it has.
 #[repr(C)]
 pub struct Array<T> {
     at: *const T,

@@ -17,8 +17,8 @@
 //! ```
 //!
 //! The library is linked statically: `DIMACS_LIB_DIR` names the folder of `libdimacs.a`, or pkg-config finds it. A call
-//! keeps nothing, opens no file and starts no thread, and may be made beside others. Its stack takes up to 64 KB. This
-//! crate itself isn't proved: it is a layer over calls that are.
+//! keeps nothing, opens no file and starts no thread; calls may run in several threads at once. A call takes up to 64 KB
+//! of stack. This crate itself isn't proved: it is a layer over calls that are.
 
 pub mod arrays;
 mod error;
@@ -29,7 +29,7 @@ mod words;
 
 pub use error::{Error, Place, Refused};
 
-/// The limit that the command has where none is given, for the calls that solve for flows.
+/// The command's default limit, for the calls that solve for flows.
 pub const LIMIT: u64 = 1_000_000;
 
 /// The number of the version of the library that was linked: 10000 times the first number, 100 times the second, and the

@@ -2,10 +2,10 @@
 
 use crate::error::NoMemory;
 
-/// As much as any line has that isn't one of many.
+/// Room for any line, except for answers to pairs.
 pub const LINE: usize = 256;
 
-/// As many nodes as an instance may have. One with more of them is refused, and needs no room.
+/// As many nodes as an instance may have. One with more is refused, and needs no room.
 pub fn room_for(nodes: u32) -> usize {
     if nodes <= 1 << 27 {
         nodes as usize

@@ -1,7 +1,8 @@
-//! The calls over DIMACS texts in memory: `&str`, bytes, or whatever else has them. What is handed out is a `String`.
+//! The calls over DIMACS texts in memory: `&str`, bytes, or anything else that has bytes. They return each text as a
+//! `String`.
 //!
-//! Each call gives [`Error::Refused`] for the fault of the first text that has one, else for the first test that fails, and
-//! [`Error::OutOfMemory`]; its own text names the other variants that it gives.
+//! Each call returns [`Error::Refused`] for the fault of the first text that has one, else for the first test that fails,
+//! and [`Error::OutOfMemory`]. Its documentation names the other variants that it returns.
 
 use crate::error::NoMemory;
 use crate::ffi::{self, DONE, GAVE_UP, NO_MEMORY, REFUSED};
@@ -44,7 +45,7 @@ pub struct Certified {
     pub certificate: String,
 }
 
-/// The texts of a solution and of what shows it.
+/// The texts of a solution and of its certificate.
 #[derive(Clone, Debug, PartialEq, Eq)]
 pub struct Solved {
     /// The value of the flow, or its cost.
@@ -55,12 +56,12 @@ pub struct Solved {
     pub certificate: String,
 }
 
-/// What is between two nodes.
+/// How far one node is from another.
 #[derive(Clone, Copy, Debug, PartialEq, Eq)]
 pub enum Distance {
     /// The least weight of a walk.
     Is(i128),
-    /// No walk, or none that weighs no more than this radius.
+    /// No walk that weighs at most this radius.
     Beyond(i128),
     /// No walk.
     Unreachable,
@@ -69,11 +70,11 @@ pub enum Distance {
 /// The answer to a query from one node to another.
 #[derive(Clone, Copy, Debug, PartialEq, Eq)]
 pub struct Pair {
-    /// From where.
+    /// FROM.
     pub source: u32,
-    /// To where.
+    /// TO.
     pub target: u32,
-    /// How far.
+    /// The distance.
     pub distance: Distance,
 }
 
@@ -137,7 +138,7 @@ fn judge(kind: u32, texts: [&[u8]; 3], room: usize) -> Result<String, Error> {
     }
 }
 
-/// A call over two texts of a kind, which answers a line and another text.
+/// A call over two texts of a kind, which hands out a line and another text.
 type CallOfTwo = unsafe extern "C" fn(
     u32,
     *const u8,
@@ -250,7 +251,7 @@ fn paths(lines: &str) -> Paths {
     }
 }
 
-/// Judges that a solution's flow is maximum, as a cut shows; its value.
+/// Judges that a solution's flow is maximum, by a cut; its value.
 ///
 /// ```
 /// # use dimacs::texts::judge_max;
@@ -262,7 +263,7 @@ pub fn judge_max(instance: impl AsRef<[u8]>, solution: impl AsRef<[u8]>, cut: im
     judge(MAX, [instance.as_ref(), solution.as_ref(), cut.as_ref()], LINE).map(|it| value(&it))
 }
 
-/// Judges that a solution's flow costs least, as potentials show; its cost.
+/// Judges that a solution's flow costs least, by potentials; its cost.
 ///
 /// ```
 /// # use dimacs::texts::judge_min;
@@ -277,7 +278,7 @@ pub fn judge_min(
     judge(MIN, [instance.as_ref(), solution.as_ref(), potentials.as_ref()], LINE).map(|it| value(&it))
 }
 
-/// Judges that an instance has no feasible flow, as a set of nodes shows.
+/// Judges that an instance has no feasible flow, by a set of nodes.
 ///
 /// ```
 /// # use dimacs::texts::judge_infeasible;
@@ -401,8 +402,8 @@ pub fn solve_paths(graph: impl AsRef<[u8]>, queries: impl AsRef<[u8]>) -> Result
     Ok((paths(&lines), labels))
 }
 
-/// Deals a solution out to parallel arcs: adds up the entries of each two ends, and gives each arc with these ends its
-/// share, within its bounds if that can be; the text of a solution with an entry for every arc and the claimed value.
+/// Deals a solution out to parallel arcs: adds up the entries with the same ends, and gives each arc with these ends its
+/// share, within its bounds if possible; the text of a solution with an entry for every arc and the claimed value.
 ///
 /// ```
 /// # use dimacs::texts::spread_max;

@@ -34,7 +34,7 @@ pub fn is_not_optimal(refused: &Refused) -> bool {
     matches!(refused.reason.as_str(), "NotMaximum" | "NotLeast")
 }
 
-/// Whether a flow was found to be feasible, where none was claimed to be.
+/// Whether a flow was found to be feasible, though none was claimed to be.
 pub fn is_feasible(refused: &Refused) -> bool {
     refused.reason == "Feasible"
 }
