@@ -66,7 +66,7 @@ pub fn judge_min_placed<N: Network>(
     Ok(Verdict::Min(placed.value))
 }
 
-/// Makes all tests in one pass over the arcs. None if one fails, without saying which.
+/// Makes all tests in one pass over the arcs. None if one fails; it doesn't report which.
 fn min_in_one_pass<N: Network>(
     alloc: Global,
     instance: &MinInstance<N>,

@@ -67,7 +67,7 @@ pub fn judge_max_placed<N: Network>(
     Ok(Verdict::Max(placed.value))
 }
 
-/// Makes all tests in one pass over the arcs. None if one fails, without saying which.
+/// Makes all tests in one pass over the arcs. None if one fails; it doesn't report which.
 fn max_in_one_pass<N: Network>(
     alloc: Global,
     instance: &MaxInstance<N>,

@@ -189,8 +189,8 @@ fn add_at(rows: &mut NodeTable<Row>, node: u32, amount: i64) -> Option<i64>
     Some(potential)
 }
 
-/// The balances and the cost of a flow, if all its tests pass and the potentials are slack. None if a test fails,
-/// without saying which; or if a number is too large, or there is no memory.
+/// The balances and the cost of a flow, if all its tests pass and the potentials are slack. None if a test fails (it
+/// doesn't report which), if a number is too large, or if there is no memory.
 pub(crate) fn sums_if_passed<N: Network, D: Demands, P: HasPotentials>(
     alloc: Global,
     network: &N,

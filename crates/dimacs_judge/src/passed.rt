@@ -42,7 +42,7 @@ impl Passed {
     }
 
     /// Passes arcs up to the next one that has the ends of this entry, and returns it if it is the first that has them.
-    /// The answer may be none all the same if the arc is far behind these and `start`, or has many others in its chain.
+    /// The answer may be none all the same if the arc comes long after these and `start`, or its chain has many others.
     #[inline]
     pub(crate) fn pass_to<N: Network>(
         &mut self,

@@ -73,7 +73,7 @@ fn entry_of(arc: ArcView, i: u32, flow: i64) -> Entry
     }
 }
 
-/// An entry for every arc, in order, with its amount, on one line after another from line 2 on. `Memory` where there is
+/// An entry for every arc, in order, with its amount, on one line after another from line 2 on. `Memory` if there is
 /// none for them.
 pub fn entries_for<N: Network>(
     alloc: Global,
