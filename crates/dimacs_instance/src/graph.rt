@@ -152,7 +152,7 @@ impl<N: OfWeightArcs> Begun for BegunGraph<N> {
     ghost has_problem = { refl };
 }
 
-/// Reads the text of a graph.
+/// Reads the text of a graph. `docs/TEXTS.md` has the rules and the order of faults.
 pub fn read_graph<S: Source>(
     alloc: Global,
     source: &mut S,

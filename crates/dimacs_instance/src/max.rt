@@ -282,7 +282,7 @@ impl<N: OfCapacityArcs> Begun for BegunMax<N> {
     ghost has_problem = { refl };
 }
 
-/// Reads the text of a maximum flow instance.
+/// Reads the text of a maximum flow instance. `docs/TEXTS.md` has the rules and the order of faults.
 pub fn read_max<S: Source>(
     alloc: Global,
     source: &mut S,

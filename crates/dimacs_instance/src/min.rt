@@ -253,7 +253,7 @@ impl<N: OfCostArcs> Begun for BegunMin<N> {
     ghost has_problem = { refl };
 }
 
-/// Reads the text of a minimum cost flow instance.
+/// Reads the text of a minimum cost flow instance. `docs/TEXTS.md` has the rules and the order of faults.
 pub fn read_min<S: Source>(
     alloc: Global,
     source: &mut S,

@@ -204,7 +204,7 @@ impl Begun for BegunQueries {
     ghost has_problem = { refl };
 }
 
-/// Reads the text of queries.
+/// Reads the text of queries. `docs/TEXTS.md` has the rules and the order of faults.
 pub fn read_queries<S: Source>(alloc: Global, source: &mut S) -> Result<Queries, ReadError>
     ensures reads { (text : List ℕ) → S.coming source.old ≡ Some text
         → Reads (SpellsQueries text) (Fault kinds.Queries (lines text)) (result_map_both asked (λ e. e) result) }
