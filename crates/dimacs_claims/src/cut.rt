@@ -177,7 +177,7 @@ impl Begun for BegunCut {
     ghost has_problem = { refl };
 }
 
-/// Reads the text of a set of nodes.
+/// Reads the text of a set of nodes. `docs/TEXTS.md` has the rules and the order of faults.
 pub fn read_cut<S: Source>(alloc: Global, source: &mut S) -> Result<Cut, ReadError>
     ensures reads { (text : List ℕ) → S.coming source.old ≡ Some text → Reads (SpellsCut text) (Fault kinds.Cut (lines text)) result }
     ensures device { CountsRead result (S.faults source.old) (S.faults source.new) }

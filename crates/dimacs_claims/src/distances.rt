@@ -191,7 +191,7 @@ impl Begun for BegunDistances {
     ghost has_problem = { refl };
 }
 
-/// Reads a text of distances, without an index of them.
+/// Reads a text of distances, without an index of them. `docs/TEXTS.md` has the rules and the order of faults.
 pub fn read_distances<S: Source>(alloc: Global, source: &mut S) -> Result<Distances, ReadError>
     ensures reads { (text : List ℕ) → S.coming source.old ≡ Some text → Reads (SpellsDistances text) (Fault kinds.Distances (lines text)) result }
     ensures fits { (text : List ℕ) → S.coming source.old ≡ Some text → IfOk result (λ distances. FitText distances) }

@@ -386,7 +386,7 @@ impl Begun for BegunLabels {
     ghost has_problem = { refl };
 }
 
-/// Reads a text of labels and indexes them.
+/// Reads a text of labels and indexes them. `docs/TEXTS.md` has the rules and the order of faults.
 pub fn read_labels<S: Source>(alloc: Global, source: &mut S) -> Result<Labels, ReadError>
     ensures reads { (text : List ℕ) → S.coming source.old ≡ Some text → Reads (SpellsLabels text) (Fault kinds.Labels (lines text)) result }
     ensures fits { (text : List ℕ) → S.coming source.old ≡ Some text → IfOk result (λ labels. FitText labels) }

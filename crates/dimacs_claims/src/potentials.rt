@@ -197,7 +197,7 @@ impl Begun for BegunPotentials {
     ghost has_problem = { refl };
 }
 
-/// Reads a text of potentials.
+/// Reads a text of potentials. `docs/TEXTS.md` has the rules and the order of faults.
 pub fn read_potentials<S: Source>(alloc: Global, source: &mut S) -> Result<Potentials, ReadError>
     ensures reads { (text : List ℕ) → S.coming source.old ≡ Some text → Reads (SpellsPotentials text) (Fault kinds.Potentials (lines text)) result }
     ensures device { CountsRead result (S.faults source.old) (S.faults source.new) }

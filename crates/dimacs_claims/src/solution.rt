@@ -137,7 +137,8 @@ impl<P: Place> Reading for SolutionReading<P> {
     }
 }
 
-/// Reads a text of a solution. Arcs aren't compared with an instance here.
+/// Reads a text of a solution. Arcs aren't compared with an instance here. `docs/TEXTS.md` has the rules and the order
+/// of faults.
 pub fn read_solution<S: Source>(alloc: Global, source: &mut S) -> Result<Solution, ReadError>
     ensures reads { (text : List ℕ) → S.coming source.old ≡ Some text
         → Reads (SpellsSolution text) (Fault kinds.Solution (lines text)) (result_map_both claimed (λ e. e) result) }
