@@ -1,14 +1,111 @@
 //! The labels of a block, stored compactly.
 
+ghost use Rattle.std.specs.Prelude.{◌≡◌, ◌<◌, ◌++◌, ◌∷◌, [], ◌↔◌, length, slice_get, slice_index_or, IsTrue, OnOk, OnErr};
+ghost use Rattle.dimacs_nodes.specs.Lists.{items_left};
 ghost use Rattle.dimacs_claims.specs.Labels.{no_label};
 ghost use Rattle.dimacs_claims.specs.LabelLists.{lengthened, widened};
 
 use crate::block::Label;
-use dimacs_nodes::{ShortForm, WideningList};
+use dimacs_lines::Memory;
+use dimacs_nodes::{ListIter, ShortForm, WideningList};
+use std::alloc::Global;
+use std::marker::Model;
 
 /// Labels in the order in which they were added. A label takes 12 bytes while all distances fit into 32 bits, 16 while
 /// they fit into 64, otherwise 32.
-pub type LabelList = WideningList<Label32, WideningList<Label64, Vec<Label>>>;
+#[derive(Drop)]
+pub struct LabelList {
+    labels: WideningList<Label32, WideningList<Label64, Vec<Label>>>,
+}
+
+impl Model for LabelList {
+    ghost use Rattle.std.specs.Prelude.{List};
+    ghost use Rattle.dimacs_claims.specs.declared.block.Label.{Label};
+
+    ghost Value = { List Label };
+
+    ghost view = { λ l. l.labels };
+}
+
+impl LabelList {
+    /// The empty list. Allocates nothing.
+    pub(crate) fn new(alloc: Global) -> LabelList
+        ensures { result ≡ [] }
+    {
+        LabelList {
+            labels: WideningList::new(alloc),
+        }
+    }
+
+    /// Appends a label.
+    #[inline(always)]
+    pub(crate) fn push(&mut self, label: Label) -> Result<(), Memory>
+        ensures pushed { OnOk result (self.new ≡ self.old ++ label ∷ []) }
+        ensures unchanged { OnErr result (self.new ≡ self.old) }
+    {
+        self.labels.push(label)
+    }
+
+    /// The number of labels.
+    #[inline(always)]
+    pub fn len(&self) -> usize
+        ensures { result ≡ length self.now }
+    {
+        self.labels.len()
+    }
+
+    /// Whether there is no label.
+    pub fn is_empty(&self) -> bool
+        ensures { IsTrue result ↔ (self.now ≡ []) }
+    {
+        self.labels.is_empty()
+    }
+
+    /// The label that was added first; none in an empty list.
+    pub fn first(&self) -> Option<Label>
+        ensures { result ≡ slice_get self.now 0 }
+    {
+        self.labels.first()
+    }
+
+    /// The label at this place, from 0; none past the last.
+    pub fn get(&self, place: usize) -> Option<Label>
+        ensures { result ≡ slice_get self.now place }
+    {
+        self.labels.get(place)
+    }
+
+    /// The label at this place, from 0.
+    #[inline(always)]
+    pub fn at(&self, place: usize) -> Label
+        requires { place < length self.now }
+        ensures { result ≡ slice_index_or self.now place no_label }
+    {
+        self.labels.at(place)
+    }
+
+    /// Iterates over the labels in order.
+    pub fn iter(&self) -> ListIter<'_, Label32, WideningList<Label64, Vec<Label>>>
+        ensures { items_left result ≡ self.now }
+    {
+        self.labels.iter()
+    }
+}
+
+impl<'a> IntoIterator for &'a LabelList {
+    ghost use Rattle.std.specs.Prelude.{◌≡◌};
+    ghost use Rattle.dimacs_nodes.specs.Lists.{items_left};
+
+    type Item = Label;
+
+    type IntoIter = ListIter<'a, Label32, WideningList<Label64, Vec<Label>>>;
+
+    ghost into_iter_gives = { λ list it. items_left it ≡ list.now };
+
+    fn into_iter(self) -> ListIter<'a, Label32, WideningList<Label64, Vec<Label>>> {
+        self.iter()
+    }
+}
 
 /// A label whose distance fits into 32 bits.
 #[derive(Clone, Copy)]

@@ -16,7 +16,7 @@ mod texts;
 pub use block::{Block, Label};
 pub use cut::{Cut, CutReading, read_cut, write_cut};
 pub use distances::{Distances, DistancesReading, read_distances, write_distances};
-pub use label_list::{Label32, Label64, LabelList};
+pub use label_list::LabelList;
 pub use labels::{Labels, LabelsReading, read_labels, read_plain_labels, write_labels};
 pub use place::{Place, Placed};
 pub use potentials::{Potentials, PotentialsReading, read_potentials, write_potentials};
