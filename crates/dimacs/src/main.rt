@@ -10,7 +10,9 @@ use crate::again::FilesAgain;
 use crate::files::SystemFiles;
 use dimacs_explain::{FirstLine, explain_command};
 use dimacs_lines::FileSink;
-use dimacs_runs::{Failure, NO_RUN, RunError, complaint, exit_status, job, run_command};
+use dimacs_runs::{
+    CommandError, Failure, NO_RUN, RunError, complaint, exit_status, job, run_command,
+};
 use std::fs::File;
 use std::io::ErrorKind;
 use std::os::fd::{AsRawFd, RawFd};
@@ -45,7 +47,7 @@ fn stand_in(rt: &HostRuntime) -> Option<File> {
 fn run(rt: &HostRuntime, words: &[String]) -> u8 {
     let mut files = SystemFiles::new(rt);
     let mut output = FirstLine::new(FileSink::new(io::writer(rt)));
-    let (words, ending) = match words {
+    let (words, ended) = match words {
         [first, asked @ ..] if first.as_str() == EXPLAIN => {
             let mut again = FilesAgain::new(rt);
             (
@@ -58,8 +60,12 @@ fn run(rt: &HostRuntime, words: &[String]) -> u8 {
             run_command(rt.alloc(), words, &mut files, &mut output),
         ),
     };
-    complain(rt, ending.status);
-    if let Some(failure) = ending.failure {
+    let status = match ended {
+        Some(ended) => exit_status(&ended.map_err(|error| error.run_error())),
+        None => NO_RUN,
+    };
+    complain(rt, status);
+    if let Some(Err(CommandError::Device(failure))) = ended {
         let reason = match failure {
             Failure::File(..) => files.reason(),
             Failure::Output => output.sink().reason(),
@@ -69,7 +75,7 @@ fn run(rt: &HostRuntime, words: &[String]) -> u8 {
     if let Some(name) = job(words).and_then(|job| job.written_twice()) {
         let _ = eprintln!(rt; "dimacs: {name}: written twice");
     }
-    ending.status
+    status
 }
 
 /// The arguments, the program's name first.

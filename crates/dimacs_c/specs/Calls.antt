@@ -2,7 +2,7 @@
 use Rattle.std.specs.Prelude.{ℕ, ◌≡◌, ◌++◌, ◌⊎◌, List, [], ◌∷◌, Option, None, Some, Ok, length, take, drop}
 use Rattle.dimacs_runs.specs.declared.outcome.Status.{Status}
 use Rattle.dimacs_runs.specs.Outcomes.{status_number}
-use Rattle.dimacs_runs.specs.Runs.{TellsAlone}
+use Rattle.dimacs_runs.specs.Runs.{ReportsAlone}
 
 -- a caller's buffer for bytes or numbers, as it was and as the call left it, and the length that the call set
 pub record Handed (X : Type 0) : Type 0 where
@@ -26,7 +26,7 @@ pub record HandsNothing {X : Type 0} (h : Handed X) : Type 0 where
 -- the only possible text is handed out, and the call returns the command's exit status; or memory ran out
 abbrev pub Answers : (Status → List ℕ → Type 0) → ℕ → Handed ℕ → Type 0
 Answers tells answer h =
-    ((s : Status) × (text : List ℕ) × TellsAlone tells s text × (answer ≡ status_number (Ok s)) × HandsOut text h)
+    ((s : Status) × (text : List ℕ) × ReportsAlone tells s text × (answer ≡ status_number (Ok s)) × HandsOut text h)
     ⊎ ((answer ≡ 4) × HandsNothing h)
 
 -- the same if the number names a kind; otherwise 2

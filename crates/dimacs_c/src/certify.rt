@@ -4,7 +4,7 @@ ghost use Rattle.std.specs.Prelude.{◌∷◌, []};
 ghost use Rattle.dimacs_c.specs.Calls.{AnswersTexts, AnswersTextsKind, handed};
 ghost use Rattle.dimacs_c.specs.Kinds.{certify_kind};
 ghost use Rattle.dimacs_runs.specs.Certified.{Certified};
-ghost use Rattle.dimacs_runs.specs.Outputs.{TellsAlike};
+ghost use Rattle.dimacs_runs.specs.Outputs.{WritesAlike};
 
 use crate::answer::{end, misuse};
 use crate::kinds::certify_of;
@@ -25,7 +25,7 @@ pub extern "C" fn dimacs_certify(
     shown: &mut [u8],
     shown_told: &mut usize,
 ) -> u32
-    ensures { AnswersTextsKind (certify_kind kind) (λ k. TellsAlike (Certified k instance.now claim.now)) result
+    ensures { AnswersTextsKind (certify_kind kind) (λ k. WritesAlike (Certified k instance.now claim.now)) result
         (handed shown.old shown.new shown_told.new ∷ handed out.old out.new told.new ∷ []) }
 {
     match certify_of(kind) {
@@ -48,7 +48,7 @@ fn certify(
     shown: &mut [u8],
     shown_told: &mut usize,
 ) -> u32
-    ensures { AnswersTexts (TellsAlike (Certified kind instance.now claim.now)) result
+    ensures { AnswersTexts (WritesAlike (Certified kind instance.now claim.now)) result
         (handed shown.old shown.new shown_told.new ∷ handed out.old out.new told.new ∷ []) }
 {
     let mut certificate = MemorySink::new(alloc);

@@ -3,7 +3,7 @@
 ghost use Rattle.std.specs.Prelude.{◌∷◌, []};
 ghost use Rattle.dimacs_c.specs.Calls.{AnswersTexts, AnswersTextsKind, handed};
 ghost use Rattle.dimacs_c.specs.Kinds.{solve_job};
-ghost use Rattle.dimacs_runs.specs.Outputs.{MayTell};
+ghost use Rattle.dimacs_runs.specs.Outputs.{MayWrite};
 ghost use Rattle.dimacs_runs.specs.Solved.{Solved};
 
 use crate::answer::{end, misuse};
@@ -29,7 +29,7 @@ pub extern "C" fn dimacs_solve(
     certificate: &mut [u8],
     certificate_told: &mut usize,
 ) -> u32
-    ensures { AnswersTextsKind (solve_job kind limit) (λ job. MayTell (Solved job instance.now queries.now)) result
+    ensures { AnswersTextsKind (solve_job kind limit) (λ job. MayWrite (Solved job instance.now queries.now)) result
         (handed solution.old solution.new solution_told.new ∷ handed certificate.old certificate.new certificate_told.new
         ∷ handed out.old out.new told.new ∷ []) }
 {
@@ -67,7 +67,7 @@ fn solve(
     certificate: &mut [u8],
     certificate_told: &mut usize,
 ) -> u32
-    ensures { AnswersTexts (MayTell (Solved job instance.now queries.now)) result
+    ensures { AnswersTexts (MayWrite (Solved job instance.now queries.now)) result
         (handed solution.old solution.new solution_told.new ∷ handed certificate.old certificate.new certificate_told.new
         ∷ handed out.old out.new told.new ∷ []) }
 {

@@ -2,7 +2,7 @@
 
 ghost use Rattle.dimacs_c.specs.Calls.{Answers, AnswersKind, handed};
 ghost use Rattle.dimacs_c.specs.Kinds.{text_kind};
-ghost use Rattle.dimacs_runs.specs.Runs.{Told};
+ghost use Rattle.dimacs_runs.specs.Runs.{Prints};
 ghost use Rattle.dimacs_runs.specs.declared.text.TextForm.TheVariants.{Canonical, Summary};
 
 use crate::answer::{end, misuse};
@@ -21,7 +21,7 @@ pub extern "C" fn dimacs_convert(
     out: &mut [u8],
     told: &mut usize,
 ) -> u32
-    ensures { AnswersKind (text_kind kind) (λ k. Told Canonical k text.now) result (handed out.old out.new told.new) }
+    ensures { AnswersKind (text_kind kind) (λ k. Prints Canonical k text.now) result (handed out.old out.new told.new) }
 {
     match text_of(kind) {
         Some(kind) => convert(alloc, kind, text, out, told),
@@ -31,7 +31,7 @@ pub extern "C" fn dimacs_convert(
 
 /// Converts a text of this kind.
 fn convert(alloc: Global, kind: TextKind, text: &[u8], out: &mut [u8], told: &mut usize) -> u32
-    ensures { Answers (Told Canonical kind text.now) result (handed out.old out.new told.new) }
+    ensures { Answers (Prints Canonical kind text.now) result (handed out.old out.new told.new) }
 {
     let mut sink = MemorySink::new(alloc);
     let mut source = MemorySource::new(text);
@@ -48,7 +48,7 @@ pub extern "C" fn dimacs_show(
     out: &mut [u8],
     told: &mut usize,
 ) -> u32
-    ensures { AnswersKind (text_kind kind) (λ k. Told Summary k text.now) result (handed out.old out.new told.new) }
+    ensures { AnswersKind (text_kind kind) (λ k. Prints Summary k text.now) result (handed out.old out.new told.new) }
 {
     match text_of(kind) {
         Some(kind) => show(alloc, kind, text, out, told),
@@ -58,7 +58,7 @@ pub extern "C" fn dimacs_show(
 
 /// Describes a text of this kind.
 fn show(alloc: Global, kind: TextKind, text: &[u8], out: &mut [u8], told: &mut usize) -> u32
-    ensures { Answers (Told Summary kind text.now) result (handed out.old out.new told.new) }
+    ensures { Answers (Prints Summary kind text.now) result (handed out.old out.new told.new) }
 {
     let mut sink = MemorySink::new(alloc);
     let mut source = MemorySource::new(text);

@@ -16,11 +16,8 @@ use crate::texts::{Named, Texts};
 use crate::whole_tests::{explain_end, explain_whole};
 use dimacs_lines::{Memory, Sink, put_all};
 use dimacs_records::{End, TextKind};
-use dimacs_runs::{Ending, Files, job, run_command};
+use dimacs_runs::{CommandError, Files, Status, job, run_command};
 use std::alloc::Global;
-
-/// The exit status of a refusal.
-const REFUSED: u8 = 1;
 
 /// Runs the command of these arguments, and after a refusal writes lines that explain it. `again` opens the files that
 /// are read a second time. If memory runs out or the output fails during the explanation, it ends early; the result is
@@ -31,17 +28,17 @@ pub fn explain_command<'a, F: Files, A: Files, K: Sink>(
     files: &mut F,
     again: &mut A,
     output: &mut FirstLine<K>,
-) -> Ending<'a>
+) -> Option<Result<Status, CommandError<'a>>>
     ensures explains { Explains (map string_bytes words.now) (F.holds files.old) F.empty result
         (seen_by (F.seen files.old) (K.seen output.old.sink)) (F.seen files.new) (K.seen output.new.sink).accepted }
 {
-    let ending = run_command(alloc, words, files, output);
-    if ending.status == REFUSED
+    let ended = run_command(alloc, words, files, output);
+    if matches!(ended, Some(Ok(Status::Refused)))
         && let Ok(text) = explanation(alloc, words, output.line(), again)
     {
         let _ = put_all(output, text.as_bytes());
     }
-    ending
+    ended
 }
 
 /// The explanation of the refusal that a command printed; empty if it printed none.

@@ -1,7 +1,6 @@
 -- The outcomes of certifying.
-use Rattle.std.proofs.Common.{◌≡◌, ◌≢◌, ◌∙◌, ℕ, ℤ, List, [], ◌∷◌, Option, None, Result, Ok, Err, refl, sym, subst, ap, inl, inr, ◌⊎◌, drop, length}
+use Rattle.std.proofs.Common.{◌≡◌, ◌≢◌, ◌∙◌, ℕ, ℤ, List, [], ◌∷◌, Ok, Err, refl, sym, subst, ap, inl, inr, ◌⊎◌, length}
 use Rattle.std.specs.Prelude.{codes}
-use Rattle.dimacs_lines.specs.Devices.{Written}
 use Rattle.dimacs_claims.specs.Cuts.{CutValue, canonical_cut}
 use Rattle.dimacs_claims.specs.Labels.{LabelsValue}
 use Rattle.dimacs_claims.specs.LabelTexts.{canonical_labels}
@@ -11,6 +10,8 @@ use Rattle.dimacs_claims.specs.declared.solution.Solution.{Solution}
 use Rattle.dimacs_network.specs.Arcs.{NetworkValue}
 use Rattle.dimacs_instance.specs.MaxFlows.{MaxValue, IsMax}
 use Rattle.dimacs_instance.specs.MinFlows.{MinValue}
+use Rattle.dimacs_records.specs.declared.faults.At.{At}
+use Rattle.dimacs_records.specs.declared.kinds.TextKind.TheVariants as kinds
 use Rattle.dimacs_records.specs.declared.reasons.Reason.{Reason}
 use Rattle.dimacs_records.specs.declared.reasons.Reason.TheVariants.{Feasible, NodesDiffer, NotLeast, NotMaximum}
 use Rattle.dimacs_judge.specs.declared.verdict.JudgeError.{JudgeError}
@@ -31,19 +32,13 @@ use Rattle.dimacs_decide.specs.CertifiedMin.{CertifiesMin}
 use Rattle.dimacs_decide.specs.CertifiedPaths.{AreAllDistances, AreLabelsOfAll, CertifiesPaths}
 use Rattle.dimacs_runs.specs.declared.outcome.Status.{Status}
 use Rattle.dimacs_runs.specs.declared.outcome.Status.TheVariants.{Done, Refused, GaveUp}
-use Rattle.dimacs_runs.specs.declared.outcome.RunError.{RunError}
-use Rattle.dimacs_runs.specs.declared.produced.Made.TheVariants.{Better, Distances, Nothing, Set, Slack}
-use Rattle.dimacs_runs.specs.declared.produced.Produced.{Produced}
-use Rattle.dimacs_runs.specs.declared.told.Told.{Told}
-use Rattle.dimacs_runs.specs.declared.told.Told.TheVariants as told
+use Rattle.dimacs_runs.specs.declared.made.Made.TheVariants as made
+use Rattle.dimacs_runs.specs.declared.report.Report.TheVariants as reports
 use Rattle.dimacs_runs.specs.Certified.{CertificateOr, CertifiesDistances, CertifiesInfeasible, CertifiesLeast, CertifiesMaximum, SaysCheaper, SaysCut, SaysFeasible, SaysGreater, SaysPotentials, SaysSet, uncertified}
-use Rattle.dimacs_runs.specs.Outputs.{AcceptAll, AcceptInTurn, ReportsAll, TellsAlike, report_of}
+use Rattle.dimacs_runs.specs.Outputs.{WritesAlike, report_of}
 use Rattle.dimacs_runs.specs.Refusals.{refusal_line}
 use Rattle.dimacs_runs.specs.Verdicts.{distances_line, failure_line}
-use Rattle.dimacs_runs.specs.inside.Judgings.{answer_told}
-use Rattle.dimacs_runs.specs.inside.Making.{IsPut}
-use Rattle.dimacs_runs.specs.inside.Produced.{EndsProducing, MayCertify, accepted_by, produced_texts, reported, unclaimed_texts, MaySpread}
-use Rattle.dimacs_runs.specs.inside.Told.{told_lines, told_status}
+use Rattle.dimacs_runs.specs.inside.Outcomes.{MayCertify, certified, judge_stop, settled}
 
 -- ---- the claim
 -- if a text of one kind exists, no test of the claim fails, and no text of the other kind exists
@@ -53,8 +48,8 @@ record AreApart (shows better : List ℕ → Type 0) (rows : List Row) : Type 0 
   one : (a b : List ℕ) → shows a → ¬ better b
 
 module _ {shows better : List ℕ → Type 0} {rows : List Row} {verdict refusal : List ℕ} (apart : AreApart shows better rows) where
-  yes_tells : (text : List ℕ) → shows text → TellsAlike (CertificateOr shows verdict rows better refusal) Done (text ∷ verdict ∷ [])
-  yes_tells text shown = ((text, shown, refl), alike)
+  yes_writes : (text : List ℕ) → shows text → WritesAlike (CertificateOr shows verdict rows better refusal) Done (text ∷ verdict ∷ [])
+  yes_writes text shown = ((text, shown, refl), alike)
     where
       alike : (s : Status) (other : List (List ℕ)) → CertificateOr shows verdict rows better refusal s other → (s ≡ Done) × (report_of other ≡ verdict)
       alike Done other h = (refl, ap report_of h.2)
@@ -62,8 +57,8 @@ module _ {shows better : List ℕ → Type 0} {rows : List Row} {verdict refusal
       alike Refused other (inr h) = absurd (apart.one text h.0 shown h.1)
       alike GaveUp other h = absurd h
 
-  better_tells : (text : List ℕ) → better text → TellsAlike (CertificateOr shows verdict rows better refusal) Refused (text ∷ refusal ∷ [])
-  better_tells text shown = (inr (text, shown, refl), alike)
+  better_writes : (text : List ℕ) → better text → WritesAlike (CertificateOr shows verdict rows better refusal) Refused (text ∷ refusal ∷ [])
+  better_writes text shown = (inr (text, shown, refl), alike)
     where
       alike : (s : Status) (other : List (List ℕ)) → CertificateOr shows verdict rows better refusal s other → (s ≡ Refused) × (report_of other ≡ refusal)
       alike Done other h = absurd (apart.one h.0 text h.1 shown)
@@ -71,8 +66,8 @@ module _ {shows better : List ℕ → Type 0} {rows : List Row} {verdict refusal
       alike Refused other (inr h) = (refl, ap report_of h.2)
       alike GaveUp other h = absurd h
 
-  failing_tells : (place : Where) (reason : Reason) → FirstAlone rows place reason → TellsAlike (CertificateOr shows verdict rows better refusal) Refused (uncertified (failure_line place reason))
-  failing_tells place reason first = (inl (place, reason, first.0, refl), alike)
+  failing_writes : (place : Where) (reason : Reason) → FirstAlone rows place reason → WritesAlike (CertificateOr shows verdict rows better refusal) Refused (uncertified (failure_line place reason))
+  failing_writes place reason first = (inl (place, reason, first.0, refl), alike)
     where
       alike : (s : Status) (other : List (List ℕ)) → CertificateOr shows verdict rows better refusal s other → (s ≡ Refused) × (report_of other ≡ failure_line place reason)
       alike Done other h = absurd (none_first rows place reason (apart.shown_clear h.0 h.1) first.0)
@@ -81,10 +76,10 @@ module _ {shows better : List ℕ → Type 0} {rows : List Row} {verdict refusal
       alike GaveUp other h = absurd h
 
 -- the claim was refused, or memory ran out
-error_tells : {shows better : List ℕ → Type 0} {rows : List Row} {X : Type 0} (apart : AreApart shows better rows) (verdict refusal : List ℕ) (holds : X → Type 0) (error : JudgeError) → Refutes holds rows error
-    → MayCertify (CertificateOr shows verdict rows better refusal) (reported (answer_told (Err error)))
-error_tells apart verdict refusal holds (judge_errors.Refused place reason) refutes = failing_tells apart place reason refutes.0
-error_tells apart verdict refusal holds judge_errors.Memory refutes = tt
+error_writes : {shows better : List ℕ → Type 0} {rows : List Row} {X : Type 0} (apart : AreApart shows better rows) (verdict refusal : List ℕ) (holds : X → Type 0) (error : JudgeError) → Refutes holds rows error
+    → MayCertify (CertificateOr shows verdict rows better refusal) (settled (Err (judge_stop error)))
+error_writes apart verdict refusal holds (judge_errors.Refused place reason) refutes = failing_writes apart place reason refutes.0
+error_writes apart verdict refusal holds judge_errors.Memory refutes = tt
 
 module _ (i : MaxValue) (law : IsMax i) (s : SolutionValue) where
   cut_apart : AreApart (SaysCut i s) (SaysGreater i s) (max_claim_rows i s)
@@ -95,17 +90,17 @@ module _ (i : MaxValue) (law : IsMax i) (s : SolutionValue) where
   }
 
   -- a cut shows the claim
-  pub cut_certifies : (cut : CutValue) (value : ℤ) → value ≡ s.value → ShowsMaximum i s cut → MayCertify (CertifiesMaximum i s) (Ok (record { made = Set cut; told = told.Yes (verdicts.Max value) }))
-  cut_certifies cut value is shown = rw is (yes_tells cut_apart (canonical_cut cut) (cut, shown, refl))
+  pub cut_certifies : (cut : CutValue) (value : ℤ) → value ≡ s.value → ShowsMaximum i s cut → MayCertify (CertifiesMaximum i s) (Ok (certified (made.Cut cut) (reports.Yes (verdicts.Max value))))
+  cut_certifies cut value is shown = rw is (yes_writes cut_apart (canonical_cut cut) (cut, shown, refl))
 
   -- a solution is better
   pub greater_certifies : (solution : Solution) (place : Where) → place ≡ places.Solution s.value_line 2 → SaysGreater i s (canonical_solution (claimed solution))
-      → MayCertify (CertifiesMaximum i s) (Ok (record { made = Better solution; told = told.No place NotMaximum }))
-  greater_certifies solution place is says = rw is (better_tells cut_apart (canonical_solution (claimed solution)) says)
+      → MayCertify (CertifiesMaximum i s) (Ok (certified (made.Solution solution) (reports.No place NotMaximum)))
+  greater_certifies solution place is says = rw is (better_writes cut_apart (canonical_solution (claimed solution)) says)
 
   -- a test refused the claim, or memory ran out
-  pub maximum_error : (error : JudgeError) → Refutes (CertifiesMax i s) (max_claim_rows i s) error → MayCertify (CertifiesMaximum i s) (reported (answer_told (Err error)))
-  maximum_error error refutes = error_tells cut_apart _ _ (CertifiesMax i s) error refutes
+  pub maximum_error : (error : JudgeError) → Refutes (CertifiesMax i s) (max_claim_rows i s) error → MayCertify (CertifiesMaximum i s) (settled (Err (judge_stop error)))
+  maximum_error error refutes = error_writes cut_apart _ _ (CertifiesMax i s) error refutes
 
 module _ (i : MinValue) (s : SolutionValue) where
   potentials_apart : AreApart (SaysPotentials i s) (SaysCheaper i s) (min_claim_rows i s)
@@ -116,21 +111,25 @@ module _ (i : MinValue) (s : SolutionValue) where
   }
 
   -- potentials show the claim
-  pub potentials_certify : (potentials : PotentialsValue) (cost : ℤ) → cost ≡ s.value → ShowsLeast i s potentials → MayCertify (CertifiesLeast i s) (Ok (record { made = Slack potentials; told = told.Yes (verdicts.Min cost) }))
-  potentials_certify potentials cost is shown = rw is (yes_tells potentials_apart (canonical_potentials potentials) (potentials, shown, refl))
+  pub potentials_certify : (potentials : PotentialsValue) (cost : ℤ) → cost ≡ s.value → ShowsLeast i s potentials → MayCertify (CertifiesLeast i s) (Ok (certified (made.Potentials potentials) (reports.Yes (verdicts.Min cost))))
+  potentials_certify potentials cost is shown = rw is (yes_writes potentials_apart (canonical_potentials potentials) (potentials, shown, refl))
 
   -- a solution is better
   pub cheaper_certifies : (solution : Solution) (place : Where) → place ≡ places.Solution s.value_line 2 → SaysCheaper i s (canonical_solution (claimed solution))
-      → MayCertify (CertifiesLeast i s) (Ok (record { made = Better solution; told = told.No place NotLeast }))
-  cheaper_certifies solution place is says = rw is (better_tells potentials_apart (canonical_solution (claimed solution)) says)
+      → MayCertify (CertifiesLeast i s) (Ok (certified (made.Solution solution) (reports.No place NotLeast)))
+  cheaper_certifies solution place is says = rw is (better_writes potentials_apart (canonical_solution (claimed solution)) says)
 
   -- a flow is better, but no solution can have its cost
-  pub unsaid_certifies : (place : Where) → place ≡ places.Solution s.value_line 2 → SaysCheaper i s [] → MayCertify (CertifiesLeast i s) (Ok (record { made = Nothing; told = told.No place NotLeast }))
-  unsaid_certifies place is says = rw is (better_tells potentials_apart [] says)
+  pub unsaid_certifies : (place : Where) → place ≡ places.Solution s.value_line 2 → SaysCheaper i s [] → MayCertify (CertifiesLeast i s) (Ok (certified made.Nothing (reports.No place NotLeast)))
+  unsaid_certifies place is says = rw is (better_writes potentials_apart [] says)
 
   -- a test refused the claim, or memory ran out
-  pub least_error : (error : JudgeError) → Refutes (CertifiesMin i s) (min_claim_rows i s) error → MayCertify (CertifiesLeast i s) (reported (answer_told (Err error)))
-  least_error error refutes = error_tells potentials_apart _ _ (CertifiesMin i s) error refutes
+  pub least_error : (error : JudgeError) → Refutes (CertifiesMin i s) (min_claim_rows i s) error → MayCertify (CertifiesLeast i s) (settled (Err (judge_stop error)))
+  least_error error refutes = error_writes potentials_apart _ _ (CertifiesMin i s) error refutes
+
+-- a text as a whole
+abbrev start : At
+start = record { line = 0; field = 0 }
 
 module _ (i : MinValue) where
   -- a set shows that no flow is feasible, or a flow is
@@ -142,23 +141,21 @@ module _ (i : MinValue) where
   }
 
   -- a set shows it
-  pub set_certifies : (set : CutValue) → ShowsNoFlow i set → MayCertify (CertifiesInfeasible i) (Ok (record { made = Set set; told = told.Yes verdicts.Infeasible }))
-  set_certifies set shown = yes_tells set_apart (canonical_cut set) (set, shown, refl)
+  pub set_certifies : (set : CutValue) → ShowsNoFlow i set → MayCertify (CertifiesInfeasible i) (Ok (certified (made.Cut set) (reports.Yes verdicts.Infeasible)))
+  set_certifies set shown = yes_writes set_apart (canonical_cut set) (set, shown, refl)
 
   -- a flow is feasible
-  pub feasible_certifies : (solution : Solution) (text : Told) → told_status text ≡ Refused → told_lines text ≡ refusal_line (codes "instance") 0 0 Feasible → SaysFeasible i (canonical_solution (claimed solution))
-      → MayCertify (CertifiesInfeasible i) (Ok (record { made = Better solution; told = text }))
-  feasible_certifies solution text status lines says = rw (status, lines) (better_tells set_apart (canonical_solution (claimed solution)) says)
+  pub feasible_certifies : (solution : Solution) → SaysFeasible i (canonical_solution (claimed solution)) → MayCertify (CertifiesInfeasible i) (Ok (certified (made.Solution solution) (reports.Fault kinds.Min start Feasible)))
+  feasible_certifies solution says = better_writes set_apart (canonical_solution (claimed solution)) says
 
   -- a flow is feasible, but no solution can have its cost
-  pub unsaid_feasible_certifies : (text : Told) → told_status text ≡ Refused → told_lines text ≡ refusal_line (codes "instance") 0 0 Feasible → SaysFeasible i []
-      → MayCertify (CertifiesInfeasible i) (Ok (record { made = Nothing; told = text }))
-  unsaid_feasible_certifies text status lines says = rw (status, lines) (better_tells set_apart [] says)
+  pub unsaid_feasible_certifies : SaysFeasible i [] → MayCertify (CertifiesInfeasible i) (Ok (certified made.Nothing (reports.Fault kinds.Min start Feasible)))
+  unsaid_feasible_certifies says = better_writes set_apart [] says
 
 module _ (g : NetworkValue) (d : LabelsValue) where
   -- the distances are of a graph with another number of nodes
-  pub other_nodes_told : (text : Told) → told_status text ≡ Refused → told_lines text ≡ refusal_line (codes "distances") 0 0 NodesDiffer → d.nodes ≢ g.nodes → MayCertify (CertifiesDistances g d) (reported (Ok text))
-  other_nodes_told text status lines other = rw (status, lines) ((inl (other, refl)), alike)
+  pub other_nodes_certify : d.nodes ≢ g.nodes → MayCertify (CertifiesDistances g d) (Ok (certified made.Nothing (reports.Fault kinds.Distances start NodesDiffer)))
+  other_nodes_certify other = ((inl (other, refl)), alike)
     where
       alike : (s : Status) (out : List (List ℕ)) → CertifiesDistances g d s out → (s ≡ Refused) × (report_of out ≡ refusal_line (codes "distances") 0 0 NodesDiffer)
       alike Done out h = absurd (other h.0)
@@ -168,7 +165,7 @@ module _ (g : NetworkValue) (d : LabelsValue) where
 
   -- labels show that the distances are right
   pub labels_certify : (labels : LabelsValue) (sources : ℕ) → sources ≡ length d.blocks → d.nodes ≡ g.nodes → AreAllDistances g d.blocks × AreLabelsOfAll g d.blocks labels
-      → MayCertify (CertifiesDistances g d) (Ok (record { made = Distances labels; told = told.Distances sources }))
+      → MayCertify (CertifiesDistances g d) (Ok (certified (made.Labels labels) (reports.Distances sources)))
   labels_certify labels sources count same shown = rw count ((same, (canonical_labels labels, (shown.0, (labels, shown.1, refl)), refl)), alike)
     where
       alike : (s : Status) (out : List (List ℕ)) → CertifiesDistances g d s out → (s ≡ Done) × (report_of out ≡ distances_line (length d.blocks))
@@ -178,7 +175,7 @@ module _ (g : NetworkValue) (d : LabelsValue) where
       alike GaveUp out h = absurd h
 
   -- a test fails, or memory ran out
-  pub distances_error : (error : JudgeError) → d.nodes ≡ g.nodes → CertifiesPaths g d.blocks (Err error) → MayCertify (CertifiesDistances g d) (reported (answer_told (Err error)))
+  pub distances_error : (error : JudgeError) → d.nodes ≡ g.nodes → CertifiesPaths g d.blocks (Err error) → MayCertify (CertifiesDistances g d) (settled (Err (judge_stop error)))
   distances_error (judge_errors.Refused place reason) same refutes = (inr (same, refutes.1, (place, reason, refutes.0.0, refl)), alike)
     where
       alike : (s : Status) (out : List (List ℕ)) → CertifiesDistances g d s out → (s ≡ Refused) × (report_of out ≡ failure_line place reason)
@@ -187,42 +184,3 @@ module _ (g : NetworkValue) (d : LabelsValue) where
       alike Refused out (inr h) = let is = refutes.0.1 h.2.0 h.2.1 h.2.2 in (refl, ap report_of h.2.3 ∙ rw (is.0, is.1) refl)
       alike GaveUp out h = absurd h
   distances_error judge_errors.Memory same refutes = tt
-
--- ---- what was written, without a claim
-accepted_after : (texts : List (List ℕ)) (old new : List (Option (List ℕ))) → AcceptAll texts (None ∷ old) (None ∷ new) → AcceptAll (drop 1 texts) old new
-accepted_after [] old new same = cc
-accepted_after (text ∷ texts) old new accepted = accepted.1
-
-in_turn_after : (texts : List (List ℕ)) (old new : List (Option (List ℕ))) → AcceptInTurn texts (None ∷ old) (None ∷ new) → (new ≡ old) ⊎ AcceptInTurn (drop 1 texts) old new
-in_turn_after [] old new never = absurd never
-in_turn_after (text ∷ texts) old new (inl (front, same)) = inl same
-in_turn_after (text ∷ texts) old new (inr (whole, more)) = inr more
-
--- a sink that keeps no byte
-abbrev pub nowhere : Written
-nowhere = record { accepted = None; faults = 0 }
-
--- all that was produced was written
-pub puts_all : (p : Produced) (result : Result Status RunError) (old new : List Written) → EndsProducing (Ok p) result (nowhere ∷ old) (nowhere ∷ new) → ReportsAll (IsPut p) result (accepted_by old) (accepted_by new)
-puts_all p (Ok status) old new ends = (unclaimed_texts p, (ends.0, refl), accepted_after (produced_texts p) (accepted_by old) (accepted_by new) ends.1)
-puts_all p (Err error) old new ends = elim (in_turn_after (produced_texts p) (accepted_by old) (accepted_by new) ends.1) [
-  | inl same ↦ inl same
-  | inr more ↦ inr (told_status p.told, unclaimed_texts p, (refl, refl), more)
-]
-
-pub made_reports : (tells : Status → List (List ℕ) → Type 0) (produced : Result Produced RunError) (result : Result Status RunError) (old new : List Written)
-    → MaySpread tells produced → EndsProducing produced result (nowhere ∷ old) (nowhere ∷ new) → ReportsAll tells result (accepted_by old) (accepted_by new)
-made_reports tells (Ok p) (Ok status) old new may ends = rw ends.0 (unclaimed_texts p, may, accepted_after (produced_texts p) (accepted_by old) (accepted_by new) ends.1)
-made_reports tells (Ok p) (Err error) old new may ends = elim (in_turn_after (produced_texts p) (accepted_by old) (accepted_by new) ends.1) [
-  | inl same ↦ inl same
-  | inr more ↦ inr (told_status p.told, unclaimed_texts p, may, more)
-]
-made_reports tells (Err error) result old new may ends = rw ends.0 (let same : nowhere ∷ new ≡ nowhere ∷ old = ends.1 in inl (ap (λ (sinks : List Written). drop 1 (accepted_by sinks)) same))
-
-certified_made : (tells : Status → List (List ℕ) → Type 0) (produced : Result Produced RunError) → MayCertify tells produced → MaySpread (TellsAlike tells) produced
-certified_made tells (Ok p) may = may
-certified_made tells (Err error) may = tt
-
-pub certified_reports : (tells : Status → List (List ℕ) → Type 0) (produced : Result Produced RunError) (result : Result Status RunError) (old new : List Written)
-    → MayCertify tells produced → EndsProducing produced result (nowhere ∷ old) (nowhere ∷ new) → ReportsAll (TellsAlike tells) result (accepted_by old) (accepted_by new)
-certified_reports tells produced result old new may ends = made_reports (TellsAlike tells) produced result old new (certified_made tells produced may) ends

@@ -11,7 +11,7 @@ use Rattle.dimacs_runs.specs.declared.failure.FileCall.TheVariants as calls
 use Rattle.dimacs_runs.specs.declared.outcome.RunError.{RunError}
 use Rattle.dimacs_runs.specs.declared.outcome.RunError.TheVariants.{Device, Memory}
 use Rattle.dimacs_runs.specs.declared.outcome.Status.{Status}
-use Rattle.dimacs_runs.specs.Commands.{WritesNothing, failures_told, output_faults}
+use Rattle.dimacs_runs.specs.Commands.{WritesNothing, failures_named, output_faults}
 use Rattle.dimacs_runs.specs.Files.{FileEvent, FilesSeen, Read, ReadFile, Sees, WrittenFile, Wrote, after_events, failures, faults_after}
 use Rattle.dimacs_runs.specs.Judgings.{CountsDevices, OneMore}
 use Rattle.dimacs_runs.specs.inside.Commands.{IsFirstOf, named}
@@ -95,19 +95,19 @@ module _ (faults counted : ℕ) where
   ]
 
   -- the result of a run names the operation that failed
-  pub tells_failure : {X : Type 0} (closed : List Closed) (ended : Result X RunError) (failure : Option Failure) → IsFirstOf failure (flat_map failures (closings closed))
-      → CountsDevices ended (all_before closed) (all_after closed) → (flat_map failures (closings closed) ≡ failures_told (named ended failure)) × (counted ≡ output_faults (named ended failure) faults)
-  tells_failure closed (Ok x) failure first counts = none_failed closed counts
-  tells_failure closed (Err Memory) failure first counts = none_failed closed counts
-  tells_failure closed (Err Device) None first counts = elim (one_failed closed counts) [
+  pub names_failure : {X : Type 0} (closed : List Closed) (ended : Result X RunError) (failure : Option Failure) → IsFirstOf failure (flat_map failures (closings closed))
+      → CountsDevices ended (all_before closed) (all_after closed) → (flat_map failures (closings closed) ≡ failures_named (named ended failure)) × (counted ≡ output_faults (named ended failure) faults)
+  names_failure closed (Ok x) failure first counts = none_failed closed counts
+  names_failure closed (Err Memory) failure first counts = none_failed closed counts
+  names_failure closed (Err Device) None first counts = elim (one_failed closed counts) [
     | inl none ↦ none
     | inr one ↦ let never : [] ≡ one.0 ∷ [] = sym first ∙ one.1 in absurd cc
   ]
-  tells_failure closed (Err Device) (Some (File call name)) first counts = elim (one_failed closed counts) [
+  names_failure closed (Err Device) (Some (File call name)) first counts = elim (one_failed closed counts) [
     | inl none ↦ let never : [] ≡ (call, name.now) ∷ first.0 = sym none.0 ∙ first.1 in absurd cc
     | inr one ↦ let same : one.0 ∷ [] ≡ (call, name.now) ∷ first.0 = sym one.1 ∙ first.1 in let it : one.0 ≡ (call, name.now) = cc in (one.1 ∙ ap (λ (f : FileCall × List ℕ). f ∷ []) it, one.2)
   ]
-  tells_failure closed (Err Device) (Some Output) first counts = absurd first
+  names_failure closed (Err Device) (Some Output) first counts = absurd first
 
 -- the first failure of the first files, or otherwise of the others
 first_or : (a b : Option Failure) (xs ys : List (FileCall × List ℕ)) → IsFirstOf a xs → IsFirstOf b ys → IsFirstOf (option_or a b) (xs ++ ys)

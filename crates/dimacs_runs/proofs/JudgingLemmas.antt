@@ -1,6 +1,5 @@
 -- The reports on judged texts.
-use Rattle.std.proofs.Common.{◌≡◌, ℕ, List, Result, Ok, Err, refl, sym, subst, ap, ◌∙◌, inl, inr}
-use Rattle.dimacs_lines.specs.Devices.{Written}
+use Rattle.std.proofs.Common.{◌≡◌, ℕ, List, [], ◌∷◌, Result, Ok, Err, refl, sym, subst, ap, ◌∙◌, inl, inr}
 use Rattle.dimacs_records.specs.declared.faults.ReadError.{ReadError}
 use Rattle.dimacs_records.specs.declared.reasons.Reason.{Reason}
 use Rattle.dimacs_judge.specs.declared.verdict.JudgeError.{JudgeError}
@@ -18,49 +17,47 @@ use Rattle.dimacs_runs.specs.Judged.{paths_lines}
 use Rattle.dimacs_judge.specs.Tests.{Row, Judges}
 use Rattle.dimacs_runs.specs.declared.outcome.Status.{Status}
 use Rattle.dimacs_runs.specs.declared.outcome.Status.TheVariants.{Done, Refused, GaveUp}
-use Rattle.dimacs_runs.specs.declared.outcome.RunError.{RunError}
-use Rattle.dimacs_runs.specs.declared.told.Told.{Told}
-use Rattle.dimacs_runs.specs.Judgings.{VerdictOr}
+use Rattle.dimacs_runs.specs.Judgings.{CountsDevices, VerdictOr}
 use Rattle.dimacs_runs.specs.Runs.{TextSays}
-use Rattle.dimacs_runs.specs.inside.Judgings.{ReadsIn, answer_told}
-use Rattle.dimacs_runs.specs.Runs.{TellsAlone, Reports}
-use Rattle.dimacs_runs.specs.inside.Told.{EndsAfter, ToldAlone, told_lines, told_status}
+use Rattle.dimacs_runs.specs.inside.Judgings.{ReadsIn}
+use Rattle.dimacs_runs.specs.Runs.{ReportsAlone}
+use Rattle.dimacs_runs.specs.inside.Outcomes.{MayReport, judged, settled}
 use Rattle.dimacs_runs.specs.Verdicts.{answer_line, failure_line, sources_line, verdict_lines}
 use Rattle.dimacs_judge.proofs.Firsts.{none_first}
 
 module _ (holds : Type 0) (rows : List Row) (says : Verdict → Type 0) (lines : List ℕ) (same : (verdict : Verdict) → says verdict → verdict_lines verdict ≡ lines) where
-  abbrev judged : Status → List ℕ → Type 0
-  judged = VerdictOr holds rows lines
+  abbrev possible : Status → List ℕ → Type 0
+  possible = VerdictOr holds rows lines
 
-  yes_alone : (verdict : Verdict) → Judges rows holds says (Ok verdict) → TellsAlone judged Done (verdict_lines verdict)
+  yes_alone : (verdict : Verdict) → Judges rows holds says (Ok verdict) → ReportsAlone possible Done (verdict_lines verdict)
   yes_alone verdict answer = ((answer.1, same verdict answer.2), alone)
     where
-      alone : (s : Status) (other : List ℕ) → judged s other → (s ≡ Done) × (other ≡ verdict_lines verdict)
+      alone : (s : Status) (other : List ℕ) → possible s other → (s ≡ Done) × (other ≡ verdict_lines verdict)
       alone Done other h = (refl, h.1 ∙ sym (same verdict answer.2))
       alone Refused other h = absurd (none_first rows h.0 h.1 answer.0 h.2)
       alone GaveUp other h = absurd h
 
-  no_alone : (place : Where) (reason : Reason) → Judges rows holds says (Err (judge_errors.Refused place reason)) → TellsAlone judged Refused (failure_line place reason)
+  no_alone : (place : Where) (reason : Reason) → Judges rows holds says (Err (judge_errors.Refused place reason)) → ReportsAlone possible Refused (failure_line place reason)
   no_alone place reason answer = ((place, reason, answer.0.0, refl), alone)
     where
-      alone : (s : Status) (other : List ℕ) → judged s other → (s ≡ Refused) × (other ≡ failure_line place reason)
+      alone : (s : Status) (other : List ℕ) → possible s other → (s ≡ Refused) × (other ≡ failure_line place reason)
       alone Done other h = absurd (answer.1 h.0)
       alone Refused other h = let same = answer.0.1 h.0 h.1 h.2 in (refl, h.3 ∙ rw (same.0, same.1) refl)
       alone GaveUp other h = absurd h
 
   -- the judge answered
-  pub answer_alone : (answer : Result Verdict JudgeError) → Judges rows holds says answer → ToldAlone judged (answer_told answer)
+  pub answer_alone : (answer : Result Verdict JudgeError) → Judges rows holds says answer → MayReport possible (settled (judged answer))
   answer_alone (Ok verdict) answer = yes_alone verdict answer
   answer_alone (Err (judge_errors.Refused place reason)) answer = no_alone place reason answer
   answer_alone (Err judge_errors.Memory) answer = tt
 
 -- a text that was read into a place
-pub one_placed : {V T : Type 0} (like : V → T → Type 0) (text : TextSays V) (told : Result V ReadError) (w : T) → AnswersAlike like told (Ok w) → ReadsIn text told → (v : V) × like v w × ReadsIn text (Ok v)
-one_placed like text (Ok v) w alike read = (v, alike, read)
+pub one_placed : {V T : Type 0} (like : V → T → Type 0) (text : TextSays V) (read : Result V ReadError) (w : T) → AnswersAlike like read (Ok w) → ReadsIn text read → (v : V) × like v w × ReadsIn text (Ok v)
+one_placed like text (Ok v) w alike reads = (v, alike, reads)
 one_placed like text (Err error) w alike read = absurd alike
 
 -- a text that could not be read
-pub none_placed : {V T : Type 0} (like : V → T → Type 0) (text : TextSays V) (told : Result V ReadError) (error : ReadError) → AnswersAlike like told (Err error) → ReadsIn text told → ReadsIn text (Err error)
+pub none_placed : {V T : Type 0} (like : V → T → Type 0) (text : TextSays V) (read : Result V ReadError) (error : ReadError) → AnswersAlike like read (Err error) → ReadsIn text read → ReadsIn text (Err error)
 none_placed like text (Ok v) error alike read = absurd alike
 none_placed like text (Err other) error alike read = subst (λ (e : ReadError). ReadsIn text (Err e)) alike read
 
@@ -70,9 +67,8 @@ paths_said blocks (queries.Sources ids) (verdicts.Sources count) is = ap sources
 paths_said blocks (queries.Pairs pairs) (verdicts.Pairs answers) is = ap (flat_map answer_line) is
 paths_said blocks q verdict is = absurd is
 
--- the only possible outcome is reported
-pub told_reports : (tells : Status → List ℕ → Type 0) (told : Result Told RunError) (result : Result Status RunError) (old new : Written)
-    → ToldAlone tells told → EndsAfter told result old new → Reports tells result old.accepted new.accepted
-told_reports tells (Ok t) (Ok status) old new alone ends = rw ends.0 (told_lines t, alone, ends.1)
-told_reports tells (Ok t) (Err error) old new alone ends = inr (told_status t, told_lines t, alone, ends.1)
-told_reports tells (Err error) result old new alone ends = rw ends.0 (inl (ap (λ (w : Written). w.accepted) ends.1))
+-- a judge's answer is no I/O error
+pub judged_counts : (answer : Result Verdict JudgeError) (p q : ℕ) (old new : List ℕ) → p ∷ [] ≡ q ∷ [] → new ≡ old → CountsDevices (settled (judged answer)) (q ∷ old) (p ∷ new)
+judged_counts (Ok verdict) p q old new first rest = cc
+judged_counts (Err (judge_errors.Refused place reason)) p q old new first rest = cc
+judged_counts (Err judge_errors.Memory) p q old new first rest = cc

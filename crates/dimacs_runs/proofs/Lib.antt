@@ -2,6 +2,7 @@ pub mod FileLemmas
 pub mod JudgingLemmas
 pub mod PlanLemmas
 mod WordLemmas
+mod WritingLemmas
 pub mod ReportLemmas
 pub mod SolvingLemmas
 pub mod CertifyingLemmas

@@ -8,31 +8,27 @@ use Rattle.dimacs_runs.specs.declared.failure.Failure.{Failure}
 use Rattle.dimacs_runs.specs.declared.outcome.RunError.{RunError}
 use Rattle.dimacs_runs.specs.declared.outcome.RunError.TheVariants.{Device, Memory}
 use Rattle.dimacs_runs.specs.declared.outcome.Status.{Status}
-use Rattle.dimacs_runs.specs.declared.produced.Produced.{Produced}
-use Rattle.dimacs_runs.specs.declared.jobs.CertifyKind.{CertifyKind}
-use Rattle.dimacs_runs.specs.declared.produced.Made.{Made}
-use Rattle.dimacs_runs.specs.declared.produced.Made.TheVariants.{Better, Distances, Least, Maximum, Nothing, Set, Slack}
-use Rattle.dimacs_runs.specs.Certified.{Certified}
-use Rattle.dimacs_runs.specs.declared.jobs.SpreadKind.{SpreadKind}
-use Rattle.dimacs_runs.specs.Spread.{Spreads}
-use Rattle.dimacs_runs.specs.Commands.{Contents, Making, MakesCertificate, MakesOfFiles, files_for, seen_by, MakesSpread}
+use Rattle.dimacs_runs.specs.declared.made.Made.{Made}
+use Rattle.dimacs_runs.specs.declared.made.Made.TheVariants.{Cut, Labels, Nothing, Potentials, Solution}
+use Rattle.dimacs_runs.specs.declared.made.Outcome.{Outcome}
+use Rattle.dimacs_runs.specs.Commands.{Contents, Making, MakesOfFiles, files_for, seen_by}
 use Rattle.dimacs_runs.specs.Files.{Created, FileEvent, FilesSeen, NotCreated, NotOpened, Opened, Read, ReadFile, Sees, WrittenFile, closed_written, failures}
 use Rattle.dimacs_runs.specs.Judgings.{CountsDevices, OneMore}
 use Rattle.dimacs_runs.specs.Outputs.{ReportsAll}
 use Rattle.dimacs_runs.specs.inside.Commands.{FailsWith, IsFirstOf, named}
-use Rattle.dimacs_runs.specs.inside.Making.{AnswersFiles, IsPut, MayMake, PutsMade, PutsReport}
-use Rattle.dimacs_runs.specs.inside.Produced.{EndsProducing, MayCertify, faults_by, made_texts, unclaimed_texts, with_report, MaySpread}
-use Rattle.dimacs_runs.specs.inside.Told.{told_lines}
-use Rattle.dimacs_runs.proofs.CertifyingLemmas.{nowhere, puts_all}
-use Rattle.dimacs_runs.proofs.FileLemmas.{all_after, all_before, closings, one_first, sees_then, sees_two, tells_failure, why_nothing}
+use Rattle.dimacs_runs.specs.inside.Making.{AnswersFiles, IsWritten, WritesMade, WritesReport}
+use Rattle.dimacs_runs.specs.inside.Reports.{report_lines}
+use Rattle.dimacs_runs.specs.inside.Outcomes.{EndsWriting, IfEnds, faults_by, made_text, nowhere, unclaimed_texts}
+use Rattle.dimacs_runs.proofs.FileLemmas.{all_after, all_before, closings, one_first, sees_then, sees_two, names_failure, why_nothing}
 use Rattle.dimacs_runs.proofs.PlanLemmas.{is_error, opened_none, reports_all_named, sees_nothing}
+use Rattle.dimacs_runs.proofs.WritingLemmas.{unclaimed_written}
 
 -- ---- possible outcomes of what was written
-reports_all_told : {E : Type 0} (a b : Status → List (List ℕ) → Type 0) (result : Result Status E) (old new : List (Option (List ℕ))) → ((s : Status) (o : List (List ℕ)) → a s o → b s o)
+reports_all_from : {E : Type 0} (a b : Status → List (List ℕ) → Type 0) (result : Result Status E) (old new : List (Option (List ℕ))) → ((s : Status) (o : List (List ℕ)) → a s o → b s o)
     → ReportsAll a result old new → ReportsAll b result old new
-reports_all_told a b (Ok status) old new to reports = (reports.0, to status reports.0 reports.1, reports.2)
-reports_all_told a b (Err error) old new to (inl same) = inl same
-reports_all_told a b (Err error) old new to (inr reports) = inr (reports.0, reports.1, to reports.0 reports.1 reports.2, reports.3)
+reports_all_from a b (Ok status) old new to reports = (reports.0, to status reports.0 reports.1, reports.2)
+reports_all_from a b (Err error) old new to (inl same) = inl same
+reports_all_from a b (Err error) old new to (inr reports) = inr (reports.0, reports.1, to reports.0 reports.1 reports.2, reports.3)
 
 -- ---- the output, after the files that were read
 one_more_with : (n : ℕ) (old new : List ℕ) → OneMore old new → OneMore (old ++ n ∷ []) (new ++ n ∷ [])
@@ -46,8 +42,8 @@ counts_with (Ok x) n old new counts = rw counts refl
 counts_with (Err Memory) n old new counts = rw counts refl
 counts_with (Err Device) n old new counts = one_more_with n old new counts
 
--- ---- files were read, and something was produced of their texts
-module _ {opened : List (List ℕ)} {holds : Contents} {makes : Making} {result : Result Produced CommandError} {a : FilesSeen} where
+-- ---- files were read, and something was made of their texts
+module _ {opened : List (List ℕ)} {holds : Contents} {makes : Making} {result : Result Outcome CommandError} {a : FilesSeen} where
   -- a file could not be opened
   pub answers_nothing : {name : List ℕ} {error : CommandError} {b c : FilesSeen} (before after : List (List ℕ)) → opened ≡ before ++ name ∷ after → IsErrAnd result (λ e. e ≡ error)
       → Sees (map Opened before) a b → FailsWith (NotOpened name) b c error → AnswersFiles opened holds makes result a c
@@ -60,18 +56,18 @@ module _ {opened : List (List ℕ)} {holds : Contents} {makes : Making} {result 
   }
 
   -- the files were opened, read and closed
-  pub answers_files : {b c : FilesSeen} (read : List ReadFile) (answer : Result Produced RunError) (failure : Option Failure) → map (λ (file : ReadFile). file.name) read ≡ opened
+  pub answers_files : {b c : FilesSeen} (read : List ReadFile) (answer : Result Outcome RunError) (failure : Option Failure) → map (λ (file : ReadFile). file.name) read ≡ opened
       → Sees (map Opened opened) a b → Sees (map Read read) b c → result ≡ named answer failure → IsFirstOf failure (flat_map failures (map Read read))
       → CountsDevices answer (map (λ (file : ReadFile). 0) read) (map (λ (file : ReadFile). file.faults) read)
-      → ((texts : List (List ℕ)) → map holds opened ≡ map Some texts → MayMake makes texts answer)
+      → ((texts : List (List ℕ)) → map holds opened ≡ map Some texts → IfEnds unclaimed_texts (makes texts) answer)
       → AnswersFiles opened holds makes result a c
   answers_files {b} {c} read answer failure all_read opens closes is first counts made =
-      let told = λ (n : ℕ). tells_failure n n (map inl read) answer failure (rw (closings_read read) first) (rw (before_read n read, after_read n read) (counts_with answer n _ _ counts)) in
+      let fails = λ (n : ℕ). names_failure n n (map inl read) answer failure (rw (closings_read read) first) (rw (before_read n read, after_read n read) (counts_with answer n _ _ counts)) in
       rw is record {
         events = map Opened opened ++ map Read read;
         seen = sees_then (map Opened opened) (map Read read) a b c opens closes;
-        failure = flat_map-append failures (map Opened opened) (map Read read) ∙ rw (opened_none opened) (ap (flat_map failures) (sym (closings_read read)) ∙ (told 0).0);
-        output = λ faults. (told faults).1;
+        failure = flat_map-append failures (map Opened opened) (map Read read) ∙ rw (opened_none opened) (ap (flat_map failures) (sym (closings_read read)) ∙ (fails 0).0);
+        output = λ faults. (fails faults).1;
         ends = inr (record { read = read; all_read = all_read; happened = refl; made = λ texts same. may_name texts answer failure (made texts same) });
       }
     where
@@ -87,15 +83,15 @@ module _ {opened : List (List ℕ)} {holds : Contents} {makes : Making} {result 
       after_read n [] = refl
       after_read n (file ∷ read) = ap (λ (all : List ℕ). file.faults ∷ all) (after_read n read)
 
-      may_name : (texts : List (List ℕ)) (answer : Result Produced RunError) (failure : Option Failure) → MayMake makes texts answer → MayMake makes texts (named answer failure)
+      may_name : (texts : List (List ℕ)) (answer : Result Outcome RunError) (failure : Option Failure) → IfEnds unclaimed_texts (makes texts) answer → IfEnds unclaimed_texts (makes texts) (named answer failure)
       may_name texts (Ok p) failure may = may
       may_name texts (Err Device) None may = tt
       may_name texts (Err Device) (Some it) may = tt
       may_name texts (Err Memory) failure may = tt
 
--- ---- what was produced is written
+-- ---- the outcome is written
 module _ (opened created : List (List ℕ)) {holds : Contents} {empty : Option (List ℕ)} {makes : Making} {result : Result Status CommandError} {a b : FilesSeen} {old : Written} where
-  -- nothing was produced
+  -- there is no outcome
   pub makes_nothing : (error : CommandError) → AnswersFiles opened holds makes (Err error) a b → IsErrAnd result (λ e. e ≡ error) → MakesOfFiles (record { opened = opened; created = created }) holds empty makes result (seen_by a old) (seen_by b old)
   makes_nothing error answers is = rw (is_error result error is) record {
     events = answers.events;
@@ -109,14 +105,14 @@ module _ (opened created : List (List ℕ)) {holds : Contents} {empty : Option (
         written = [];
         all_read = read.all_read;
         happened = read.happened ∙ sym (append-nil (map Opened opened ++ map Read read.read));
-        told = λ texts same. inl refl;
+        reports = λ texts same. inl refl;
         nothing_written = λ nothing. (refl, refl);
       })
     ];
   }
 
-  -- what was produced was written
-  pub makes_of_files : {c : FilesSeen} {new : Written} (p : Produced) → AnswersFiles opened holds makes (Ok p) a b → PutsMade p created empty result (seen_by b old) (seen_by c new)
+  -- the outcome was written
+  pub makes_of_files : {c : FilesSeen} {new : Written} (p : Outcome) → AnswersFiles opened holds makes (Ok p) a b → WritesMade p created empty result (seen_by b old) (seen_by c new)
       → MakesOfFiles (record { opened = opened; created = created }) holds empty makes result (seen_by a old) (seen_by c new)
   makes_of_files {c} {new} p answers puts = elim answers.ends [
     | inl stops ↦ let never = stops.1 in absurd cc
@@ -137,31 +133,29 @@ module _ (opened created : List (List ℕ)) {holds : Contents} {empty : Option (
             made = λ texts same. (_, _, read.made texts same, nowhere.text);
           }),
           nowhere.failed,
-          nowhere.nothing_put,
+          nowhere.nothing_written,
         )
         | inr text ↦ inr (record {
           read = read.read;
           written = text.written;
           all_read = read.all_read;
           happened = rw (read.happened, text.happened) refl;
-          told = λ texts same. reports_all_told (IsPut p) _ result _ _ (λ s o is. (rw (is.0, is.1) (read.made texts same), rw is.1 text.all_written)) text.put;
-          nothing_written = λ nothing. absurd (text.something_put nothing);
+          reports = λ texts same. reports_all_from (IsWritten p) _ result _ _ (λ s o is. (rw (is.0, is.1) (read.made texts same), rw is.1 text.all_written)) text.reports;
+          nothing_written = λ nothing. absurd (text.something_written nothing);
         })
       ];
     }
   ]
 
 -- ---- whether there is a text
-something_made : (made : Made) (report : List ℕ) (names : List (List ℕ)) → made ≢ Nothing → files_for names (drop 1 (with_report (made_texts made) report)) ≡ names
+something_made : (made : Made) (report : List ℕ) (names : List (List ℕ)) → made ≢ Nothing → files_for names (made_text made ∷ report ∷ []) ≡ names
 something_made Nothing report names some = absurd (some refl)
-something_made (Maximum solution cut) report names some = refl
-something_made (Least solution potentials) report names some = refl
-something_made (Set set) report names some = refl
-something_made (Slack potentials) report names some = refl
-something_made (Better solution) report names some = refl
-something_made (Distances labels) report names some = refl
+something_made (Solution solution) report names some = refl
+something_made (Cut cut) report names some = refl
+something_made (Potentials potentials) report names some = refl
+something_made (Labels labels) report names some = refl
 
-nothing_made : (made : Made) (report : List ℕ) (names : List (List ℕ)) → made ≡ Nothing → files_for names (drop 1 (with_report (made_texts made) report)) ≡ []
+nothing_made : (made : Made) (report : List ℕ) (names : List (List ℕ)) → made ≡ Nothing → files_for names (made_text made ∷ report ∷ []) ≡ []
 nothing_made Nothing report names is = refl
 nothing_made other report names is = absurd cc
 
@@ -177,67 +171,67 @@ without_first (Err Memory) old new counts = cc
 without_first (Err Device) old new (inl more) = absurd (omega (arith, more.0))
 without_first (Err Device) old new (inr more) = more.1
 
-counts_of : (p : Produced) (ended : Result Status RunError) (old new : List Written) → EndsProducing (Ok p) ended old new → CountsDevices ended (faults_by old) (faults_by new)
+counts_of : (p : Outcome) (ended : Result Status RunError) (old new : List Written) → EndsWriting (Ok p) ended old new → CountsDevices ended (faults_by old) (faults_by new)
 counts_of p (Ok status) old new ends = ends.2
 counts_of p (Err Device) old new ends = ends.2
 counts_of p (Err Memory) old new ends = absurd cc
 
-never_memory : (p : Produced) (ended : Result Status RunError) (old new : List Written) → EndsProducing (Ok p) ended old new → ended ≢ Err Memory
+never_memory : (p : Outcome) (ended : Result Status RunError) (old new : List Written) → EndsWriting (Ok p) ended old new → ended ≢ Err Memory
 never_memory p (Ok status) old new ends is = absurd cc
 never_memory p (Err Device) old new ends is = absurd cc
 never_memory p (Err Memory) old new ends is = let never : Memory ≡ Device = ends.0 in absurd cc
 
--- ---- writing what was produced
+-- ---- writing an outcome
 -- only the report
-pub puts_report : {result : Result Status CommandError} {old new : Written} (p : Produced) (ended : Result Status RunError) → result ≡ named ended None → EndsProducing (Ok p) ended (nowhere ∷ nowhere ∷ old ∷ []) (nowhere ∷ nowhere ∷ new ∷ []) → PutsReport p result old new
-puts_report {result} {old} {new} p ended is ends =
+pub report_alone : {result : Result Status CommandError} {old new : Written} (p : Outcome) (ended : Result Status RunError) → result ≡ named ended None → EndsWriting (Ok p) ended (nowhere ∷ nowhere ∷ old ∷ []) (nowhere ∷ nowhere ∷ new ∷ []) → WritesReport p result old new
+report_alone {result} {old} {new} p ended is ends =
     let counts = without_first ended (0 ∷ old.faults ∷ []) (0 ∷ new.faults ∷ []) (counts_of p ended _ _ ends) in
-    let fails = tells_failure old.faults new.faults [] ended None refl (without_first ended (old.faults ∷ []) (new.faults ∷ []) counts) in
+    let fails = names_failure old.faults new.faults [] ended None refl (without_first ended (old.faults ∷ []) (new.faults ∷ []) counts) in
     rw is record {
-      put = reports_all_named (IsPut p) ended None _ _ (puts_all p ended (nowhere ∷ old ∷ []) (nowhere ∷ new ∷ []) ends);
+      reports = reports_all_named (IsWritten p) ended None _ _ (unclaimed_written (IsWritten p) (Ok p) ended (nowhere ∷ old ∷ []) (nowhere ∷ new ∷ []) (refl, refl) ends);
       failure = sym fails.0;
       faults = fails.1;
-      something_put = why_nothing ⊥ [] ended None refl (never_memory p ended _ _ ends) (λ unread. unread);
+      something_written = why_nothing ⊥ [] ended None refl (never_memory p ended _ _ ends) (λ unread. unread);
     }
 
-module _ {empty : Option (List ℕ)} {result : Result Status CommandError} {old : Written} {b : FilesSeen} (p : Produced) where
-  no_text : {new : Written} (names : List (List ℕ)) → files_for names (unclaimed_texts p) ≡ [] → PutsReport p result old new → PutsMade p names empty result (seen_by b old) (seen_by b new)
+module _ {empty : Option (List ℕ)} {result : Result Status CommandError} {old : Written} {b : FilesSeen} (p : Outcome) where
+  no_text : {new : Written} (names : List (List ℕ)) → files_for names (unclaimed_texts p) ≡ [] → WritesReport p result old new → WritesMade p names empty result (seen_by b old) (seen_by b new)
   no_text {new} names none puts = record {
     events = [];
     seen = sees_nothing b;
     failure = sym puts.failure;
     faults = puts.faults;
-    ends = inr (record { written = []; all_written = sym none; happened = refl; put = puts.put; something_put = puts.something_put });
+    ends = inr (record { written = []; all_written = sym none; happened = refl; reports = puts.reports; something_written = puts.something_written });
   }
 
   -- no file is named
-  pub puts_unnamed : {new : Written} → PutsReport p result old new → PutsMade p [] empty result (seen_by b old) (seen_by b new)
-  puts_unnamed {new} puts = no_text {new = new} [] (no_files (unclaimed_texts p)) puts
+  pub made_unnamed : {new : Written} → WritesReport p result old new → WritesMade p [] empty result (seen_by b old) (seen_by b new)
+  made_unnamed {new} puts = no_text {new = new} [] (no_files (unclaimed_texts p)) puts
 
   -- there is no text
-  pub puts_no_text : {new : Written} (names : List (List ℕ)) → p.made ≡ Nothing → PutsReport p result old new → PutsMade p names empty result (seen_by b old) (seen_by b new)
-  puts_no_text {new} names is puts = no_text {new = new} names (nothing_made p.made (told_lines p.told) names is) puts
+  pub made_nothing : {new : Written} (names : List (List ℕ)) → p.certificate ≡ Nothing → WritesReport p result old new → WritesMade p names empty result (seen_by b old) (seen_by b new)
+  made_nothing {new} names is puts = no_text {new = new} names (nothing_made p.certificate (report_lines p.report) names is) puts
 
   -- the file for the text could not be created
-  pub puts_nowhere : {name : List ℕ} {error : CommandError} {c : FilesSeen} → p.made ≢ Nothing → IsErrAnd result (λ e. e ≡ error) → FailsWith (NotCreated name) b c error → PutsMade p (name ∷ []) empty result (seen_by b old) (seen_by c old)
-  puts_nowhere {name} {error} some is fails = rw (is_error result error is) record {
+  pub made_nowhere : {name : List ℕ} {error : CommandError} {c : FilesSeen} → p.certificate ≢ Nothing → IsErrAnd result (λ e. e ≡ error) → FailsWith (NotCreated name) b c error → WritesMade p (name ∷ []) empty result (seen_by b old) (seen_by c old)
+  made_nowhere {name} {error} some is fails = rw (is_error result error is) record {
     events = NotCreated name fails.cause ∷ [];
     seen = fails.seen;
     failure = append-nil (failures (NotCreated name fails.cause)) ∙ fails.failure;
     faults = sym (fails.output old.faults);
-    ends = inl (record { name = name; error = fails.cause; whole = refl; happened = refl; text = something_made p.made (told_lines p.told) (name ∷ []) some; failed = refl; nothing_put = refl });
+    ends = inl (record { name = name; error = fails.cause; whole = refl; happened = refl; text = something_made p.certificate (report_lines p.report) (name ∷ []) some; failed = refl; nothing_written = refl });
   }
 
   -- the file for the text was created, written and closed
-  pub puts_text : {new : Written} {name : List ℕ} {c d : FilesSeen} (seen : Written) (ended : Result Status RunError) (failure : Option Failure) → p.made ≢ Nothing → Sees (Created name ∷ []) b c → Sees (closed_written name seen ∷ []) c d
-      → result ≡ named ended failure → IsFirstOf failure (failures (closed_written name seen)) → EndsProducing (Ok p) ended (nowhere ∷ record { accepted = empty; faults = 0 } ∷ old ∷ []) (nowhere ∷ seen ∷ new ∷ [])
-      → PutsMade p (name ∷ []) empty result (seen_by b old) (seen_by d new)
-  puts_text {new} {name} {c} {d} seen ended failure some created closed is first ends =
+  pub made_text_in : {new : Written} {name : List ℕ} {c d : FilesSeen} (seen : Written) (ended : Result Status RunError) (failure : Option Failure) → p.certificate ≢ Nothing → Sees (Created name ∷ []) b c → Sees (closed_written name seen ∷ []) c d
+      → result ≡ named ended failure → IsFirstOf failure (failures (closed_written name seen)) → EndsWriting (Ok p) ended (nowhere ∷ record { accepted = empty; faults = 0 } ∷ old ∷ []) (nowhere ∷ seen ∷ new ∷ [])
+      → WritesMade p (name ∷ []) empty result (seen_by b old) (seen_by d new)
+  made_text_in {new} {name} {c} {d} seen ended failure some created closed is first ends =
       let file : WrittenFile = record { name = name; seen = seen } in
       let fresh : Written = record { accepted = empty; faults = 0 } in
       let counts = without_first ended (0 ∷ old.faults ∷ []) (seen.faults ∷ new.faults ∷ []) (counts_of p ended _ _ ends) in
       let one = one_first failure (closed_written name seen) first in
-      let fails = tells_failure old.faults new.faults (inr file ∷ []) ended failure one counts in
+      let fails = names_failure old.faults new.faults (inr file ∷ []) ended failure one counts in
       rw is record {
         events = Created name ∷ closed_written name seen ∷ [];
         seen = sees_two created closed;
@@ -245,23 +239,9 @@ module _ {empty : Option (List ℕ)} {result : Result Status CommandError} {old 
         faults = fails.1;
         ends = inr (record {
           written = file ∷ [];
-          all_written = sym (something_made p.made (told_lines p.told) (name ∷ []) some);
+          all_written = sym (something_made p.certificate (report_lines p.report) (name ∷ []) some);
           happened = refl;
-          put = reports_all_named (IsPut p) ended failure _ _ (puts_all p ended (fresh ∷ old ∷ []) (seen ∷ new ∷ []) ends);
-          something_put = why_nothing ⊥ (inr file ∷ []) ended failure one (never_memory p ended _ _ ends) (λ unread. unread);
+          reports = reports_all_named (IsWritten p) ended failure _ _ (unclaimed_written (IsWritten p) (Ok p) ended (fresh ∷ old ∷ []) (seen ∷ new ∷ []) (refl, refl) ends);
+          something_written = why_nothing ⊥ (inr file ∷ []) ended failure one (never_memory p ended _ _ ends) (λ unread. unread);
         });
       }
-
--- ---- what certifying produces
-pub pair_made : (kind : CertifyKind) (a b : List ℕ) (answer : Result Produced RunError) → MayCertify (Certified kind a b) answer → MayMake (MakesCertificate kind) (a ∷ b ∷ []) answer
-pair_made kind a b (Ok p) may = may
-pair_made kind a b (Err error) may = tt
-
-pub instance_made : (kind : CertifyKind) (a : List ℕ) (answer : Result Produced RunError) → MayCertify (Certified kind a []) answer → MayMake (MakesCertificate kind) (a ∷ []) answer
-instance_made kind a (Ok p) may = may
-instance_made kind a (Err error) may = tt
-
--- ---- what dealing out a flow produces
-pub spread_made : (kind : SpreadKind) (a b : List ℕ) (answer : Result Produced RunError) → MaySpread (Spreads kind a b) answer → MayMake (MakesSpread kind) (a ∷ b ∷ []) answer
-spread_made kind a b (Ok p) may = may
-spread_made kind a b (Err error) may = tt

@@ -13,15 +13,15 @@ use Rattle.dimacs_runs.specs.declared.jobs.SolveJob.TheVariants as solves
 use Rattle.dimacs_runs.specs.declared.outcome.RunError.{RunError}
 use Rattle.dimacs_runs.specs.declared.outcome.RunError.TheVariants.{Device, Memory}
 use Rattle.dimacs_runs.specs.declared.outcome.Status.{Status}
-use Rattle.dimacs_runs.specs.Commands.{Contents, Plan, RunsFiles, Telling, TellsJudged, TellsSolved, at_first, at_last, closed_empty, seen_by}
+use Rattle.dimacs_runs.specs.Commands.{Contents, Plan, RunsFiles, Reporting, ReportsJudged, WritesSolved, at_first, at_last, closed_empty, seen_by}
 use Rattle.dimacs_runs.specs.Files.{Created, FileEvent, FilesSeen, NotCreated, NotOpened, Opened, Read, ReadFile, Sees, WrittenFile, Wrote, after_events, failures}
 use Rattle.dimacs_runs.specs.Judged.{IsClaim, Judged}
 use Rattle.dimacs_runs.specs.Judgings.{CountsDevices, OneMore}
-use Rattle.dimacs_runs.specs.Outputs.{MayTell, ReportsAll}
+use Rattle.dimacs_runs.specs.Outputs.{MayWrite, ReportsAll}
 use Rattle.dimacs_runs.specs.Runs.{Reports}
 use Rattle.dimacs_runs.specs.Solved.{AreQueries, Solved}
 use Rattle.dimacs_runs.specs.inside.Commands.{FailsWith, IsFirstOf, named}
-use Rattle.dimacs_runs.proofs.FileLemmas.{AnyRead, Closed, all_after, all_before, closings, sees_then, tells_failure, why_nothing}
+use Rattle.dimacs_runs.proofs.FileLemmas.{AnyRead, Closed, all_after, all_before, closings, sees_then, names_failure, why_nothing}
 
 pub opened_none : (names : List (List ℕ)) → flat_map failures (map Opened names) ≡ []
 opened_none [] = refl
@@ -60,7 +60,7 @@ sees_nothing seen = record { done = nothing seen.done; faults = refl }
 pub is_error : {X : Type 0} (result : Result X CommandError) (error : CommandError) → IsErrAnd result (λ e. e ≡ error) → result ≡ Err error
 is_error result error is = let (other, same, it) = err_from_is_err_and result is in same ∙ ap Err it
 
-module _ {plan : Plan} {holds : Contents} {empty : Option (List ℕ)} {tells : Telling} {result : Result Status CommandError} {a : FilesSeen} {output : Written} where
+module _ {plan : Plan} {holds : Contents} {empty : Option (List ℕ)} {tells : Reporting} {result : Result Status CommandError} {a : FilesSeen} {output : Written} where
   -- a file could not be opened
   pub stops_opening : {name : List ℕ} {error : CommandError} {b c : FilesSeen} (before after : List (List ℕ)) → plan.opened ≡ before ++ name ∷ after → IsErrAnd result (λ e. e ≡ error)
       → Sees (map Opened before) a b → FailsWith (NotOpened name) b c error → RunsFiles plan holds empty tells result (seen_by a output) (seen_by c output)
@@ -95,9 +95,9 @@ module _ {plan : Plan} {holds : Contents} {empty : Option (List ℕ)} {tells : T
       → (ended ≡ Err Memory → at_last written new.accepted ≡ at_first plan.created empty output.accepted)
       → (AnyRead (closed_files read written) → at_last written new.accepted ≡ at_first plan.created empty output.accepted)
       → RunsFiles plan holds empty tells result (seen_by a output) (seen_by c new)
-  uses_files {b} {c} {new} read written ended failure all_read all_written opened closed is first counts told memory unread =
+  uses_files {b} {c} {new} read written ended failure all_read all_written opened closed is first counts reported memory unread =
       let files : List Closed = closed_files read written in
-      let fails = tells_failure output.faults new.faults files ended failure first counts in
+      let fails = names_failure output.faults new.faults files ended failure first counts in
       rw is record {
         events = (map Opened plan.opened ++ map Created plan.created) ++ (map Read read ++ map Wrote written);
         seen = sees_then (map Opened plan.opened ++ map Created plan.created) (map Read read ++ map Wrote written) a b c opened closed;
@@ -109,7 +109,7 @@ module _ {plan : Plan} {holds : Contents} {empty : Option (List ℕ)} {tells : T
           all_read = all_read;
           all_written = all_written;
           happened = sym (append_assoc (map Opened plan.opened ++ map Created plan.created) (map Read read) (map Wrote written));
-          told = told;
+          reports = reported;
           nothing_written = why_nothing _ files ended failure first memory unread;
         });
       }
@@ -129,9 +129,9 @@ pub reports_named : (tells : Status → List ℕ → Type 0) (ended : Result Sta
 reports_named tells (Err Device) (Some it) old new reports = reports
 reports_named tells ended failure old new reports = reports
 
-pub reports_all_named : (told : Status → List (List ℕ) → Type 0) (ended : Result Status RunError) (failure : Option Failure) (old new : List (Option (List ℕ))) → ReportsAll told ended old new → ReportsAll told (named ended failure) old new
-reports_all_named told (Err Device) (Some it) old new reports = reports
-reports_all_named told ended failure old new reports = reports
+pub reports_all_named : (writes : Status → List (List ℕ) → Type 0) (ended : Result Status RunError) (failure : Option Failure) (old new : List (Option (List ℕ))) → ReportsAll writes ended old new → ReportsAll writes (named ended failure) old new
+reports_all_named writes (Err Device) (Some it) old new reports = reports
+reports_all_named writes ended failure old new reports = reports
 
 -- ---- devices that fail, or never do
 pub one_of : {A : Type 0} → A ⊎ ⊥ → A
@@ -166,16 +166,16 @@ without_third (Err Device) p q counted again old new (inl (more, same)) = inl (m
 without_third (Err Device) p q counted again old new (inr (same, more)) = inr (same, one_without q again old new more)
 
 -- ---- what each kind of run reports
-pub judged_told : (kind : JudgeKind) (a b c : List ℕ) (result : Result Status CommandError) (old new : Option (List ℕ)) → Reports (Judged kind a b c) result old new → TellsJudged kind (a ∷ b ∷ c ∷ []) result (old ∷ []) (new ∷ [])
-judged_told judges.Infeasible a b c result old new reports = reports
-judged_told kind a b c result old new reports = reports
+pub judged_reports : (kind : JudgeKind) (a b c : List ℕ) (result : Result Status CommandError) (old new : Option (List ℕ)) → Reports (Judged kind a b c) result old new → ReportsJudged kind (a ∷ b ∷ c ∷ []) result (old ∷ []) (new ∷ [])
+judged_reports judges.Infeasible a b c result old new reports = reports
+judged_reports kind a b c result old new reports = reports
 
 pub is_claim : (kind : JudgeKind) (coming : Option (List ℕ)) (b : List ℕ) → coming ≡ Some b → IsClaim kind coming b
 is_claim kind coming b is = λ some. is
 
-pub flow_told : (job : SolveJob) (a b : List ℕ) (result : Result Status CommandError) (old new : List (Option (List ℕ))) → job ≢ solves.Paths → ReportsAll (MayTell (Solved job a b)) result old new → TellsSolved job (a ∷ []) result old new
-flow_told solves.Paths a b result old new flow reports = absurd (flow refl)
-flow_told job a b result old new flow reports = reports
+pub flow_writes : (job : SolveJob) (a b : List ℕ) (result : Result Status CommandError) (old new : List (Option (List ℕ))) → job ≢ solves.Paths → ReportsAll (MayWrite (Solved job a b)) result old new → WritesSolved job (a ∷ []) result old new
+flow_writes solves.Paths a b result old new flow reports = absurd (flow refl)
+flow_writes job a b result old new flow reports = reports
 
 pub flow_asks_nothing : (job : SolveJob) (coming : Option (List ℕ)) (b : List ℕ) → job ≢ solves.Paths → AreQueries job coming b
 flow_asks_nothing solves.Paths coming b flow = absurd (flow refl)

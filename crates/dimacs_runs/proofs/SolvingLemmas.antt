@@ -2,7 +2,6 @@
 use Rattle.std.proofs.Common.{◌≡◌, ◌≢◌, ◌∙◌, ◌+◌, ℕ, List, Result, Ok, Err, refl, sym, ap, inl, inr, arith}
 use Rattle.std.proofs.lemmas.Int.{ints}
 use Rattle.std.proofs.lemmas.Bool.{cases_order}
-use Rattle.dimacs_lines.specs.Devices.{Written}
 use Rattle.dimacs_network.specs.declared.network.ArcView.{ArcView}
 use Rattle.dimacs_network.specs.Arcs.{NetworkValue}
 use Rattle.dimacs_instance.specs.MaxFlows.{MaxValue}
@@ -25,32 +24,29 @@ use Rattle.dimacs_solve.specs.declared.least.MinAnswer.TheVariants as least
 use Rattle.dimacs_solve.specs.Paths.{IsFirstNegative, SolvesPaths}
 use Rattle.dimacs_solve.specs.SolveMax.{SolvesMax}
 use Rattle.dimacs_solve.specs.SolveMin.{SolvesMin}
-use Rattle.dimacs_runs.specs.declared.outcome.Status.{Status}
 use Rattle.dimacs_runs.specs.declared.outcome.Status.TheVariants.{Refused}
 use Rattle.dimacs_runs.specs.declared.outcome.RunError.{RunError}
 use Rattle.dimacs_runs.specs.declared.outcome.RunError.TheVariants.{Device}
-use Rattle.dimacs_runs.specs.declared.produced.Produced.{Produced}
 use Rattle.dimacs_runs.specs.Judgings.{CountsDevices}
-use Rattle.dimacs_runs.specs.Outputs.{MayTell, ReportsAll}
-use Rattle.dimacs_runs.specs.inside.Produced.{EndsProducing, MayProduce, accepted_by, least_produced, maximum_produced, produced_texts, refused, reported}
+use Rattle.dimacs_runs.specs.Outputs.{MayWrite}
+use Rattle.dimacs_runs.specs.inside.Outcomes.{MayProduce, least_outcome, maximum_outcome, settled, solve_stop}
 use Rattle.dimacs_runs.specs.Solved.{FindsLeast, FindsMaximum, FindsPaths, RefusesPaths, report_alone}
-use Rattle.dimacs_runs.specs.inside.Told.{told_status}
 use Rattle.dimacs_runs.specs.Verdicts.{failure_line}
 
 -- the solver of maximum flows answered
-pub maximum_tells : (i : MaxValue) (limit : ℕ) (answer : Result MaxAnswer SolveError) → SolvesMax i limit answer → MayProduce (FindsMaximum i limit) (maximum_produced answer)
-maximum_tells i limit (Ok (answers.Optimal solution cut)) found = ((found.0, claimed solution, cut, found.1, refl), λ refusal never. absurd never)
-maximum_tells i limit (Ok answers.GaveUp) gave_up = ((gave_up, refl), λ refusal never. absurd never)
-maximum_tells i limit (Err solve_errors.Memory) nothing = tt
-maximum_tells i limit (Err other) never = absurd never
+pub maximum_ends : (i : MaxValue) (limit : ℕ) (answer : Result MaxAnswer SolveError) → SolvesMax i limit answer → MayProduce (FindsMaximum i limit) (settled (maximum_outcome answer))
+maximum_ends i limit (Ok (answers.Optimal solution cut)) found = ((found.0, claimed solution, cut, found.1, refl), λ refusal never. absurd never)
+maximum_ends i limit (Ok answers.GaveUp) gave_up = ((gave_up, refl), λ refusal never. absurd never)
+maximum_ends i limit (Err solve_errors.Memory) nothing = tt
+maximum_ends i limit (Err other) never = absurd never
 
 -- the solver of minimum cost flows answered
-pub least_tells : (i : MinValue) (limit : ℕ) (answer : Result MinAnswer SolveError) → SolvesMin i limit answer → MayProduce (FindsLeast i limit) (least_produced answer)
-least_tells i limit (Ok (least.Optimal solution potentials)) found = (inl (claimed solution, potentials, found, refl), λ refusal never. absurd never)
-least_tells i limit (Ok (least.Infeasible set)) found = (inr (set, found, refl), λ refusal never. absurd never)
-least_tells i limit (Ok least.GaveUp) gave_up = ((gave_up, refl), λ refusal never. absurd never)
-least_tells i limit (Err solve_errors.Memory) nothing = tt
-least_tells i limit (Err other) never = absurd never
+pub least_ends : (i : MinValue) (limit : ℕ) (answer : Result MinAnswer SolveError) → SolvesMin i limit answer → MayProduce (FindsLeast i limit) (settled (least_outcome answer))
+least_ends i limit (Ok (least.Optimal solution potentials)) found = (inl (claimed solution, potentials, found, refl), λ refusal never. absurd never)
+least_ends i limit (Ok (least.Infeasible set)) found = (inr (set, found, refl), λ refusal never. absurd never)
+least_ends i limit (Ok least.GaveUp) gave_up = ((gave_up, refl), λ refusal never. absurd never)
+least_ends i limit (Err solve_errors.Memory) nothing = tt
+least_ends i limit (Err other) never = absurd never
 
 same_first : (arcs : List ArcView) (j k : ℕ) → IsFirstNegative arcs j → IsFirstNegative arcs k → j ≡ k
 same_first arcs j k f g = elim (cases_order f.index g.index) [
@@ -65,26 +61,19 @@ same_refusal g q p s r why (inr (clear, (k, is, place, reason))) (inl h) = absur
 same_refusal g q p s r why (inr (clear, (k, is, place, reason))) (inr (clear_too, (j, is_too, place_too, reason_too))) = (rw (place, place_too, same_first g.arcs k j is is_too) refl, reason ∙ sym reason_too)
 
 module _ (g : NetworkValue) (q : QueriesValue) where
-  refusal_tells : (place : Where) (reason : Reason) → RefusesPaths g q place reason → MayTell (FindsPaths g q) Refused (report_alone (failure_line place reason))
-  refusal_tells place reason refuses = ((place, reason, refuses, refl), alone)
+  refusal_ends : (place : Where) (reason : Reason) → RefusesPaths g q place reason → MayWrite (FindsPaths g q) Refused (report_alone (failure_line place reason))
+  refusal_ends place reason refuses = ((place, reason, refuses, refl), alone)
     where
       alone : (refusal : List (List ℕ)) → FindsPaths g q Refused refusal → (Refused ≡ Refused) × (report_alone (failure_line place reason) ≡ refusal)
       alone refusal (other, why, also, is) = let same = same_refusal g q place other reason why refuses also in (refl, sym (is ∙ rw (same.0, same.1) refl))
 
   -- the solver of distances refused
-  pub error_tells : (error : SolveError) → SolvesPaths g q (Err error) → MayProduce (FindsPaths g q) (reported (refused error))
-  error_tells (solve_errors.NegativeWeight arc) (clear, first) = refusal_tells (Arc arc) reasons.NegativeWeight (inr (clear, (arc, first, refl, refl)))
-  error_tells (solve_errors.Refused place reason) first = refusal_tells place reason (inl first)
-  error_tells solve_errors.Memory nothing = tt
+  pub error_ends : (error : SolveError) → SolvesPaths g q (Err error) → MayProduce (FindsPaths g q) (settled (Err (solve_stop error)))
+  error_ends (solve_errors.NegativeWeight arc) (clear, first) = refusal_ends (Arc arc) reasons.NegativeWeight (inr (clear, (arc, first, refl, refl)))
+  error_ends (solve_errors.Refused place reason) first = refusal_ends place reason (inl first)
+  error_ends solve_errors.Memory nothing = tt
 
 -- a run without an I/O error has no new fault
 pub counts_none : {X : Type 0} (result : Result X RunError) (old new : List ℕ) → result ≢ Err Device → new ≡ old → CountsDevices result old new
 counts_none (Err Device) old new other same = absurd (other refl)
 counts_none result old new other same = same
-
--- what was produced was written
-pub produced_reports : (tells : Status → List (List ℕ) → Type 0) (produced : Result Produced RunError) (result : Result Status RunError) (old new : List Written)
-    → MayProduce tells produced → EndsProducing produced result old new → ReportsAll (MayTell tells) result (accepted_by old) (accepted_by new)
-produced_reports tells (Ok p) (Ok status) old new may ends = rw ends.0 (produced_texts p, may, ends.1)
-produced_reports tells (Ok p) (Err error) old new may ends = inr (told_status p.told, produced_texts p, may, ends.1)
-produced_reports tells (Err error) result old new may ends = rw ends.0 (inl (ap accepted_by ends.1))

@@ -1,9 +1,8 @@
--- What a command does with its files and its output, from its arguments to its exit status.
+-- What a command does with its files and its output, from its arguments to the end of its run.
 use Rattle.std.specs.Prelude.{ℕ, ◌≡◌, ◌⊎◌, ◌++◌, List, [], ◌∷◌, Option, None, Some, Result, Ok, Err, IsErr, drop, map, slice_get, take}
 use Rattle.std.specs.List.{flat_map}
 use Rattle.std.specs.String.{string_bytes}
 use Rattle.dimacs_lines.specs.Devices.{Written, one_more}
-use Rattle.dimacs_runs.specs.declared.command.Ending.{Ending}
 use Rattle.dimacs_runs.specs.declared.failure.CommandError.{CommandError}
 use Rattle.dimacs_runs.specs.declared.failure.CommandError.TheVariants.{Device, Memory}
 use Rattle.dimacs_runs.specs.declared.failure.Failure.TheVariants.{File, Output}
@@ -18,16 +17,14 @@ use Rattle.dimacs_runs.specs.declared.jobs.SolveJob.{SolveJob}
 use Rattle.dimacs_runs.specs.declared.jobs.SolveJob.TheVariants as solves
 use Rattle.dimacs_runs.specs.declared.jobs.SpreadKind.{SpreadKind}
 use Rattle.dimacs_runs.specs.declared.outcome.RunError.{RunError}
-use Rattle.dimacs_runs.specs.declared.outcome.RunError.TheVariants as run_errors
 use Rattle.dimacs_runs.specs.declared.outcome.Status.{Status}
 use Rattle.dimacs_runs.specs.Certified.{Certified}
 use Rattle.dimacs_runs.specs.Files.{Created, FileEvent, FilesSeen, NotCreated, NotOpened, Opened, Read, ReadFile, Sees, WrittenFile, Wrote, closed_written, failures}
 use Rattle.dimacs_runs.specs.Jobs.{Asks, certify_reads}
 use Rattle.dimacs_runs.specs.Judged.{Judged}
-use Rattle.dimacs_runs.specs.Outcomes.{status_number}
-use Rattle.dimacs_runs.specs.Outputs.{MayTell, ReportsAll, TellsAlike}
+use Rattle.dimacs_runs.specs.Outputs.{MayWrite, ReportsAll, WritesAlike}
 use Rattle.dimacs_runs.specs.declared.text.TextForm.TheVariants.{Canonical, Summary}
-use Rattle.dimacs_runs.specs.Runs.{Reports, Told}
+use Rattle.dimacs_runs.specs.Runs.{Reports, Prints}
 use Rattle.dimacs_runs.specs.Solved.{Solved}
 use Rattle.dimacs_runs.specs.Spread.{Spreads}
 
@@ -75,18 +72,18 @@ WritesTwice (Solve job files) name = (slice_get (map string_bytes files.now) 1 �
 WritesTwice job name = ⊥
 
 -- the texts that were read, the result, and what files and output had accepted before the run and after it
-abbrev pub Telling : Type 1
-Telling = List (List ℕ) → Result Status CommandError → List (Option (List ℕ)) → List (Option (List ℕ)) → Type 0
+abbrev pub Reporting : Type 1
+Reporting = List (List ℕ) → Result Status CommandError → List (Option (List ℕ)) → List (Option (List ℕ)) → Type 0
 
-abbrev pub TellsOne : (List ℕ → Status → List ℕ → Type 0) → Telling
-TellsOne tells (text ∷ []) result (old ∷ []) (new ∷ []) = Reports (tells text) result old new
-TellsOne tells other result old new = ⊥
+abbrev pub ReportsOne : (List ℕ → Status → List ℕ → Type 0) → Reporting
+ReportsOne tells (text ∷ []) result (old ∷ []) (new ∷ []) = Reports (tells text) result old new
+ReportsOne tells other result old new = ⊥
 
 -- `Infeasible` has no claim
-abbrev pub TellsJudged : JudgeKind → Telling
-TellsJudged judges.Infeasible (instance ∷ set ∷ []) result (old ∷ []) (new ∷ []) = Reports (Judged judges.Infeasible instance [] set) result old new
-TellsJudged kind (instance ∷ claim ∷ certificate ∷ []) result (old ∷ []) (new ∷ []) = Reports (Judged kind instance claim certificate) result old new
-TellsJudged kind other result old new = ⊥
+abbrev pub ReportsJudged : JudgeKind → Reporting
+ReportsJudged judges.Infeasible (instance ∷ set ∷ []) result (old ∷ []) (new ∷ []) = Reports (Judged judges.Infeasible instance [] set) result old new
+ReportsJudged kind (instance ∷ claim ∷ certificate ∷ []) result (old ∷ []) (new ∷ []) = Reports (Judged kind instance claim certificate) result old new
+ReportsJudged kind other result old new = ⊥
 
 -- if no file is created for a text, the text is dropped
 abbrev pub text_first : List (Option (List ℕ)) → List (Option (List ℕ))
@@ -99,11 +96,11 @@ files_for names ([] ∷ out) = []
 files_for names out = names
 
 -- distances come without a claim, whose text is dropped
-abbrev pub TellsSolved : SolveJob → Telling
-TellsSolved (solves.Max limit) (instance ∷ []) result old new = ReportsAll (MayTell (Solved (solves.Max limit) instance [])) result old new
-TellsSolved (solves.Min limit) (instance ∷ []) result old new = ReportsAll (MayTell (Solved (solves.Min limit) instance [])) result old new
-TellsSolved solves.Paths (graph ∷ queries ∷ []) result old new = ReportsAll (MayTell (Solved solves.Paths graph queries)) result (None ∷ old) (None ∷ new)
-TellsSolved job other result old new = ⊥
+abbrev pub WritesSolved : SolveJob → Reporting
+WritesSolved (solves.Max limit) (instance ∷ []) result old new = ReportsAll (MayWrite (Solved (solves.Max limit) instance [])) result old new
+WritesSolved (solves.Min limit) (instance ∷ []) result old new = ReportsAll (MayWrite (Solved (solves.Min limit) instance [])) result old new
+WritesSolved solves.Paths (graph ∷ queries ∷ []) result old new = ReportsAll (MayWrite (Solved solves.Paths graph queries)) result (None ∷ old) (None ∷ new)
+WritesSolved job other result old new = ⊥
 
 -- from the texts that were read to a status and texts: one for a file, and a report
 abbrev pub Making : Type 1
@@ -111,8 +108,8 @@ Making = List (List ℕ) → Status → List (List ℕ) → Type 0
 
 -- a run that reads one file has no claim
 abbrev pub MakesCertificate : CertifyKind → Making
-MakesCertificate kind (instance ∷ []) = TellsAlike (Certified kind instance [])
-MakesCertificate kind (instance ∷ claim ∷ []) = TellsAlike (Certified kind instance claim)
+MakesCertificate kind (instance ∷ []) = WritesAlike (Certified kind instance [])
+MakesCertificate kind (instance ∷ claim ∷ []) = WritesAlike (Certified kind instance claim)
 MakesCertificate kind other = λ status out. ⊥
 
 abbrev pub MakesSpread : SpreadKind → Making
@@ -156,13 +153,13 @@ abbrev pub at_last : List WrittenFile → Option (List ℕ) → List (Option (Li
 at_last written output = map (λ (file : WrittenFile). file.seen.accepted) written ++ output ∷ []
 
 -- all files were opened or created, used and closed, and what follows from the texts was written
-pub record UsesFiles (plan : Plan) (holds : Contents) (empty : Option (List ℕ)) (tells : Telling) (events : List FileEvent) (result : Result Status CommandError) (old new : Option (List ℕ)) : Type 0 where
+pub record UsesFiles (plan : Plan) (holds : Contents) (empty : Option (List ℕ)) (tells : Reporting) (events : List FileEvent) (result : Result Status CommandError) (old new : Option (List ℕ)) : Type 0 where
   pub read : List ReadFile
   pub written : List WrittenFile
   pub all_read : map (λ (file : ReadFile). file.name) read ≡ plan.opened
   pub all_written : map (λ (file : WrittenFile). file.name) written ≡ plan.created
   pub happened : events ≡ map Opened plan.opened ++ map Created plan.created ++ map Read read ++ map Wrote written
-  pub told : (texts : List (List ℕ)) → map holds plan.opened ≡ map Some texts → tells texts result (at_first plan.created empty old) (at_last written new)
+  pub reports : (texts : List (List ℕ)) → map holds plan.opened ≡ map Some texts → tells texts result (at_first plan.created empty old) (at_last written new)
   pub nothing_written : WritesNothing result → at_last written new ≡ at_first plan.created empty old
 
 -- a file was created, written and closed
@@ -185,7 +182,7 @@ pub record MakesFiles (plan : Plan) (holds : Contents) (empty : Option (List ℕ
   pub written : List WrittenFile
   pub all_read : map (λ (file : ReadFile). file.name) read ≡ plan.opened
   pub happened : events ≡ (map Opened plan.opened ++ map Read read) ++ flat_map made_events written
-  pub told : (texts : List (List ℕ)) → map holds plan.opened ≡ map Some texts
+  pub reports : (texts : List (List ℕ)) → map holds plan.opened ≡ map Some texts
       → ReportsAll (λ status out. makes texts status out × (map (λ (file : WrittenFile). file.name) written ≡ files_for plan.created out)) result (text_first (at_first (map (λ (file : WrittenFile). file.name) written) empty old)) (text_first (at_last written new))
   pub nothing_written : WritesNothing result → (written ≡ []) × (new ≡ old)
 
@@ -195,9 +192,9 @@ file_failures (Device (File call name)) = (call, name.now) ∷ []
 file_failures other = []
 
 -- those that the end of a run names
-abbrev pub failures_told : {X : Type 0} → Result X CommandError → List (FileCall × List ℕ)
-failures_told (Ok x) = []
-failures_told (Err error) = file_failures error
+abbrev pub failures_named : {X : Type 0} → Result X CommandError → List (FileCall × List ℕ)
+failures_named (Ok x) = []
+failures_named (Err error) = file_failures error
 
 -- the faults of the output: one more if the error names it
 abbrev pub faults_by_error : CommandError → ℕ → ℕ
@@ -212,7 +209,7 @@ output_faults (Err error) faults = faults_by_error error faults
 pub record RunsOver (end : List FileEvent → Type 0) (result : Result Status CommandError) (old new : Seen) : Type 0 where
   pub events : List FileEvent
   pub seen : Sees events old.files new.files
-  pub failure : flat_map failures events ≡ failures_told result
+  pub failure : flat_map failures events ≡ failures_named result
   pub faults : new.output.faults ≡ output_faults result old.output.faults
   pub ends : end events
 
@@ -221,7 +218,7 @@ abbrev pub PutsNothing : Type 0 → Result Status CommandError → Seen → Seen
 PutsNothing stops result old new = stops × IsErr result × (new.output.accepted ≡ old.output.accepted)
 
 -- the files of the plan were used, or one of them could not be opened or created
-abbrev pub RunsFiles : Plan → Contents → Option (List ℕ) → Telling → Result Status CommandError → Seen → Seen → Type 0
+abbrev pub RunsFiles : Plan → Contents → Option (List ℕ) → Reporting → Result Status CommandError → Seen → Seen → Type 0
 RunsFiles plan holds empty tells result old new =
     RunsOver (λ events. PutsNothing (StopsOpening plan events ⊎ StopsCreating plan empty events) result old new ⊎ UsesFiles plan holds empty tells events result old.output.accepted new.output.accepted) result old new
 
@@ -232,20 +229,14 @@ MakesOfFiles plan holds empty makes result old new =
 
 -- certifying and spreading create their file once they have a text for it, the others before they run
 abbrev pub RunsJob : Job → Contents → Option (List ℕ) → Result Status CommandError → Seen → Seen → Type 0
-RunsJob (Convert kind file) holds empty = RunsFiles (plan_of (Convert kind file)) holds empty (TellsOne (Told Canonical kind))
-RunsJob (Show kind file) holds empty = RunsFiles (plan_of (Show kind file)) holds empty (TellsOne (Told Summary kind))
-RunsJob (Judge kind files) holds empty = RunsFiles (plan_of (Judge kind files)) holds empty (TellsJudged kind)
+RunsJob (Convert kind file) holds empty = RunsFiles (plan_of (Convert kind file)) holds empty (ReportsOne (Prints Canonical kind))
+RunsJob (Show kind file) holds empty = RunsFiles (plan_of (Show kind file)) holds empty (ReportsOne (Prints Summary kind))
+RunsJob (Judge kind files) holds empty = RunsFiles (plan_of (Judge kind files)) holds empty (ReportsJudged kind)
 RunsJob (Certify kind files) holds empty = MakesOfFiles (plan_of (Certify kind files)) holds empty (MakesCertificate kind)
 RunsJob (Spread kind files) holds empty = MakesOfFiles (plan_of (Spread kind files)) holds empty (MakesSpread kind)
-RunsJob (Solve job files) holds empty = RunsFiles (plan_of (Solve job files)) holds empty (TellsSolved job)
-
--- the end of a command by the result of its run, with the operation that failed
-abbrev pub ending_of : Result Status CommandError → Ending
-ending_of (Ok status) = record { status = status_number (Ok status); failure = None }
-ending_of (Err (Device failure)) = record { status = status_number (Err run_errors.Device); failure = Some failure }
-ending_of (Err Memory) = record { status = status_number (Err run_errors.Memory); failure = None }
+RunsJob (Solve job files) holds empty = RunsFiles (plan_of (Solve job files)) holds empty (WritesSolved job)
 
 -- the arguments ask for no run, and nothing is done; or the run that they ask for ends like this
-abbrev pub Commands : List (List ℕ) → Contents → Option (List ℕ) → Ending → Seen → Seen → Type 0
-Commands words holds empty ending old new =
-    (((wanted : Job) → ¬ Asks words wanted) × (ending ≡ record { status = 2; failure = None }) × (new ≡ old)) ⊎ ((wanted : Job) × (ended : Result Status CommandError) × Asks words wanted × RunsJob wanted holds empty ended old new × (ending ≡ ending_of ended))
+abbrev pub Commands : List (List ℕ) → Contents → Option (List ℕ) → Option (Result Status CommandError) → Seen → Seen → Type 0
+Commands words holds empty None old new = ((wanted : Job) → ¬ Asks words wanted) × (new ≡ old)
+Commands words holds empty (Some ended) old new = (wanted : Job) × Asks words wanted × RunsJob wanted holds empty ended old new

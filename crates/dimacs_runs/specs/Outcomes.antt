@@ -1,5 +1,7 @@
 -- The exit statuses of the command, its complaints on the standard error, and the words for failures.
 use Rattle.std.specs.Prelude.{ℕ, ◌==◌, if◌then◌else◌, List, Option, None, Some, Result, Ok, Err, codes}
+use Rattle.dimacs_runs.specs.declared.failure.CommandError.{CommandError}
+use Rattle.dimacs_runs.specs.declared.failure.CommandError.TheVariants as errors
 use Rattle.dimacs_runs.specs.declared.failure.Failure.{Failure}
 use Rattle.dimacs_runs.specs.declared.failure.Failure.TheVariants.{File, Output}
 use Rattle.dimacs_runs.specs.declared.failure.FileCall.TheVariants as calls
@@ -14,6 +16,11 @@ status_number (Ok Refused) = 1
 status_number (Ok GaveUp) = 5
 status_number (Err Device) = 3
 status_number (Err Memory) = 4
+
+-- the error of a command without the operation that failed
+abbrev pub run_error_of : CommandError → RunError
+run_error_of (errors.Device failure) = Device
+run_error_of errors.Memory = Memory
 
 -- the lines for wrong usage, an I/O error and out of memory
 abbrev pub complaint_of : ℕ → Option (List ℕ)

@@ -20,8 +20,8 @@ AcceptInTurn (text ∷ texts) (held ∷ old) [] = ⊥
 AcceptInTurn (text ∷ texts) (held ∷ old) (holds ∷ new) = (AcceptsFront held text holds × (new ≡ old)) ⊎ ((holds ≡ after_piece held text) × AcceptInTurn texts old new)
 
 -- this is a possible outcome; if a refusal is possible, it is the outcome
-abbrev pub MayTell : (Status → List (List ℕ) → Type 0) → Status → List (List ℕ) → Type 0
-MayTell tells status out = tells status out × ((refusal : List (List ℕ)) → tells Refused refusal → (status ≡ Refused) × (out ≡ refusal))
+abbrev pub MayWrite : (Status → List (List ℕ) → Type 0) → Status → List (List ℕ) → Type 0
+MayWrite tells status out = tells status out × ((refusal : List (List ℕ)) → tells Refused refusal → (status ≡ Refused) × (out ≡ refusal))
 
 -- the report is the last text
 abbrev pub report_of : List (List ℕ) → List ℕ
@@ -30,8 +30,8 @@ report_of (report ∷ []) = report
 report_of (text ∷ texts) = report_of texts
 
 -- this is a possible outcome, and all possible ones have its status and its report
-abbrev pub TellsAlike : (Status → List (List ℕ) → Type 0) → Status → List (List ℕ) → Type 0
-TellsAlike tells status out = tells status out × ((s : Status) (other : List (List ℕ)) → tells s other → (s ≡ status) × (report_of other ≡ report_of out))
+abbrev pub WritesAlike : (Status → List (List ℕ) → Type 0) → Status → List (List ℕ) → Type 0
+WritesAlike tells status out = tells status out × ((s : Status) (other : List (List ℕ)) → tells s other → (s ≡ status) × (report_of other ≡ report_of out))
 
 -- all texts of a possible outcome were written; after an error, nothing or a beginning of them
 abbrev pub ReportsAll : {E : Type 0} → (Status → List (List ℕ) → Type 0) → Result Status E → List (Option (List ℕ)) → List (Option (List ℕ)) → Type 0

@@ -45,10 +45,10 @@ abbrev pub says : {V : Type 0} → TextKind → (List LineRecord → V → Type 
 says kind gives bytes = record { name = text_word kind; spells = SpellsValue kind gives (lines bytes); fault = Fault kind (lines bytes) }
 
 -- a text that spells a value is printed by `told`; otherwise the line of its fault is printed
-abbrev pub TellsText : {V : Type 0} → TextSays V → (V → List ℕ) → Status → List ℕ → Type 0
-TellsText text told Done out = (v : _) × text.spells v × (out ≡ told v)
-TellsText text told Refused out = (l : ℕ) × (f : ℕ) × (r : Reason) × text.fault l f r × (out ≡ refusal_line text.name l f r)
-TellsText text told GaveUp out = ⊥
+abbrev pub PrintsText : {V : Type 0} → TextSays V → (V → List ℕ) → Status → List ℕ → Type 0
+PrintsText text told Done out = (v : _) × text.spells v × (out ≡ told v)
+PrintsText text told Refused out = (l : ℕ) × (f : ℕ) × (r : Reason) × text.fault l f r × (out ≡ refusal_line text.name l f r)
+PrintsText text told GaveUp out = ⊥
 
 -- how a value is printed: as its canonical text, or as the line that describes it
 abbrev pub in_form : {V : Type 0} → TextForm → (V → List ℕ) → (V → List ℕ) → V → List ℕ
@@ -56,22 +56,22 @@ in_form Canonical canonical shown = canonical
 in_form Summary canonical shown = shown
 
 -- what is printed for a text in this form
-abbrev pub Told : TextForm → TextKind → List ℕ → Status → List ℕ → Type 0
-Told form Max bytes = TellsText (says Max GivesMax bytes) (in_form form canonical_max shown_max)
-Told form Min bytes = TellsText (says Min GivesMin bytes) (in_form form canonical_min shown_min)
-Told form Graph bytes = TellsText (says Graph GivesGraph bytes) (in_form form canonical_graph shown_graph)
-Told form Queries bytes = TellsText (says Queries GivesQueries bytes) (in_form form canonical_queries shown_queries)
-Told form Solution bytes = TellsText (says Solution GivesSolution bytes) (in_form form canonical_solution shown_solution)
-Told form Cut bytes = TellsText (says Cut GivesCut bytes) (in_form form canonical_cut shown_cut)
-Told form Potentials bytes = TellsText (says Potentials GivesPotentials bytes) (in_form form canonical_potentials shown_potentials)
-Told form Labels bytes = TellsText (says Labels GivesLabels bytes) (in_form form canonical_labels shown_labels)
-Told form Distances bytes = TellsText (says Distances GivesDistances bytes) (in_form form canonical_distances shown_distances)
+abbrev pub Prints : TextForm → TextKind → List ℕ → Status → List ℕ → Type 0
+Prints form Max bytes = PrintsText (says Max GivesMax bytes) (in_form form canonical_max shown_max)
+Prints form Min bytes = PrintsText (says Min GivesMin bytes) (in_form form canonical_min shown_min)
+Prints form Graph bytes = PrintsText (says Graph GivesGraph bytes) (in_form form canonical_graph shown_graph)
+Prints form Queries bytes = PrintsText (says Queries GivesQueries bytes) (in_form form canonical_queries shown_queries)
+Prints form Solution bytes = PrintsText (says Solution GivesSolution bytes) (in_form form canonical_solution shown_solution)
+Prints form Cut bytes = PrintsText (says Cut GivesCut bytes) (in_form form canonical_cut shown_cut)
+Prints form Potentials bytes = PrintsText (says Potentials GivesPotentials bytes) (in_form form canonical_potentials shown_potentials)
+Prints form Labels bytes = PrintsText (says Labels GivesLabels bytes) (in_form form canonical_labels shown_labels)
+Prints form Distances bytes = PrintsText (says Distances GivesDistances bytes) (in_form form canonical_distances shown_distances)
 
 -- this is the only possible outcome
-abbrev pub TellsAlone : (Status → List ℕ → Type 0) → Status → List ℕ → Type 0
-TellsAlone tells status out = tells status out × ((s : Status) (other : List ℕ) → tells s other → (s ≡ status) × (other ≡ out))
+abbrev pub ReportsAlone : (Status → List ℕ → Type 0) → Status → List ℕ → Type 0
+ReportsAlone tells status out = tells status out × ((s : Status) (other : List ℕ) → tells s other → (s ≡ status) × (other ≡ out))
 
 -- the text of a possible outcome was written; after an error, nothing or a beginning of it
 abbrev pub Reports : {E : Type 0} → (Status → List ℕ → Type 0) → Result Status E → Option (List ℕ) → Option (List ℕ) → Type 0
-Reports tells (Ok status) old new = (out : List ℕ) × TellsAlone tells status out × (new ≡ after_piece old out)
-Reports tells (Err error) old new = (new ≡ old) ⊎ ((status : Status) × (out : List ℕ) × TellsAlone tells status out × AcceptsFront old out new)
+Reports tells (Ok status) old new = (out : List ℕ) × ReportsAlone tells status out × (new ≡ after_piece old out)
+Reports tells (Err error) old new = (new ≡ old) ⊎ ((status : Status) × (out : List ℕ) × ReportsAlone tells status out × AcceptsFront old out new)

@@ -1,5 +1,5 @@
 pub mod Commands
 pub mod Judgings
 pub mod Making
-pub mod Produced
-pub mod Told
+pub mod Outcomes
+pub mod Reports

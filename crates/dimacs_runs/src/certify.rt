@@ -16,18 +16,19 @@ ghost use Rattle.dimacs_runs.specs.declared.outcome.RunError.TheVariants.{Device
 ghost use Rattle.dimacs_runs.specs.declared.jobs.CertifyKind.TheVariants as certifies;
 ghost use Rattle.dimacs_runs.specs.Certified.{Certified, CertifiesLeast, CertifiesMaximum, IsClaimed, certified_kind};
 ghost use Rattle.dimacs_runs.specs.Judgings.{CountsDevices};
-ghost use Rattle.dimacs_runs.specs.Outputs.{ReportsAll, TellsAlike};
+ghost use Rattle.dimacs_runs.specs.Outputs.{ReportsAll, WritesAlike};
 ghost use Rattle.dimacs_runs.specs.inside.Judgings.{HasFault};
-ghost use Rattle.dimacs_runs.specs.inside.Produced.{MayCertify};
+ghost use Rattle.dimacs_runs.specs.inside.Outcomes.{MayCertify, settled};
 
 use crate::certify_distances::certify_distances;
 use crate::certify_infeasible::certify_infeasible;
 use crate::discard::Discard;
 use crate::jobs::CertifyKind;
+use crate::made::{Made, Outcome, write_outcome};
 use crate::outcome::{RunError, Status};
-use crate::produced::{Made, Produced, put_produced, report_alone};
+use crate::report::Report;
+use crate::stop::{Stop, settle};
 use crate::texts_in_turn::{place_solution, read};
-use crate::told::{Told, answer_told};
 use dimacs_claims::Placed;
 use dimacs_decide::{MaxDecision, MinDecision, certify_max_placed, certify_min_placed};
 use dimacs_instance::{MaxInstance, MinInstance};
@@ -57,7 +58,7 @@ pub fn run_certify<P: Source, Q: Source, C: Sink, K: Sink>(
     report: &mut K,
 ) -> Result<Status, RunError>
     ensures reports { (a b : List ℕ) → P.coming instance.old ≡ Some a → IsClaimed kind (Q.coming claim.old) b
-        → ReportsAll (TellsAlike (Certified kind a b)) result
+        → ReportsAll (WritesAlike (Certified kind a b)) result
         ((C.seen certificate_out.old).accepted ∷ (K.seen report.old).accepted ∷ [])
         ((C.seen certificate_out.new).accepted ∷ (K.seen report.new).accepted ∷ []) }
     ensures faults { CountsDevices result
@@ -70,8 +71,8 @@ pub fn run_certify<P: Source, Q: Source, C: Sink, K: Sink>(
         → claim.new ≡ claim.old }
     ensures unclaimed { kind ≡ certifies.Infeasible → claim.new ≡ claim.old }
 {
-    let produced = certify_claim(alloc, kind, instance, claim);
-    put_produced(produced, &mut Discard, certificate_out, report)
+    let outcome = certify_claim(alloc, kind, instance, claim);
+    write_outcome(outcome, &mut Discard, certificate_out, report)
 }
 
 /// Certifies a claim. Returns what is to be written.
@@ -80,18 +81,18 @@ pub(crate) fn certify_claim<P: Source, Q: Source>(
     kind: CertifyKind,
     instance: &mut P,
     claim: &mut Q,
-) -> Result<Produced, RunError>
+) -> Result<Outcome, RunError>
     ensures certifies { (a b : List ℕ) → P.coming instance.old ≡ Some a → IsClaimed kind (Q.coming claim.old) b → MayCertify (Certified kind a b) result }
     ensures faults { CountsDevices result (P.faults instance.old ∷ Q.faults claim.old ∷ []) (P.faults instance.new ∷ Q.faults claim.new ∷ []) }
     ensures stops_at_instance { HasFault (certified_kind kind) (P.coming instance.old) → claim.new ≡ claim.old }
     ensures unclaimed { kind ≡ certifies.Infeasible → claim.new ≡ claim.old }
 {
-    match kind {
+    settle(match kind {
         CertifyKind::Max => certify_maximum(alloc, instance, claim),
         CertifyKind::Min => certify_least(alloc, instance, claim),
         CertifyKind::Infeasible => certify_infeasible(alloc, instance),
         CertifyKind::Paths => certify_distances(alloc, instance, claim),
-    }
+    })
 }
 
 /// Certifies a claimed maximum flow, by a cut or a better flow.
@@ -99,20 +100,15 @@ fn certify_maximum<P: Source, Q: Source>(
     alloc: Global,
     instance: &mut P,
     solution: &mut Q,
-) -> Result<Produced, RunError>
-    ensures certifies { (a b : List ℕ) → P.coming instance.old ≡ Some a → Q.coming solution.old ≡ Some b → MayCertify (Certified certifies.Max a b) result }
-    ensures faults { CountsDevices result (P.faults instance.old ∷ Q.faults solution.old ∷ []) (P.faults instance.new ∷ Q.faults solution.new ∷ []) }
+) -> Result<Outcome, Stop>
+    ensures certifies { (a b : List ℕ) → P.coming instance.old ≡ Some a → Q.coming solution.old ≡ Some b → MayCertify (Certified certifies.Max a b) (settled result) }
+    ensures faults { CountsDevices (settled result) (P.faults instance.old ∷ Q.faults solution.old ∷ []) (P.faults instance.new ∷ Q.faults solution.new ∷ []) }
     ensures stops_at_instance { HasFault kinds.Max (P.coming instance.old) → solution.new ≡ solution.old }
 {
-    let instance = match read::<MaxInstance<PlainArcs<CapacityArc>>, P>(alloc, instance) {
-        Ok(instance) => instance,
-        Err(unread) => return report_alone(unread.told()),
-    };
+    let instance: MaxInstance<PlainArcs<CapacityArc>> = read(alloc, instance)?;
     let places = FlowPlaces::new(alloc, instance.network())?;
-    match place_solution(alloc, places, solution) {
-        Ok(placed) => answer_maximum(alloc, &instance, &placed),
-        Err(unread) => report_alone(unread.told()),
-    }
+    let placed = place_solution(alloc, places, solution)?;
+    answer_maximum(alloc, &instance, &placed)
 }
 
 /// Certifies a claimed flow of least cost, by potentials or a better flow.
@@ -120,20 +116,15 @@ fn certify_least<P: Source, Q: Source>(
     alloc: Global,
     instance: &mut P,
     solution: &mut Q,
-) -> Result<Produced, RunError>
-    ensures certifies { (a b : List ℕ) → P.coming instance.old ≡ Some a → Q.coming solution.old ≡ Some b → MayCertify (Certified certifies.Min a b) result }
-    ensures faults { CountsDevices result (P.faults instance.old ∷ Q.faults solution.old ∷ []) (P.faults instance.new ∷ Q.faults solution.new ∷ []) }
+) -> Result<Outcome, Stop>
+    ensures certifies { (a b : List ℕ) → P.coming instance.old ≡ Some a → Q.coming solution.old ≡ Some b → MayCertify (Certified certifies.Min a b) (settled result) }
+    ensures faults { CountsDevices (settled result) (P.faults instance.old ∷ Q.faults solution.old ∷ []) (P.faults instance.new ∷ Q.faults solution.new ∷ []) }
     ensures stops_at_instance { HasFault kinds.Min (P.coming instance.old) → solution.new ≡ solution.old }
 {
-    let instance = match read::<MinInstance<PlainArcs<ArcView>>, P>(alloc, instance) {
-        Ok(instance) => instance,
-        Err(unread) => return report_alone(unread.told()),
-    };
+    let instance: MinInstance<PlainArcs<ArcView>> = read(alloc, instance)?;
     let places = FlowPlaces::new(alloc, instance.network())?;
-    match place_solution(alloc, places, solution) {
-        Ok(placed) => answer_least(alloc, &instance, &placed),
-        Err(unread) => report_alone(unread.told()),
-    }
+    let placed = place_solution(alloc, places, solution)?;
+    answer_least(alloc, &instance, &placed)
 }
 
 /// Decides about a flow that was claimed to be maximum.
@@ -141,21 +132,20 @@ fn answer_maximum<N: Network>(
     alloc: Global,
     instance: &MaxInstance<N>,
     placed: &Placed<FlowPlaces<'_, N>>,
-) -> Result<Produced, RunError>
+) -> Result<Outcome, Stop>
     requires lawful { IsMax instance.now }
     requires network { placed.now.place.arcs ≡ instance.now.arcs }
     requires placed { IsPlacedLawful placed.now.value placed.now.value_line (ArePlaced placed.now.place) }
     ensures certifies { (s : SolutionValue) → IsPlaced placed.now.value placed.now.value_line (ArePlaced placed.now.place) s
-        → MayCertify (CertifiesMaximum instance.now s) result }
-    ensures no_device { result ≢ Err Device }
+        → MayCertify (CertifiesMaximum instance.now s) (settled result) }
+    ensures no_device { settled result ≢ Err Device }
 {
-    match certify_max_placed(alloc, instance, placed) {
-        Ok(MaxDecision::Optimal(cut)) => Ok(Produced {
-            made: Made::Set(cut),
-            told: Told::Yes(Verdict::Max(placed.value)),
-        }),
-        Ok(MaxDecision::Better(flow)) => refuse_maximum(alloc, instance, flow, placed.value_line),
-        Err(error) => report_alone(answer_told(Err(error))),
+    match certify_max_placed(alloc, instance, placed)? {
+        MaxDecision::Optimal(cut) => {
+            let report = Report::Yes(Verdict::Max(placed.value));
+            Ok(Outcome::certified(Made::Cut(cut), report))
+        }
+        MaxDecision::Better(flow) => refuse_maximum(alloc, instance, flow, placed.value_line),
     }
 }
 
@@ -164,20 +154,19 @@ fn answer_least<N: Network>(
     alloc: Global,
     instance: &MinInstance<N>,
     placed: &Placed<FlowPlaces<'_, N>>,
-) -> Result<Produced, RunError>
+) -> Result<Outcome, Stop>
     requires network { placed.now.place.arcs ≡ instance.now.arcs }
     requires placed { IsPlacedLawful placed.now.value placed.now.value_line (ArePlaced placed.now.place) }
     ensures certifies { (s : SolutionValue) → IsPlaced placed.now.value placed.now.value_line (ArePlaced placed.now.place) s
-        → MayCertify (CertifiesLeast instance.now s) result }
-    ensures no_device { result ≢ Err Device }
+        → MayCertify (CertifiesLeast instance.now s) (settled result) }
+    ensures no_device { settled result ≢ Err Device }
 {
-    match certify_min_placed(alloc, instance, placed) {
-        Ok(MinDecision::Optimal(potentials)) => Ok(Produced {
-            made: Made::Slack(potentials),
-            told: Told::Yes(Verdict::Min(placed.value)),
-        }),
-        Ok(MinDecision::Better(flow)) => refuse_least(alloc, instance, &flow, placed.value_line),
-        Err(error) => report_alone(answer_told(Err(error))),
+    match certify_min_placed(alloc, instance, placed)? {
+        MinDecision::Optimal(potentials) => {
+            let report = Report::Yes(Verdict::Min(placed.value));
+            Ok(Outcome::certified(Made::Potentials(potentials), report))
+        }
+        MinDecision::Better(flow) => refuse_least(alloc, instance, &flow, placed.value_line),
     }
 }
 
@@ -187,19 +176,17 @@ fn refuse_maximum<N: Network>(
     instance: &MaxInstance<N>,
     flow: Flow,
     value_line: u64,
-) -> Result<Produced, RunError>
+) -> Result<Outcome, Stop>
     requires lawful { IsMax instance.now }
     requires feasible { FeasibleMax instance.now flow }
     ensures certifies { (s : SolutionValue) (x : List ℤ) → IsMaxImproved instance.now s x flow → value_line ≡ s.value_line
-        → MayCertify (CertifiesMaximum instance.now s) result }
-    ensures no_device { result ≢ Err Device }
+        → MayCertify (CertifiesMaximum instance.now s) (settled result) }
+    ensures no_device { settled result ≢ Err Device }
 {
     let flow = improve_max(alloc, instance, flow);
     let solution = max_solution(alloc, instance, &flow)?;
-    Ok(Produced {
-        made: Made::Better(solution),
-        told: Told::No(at_value(value_line), Reason::NotMaximum),
-    })
+    let report = Report::No(at_value(value_line), Reason::NotMaximum);
+    Ok(Outcome::certified(Made::Solution(solution), report))
 }
 
 /// Refuses a claimed cost because `flow` is better, with a solution of `flow` if its cost is in range.
@@ -208,18 +195,18 @@ fn refuse_least<N: Network>(
     instance: &MinInstance<N>,
     flow: &Flow,
     value_line: u64,
-) -> Result<Produced, RunError>
+) -> Result<Outcome, Stop>
     requires { FeasibleMin instance.now flow.now }
     ensures certifies { (s : SolutionValue) (x : List ℤ) → IsMinImproved instance.now s x flow.now → value_line ≡ s.value_line
-        → MayCertify (CertifiesLeast instance.now s) result }
-    ensures no_device { result ≢ Err Device }
+        → MayCertify (CertifiesLeast instance.now s) (settled result) }
+    ensures no_device { settled result ≢ Err Device }
 {
-    let told = Told::No(at_value(value_line), Reason::NotLeast);
+    let report = Report::No(at_value(value_line), Reason::NotLeast);
     let made = match min_solution(alloc, instance, flow)? {
-        Some(solution) => Made::Better(solution),
+        Some(solution) => Made::Solution(solution),
         None => Made::Nothing,
     };
-    Ok(Produced { made, told })
+    Ok(Outcome::certified(made, report))
 }
 
 /// The field of the claimed value on this line.

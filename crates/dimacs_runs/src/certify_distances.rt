@@ -7,13 +7,12 @@ ghost use Rattle.dimacs_runs.specs.declared.outcome.RunError.TheVariants.{Device
 ghost use Rattle.dimacs_runs.specs.Certified.{Certified, CertifiesDistances};
 ghost use Rattle.dimacs_runs.specs.Judgings.{CountsDevices};
 ghost use Rattle.dimacs_runs.specs.inside.Judgings.{HasFault};
-ghost use Rattle.dimacs_runs.specs.inside.Produced.{MayCertify};
+ghost use Rattle.dimacs_runs.specs.inside.Outcomes.{MayCertify, settled};
 
-use crate::outcome::RunError;
-use crate::produced::{Made, Produced, report_alone};
-use crate::refusal::text_name;
+use crate::made::{Made, Outcome};
+use crate::report::Report;
+use crate::stop::Stop;
 use crate::texts_in_turn::read_two;
-use crate::told::{Told, answer_told};
 use dimacs_claims::Distances;
 use dimacs_decide::certify_paths;
 use dimacs_instance::Graph;
@@ -27,15 +26,13 @@ pub(crate) fn certify_distances<P: Source, Q: Source>(
     alloc: Global,
     graph: &mut P,
     distances: &mut Q,
-) -> Result<Produced, RunError>
-    ensures certifies { (a b : List ℕ) → P.coming graph.old ≡ Some a → Q.coming distances.old ≡ Some b → MayCertify (Certified certifies.Paths a b) result }
-    ensures faults { CountsDevices result (P.faults graph.old ∷ Q.faults distances.old ∷ []) (P.faults graph.new ∷ Q.faults distances.new ∷ []) }
+) -> Result<Outcome, Stop>
+    ensures certifies { (a b : List ℕ) → P.coming graph.old ≡ Some a → Q.coming distances.old ≡ Some b → MayCertify (Certified certifies.Paths a b) (settled result) }
+    ensures faults { CountsDevices (settled result) (P.faults graph.old ∷ Q.faults distances.old ∷ []) (P.faults graph.new ∷ Q.faults distances.new ∷ []) }
     ensures stops_at_graph { HasFault kinds.Graph (P.coming graph.old) → distances.new ≡ distances.old }
 {
-    match read_two::<Graph<PlainArcs<WeightArc>>, Distances, P, Q>(alloc, graph, distances) {
-        Ok((graph, distances)) => answer_distances(alloc, &graph, &distances),
-        Err(unread) => report_alone(unread.told()),
-    }
+    let (graph, distances): (Graph<PlainArcs<WeightArc>>, _) = read_two(alloc, graph, distances)?;
+    answer_distances(alloc, &graph, &distances)
 }
 
 /// Decides about distances claimed of a graph. Refuses distances of a graph with another number of nodes.
@@ -43,14 +40,14 @@ fn answer_distances<N: Network>(
     alloc: Global,
     graph: &Graph<N>,
     distances: &Distances,
-) -> Result<Produced, RunError>
-    ensures certifies { MayCertify (CertifiesDistances graph.now distances.now) result }
-    ensures no_device { result ≢ Err Device }
+) -> Result<Outcome, Stop>
+    ensures certifies { MayCertify (CertifiesDistances graph.now distances.now) (settled result) }
+    ensures no_device { settled result ≢ Err Device }
 {
     if distances.nodes() != graph.network().nodes() {
         let at = At { line: 0, field: 0 };
-        let told = Told::Fault(text_name(TextKind::Distances), at, Reason::NodesDiffer);
-        return report_alone(Ok(told));
+        let report = Report::Fault(TextKind::Distances, at, Reason::NodesDiffer);
+        return Err(Stop::Report(report));
     }
     answer_blocks(alloc, graph, distances)
 }
@@ -60,16 +57,12 @@ fn answer_blocks<N: Network>(
     alloc: Global,
     graph: &Graph<N>,
     distances: &Distances,
-) -> Result<Produced, RunError>
+) -> Result<Outcome, Stop>
     requires { distances.now.nodes ≡ graph.now.nodes }
-    ensures certifies { MayCertify (CertifiesDistances graph.now distances.now) result }
-    ensures no_device { result ≢ Err Device }
+    ensures certifies { MayCertify (CertifiesDistances graph.now distances.now) (settled result) }
+    ensures no_device { settled result ≢ Err Device }
 {
-    match certify_paths(alloc, graph, distances) {
-        Ok(labels) => Ok(Produced {
-            made: Made::Distances(labels),
-            told: Told::Distances(distances.blocks().len() as u32),
-        }),
-        Err(error) => report_alone(answer_told(Err(error))),
-    }
+    let labels = certify_paths(alloc, graph, distances)?;
+    let report = Report::Distances(distances.blocks().len() as u32);
+    Ok(Outcome::certified(Made::Labels(labels), report))
 }

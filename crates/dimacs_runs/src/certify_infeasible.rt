@@ -6,13 +6,12 @@ ghost use Rattle.dimacs_runs.specs.declared.jobs.CertifyKind.TheVariants as cert
 ghost use Rattle.dimacs_runs.specs.declared.outcome.RunError.TheVariants.{Device};
 ghost use Rattle.dimacs_runs.specs.Certified.{Certified, CertifiesInfeasible};
 ghost use Rattle.dimacs_runs.specs.Judgings.{CountsDevices};
-ghost use Rattle.dimacs_runs.specs.inside.Produced.{MayCertify};
+ghost use Rattle.dimacs_runs.specs.inside.Outcomes.{MayCertify, settled};
 
-use crate::outcome::RunError;
-use crate::produced::{Made, Produced, report_alone};
-use crate::refusal::text_name;
+use crate::made::{Made, Outcome};
+use crate::report::Report;
+use crate::stop::Stop;
 use crate::texts_in_turn::read;
-use crate::told::Told;
 use dimacs_decide::{Feasibility, decide_infeasible};
 use dimacs_instance::MinInstance;
 use dimacs_judge::{Flow, Verdict, min_solution};
@@ -25,29 +24,24 @@ use std::alloc::Global;
 pub(crate) fn certify_infeasible<P: Source>(
     alloc: Global,
     instance: &mut P,
-) -> Result<Produced, RunError>
-    ensures certifies { (a : List ℕ) → P.coming instance.old ≡ Some a → MayCertify (Certified certifies.Infeasible a []) result }
-    ensures faults { CountsDevices result (P.faults instance.old ∷ []) (P.faults instance.new ∷ []) }
+) -> Result<Outcome, Stop>
+    ensures certifies { (a : List ℕ) → P.coming instance.old ≡ Some a → MayCertify (Certified certifies.Infeasible a []) (settled result) }
+    ensures faults { CountsDevices (settled result) (P.faults instance.old ∷ []) (P.faults instance.new ∷ []) }
 {
-    match read::<MinInstance<PlainArcs<ArcView>>, P>(alloc, instance) {
-        Ok(instance) => answer_infeasible(alloc, &instance),
-        Err(unread) => report_alone(unread.told()),
-    }
+    let instance: MinInstance<PlainArcs<ArcView>> = read(alloc, instance)?;
+    answer_infeasible(alloc, &instance)
 }
 
 /// Decides whether a flow is feasible.
-fn answer_infeasible<N: Network>(
-    alloc: Global,
-    instance: &MinInstance<N>,
-) -> Result<Produced, RunError>
-    ensures certifies { MayCertify (CertifiesInfeasible instance.now) result }
-    ensures no_device { result ≢ Err Device }
+fn answer_infeasible<N: Network>(alloc: Global, instance: &MinInstance<N>) -> Result<Outcome, Stop>
+    ensures certifies { MayCertify (CertifiesInfeasible instance.now) (settled result) }
+    ensures no_device { settled result ≢ Err Device }
 {
     match decide_infeasible(alloc, instance)? {
-        Feasibility::Infeasible(set) => Ok(Produced {
-            made: Made::Set(set),
-            told: Told::Yes(Verdict::Infeasible),
-        }),
+        Feasibility::Infeasible(set) => {
+            let report = Report::Yes(Verdict::Infeasible);
+            Ok(Outcome::certified(Made::Cut(set), report))
+        }
         Feasibility::Feasible(flow) => refuse_infeasible(alloc, instance, &flow),
     }
 }
@@ -57,16 +51,16 @@ fn refuse_infeasible<N: Network>(
     alloc: Global,
     instance: &MinInstance<N>,
     flow: &Flow,
-) -> Result<Produced, RunError>
+) -> Result<Outcome, Stop>
     requires { FeasibleMin instance.now flow.now }
-    ensures certifies { MayCertify (CertifiesInfeasible instance.now) result }
-    ensures no_device { result ≢ Err Device }
+    ensures certifies { MayCertify (CertifiesInfeasible instance.now) (settled result) }
+    ensures no_device { settled result ≢ Err Device }
 {
     let made = match min_solution(alloc, instance, flow)? {
-        Some(solution) => Made::Better(solution),
+        Some(solution) => Made::Solution(solution),
         None => Made::Nothing,
     };
     let at = At { line: 0, field: 0 };
-    let told = Told::Fault(text_name(TextKind::Min), at, Reason::Feasible);
-    Ok(Produced { made, told })
+    let report = Report::Fault(TextKind::Min, at, Reason::Feasible);
+    Ok(Outcome::certified(made, report))
 }

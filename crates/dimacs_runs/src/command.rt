@@ -1,16 +1,16 @@
-//! The command, from its arguments to its exit status.
+//! The command, from its arguments to the end of its run.
 
-ghost use Rattle.std.specs.Prelude.{◌≡◌, map};
+ghost use Rattle.std.specs.Prelude.{map};
 ghost use Rattle.std.specs.String.{string_bytes};
-ghost use Rattle.dimacs_runs.specs.Commands.{Commands, RunsJob, ending_of, seen_by};
+ghost use Rattle.dimacs_runs.specs.Commands.{Commands, RunsJob, seen_by};
 ghost use Rattle.dimacs_runs.specs.inside.Commands.{HasFiles};
 
-use crate::failure::{CommandError, Failure};
+use crate::failure::CommandError;
 use crate::files::Files;
 use crate::jobs::Job;
-use crate::outcome::{RunError, Status, exit_status};
+use crate::outcome::Status;
 use crate::runs_that_certify::certify_files;
-use crate::runs_that_read::{judge_files, tell_file};
+use crate::runs_that_read::{judge_files, print_file};
 use crate::runs_that_spread::spread_files;
 use crate::runs_that_write::solve_files;
 use crate::text::TextForm;
@@ -18,41 +18,8 @@ use crate::words::job;
 use dimacs_lines::Sink;
 use std::alloc::Global;
 
-/// The exit status if the arguments ask for no run.
-pub const NO_RUN: u8 = 2;
-
-/// How the command ended.
-#[derive(Clone, Copy, Debug, PartialEq, Eq)]
-pub struct Ending<'a> {
-    /// The exit status.
-    pub status: u8,
-    /// The call that failed; some exactly if the status is 3.
-    pub failure: Option<Failure<'a>>,
-}
-
-impl<'a> Ending<'a> {
-    /// The end of a command by the result of its run.
-    fn of(ended: Result<Status, CommandError<'a>>) -> Ending<'a>
-        ensures { result ≡ ending_of ended.entry }
-    {
-        match ended {
-            Ok(status) => Ending {
-                status: exit_status(&Ok(status)),
-                failure: None,
-            },
-            Err(CommandError::Device(failure)) => Ending {
-                status: exit_status(&Err(RunError::Device)),
-                failure: Some(failure),
-            },
-            Err(CommandError::Memory) => Ending {
-                status: exit_status(&Err(RunError::Memory)),
-                failure: None,
-            },
-        }
-    }
-}
-
-/// Runs what the arguments (without the program's name) ask for. `output` is the standard output.
+/// Runs what the arguments (without the program's name) ask for; none if they ask for no run. `output` is the standard
+/// output.
 ///
 /// The files to read are opened first, then those to write are created, each in the order of the arguments. The first
 /// that can't be opened or created ends the run. Certifying and spreading create their file later: after those that
@@ -62,18 +29,13 @@ pub fn run_command<'a, F: Files, K: Sink>(
     words: &'a [String],
     files: &mut F,
     output: &mut K,
-) -> Ending<'a>
+) -> Option<Result<Status, CommandError<'a>>>
     ensures commands { Commands (map string_bytes words.now) (F.holds files.old) F.empty result
         (seen_by (F.seen files.old) (K.seen output.old))
         (seen_by (F.seen files.new) (K.seen output.new)) }
 {
-    match job(words) {
-        Some(wanted) => Ending::of(run_job(alloc, wanted, files, output)),
-        None => Ending {
-            status: NO_RUN,
-            failure: None,
-        },
-    }
+    let wanted = job(words)?;
+    Some(run_job(alloc, wanted, files, output))
 }
 
 /// Runs a job over its files.
@@ -90,9 +52,9 @@ fn run_job<'a, F: Files, K: Sink>(
 {
     match job {
         Job::Convert(kind, name) => {
-            tell_file(alloc, TextForm::Canonical, kind, name, files, output)
+            print_file(alloc, TextForm::Canonical, kind, name, files, output)
         }
-        Job::Show(kind, name) => tell_file(alloc, TextForm::Summary, kind, name, files, output),
+        Job::Show(kind, name) => print_file(alloc, TextForm::Summary, kind, name, files, output),
         Job::Judge(kind, names) => judge_files(alloc, kind, names, files, output),
         Job::Certify(kind, names) => certify_files(alloc, kind, names, files, output),
         Job::Spread(kind, names) => spread_files(alloc, kind, names, files, output),

@@ -12,16 +12,21 @@ ghost use Rattle.dimacs_runs.specs.Judged.{IsClaim, Judged, claim_kind, instance
 ghost use Rattle.dimacs_runs.specs.Judgings.{CountsDevices};
 ghost use Rattle.dimacs_runs.specs.Runs.{Reports};
 ghost use Rattle.dimacs_runs.specs.inside.Judgings.{HasFault};
-ghost use Rattle.dimacs_runs.specs.inside.Told.{ToldAlone};
+ghost use Rattle.dimacs_runs.specs.inside.Outcomes.{MayReport, settled};
+ghost use Rattle.dimacs_runs.specs.inside.Outcomes as outcomes;
 
+use crate::discard::Discard;
 use crate::jobs::JudgeKind;
+use crate::made::{Outcome, write_outcome};
 use crate::outcome::{RunError, Status};
+use crate::report::Report;
+use crate::stop::{Stop, settle};
 use crate::texts_in_turn::{read, read_placed, read_three, read_two};
-use crate::told::{Told, answer_told, put_told};
 use dimacs_claims::{Cut, Labels, Potentials};
 use dimacs_instance::{Graph, MaxInstance, MinInstance, Queries};
 use dimacs_judge::{
-    FlowPlaces, index_for, judge_infeasible, judge_max_placed, judge_min_placed, judge_paths,
+    FlowPlaces, JudgeError, Verdict, index_for, judge_infeasible, judge_max_placed,
+    judge_min_placed, judge_paths,
 };
 use dimacs_lines::{Sink, Source};
 use dimacs_network::{ArcView, CapacityArc, PlainArcs, WeightArc};
@@ -55,107 +60,97 @@ pub fn run_judge<P: Source, Q: Source, R: Source, K: Sink>(
         → Q.coming claim.old ≡ Some b → Fault claimed (lines b) l f r → certificate.new ≡ certificate.old }
     ensures unclaimed { kind ≡ judges.Infeasible → claim.new ≡ claim.old }
 {
-    let told = match kind {
-        JudgeKind::Max => tell_max(alloc, instance, claim, certificate),
-        JudgeKind::Min => tell_min(alloc, instance, claim, certificate),
-        JudgeKind::Infeasible => tell_infeasible(alloc, instance, certificate),
-        JudgeKind::Paths => tell_paths(alloc, instance, claim, certificate),
+    let answer = match kind {
+        JudgeKind::Max => report_max(alloc, instance, claim, certificate),
+        JudgeKind::Min => report_min(alloc, instance, claim, certificate),
+        JudgeKind::Infeasible => report_infeasible(alloc, instance, certificate),
+        JudgeKind::Paths => report_paths(alloc, instance, claim, certificate),
     };
-    put_told(told, sink)
+    write_outcome(settle(answer), &mut Discard, &mut Discard, sink)
+}
+
+/// What follows from a judge's answer.
+fn judged(answer: Result<Verdict, JudgeError>) -> Result<Outcome, Stop>
+    ensures { result ≡ outcomes.judged answer }
+{
+    Ok(Outcome::reporting(Report::Yes(answer?)))
 }
 
 /// Judges a claimed maximum flow, by a cut.
-fn tell_max<P: Source, Q: Source, R: Source>(
+fn report_max<P: Source, Q: Source, R: Source>(
     alloc: Global,
     instance: &mut P,
     claim: &mut Q,
     certificate: &mut R,
-) -> Result<Told, RunError>
-    ensures told { (a b c : List ℕ) → P.coming instance.old ≡ Some a → Q.coming claim.old ≡ Some b
-        → R.coming certificate.old ≡ Some c → ToldAlone (Judged judges.Max a b c) result }
-    ensures faults { CountsDevices result (P.faults instance.old ∷ Q.faults claim.old ∷ R.faults certificate.old ∷ [])
+) -> Result<Outcome, Stop>
+    ensures reports { (a b c : List ℕ) → P.coming instance.old ≡ Some a → Q.coming claim.old ≡ Some b
+        → R.coming certificate.old ≡ Some c → MayReport (Judged judges.Max a b c) (settled result) }
+    ensures faults { CountsDevices (settled result) (P.faults instance.old ∷ Q.faults claim.old ∷ R.faults certificate.old ∷ [])
         (P.faults instance.new ∷ Q.faults claim.new ∷ R.faults certificate.new ∷ []) }
     ensures stops_at_instance { HasFault kinds.Max (P.coming instance.old) → (claim.new ≡ claim.old) × (certificate.new ≡ certificate.old) }
     ensures stops_at_claim { HasFault kinds.Solution (Q.coming claim.old) → certificate.new ≡ certificate.old }
 {
-    let instance = match read::<MaxInstance<PlainArcs<CapacityArc>>, P>(alloc, instance) {
-        Ok(instance) => instance,
-        Err(unread) => return unread.told(),
-    };
+    let instance: MaxInstance<PlainArcs<CapacityArc>> = read(alloc, instance)?;
     let places = FlowPlaces::new(alloc, instance.network())?;
-    match read_placed::<_, Cut, Q, R>(alloc, places, claim, certificate) {
-        Ok((placed, cut)) => answer_told(judge_max_placed(alloc, &instance, &placed, &cut)),
-        Err(unread) => unread.told(),
-    }
+    let (placed, cut) = read_placed(alloc, places, claim, certificate)?;
+    judged(judge_max_placed(alloc, &instance, &placed, &cut))
 }
 
 /// Judges a claimed flow of least cost, by potentials.
-fn tell_min<P: Source, Q: Source, R: Source>(
+fn report_min<P: Source, Q: Source, R: Source>(
     alloc: Global,
     instance: &mut P,
     claim: &mut Q,
     certificate: &mut R,
-) -> Result<Told, RunError>
-    ensures told { (a b c : List ℕ) → P.coming instance.old ≡ Some a → Q.coming claim.old ≡ Some b
-        → R.coming certificate.old ≡ Some c → ToldAlone (Judged judges.Min a b c) result }
-    ensures faults { CountsDevices result (P.faults instance.old ∷ Q.faults claim.old ∷ R.faults certificate.old ∷ [])
+) -> Result<Outcome, Stop>
+    ensures reports { (a b c : List ℕ) → P.coming instance.old ≡ Some a → Q.coming claim.old ≡ Some b
+        → R.coming certificate.old ≡ Some c → MayReport (Judged judges.Min a b c) (settled result) }
+    ensures faults { CountsDevices (settled result) (P.faults instance.old ∷ Q.faults claim.old ∷ R.faults certificate.old ∷ [])
         (P.faults instance.new ∷ Q.faults claim.new ∷ R.faults certificate.new ∷ []) }
     ensures stops_at_instance { HasFault kinds.Min (P.coming instance.old) → (claim.new ≡ claim.old) × (certificate.new ≡ certificate.old) }
     ensures stops_at_claim { HasFault kinds.Solution (Q.coming claim.old) → certificate.new ≡ certificate.old }
 {
-    let instance = match read::<MinInstance<PlainArcs<ArcView>>, P>(alloc, instance) {
-        Ok(instance) => instance,
-        Err(unread) => return unread.told(),
-    };
+    let instance: MinInstance<PlainArcs<ArcView>> = read(alloc, instance)?;
     let places = FlowPlaces::new(alloc, instance.network())?;
-    match read_placed::<_, Potentials, Q, R>(alloc, places, claim, certificate) {
-        Ok((placed, potentials)) => answer_told(judge_min_placed(
-            alloc,
-            &instance,
-            &placed,
-            &potentials,
-        )),
-        Err(unread) => unread.told(),
-    }
+    let (placed, potentials) = read_placed(alloc, places, claim, certificate)?;
+    judged(judge_min_placed(alloc, &instance, &placed, &potentials))
 }
 
 /// Judges that no flow is feasible, by a set of nodes whose supply can't be met.
-fn tell_infeasible<P: Source, R: Source>(
+fn report_infeasible<P: Source, R: Source>(
     alloc: Global,
     instance: &mut P,
     certificate: &mut R,
-) -> Result<Told, RunError>
-    ensures told { (a c : List ℕ) → P.coming instance.old ≡ Some a → R.coming certificate.old ≡ Some c → ToldAlone (Judged judges.Infeasible a [] c) result }
-    ensures faults { CountsDevices result (P.faults instance.old ∷ R.faults certificate.old ∷ []) (P.faults instance.new ∷ R.faults certificate.new ∷ []) }
+) -> Result<Outcome, Stop>
+    ensures reports { (a c : List ℕ) → P.coming instance.old ≡ Some a → R.coming certificate.old ≡ Some c → MayReport (Judged judges.Infeasible a [] c) (settled result) }
+    ensures faults { CountsDevices (settled result) (P.faults instance.old ∷ R.faults certificate.old ∷ []) (P.faults instance.new ∷ R.faults certificate.new ∷ []) }
     ensures stops_at_instance { HasFault kinds.Min (P.coming instance.old) → certificate.new ≡ certificate.old }
 {
-    match read_two::<MinInstance<PlainArcs<ArcView>>, Cut, P, R>(alloc, instance, certificate) {
-        Ok((instance, set)) => answer_told(judge_infeasible(&instance, &set)),
-        Err(unread) => unread.told(),
-    }
+    let (instance, set): (MinInstance<PlainArcs<ArcView>>, _) = read_two(
+        alloc,
+        instance,
+        certificate,
+    )?;
+    judged(judge_infeasible(&instance, &set))
 }
 
 /// Judges the answers to queries, by labels.
-fn tell_paths<P: Source, Q: Source, R: Source>(
+fn report_paths<P: Source, Q: Source, R: Source>(
     alloc: Global,
     graph: &mut P,
     queries: &mut Q,
     labels: &mut R,
-) -> Result<Told, RunError>
-    ensures told { (a b c : List ℕ) → P.coming graph.old ≡ Some a → Q.coming queries.old ≡ Some b
-        → R.coming labels.old ≡ Some c → ToldAlone (Judged judges.Paths a b c) result }
-    ensures faults { CountsDevices result (P.faults graph.old ∷ Q.faults queries.old ∷ R.faults labels.old ∷ [])
+) -> Result<Outcome, Stop>
+    ensures reports { (a b c : List ℕ) → P.coming graph.old ≡ Some a → Q.coming queries.old ≡ Some b
+        → R.coming labels.old ≡ Some c → MayReport (Judged judges.Paths a b c) (settled result) }
+    ensures faults { CountsDevices (settled result) (P.faults graph.old ∷ Q.faults queries.old ∷ R.faults labels.old ∷ [])
         (P.faults graph.new ∷ Q.faults queries.new ∷ R.faults labels.new ∷ []) }
     ensures stops_at_instance { HasFault kinds.Graph (P.coming graph.old) → (queries.new ≡ queries.old) × (labels.new ≡ labels.old) }
     ensures stops_at_claim { HasFault kinds.Queries (Q.coming queries.old) → labels.new ≡ labels.old }
 {
-    match read_three::<Graph<PlainArcs<WeightArc>>, Queries, Labels, P, Q, R>(
+    let (graph, queries, mut labels): (Graph<PlainArcs<WeightArc>>, _, _) = read_three(
         alloc, graph, queries, labels,
-    ) {
-        Ok((graph, queries, mut labels)) => {
-            index_for(&queries, &mut labels)?;
-            answer_told(judge_paths(alloc, &graph, &queries, &labels))
-        }
-        Err(unread) => unread.told(),
-    }
+    )?;
+    index_for(&queries, &mut labels)?;
+    judged(judge_paths(alloc, &graph, &queries, &labels))
 }

@@ -59,13 +59,16 @@ pub fn exit_status(outcome: &Result<Status, RunError>) -> u8
     }
 }
 
+/// The exit status if the arguments ask for no run.
+pub const NO_RUN: u8 = 2;
+
 /// The line on the standard error for an exit status; none for 0, 1 and 5.
 pub fn complaint(status: u8) -> Option<&'static str>
     ensures told { IfSome result (λ line. complaint_of status ≡ Some line.now) }
     ensures untold { IfNone result (complaint_of status ≡ None) }
 {
     match status {
-        2 => Some("dimacs: usage"),
+        NO_RUN => Some("dimacs: usage"),
         3 => Some("dimacs: device fault"),
         4 => Some("dimacs: out of memory"),
         _ => None,

@@ -13,9 +13,10 @@ use crate::failure::{CommandError, name_failure};
 use crate::files::Files;
 use crate::in_use::{close_read, open};
 use crate::jobs::CertifyKind;
-use crate::made_files::put_made;
+use crate::made::Outcome;
+use crate::made_files::write_made;
 use crate::outcome::Status;
-use crate::produced::Produced;
+use crate::stop::settle;
 use dimacs_lines::Sink;
 use std::alloc::Global;
 
@@ -109,8 +110,8 @@ fn certify_instance<'a, F: Files, K: Sink>(
         (seen_by (F.seen files.old) (K.seen output.old))
         (seen_by (F.seen files.new) (K.seen output.new)) }
 {
-    let produced = answer_instance(alloc, instance, files)?;
-    put_made(produced, set, files, output)
+    let outcome = answer_instance(alloc, instance, files)?;
+    write_made(outcome, set, files, output)
 }
 
 /// Certifies a claim, and writes the certificate, or a better solution, to a file if one is named.
@@ -127,8 +128,8 @@ fn certify_pair<'a, F: Files, K: Sink>(
         (seen_by (F.seen files.old) (K.seen output.old))
         (seen_by (F.seen files.new) (K.seen output.new)) }
 {
-    let produced = answer_pair(alloc, kind, instance, claim, files)?;
-    put_made(produced, certificate, files, output)
+    let outcome = answer_pair(alloc, kind, instance, claim, files)?;
+    write_made(outcome, certificate, files, output)
 }
 
 /// Opens the file of the instance, certifies that no flow is feasible, and closes the file.
@@ -136,11 +137,11 @@ fn answer_instance<'a, F: Files>(
     alloc: Global,
     instance: &'a str,
     files: &mut F,
-) -> Result<Produced, CommandError<'a>>
+) -> Result<Outcome, CommandError<'a>>
     ensures answers { AnswersFiles (instance.now ∷ []) (F.holds files.old) (MakesCertificate certifies.Infeasible) result (F.seen files.old) (F.seen files.new) }
 {
     let mut instance = open(files, instance)?;
-    let answer = certify_infeasible(alloc, &mut instance.device);
+    let answer = settle(certify_infeasible(alloc, &mut instance.device));
     let failure = close_read(files, instance);
     name_failure(answer, failure)
 }
@@ -152,7 +153,7 @@ fn answer_pair<'a, F: Files>(
     instance: &'a str,
     claim: &'a str,
     files: &mut F,
-) -> Result<Produced, CommandError<'a>>
+) -> Result<Outcome, CommandError<'a>>
     ensures answers { AnswersFiles (instance.now ∷ claim.now ∷ []) (F.holds files.old) (MakesCertificate kind) result (F.seen files.old) (F.seen files.new) }
 {
     let mut instance = open(files, instance)?;

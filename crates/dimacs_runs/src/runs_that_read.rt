@@ -3,9 +3,9 @@
 ghost use Rattle.std.specs.Prelude.{◌≡◌, ◌∷◌, [], length, map};
 ghost use Rattle.std.specs.String.{string_bytes};
 ghost use Rattle.dimacs_runs.specs.declared.jobs.JudgeKind.TheVariants as judges;
-ghost use Rattle.dimacs_runs.specs.Commands.{RunsFiles, TellsJudged, TellsOne, reads, seen_by};
+ghost use Rattle.dimacs_runs.specs.Commands.{RunsFiles, ReportsJudged, ReportsOne, reads, seen_by};
 ghost use Rattle.dimacs_runs.specs.Jobs.{file_count};
-ghost use Rattle.dimacs_runs.specs.Runs.{Told};
+ghost use Rattle.dimacs_runs.specs.Runs.{Prints};
 
 use crate::failure::{CommandError, name_failure};
 use crate::files::Files;
@@ -19,7 +19,7 @@ use dimacs_records::TextKind;
 use std::alloc::Global;
 
 /// Prints the text in the file with this name, in this form.
-pub(crate) fn tell_file<'a, F: Files, K: Sink>(
+pub(crate) fn print_file<'a, F: Files, K: Sink>(
     alloc: Global,
     form: TextForm,
     kind: TextKind,
@@ -27,7 +27,7 @@ pub(crate) fn tell_file<'a, F: Files, K: Sink>(
     files: &mut F,
     output: &mut K,
 ) -> Result<Status, CommandError<'a>>
-    ensures runs { RunsFiles (reads (name.now ∷ [])) (F.holds files.old) F.empty (TellsOne (Told form kind)) result
+    ensures runs { RunsFiles (reads (name.now ∷ [])) (F.holds files.old) F.empty (ReportsOne (Prints form kind)) result
         (seen_by (F.seen files.old) (K.seen output.old))
         (seen_by (F.seen files.new) (K.seen output.new)) }
 {
@@ -46,7 +46,7 @@ pub(crate) fn judge_files<'a, F: Files, K: Sink>(
     output: &mut K,
 ) -> Result<Status, CommandError<'a>>
     requires { length names.now ≡ file_count kind }
-    ensures runs { RunsFiles (reads (map string_bytes names.now)) (F.holds files.old) F.empty (TellsJudged kind) result
+    ensures runs { RunsFiles (reads (map string_bytes names.now)) (F.holds files.old) F.empty (ReportsJudged kind) result
         (seen_by (F.seen files.old) (K.seen output.old))
         (seen_by (F.seen files.new) (K.seen output.new)) }
 {
@@ -80,7 +80,7 @@ fn judge_claim<'a, F: Files, K: Sink>(
     files: &mut F,
     output: &mut K,
 ) -> Result<Status, CommandError<'a>>
-    ensures runs { RunsFiles (reads (instance.now ∷ claim.now ∷ certificate.now ∷ [])) (F.holds files.old) F.empty (TellsJudged kind) result
+    ensures runs { RunsFiles (reads (instance.now ∷ claim.now ∷ certificate.now ∷ [])) (F.holds files.old) F.empty (ReportsJudged kind) result
         (seen_by (F.seen files.old) (K.seen output.old))
         (seen_by (F.seen files.new) (K.seen output.new)) }
 {
@@ -109,7 +109,7 @@ fn judge_set<'a, F: Files, K: Sink>(
     files: &mut F,
     output: &mut K,
 ) -> Result<Status, CommandError<'a>>
-    ensures runs { RunsFiles (reads (instance.now ∷ set.now ∷ [])) (F.holds files.old) F.empty (TellsJudged judges.Infeasible) result
+    ensures runs { RunsFiles (reads (instance.now ∷ set.now ∷ [])) (F.holds files.old) F.empty (ReportsJudged judges.Infeasible) result
         (seen_by (F.seen files.old) (K.seen output.old))
         (seen_by (F.seen files.new) (K.seen output.new)) }
 {

@@ -9,9 +9,9 @@ use crate::failure::{CommandError, name_failure};
 use crate::files::Files;
 use crate::in_use::{close_read, open};
 use crate::jobs::SpreadKind;
-use crate::made_files::put_made;
+use crate::made::Outcome;
+use crate::made_files::write_made;
 use crate::outcome::Status;
-use crate::produced::Produced;
 use crate::spread::spread_claim;
 use dimacs_lines::Sink;
 use std::alloc::Global;
@@ -57,8 +57,8 @@ fn spread_into<'a, F: Files, K: Sink>(
         (seen_by (F.seen files.old) (K.seen output.old))
         (seen_by (F.seen files.new) (K.seen output.new)) }
 {
-    let produced = answer_claim(alloc, kind, instance, claim, files)?;
-    put_made(produced, Some(solution), files, output)
+    let outcome = answer_claim(alloc, kind, instance, claim, files)?;
+    write_made(outcome, Some(solution), files, output)
 }
 
 /// Opens the files of the instance and the claim, deals out the flow, and closes the files.
@@ -68,7 +68,7 @@ fn answer_claim<'a, F: Files>(
     instance: &'a str,
     claim: &'a str,
     files: &mut F,
-) -> Result<Produced, CommandError<'a>>
+) -> Result<Outcome, CommandError<'a>>
     ensures answers { AnswersFiles (instance.now ∷ claim.now ∷ []) (F.holds files.old) (MakesSpread kind) result (F.seen files.old) (F.seen files.new) }
 {
     let mut instance = open(files, instance)?;

@@ -3,7 +3,7 @@
 ghost use Rattle.std.specs.Prelude.{◌≡◌, ◌≢◌, ◌∷◌, [], length, map};
 ghost use Rattle.std.specs.String.{string_bytes};
 ghost use Rattle.dimacs_runs.specs.declared.jobs.SolveJob.TheVariants as solves;
-ghost use Rattle.dimacs_runs.specs.Commands.{RunsFiles, TellsSolved, read_count, reads_first, seen_by};
+ghost use Rattle.dimacs_runs.specs.Commands.{RunsFiles, WritesSolved, read_count, reads_first, seen_by};
 
 use crate::discard::Discard;
 use crate::failure::{CommandError, name_failure};
@@ -24,7 +24,7 @@ pub(crate) fn solve_files<'a, F: Files, K: Sink>(
     output: &mut K,
 ) -> Result<Status, CommandError<'a>>
     requires { length names.now ≡ 3 }
-    ensures runs { RunsFiles (reads_first (read_count job) (map string_bytes names.now)) (F.holds files.old) F.empty (TellsSolved job) result
+    ensures runs { RunsFiles (reads_first (read_count job) (map string_bytes names.now)) (F.holds files.old) F.empty (WritesSolved job) result
         (seen_by (F.seen files.old) (K.seen output.old))
         (seen_by (F.seen files.new) (K.seen output.new)) }
 {
@@ -49,7 +49,7 @@ fn solve_flow<'a, F: Files, K: Sink>(
     output: &mut K,
 ) -> Result<Status, CommandError<'a>>
     requires { job ≢ solves.Paths }
-    ensures runs { RunsFiles (reads_first 1 (instance.now ∷ claim.now ∷ certificate.now ∷ [])) (F.holds files.old) F.empty (TellsSolved job) result
+    ensures runs { RunsFiles (reads_first 1 (instance.now ∷ claim.now ∷ certificate.now ∷ [])) (F.holds files.old) F.empty (WritesSolved job) result
         (seen_by (F.seen files.old) (K.seen output.old))
         (seen_by (F.seen files.new) (K.seen output.new)) }
 {
@@ -86,7 +86,7 @@ fn solve_distances<'a, F: Files, K: Sink>(
     files: &mut F,
     output: &mut K,
 ) -> Result<Status, CommandError<'a>>
-    ensures runs { RunsFiles (reads_first 2 (graph.now ∷ queries.now ∷ labels.now ∷ [])) (F.holds files.old) F.empty (TellsSolved solves.Paths) result
+    ensures runs { RunsFiles (reads_first 2 (graph.now ∷ queries.now ∷ labels.now ∷ [])) (F.holds files.old) F.empty (WritesSolved solves.Paths) result
         (seen_by (F.seen files.old) (K.seen output.old))
         (seen_by (F.seen files.new) (K.seen output.new)) }
 {

@@ -7,25 +7,26 @@ ghost use Rattle.dimacs_records.specs.declared.reasons.Reason.{Reason};
 ghost use Rattle.dimacs_records.specs.Faults.{Fault};
 ghost use Rattle.dimacs_instance.specs.QueryTexts.{AreLawful, asked};
 ghost use Rattle.dimacs_runs.specs.declared.jobs.SolveJob.TheVariants as jobs;
+ghost use Rattle.dimacs_runs.specs.declared.made.Made.TheVariants.{Nothing};
 ghost use Rattle.dimacs_runs.specs.declared.outcome.RunError.TheVariants.{Device, Memory};
 ghost use Rattle.dimacs_runs.specs.Judgings.{CountsDevices};
-ghost use Rattle.dimacs_runs.specs.Outputs.{MayTell, ReportsAll};
+ghost use Rattle.dimacs_runs.specs.Outputs.{MayWrite, ReportsAll};
 ghost use Rattle.dimacs_runs.specs.inside.Judgings.{HasFault};
-ghost use Rattle.dimacs_runs.specs.inside.Produced.{IsClaimless, MayProduce};
+ghost use Rattle.dimacs_runs.specs.inside.Outcomes.{MayProduce, settled};
+ghost use Rattle.dimacs_runs.specs.inside.Outcomes as outcomes;
 ghost use Rattle.dimacs_runs.specs.Solved.{AreQueries, FindsPaths, Solved, solved_kind};
 
 use crate::jobs::SolveJob;
+use crate::made::{Made, Outcome, write_outcome};
 use crate::outcome::{RunError, Status};
-use crate::produced::{
-    Made, Produced, least_answered, maximum_answered, put_produced, refused, report_alone,
-};
+use crate::report::Report;
+use crate::stop::{Stop, settle};
 use crate::texts_in_turn::{read, read_two};
-use crate::told::Told;
 use dimacs_instance::{Graph, MaxInstance, MinInstance, Queries};
-use dimacs_judge::{answer_queries, index_for};
+use dimacs_judge::{Verdict, answer_queries, index_for};
 use dimacs_lines::{Sink, Source};
 use dimacs_network::{ArcView, CapacityArc, Network, PlainArcs, WeightArc};
-use dimacs_solve::{solve_max, solve_min, solve_paths};
+use dimacs_solve::{MaxAnswer, MinAnswer, SolveError, solve_max, solve_min, solve_paths};
 use std::alloc::Global;
 
 /// Reads an instance, and writes a claim about it, its certificate and the judge's verdict on them, in this order. If
@@ -46,7 +47,7 @@ pub fn run_solve<P: Source, Q: Source, C: Sink, D: Sink, K: Sink>(
     report: &mut K,
 ) -> Result<Status, RunError>
     ensures reports { (a b : List ℕ) → P.coming instance.old ≡ Some a → AreQueries job (Q.coming queries.old) b
-        → ReportsAll (MayTell (Solved job a b)) result
+        → ReportsAll (MayWrite (Solved job a b)) result
         ((C.seen claim_out.old).accepted ∷ (D.seen certificate_out.old).accepted ∷ (K.seen report.old).accepted ∷ [])
         ((C.seen claim_out.new).accepted ∷ (D.seen certificate_out.new).accepted ∷ (K.seen report.new).accepted ∷ []) }
     ensures faults { CountsDevices result (P.faults instance.old ∷ Q.faults queries.old ∷ (C.seen claim_out.old).faults ∷
@@ -61,42 +62,30 @@ pub fn run_solve<P: Source, Q: Source, C: Sink, D: Sink, K: Sink>(
     ensures unqueried { job ≢ jobs.Paths → queries.new ≡ queries.old }
     ensures unclaimed { job ≡ jobs.Paths → claim_out.new ≡ claim_out.old }
 {
-    let produced = match job {
+    let answer = match job {
         SolveJob::Max(limit) => produce_maximum(alloc, limit, instance),
         SolveJob::Min(limit) => produce_least(alloc, limit, instance),
         SolveJob::Paths => produce_labels(alloc, instance, queries),
     };
-    put_produced(produced, claim_out, certificate_out, report)
+    write_outcome(settle(answer), claim_out, certificate_out, report)
 }
 
 /// Finds a maximum flow and a cut.
-fn produce_maximum<P: Source>(
-    alloc: Global,
-    limit: u64,
-    instance: &mut P,
-) -> Result<Produced, RunError>
-    ensures produces { (a : List ℕ) → P.coming instance.old ≡ Some a → MayProduce (Solved (jobs.Max limit) a []) result }
-    ensures faults { CountsDevices result (P.faults instance.old ∷ []) (P.faults instance.new ∷ []) }
+fn produce_maximum<P: Source>(alloc: Global, limit: u64, instance: &mut P) -> Result<Outcome, Stop>
+    ensures produces { (a : List ℕ) → P.coming instance.old ≡ Some a → MayProduce (Solved (jobs.Max limit) a []) (settled result) }
+    ensures faults { CountsDevices (settled result) (P.faults instance.old ∷ []) (P.faults instance.new ∷ []) }
 {
-    match read::<MaxInstance<PlainArcs<CapacityArc>>, P>(alloc, instance) {
-        Ok(instance) => maximum_answered(solve_max(alloc, &instance, limit)),
-        Err(unread) => report_alone(unread.told()),
-    }
+    let instance: MaxInstance<PlainArcs<CapacityArc>> = read(alloc, instance)?;
+    maximum_outcome(solve_max(alloc, &instance, limit))
 }
 
 /// Finds a flow of least cost and potentials, or a set of nodes.
-fn produce_least<P: Source>(
-    alloc: Global,
-    limit: u64,
-    instance: &mut P,
-) -> Result<Produced, RunError>
-    ensures produces { (a : List ℕ) → P.coming instance.old ≡ Some a → MayProduce (Solved (jobs.Min limit) a []) result }
-    ensures faults { CountsDevices result (P.faults instance.old ∷ []) (P.faults instance.new ∷ []) }
+fn produce_least<P: Source>(alloc: Global, limit: u64, instance: &mut P) -> Result<Outcome, Stop>
+    ensures produces { (a : List ℕ) → P.coming instance.old ≡ Some a → MayProduce (Solved (jobs.Min limit) a []) (settled result) }
+    ensures faults { CountsDevices (settled result) (P.faults instance.old ∷ []) (P.faults instance.new ∷ []) }
 {
-    match read::<MinInstance<PlainArcs<ArcView>>, P>(alloc, instance) {
-        Ok(instance) => least_answered(solve_min(alloc, &instance, limit)),
-        Err(unread) => report_alone(unread.told()),
-    }
+    let instance: MinInstance<PlainArcs<ArcView>> = read(alloc, instance)?;
+    least_outcome(solve_min(alloc, &instance, limit))
 }
 
 /// Reads a graph and queries, and finds labels that answer them.
@@ -104,38 +93,63 @@ fn produce_labels<P: Source, Q: Source>(
     alloc: Global,
     graph: &mut P,
     queries: &mut Q,
-) -> Result<Produced, RunError>
-    ensures produces { (a b : List ℕ) → P.coming graph.old ≡ Some a → Q.coming queries.old ≡ Some b → MayProduce (Solved jobs.Paths a b) result }
-    ensures faults { CountsDevices result (P.faults graph.old ∷ Q.faults queries.old ∷ []) (P.faults graph.new ∷ Q.faults queries.new ∷ []) }
+) -> Result<Outcome, Stop>
+    ensures produces { (a b : List ℕ) → P.coming graph.old ≡ Some a → Q.coming queries.old ≡ Some b → MayProduce (Solved jobs.Paths a b) (settled result) }
+    ensures faults { CountsDevices (settled result) (P.faults graph.old ∷ Q.faults queries.old ∷ []) (P.faults graph.new ∷ Q.faults queries.new ∷ []) }
     ensures stops_at_graph { HasFault kinds.Graph (P.coming graph.old) → queries.new ≡ queries.old }
-    ensures unclaimed { IfOk result (λ produced. IsClaimless produced.made) }
+    ensures unclaimed { IfOk (settled result) (λ outcome. outcome.claim ≡ Nothing) }
 {
-    match read_two::<Graph<PlainArcs<WeightArc>>, Queries, P, Q>(alloc, graph, queries) {
-        Ok((graph, queries)) => label(alloc, &graph, &queries),
-        Err(unread) => report_alone(unread.told()),
-    }
+    let (graph, queries): (Graph<PlainArcs<WeightArc>>, _) = read_two(alloc, graph, queries)?;
+    label(alloc, &graph, &queries)
 }
 
 /// Finds labels that answer queries, or refuses.
-fn label<N: Network>(
-    alloc: Global,
-    graph: &Graph<N>,
-    queries: &Queries,
-) -> Result<Produced, RunError>
+fn label<N: Network>(alloc: Global, graph: &Graph<N>, queries: &Queries) -> Result<Outcome, Stop>
     requires lawful { AreLawful (asked queries.now) }
-    ensures produces { MayProduce (FindsPaths graph.now (asked queries.now)) result }
-    ensures no_device { result ≢ Err Device }
-    ensures unclaimed { IfOk result (λ produced. IsClaimless produced.made) }
+    ensures produces { MayProduce (FindsPaths graph.now (asked queries.now)) (settled result) }
+    ensures no_device { settled result ≢ Err Device }
+    ensures unclaimed { IfOk (settled result) (λ outcome. outcome.claim ≡ Nothing) }
 {
-    match solve_paths(alloc, graph, queries) {
-        Ok(mut labels) => {
-            index_for(queries, &mut labels)?;
-            let answers = answer_queries(alloc, queries, &labels)?;
-            Ok(Produced {
-                made: Made::Distances(labels),
-                told: Told::Yes(answers),
+    let mut labels = solve_paths(alloc, graph, queries)?;
+    index_for(queries, &mut labels)?;
+    let answers = answer_queries(alloc, queries, &labels)?;
+    Ok(Outcome::certified(Made::Labels(labels), Report::Yes(answers)))
+}
+
+/// What follows from the solver's answer about a maximum flow.
+fn maximum_outcome(answer: Result<MaxAnswer, SolveError>) -> Result<Outcome, Stop>
+    ensures { result ≡ outcomes.maximum_outcome answer }
+{
+    match answer? {
+        MaxAnswer::Optimal(solution, cut) => {
+            let report = Report::Yes(Verdict::Max(solution.value));
+            Ok(Outcome {
+                claim: Made::Solution(solution),
+                certificate: Made::Cut(cut),
+                report,
             })
         }
-        Err(error) => report_alone(refused(error)),
+        MaxAnswer::GaveUp => Ok(Outcome::reporting(Report::GaveUp)),
+    }
+}
+
+/// What follows from the solver's answer about a flow of least cost.
+fn least_outcome(answer: Result<MinAnswer, SolveError>) -> Result<Outcome, Stop>
+    ensures { result ≡ outcomes.least_outcome answer }
+{
+    match answer? {
+        MinAnswer::Optimal(solution, potentials) => {
+            let report = Report::Yes(Verdict::Min(solution.value));
+            Ok(Outcome {
+                claim: Made::Solution(solution),
+                certificate: Made::Potentials(potentials),
+                report,
+            })
+        }
+        MinAnswer::Infeasible(set) => {
+            let report = Report::Yes(Verdict::Infeasible);
+            Ok(Outcome::certified(Made::Cut(set), report))
+        }
+        MinAnswer::GaveUp => Ok(Outcome::reporting(Report::GaveUp)),
     }
 }

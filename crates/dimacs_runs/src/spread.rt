@@ -9,14 +9,15 @@ ghost use Rattle.dimacs_runs.specs.declared.outcome.RunError.TheVariants.{Device
 ghost use Rattle.dimacs_runs.specs.Judgings.{CountsDevices};
 ghost use Rattle.dimacs_runs.specs.Outputs.{ReportsAll};
 ghost use Rattle.dimacs_runs.specs.Spread.{Spreads, SpreadsClaim};
-ghost use Rattle.dimacs_runs.specs.inside.Produced.{DealsOut, MaySpread};
+ghost use Rattle.dimacs_runs.specs.inside.Outcomes.{DealsOut, IfEnds, settled, unclaimed_texts};
 
 use crate::discard::Discard;
 use crate::jobs::SpreadKind;
+use crate::made::{Made, Outcome, write_outcome};
 use crate::outcome::{RunError, Status};
-use crate::produced::{Made, Produced, put_produced, report_alone};
+use crate::report::Report;
+use crate::stop::{Stop, settle};
 use crate::texts_in_turn::read_two;
-use crate::told::Told;
 use dimacs_claims::Solution;
 use dimacs_instance::{MaxInstance, MinInstance};
 use dimacs_judge::{Flow, JudgeError, entries_for};
@@ -50,8 +51,8 @@ pub fn run_spread<P: Source, Q: Source, C: Sink, K: Sink>(
         → (C.seen solution_out.new ≡ C.seen solution_out.old) × (K.seen report.new ≡ K.seen report.old) }
     ensures memory { result ≡ Err Memory → (C.seen solution_out.new ≡ C.seen solution_out.old) × (K.seen report.new ≡ K.seen report.old) }
 {
-    let produced = spread_claim(alloc, kind, instance, claim);
-    put_produced(produced, &mut Discard, solution_out, report)
+    let outcome = spread_claim(alloc, kind, instance, claim);
+    write_outcome(outcome, &mut Discard, solution_out, report)
 }
 
 /// Deals out a claimed flow.
@@ -60,14 +61,14 @@ pub(crate) fn spread_claim<P: Source, Q: Source>(
     kind: SpreadKind,
     instance: &mut P,
     claim: &mut Q,
-) -> Result<Produced, RunError>
-    ensures spreads { (a b : List ℕ) → P.coming instance.old ≡ Some a → Q.coming claim.old ≡ Some b → MaySpread (Spreads kind a b) result }
+) -> Result<Outcome, RunError>
+    ensures spreads { (a b : List ℕ) → P.coming instance.old ≡ Some a → Q.coming claim.old ≡ Some b → IfEnds unclaimed_texts (Spreads kind a b) result }
     ensures faults { CountsDevices result (P.faults instance.old ∷ Q.faults claim.old ∷ []) (P.faults instance.new ∷ Q.faults claim.new ∷ []) }
 {
-    match kind {
+    settle(match kind {
         SpreadKind::Max => spread_maximum(alloc, instance, claim),
         SpreadKind::Min => spread_least(alloc, instance, claim),
-    }
+    })
 }
 
 /// Deals out a claimed maximum flow.
@@ -75,17 +76,15 @@ fn spread_maximum<P: Source, Q: Source>(
     alloc: Global,
     instance: &mut P,
     claim: &mut Q,
-) -> Result<Produced, RunError>
-    ensures spreads { (a b : List ℕ) → P.coming instance.old ≡ Some a → Q.coming claim.old ≡ Some b → MaySpread (Spreads spreads.Max a b) result }
-    ensures faults { CountsDevices result (P.faults instance.old ∷ Q.faults claim.old ∷ []) (P.faults instance.new ∷ Q.faults claim.new ∷ []) }
+) -> Result<Outcome, Stop>
+    ensures spreads { (a b : List ℕ) → P.coming instance.old ≡ Some a → Q.coming claim.old ≡ Some b → IfEnds unclaimed_texts (Spreads spreads.Max a b) (settled result) }
+    ensures faults { CountsDevices (settled result) (P.faults instance.old ∷ Q.faults claim.old ∷ []) (P.faults instance.new ∷ Q.faults claim.new ∷ []) }
 {
-    match read_two::<MaxInstance<PlainArcs<CapacityArc>>, Solution, P, Q>(alloc, instance, claim) {
-        Ok((instance, claim)) => {
-            let flow = spread_max(alloc, &instance, &claim);
-            answer_spread(alloc, instance.network(), claim.value, flow)
-        }
-        Err(unread) => report_alone(unread.told()),
-    }
+    let (instance, claim): (MaxInstance<PlainArcs<CapacityArc>>, _) = read_two(
+        alloc, instance, claim,
+    )?;
+    let flow = spread_max(alloc, &instance, &claim);
+    answer_spread(alloc, instance.network(), claim.value, flow)
 }
 
 /// Deals out a claimed flow of least cost.
@@ -93,17 +92,13 @@ fn spread_least<P: Source, Q: Source>(
     alloc: Global,
     instance: &mut P,
     claim: &mut Q,
-) -> Result<Produced, RunError>
-    ensures spreads { (a b : List ℕ) → P.coming instance.old ≡ Some a → Q.coming claim.old ≡ Some b → MaySpread (Spreads spreads.Min a b) result }
-    ensures faults { CountsDevices result (P.faults instance.old ∷ Q.faults claim.old ∷ []) (P.faults instance.new ∷ Q.faults claim.new ∷ []) }
+) -> Result<Outcome, Stop>
+    ensures spreads { (a b : List ℕ) → P.coming instance.old ≡ Some a → Q.coming claim.old ≡ Some b → IfEnds unclaimed_texts (Spreads spreads.Min a b) (settled result) }
+    ensures faults { CountsDevices (settled result) (P.faults instance.old ∷ Q.faults claim.old ∷ []) (P.faults instance.new ∷ Q.faults claim.new ∷ []) }
 {
-    match read_two::<MinInstance<PlainArcs<ArcView>>, Solution, P, Q>(alloc, instance, claim) {
-        Ok((instance, claim)) => {
-            let flow = spread_min(alloc, &instance, &claim);
-            answer_spread(alloc, instance.network(), claim.value, flow)
-        }
-        Err(unread) => report_alone(unread.told()),
-    }
+    let (instance, claim): (MinInstance<PlainArcs<ArcView>>, _) = read_two(alloc, instance, claim)?;
+    let flow = spread_min(alloc, &instance, &claim);
+    answer_spread(alloc, instance.network(), claim.value, flow)
 }
 
 /// The solution with this value and this flow, or the report of a refusal.
@@ -112,27 +107,19 @@ fn answer_spread<N: Network>(
     network: &N,
     value: i128,
     flow: Result<Flow, JudgeError>,
-) -> Result<Produced, RunError>
+) -> Result<Outcome, Stop>
     requires few_arcs { length (N.list network.now) ≤ most_count }
     requires one_each { IfOk flow (λ x. length x ≡ length (N.list network.now)) }
     ensures spreads { (kind : SpreadKind) (s : SolutionValue) → value ≡ s.value → DealsOut kind (N.list network.now) s flow
-        → MaySpread (SpreadsClaim kind (N.list network.now) s) result }
-    ensures no_device { result ≢ Err Device }
+        → IfEnds unclaimed_texts (SpreadsClaim kind (N.list network.now) s) (settled result) }
+    ensures no_device { settled result ≢ Err Device }
 {
-    match flow {
-        Ok(flow) => {
-            let entries = entries_for(alloc, network, &flow)?;
-            let solution = Solution {
-                value,
-                value_line: 1,
-                entries,
-            };
-            Ok(Produced {
-                made: Made::Better(solution),
-                told: Told::Nothing,
-            })
-        }
-        Err(JudgeError::Refused(place, reason)) => report_alone(Ok(Told::No(place, reason))),
-        Err(JudgeError::Memory) => Err(RunError::Memory),
-    }
+    let flow = flow?;
+    let entries = entries_for(alloc, network, &flow)?;
+    let solution = Solution {
+        value,
+        value_line: 1,
+        entries,
+    };
+    Ok(Outcome::certified(Made::Solution(solution), Report::Nothing))
 }

@@ -4,12 +4,14 @@ ghost use Rattle.std.specs.Prelude.{◌≡◌, ◌≢◌, ◌∷◌, ℕ, List, 
 ghost use Rattle.dimacs_runs.specs.declared.outcome.RunError.TheVariants.{Memory};
 ghost use Rattle.dimacs_runs.specs.declared.text.TextForm.TheVariants.{Canonical, Summary};
 ghost use Rattle.dimacs_runs.specs.Judgings.{CountsDevices};
-ghost use Rattle.dimacs_runs.specs.Runs.{Reports, TellsText, Told};
+ghost use Rattle.dimacs_runs.specs.Runs.{Reports, PrintsText, Prints};
 ghost use Rattle.dimacs_runs.specs.inside.Judgings.{text_says};
 
+use crate::discard::Discard;
+use crate::made::write_outcome;
 use crate::outcome::{RunError, Status};
+use crate::stop::{Stop, settle};
 use crate::texts_in_turn::{read, read_summary};
-use crate::told::put_told;
 use dimacs_claims::{Cut, Distances, Labels, Potentials, Solution};
 use dimacs_instance::{
     Graph, GraphSummary, MaxInstance, MaxSummary, MinInstance, MinSummary, Queries, Summary,
@@ -36,7 +38,7 @@ pub fn run_convert<S: Source, K: Sink>(
     sink: &mut K,
 ) -> Result<Status, RunError>
     ensures reports { (bytes : List ℕ) → S.coming text.old ≡ Some bytes
-        → Reports (Told Canonical kind bytes) result (K.seen sink.old).accepted (K.seen sink.new).accepted }
+        → Reports (Prints Canonical kind bytes) result (K.seen sink.old).accepted (K.seen sink.new).accepted }
     ensures faults { CountsDevices result (S.faults text.old ∷ (K.seen sink.old).faults ∷ []) (S.faults text.new ∷ (K.seen sink.new).faults ∷ []) }
     ensures nothing_written { S.faults text.new ≢ S.faults text.old → K.seen sink.new ≡ K.seen sink.old }
     ensures memory { result ≡ Err Memory → K.seen sink.new ≡ K.seen sink.old }
@@ -63,7 +65,7 @@ pub fn run_show<S: Source, K: Sink>(
     sink: &mut K,
 ) -> Result<Status, RunError>
     ensures reports { (bytes : List ℕ) → S.coming text.old ≡ Some bytes
-        → Reports (Told Summary kind bytes) result (K.seen sink.old).accepted (K.seen sink.new).accepted }
+        → Reports (Prints Summary kind bytes) result (K.seen sink.old).accepted (K.seen sink.new).accepted }
     ensures faults { CountsDevices result (S.faults text.old ∷ (K.seen sink.old).faults ∷ []) (S.faults text.new ∷ (K.seen sink.new).faults ∷ []) }
     ensures nothing_written { S.faults text.new ≢ S.faults text.old → K.seen sink.new ≡ K.seen sink.old }
     ensures memory { result ≡ Err Memory → K.seen sink.new ≡ K.seen sink.old }
@@ -90,7 +92,7 @@ pub(crate) fn run_text<S: Source, K: Sink>(
     sink: &mut K,
 ) -> Result<Status, RunError>
     ensures reports { (bytes : List ℕ) → S.coming text.old ≡ Some bytes
-        → Reports (Told form kind bytes) result (K.seen sink.old).accepted (K.seen sink.new).accepted }
+        → Reports (Prints form kind bytes) result (K.seen sink.old).accepted (K.seen sink.new).accepted }
     ensures faults { CountsDevices result (S.faults text.old ∷ (K.seen sink.old).faults ∷ []) (S.faults text.new ∷ (K.seen sink.new).faults ∷ []) }
     ensures nothing_written { S.faults text.new ≢ S.faults text.old → K.seen sink.new ≡ K.seen sink.old }
     ensures memory { result ≡ Err Memory → K.seen sink.new ≡ K.seen sink.old }
@@ -108,7 +110,7 @@ fn convert<T: Text, S: Source, K: Sink>(
     sink: &mut K,
 ) -> Result<Status, RunError>
     ensures reports { (bytes : List ℕ) → S.coming text.old ≡ Some bytes
-        → Reports (TellsText (text_says T.kind T.spells bytes) T.canonical) result (K.seen sink.old).accepted (K.seen sink.new).accepted }
+        → Reports (PrintsText (text_says T.kind T.spells bytes) T.canonical) result (K.seen sink.old).accepted (K.seen sink.new).accepted }
     ensures faults { CountsDevices result (S.faults text.old ∷ (K.seen sink.old).faults ∷ []) (S.faults text.new ∷ (K.seen sink.new).faults ∷ []) }
     ensures nothing_written { S.faults text.new ≢ S.faults text.old → K.seen sink.new ≡ K.seen sink.old }
     ensures memory { result ≡ Err Memory → K.seen sink.new ≡ K.seen sink.old }
@@ -118,7 +120,10 @@ fn convert<T: Text, S: Source, K: Sink>(
             value.write(sink)?;
             Ok(Status::Done)
         }
-        Err(unread) => put_told(unread.told(), sink),
+        Err(unread) => {
+            let answer = settle(Err(Stop::from(unread)));
+            write_outcome(answer, &mut Discard, &mut Discard, sink)
+        }
     }
 }
 
@@ -129,7 +134,7 @@ fn show<T: Text, S: Source, K: Sink>(
     sink: &mut K,
 ) -> Result<Status, RunError>
     ensures reports { (bytes : List ℕ) → S.coming text.old ≡ Some bytes
-        → Reports (TellsText (text_says T.kind T.spells bytes) T.shown) result (K.seen sink.old).accepted (K.seen sink.new).accepted }
+        → Reports (PrintsText (text_says T.kind T.spells bytes) T.shown) result (K.seen sink.old).accepted (K.seen sink.new).accepted }
     ensures faults { CountsDevices result (S.faults text.old ∷ (K.seen sink.old).faults ∷ []) (S.faults text.new ∷ (K.seen sink.new).faults ∷ []) }
     ensures nothing_written { S.faults text.new ≢ S.faults text.old → K.seen sink.new ≡ K.seen sink.old }
     ensures memory { result ≡ Err Memory → K.seen sink.new ≡ K.seen sink.old }
@@ -139,7 +144,10 @@ fn show<T: Text, S: Source, K: Sink>(
             value.show(sink)?;
             Ok(Status::Done)
         }
-        Err(unread) => put_told(unread.told(), sink),
+        Err(unread) => {
+            let answer = settle(Err(Stop::from(unread)));
+            write_outcome(answer, &mut Discard, &mut Discard, sink)
+        }
     }
 }
 
@@ -150,7 +158,7 @@ fn sum_up<T: Summary, S: Source, K: Sink>(
     sink: &mut K,
 ) -> Result<Status, RunError>
     ensures reports { (bytes : List ℕ) → S.coming text.old ≡ Some bytes
-        → Reports (TellsText (text_says T.kind T.spells bytes) T.shown) result (K.seen sink.old).accepted (K.seen sink.new).accepted }
+        → Reports (PrintsText (text_says T.kind T.spells bytes) T.shown) result (K.seen sink.old).accepted (K.seen sink.new).accepted }
     ensures faults { CountsDevices result (S.faults text.old ∷ (K.seen sink.old).faults ∷ []) (S.faults text.new ∷ (K.seen sink.new).faults ∷ []) }
     ensures nothing_written { S.faults text.new ≢ S.faults text.old → K.seen sink.new ≡ K.seen sink.old }
     ensures memory { result ≡ Err Memory → K.seen sink.new ≡ K.seen sink.old }
@@ -160,6 +168,9 @@ fn sum_up<T: Summary, S: Source, K: Sink>(
             summary.show(sink)?;
             Ok(Status::Done)
         }
-        Err(unread) => put_told(unread.told(), sink),
+        Err(unread) => {
+            let answer = settle(Err(Stop::from(unread)));
+            write_outcome(answer, &mut Discard, &mut Discard, sink)
+        }
     }
 }

@@ -4,47 +4,20 @@ ghost use Rattle.std.specs.Prelude.{◌≡◌, ℕ, List, [], ◌∷◌, Some, I
 ghost use Rattle.dimacs_records.specs.declared.kinds.TextKind.TheVariants as kinds;
 ghost use Rattle.dimacs_claims.specs.SolutionReading.{IsPlaced, IsPlacedLawful};
 ghost use Rattle.dimacs_claims.specs.SolutionTexts.{GivesSolution};
-ghost use Rattle.dimacs_runs.specs.Runs.{says, text_word};
-ghost use Rattle.dimacs_runs.specs.inside.Judgings.{CountsUnread, HasFault, PlacesOne, ReadsOne, ReadsPlaced, ReadsTwo, ReadsThree, error_told, text_says};
+ghost use Rattle.dimacs_runs.specs.Runs.{says};
+ghost use Rattle.dimacs_runs.specs.inside.Judgings.{CountsUnread, HasFault, PlacesOne, ReadsOne, ReadsPlaced, ReadsTwo, ReadsThree, text_says};
 
-use crate::outcome::RunError;
-use crate::refusal::text_name;
-use crate::told::Told;
 use dimacs_claims::{Place, Placed, read_solution_into};
 use dimacs_instance::Summary;
 use dimacs_lines::Source;
 use dimacs_records::{ReadError, Text, TextKind};
 use std::alloc::Global;
 
-/// Why a text could not be read, with its word in refusals.
+/// Why a text of this kind could not be read.
 #[derive(Clone, Copy)]
 pub(crate) struct Unread {
-    text: &'static str,
-    error: ReadError,
-}
-
-impl Unread {
-    /// The error for a text of this kind.
-    fn of(kind: TextKind, error: ReadError) -> Unread
-        ensures named { result.text.now ≡ text_word kind }
-        ensures error { result.error ≡ error }
-    {
-        Unread {
-            text: text_name(kind),
-            error,
-        }
-    }
-
-    /// The report on the text, or the error of the run.
-    pub(crate) fn told(self) -> Result<Told, RunError>
-        ensures { result ≡ error_told self self.error }
-    {
-        match self.error {
-            ReadError::Refused(place, reason) => Ok(Told::Fault(self.text, place, reason)),
-            ReadError::Device => Err(RunError::Device),
-            ReadError::Memory => Err(RunError::Memory),
-        }
-    }
+    pub(crate) kind: TextKind,
+    pub(crate) error: ReadError,
 }
 
 /// Reads one text.
@@ -56,7 +29,10 @@ pub(crate) fn read<V: Text, P: Source>(alloc: Global, source: &mut P) -> Result<
 {
     match V::read(alloc, source) {
         Ok(value) => Ok(value),
-        Err(error) => Err(Unread::of(V::kind(), error)),
+        Err(error) => Err(Unread {
+            kind: V::kind(),
+            error,
+        }),
     }
 }
 
@@ -72,7 +48,7 @@ pub(crate) fn read_summary<V: Summary, P: Source>(
     let kind = V::kind();
     match V::read(alloc, source) {
         Ok(summary) => Ok(summary),
-        Err(error) => Err(Unread::of(kind, error)),
+        Err(error) => Err(Unread { kind, error }),
     }
 }
 
@@ -153,6 +129,9 @@ pub(crate) fn place_solution<E: Place, P: Source>(
 {
     match read_solution_into(alloc, place, source) {
         Ok(placed) => Ok(placed),
-        Err(error) => Err(Unread::of(TextKind::Solution, error)),
+        Err(error) => Err(Unread {
+            kind: TextKind::Solution,
+            error,
+        }),
     }
 }

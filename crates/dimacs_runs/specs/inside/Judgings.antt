@@ -1,4 +1,4 @@
--- Inside: the reports of judges.
+-- Inside: texts that are read one after another.
 use Rattle.std.specs.Prelude.{ℕ, ◌≡◌, ◌⊎◌, List, Option, Some, Result, Ok, Err}
 use Rattle.dimacs_lines.specs.Lines.{lines}
 use Rattle.dimacs_records.specs.declared.faults.ReadError.{ReadError}
@@ -7,28 +7,9 @@ use Rattle.dimacs_records.specs.declared.kinds.TextKind.{TextKind}
 use Rattle.dimacs_records.specs.declared.reasons.Reason.{Reason}
 use Rattle.dimacs_records.specs.Faults.{Fault}
 use Rattle.dimacs_records.specs.Texts.{Reads}
-use Rattle.dimacs_judge.specs.declared.verdict.JudgeError.{JudgeError}
-use Rattle.dimacs_judge.specs.declared.verdict.JudgeError.TheVariants as judge_errors
-use Rattle.dimacs_judge.specs.declared.verdict.Verdict.{Verdict}
-use Rattle.dimacs_runs.specs.declared.outcome.RunError.{RunError}
-use Rattle.dimacs_runs.specs.declared.outcome.RunError.TheVariants.{Device, Memory}
-use Rattle.dimacs_runs.specs.declared.told.Told.{Told}
-use Rattle.dimacs_runs.specs.declared.told.Told.TheVariants as told
 use Rattle.dimacs_runs.specs.declared.texts_in_turn.Unread.{Unread}
 use Rattle.dimacs_runs.specs.Judgings.{OneMore}
 use Rattle.dimacs_runs.specs.Runs.{TextSays, text_word}
-
--- the report on a judge's answer
-abbrev pub answer_told : Result Verdict JudgeError → Result Told RunError
-answer_told (Ok verdict) = Ok (told.Yes verdict)
-answer_told (Err (judge_errors.Refused place reason)) = Ok (told.No place reason)
-answer_told (Err judge_errors.Memory) = Err Memory
-
--- the report on a text that could not be read
-abbrev pub error_told : Unread → ReadError → Result Told RunError
-error_told unread (read_errors.Refused place reason) = Ok (told.Fault unread.text place reason)
-error_told unread read_errors.Device = Err Device
-error_told unread read_errors.Memory = Err Memory
 
 -- these bytes as a text of this kind, which spells its values like this
 abbrev pub text_says : {V : Type 0} → TextKind → (List ℕ → V → Type 0) → List ℕ → TextSays V
@@ -39,7 +20,7 @@ ReadsIn text answer = Reads text.spells text.fault answer
 
 -- reading stopped at this text
 abbrev pub StopsAt : {V : Type 0} → TextSays V → Unread → Type 0
-StopsAt text unread = (unread.text.now ≡ text.name) × ReadsIn text (Err unread.error)
+StopsAt text unread = (text_word unread.kind ≡ text.name) × ReadsIn text (Err unread.error)
 
 abbrev pub ReadsOne : {T V : Type 0} → (T → V) → TextSays V → Result T Unread → Type 0
 ReadsOne said text (Ok value) = ReadsIn text (Ok (said value))

@@ -1,7 +1,7 @@
 use Rattle.std.proofs.Common.{[], ◌∷◌, Some, ap}
 use Rattle.dimacs_lines.specs.Devices.{InMemory}
 use Rattle.dimacs_runs.specs.Certified.{Certified}
-use Rattle.dimacs_runs.specs.Outputs.{TellsAlike}
+use Rattle.dimacs_runs.specs.Outputs.{WritesAlike}
 use Rattle.dimacs_c.specs.Calls.{handed}
 use Rattle.dimacs_c.proofs.CallLemmas.{answered_texts}
 use Rattle.dimacs_c.proofs.certify.certify.Goals as goal
@@ -14,6 +14,6 @@ returns c =
     let reports = rw (ap (λ (m : InMemory). m.bytes) c.new-certificate.ensures, ap (λ (m : InMemory). m.bytes) c.new-report.ensures) at told in
     let shown = rw c.bytes.ensures at c.end.ensures in
     let said = rw c.bytes-2.ensures at c.end-2.ensures in
-    answered_texts (TellsAlike (Certified c.args.kind a b)) c.run_certify-ended.result
+    answered_texts (WritesAlike (Certified c.args.kind a b)) c.run_certify-ended.result
     ((c.run_certify-ended.new.certificate_out.bytes, handed c.args.shown.now c.end.new.out c.end.new.told) ∷ (c.run_certify-ended.new.report.bytes, handed c.args.out.now c.end-2.new.out c.end-2.new.told) ∷ [])
     c.run_certify-ended.new.report.bytes c.end-2.result (handed c.args.out.now c.end-2.new.out c.end-2.new.told) reports ((c.end.result, shown), ((c.end-2.result, said), tt)) said

@@ -1,6 +1,6 @@
 use Rattle.std.proofs.Common.{[], ◌∷◌, Some, ap}
 use Rattle.dimacs_lines.specs.Devices.{InMemory}
-use Rattle.dimacs_runs.specs.Outputs.{MayTell}
+use Rattle.dimacs_runs.specs.Outputs.{MayWrite}
 use Rattle.dimacs_runs.specs.Solved.{Solved}
 use Rattle.dimacs_c.specs.Calls.{handed}
 use Rattle.dimacs_c.proofs.CallLemmas.{answered_texts, are_queries}
@@ -16,7 +16,7 @@ returns c =
     let claim = rw c.bytes.ensures at c.end.ensures in
     let shown = rw c.bytes-2.ensures at c.end-2.ensures in
     let said = rw c.bytes-3.ensures at c.end-3.ensures in
-    answered_texts (MayTell (Solved c.args.job a b)) c.run_solve-ended.result
+    answered_texts (MayWrite (Solved c.args.job a b)) c.run_solve-ended.result
     ((c.run_solve-ended.new.claim_out.bytes, handed c.args.solution.now c.end.new.out c.end.new.told) ∷ (c.run_solve-ended.new.certificate_out.bytes, handed c.args.certificate.now c.end-2.new.out c.end-2.new.told)
     ∷ (c.run_solve-ended.new.report.bytes, handed c.args.out.now c.end-3.new.out c.end-3.new.told) ∷ [])
     c.run_solve-ended.new.report.bytes c.end-3.result (handed c.args.out.now c.end-3.new.out c.end-3.new.told) reports ((c.end.result, claim), ((c.end-2.result, shown), ((c.end-3.result, said), tt))) said

@@ -1,10 +1,7 @@
 use Rattle.std.proofs.Common.{refl, inl, inr}
-use Rattle.dimacs_records.specs.declared.reasons.Reason.TheVariants.{Feasible}
 use Rattle.dimacs_claims.specs.SolutionTexts.{claimed}
 use Rattle.dimacs_judge.specs.Entries.{IsMinSolutionOf}
 use Rattle.dimacs_judge.specs.FlowTests.{LeavesCostRange}
-use Rattle.dimacs_runs.specs.declared.told.Told.{Told}
-use Rattle.dimacs_runs.specs.declared.told.Told.TheVariants as told
 use Rattle.dimacs_runs.proofs.CertifyingLemmas.{feasible_certifies, unsaid_feasible_certifies}
 use Rattle.dimacs_runs.proofs.certify_infeasible.refuse_infeasible.Goals as goal
 use Rattle.dimacs_runs.proofs.certify_infeasible.refuse_infeasible.Goals.{in-Some, in-None}
@@ -13,13 +10,12 @@ pub returns-clause-certifies : goal.returns-clause-certifies
 returns-clause-certifies g c =
     let i = c.args.instance.now in
     let y = c.args.flow.now in
-    let text : Told = told.Fault c.text_name.result (record { line = 0; field = 0 }) Feasible in
     elim c.match-branch-2.branch [
       | in-Some w ↦
           let solution = w.in-Some.solution in
           let said : IsMinSolutionOf i y (claimed solution) = rw w.in-Some.is at c.in_ok-solution.ensures.some in
-          rw w.made-is (feasible_certifies i solution text refl (rw c.text_name.ensures refl) (y, c.requires, inl (claimed solution, said, refl)))
+          rw (c.certified.ensures, w.made-is) (feasible_certifies i solution (y, c.requires, inl (claimed solution, said, refl)))
       | in-None w ↦
           let beyond : LeavesCostRange i.arcs y = rw w.in-None.is at c.in_ok-solution.ensures.none in
-          rw w.made-is (unsaid_feasible_certifies i text refl (rw c.text_name.ensures refl) (y, c.requires, inr (beyond, refl)))
+          rw (c.certified.ensures, w.made-is) (unsaid_feasible_certifies i (y, c.requires, inr (beyond, refl)))
     ]

@@ -1,10 +1,10 @@
 use Rattle.dimacs_runs.proofs.command.run_job.Goals as goal
 
 pub returns-in-Convert : goal.returns-in-Convert
-returns-in-Convert g c = record { runs = rw c.in-Convert.is c.tell_file.ensures.runs }
+returns-in-Convert g c = record { runs = rw c.in-Convert.is c.print_file.ensures.runs }
 
 pub returns-in-Show : goal.returns-in-Show
-returns-in-Show g c = record { runs = rw c.in-Show.is c.tell_file-in-Show.ensures.runs }
+returns-in-Show g c = record { runs = rw c.in-Show.is c.print_file-in-Show.ensures.runs }
 
 pub returns-in-Certify : goal.returns-in-Certify
 returns-in-Certify g c = record { runs = rw c.in-Certify.is c.certify_files.ensures.runs }

@@ -6,27 +6,27 @@ use Rattle.dimacs_lines.specs.Lines.{lines}
 use Rattle.dimacs_runs.specs.declared.jobs.JudgeKind.{JudgeKind}
 use Rattle.dimacs_runs.specs.declared.jobs.JudgeKind.TheVariants as judges
 use Rattle.dimacs_runs.specs.Judged.{IsClaim, Judged, claim_kind, instance_kind}
-use Rattle.dimacs_runs.proofs.JudgingLemmas.{told_reports}
+use Rattle.dimacs_runs.proofs.WritingLemmas.{report_written}
 use Rattle.dimacs_runs.proofs.judge.run_judge.Goals as goal
 use Rattle.dimacs_runs.proofs.judge.run_judge.Goals.{in-Max, in-Min, in-Infeasible, in-Paths}
 
 pub returns-clause-reports : goal.returns-clause-reports
 returns-clause-reports g c = λ a b d first second third.
-    told_reports (Judged c.args.kind a b d) c.match-kind.told c.put_told.result (g.K.Sink.seen c.args.sink.now) (g.K.Sink.seen c.put_told.new.sink)
-    (elim c.match-kind.branch [
-      | in-Max w ↦ let claim = subst (λ (k : JudgeKind). IsClaim k (g.Q.Source.coming c.args.claim.now) b) w.in-Max.is second in rw (w.in-Max.is, w.told-is) (w.tell_max-told.ensures.told a b d first (claim refl) third)
-      | in-Min w ↦ let claim = subst (λ (k : JudgeKind). IsClaim k (g.Q.Source.coming c.args.claim.now) b) w.in-Min.is second in rw (w.in-Min.is, w.told-is) (w.tell_min-told.ensures.told a b d first (claim refl) third)
-      | in-Infeasible w ↦ rw (w.in-Infeasible.is, w.told-is) (w.tell_infeasible-told.ensures.told a d first third)
-      | in-Paths w ↦ let claim = subst (λ (k : JudgeKind). IsClaim k (g.Q.Source.coming c.args.claim.now) b) w.in-Paths.is second in rw (w.in-Paths.is, w.told-is) (w.tell_paths-told.ensures.told a b d first (claim refl) third)
-    ]) c.put_told.ensures
+    report_written (Judged c.args.kind a b d) c.settle.result c.write_outcome.result (g.K.Sink.seen c.args.sink.now) (g.K.Sink.seen c.write_outcome.new.report)
+    (rw c.settle.ensures (elim c.match-kind.branch [
+      | in-Max w ↦ let claim = subst (λ (k : JudgeKind). IsClaim k (g.Q.Source.coming c.args.claim.now) b) w.in-Max.is second in rw (w.in-Max.is, w.answer-is) (w.report_max-answer.ensures.reports a b d first (claim refl) third)
+      | in-Min w ↦ let claim = subst (λ (k : JudgeKind). IsClaim k (g.Q.Source.coming c.args.claim.now) b) w.in-Min.is second in rw (w.in-Min.is, w.answer-is) (w.report_min-answer.ensures.reports a b d first (claim refl) third)
+      | in-Infeasible w ↦ rw (w.in-Infeasible.is, w.answer-is) (w.report_infeasible-answer.ensures.reports a d first third)
+      | in-Paths w ↦ let claim = subst (λ (k : JudgeKind). IsClaim k (g.Q.Source.coming c.args.claim.now) b) w.in-Paths.is second in rw (w.in-Paths.is, w.answer-is) (w.report_paths-answer.ensures.reports a b d first (claim refl) third)
+    ])) c.write_outcome.ensures.ends
 
 pub returns-clause-stops_at_instance : goal.returns-clause-stops_at_instance
 returns-clause-stops_at_instance g c = λ a l f r coming fault.
     elim c.match-kind.branch [
-      | in-Max w ↦ rw (w.claim-is, w.certificate-is) (w.tell_max-told.ensures.stops_at_instance (a, l, f, r, coming, (subst (λ (k : JudgeKind). Fault (instance_kind k) (lines a) l f r) w.in-Max.is fault)))
-      | in-Min w ↦ rw (w.claim-is, w.certificate-is) (w.tell_min-told.ensures.stops_at_instance (a, l, f, r, coming, (subst (λ (k : JudgeKind). Fault (instance_kind k) (lines a) l f r) w.in-Min.is fault)))
-      | in-Infeasible w ↦ (w.claim-is, w.certificate-is ∙ w.tell_infeasible-told.ensures.stops_at_instance (a, l, f, r, coming, (subst (λ (k : JudgeKind). Fault (instance_kind k) (lines a) l f r) w.in-Infeasible.is fault)))
-      | in-Paths w ↦ rw (w.claim-is, w.certificate-is) (w.tell_paths-told.ensures.stops_at_instance (a, l, f, r, coming, (subst (λ (k : JudgeKind). Fault (instance_kind k) (lines a) l f r) w.in-Paths.is fault)))
+      | in-Max w ↦ rw (w.claim-is, w.certificate-is) (w.report_max-answer.ensures.stops_at_instance (a, l, f, r, coming, (subst (λ (k : JudgeKind). Fault (instance_kind k) (lines a) l f r) w.in-Max.is fault)))
+      | in-Min w ↦ rw (w.claim-is, w.certificate-is) (w.report_min-answer.ensures.stops_at_instance (a, l, f, r, coming, (subst (λ (k : JudgeKind). Fault (instance_kind k) (lines a) l f r) w.in-Min.is fault)))
+      | in-Infeasible w ↦ (w.claim-is, w.certificate-is ∙ w.report_infeasible-answer.ensures.stops_at_instance (a, l, f, r, coming, (subst (λ (k : JudgeKind). Fault (instance_kind k) (lines a) l f r) w.in-Infeasible.is fault)))
+      | in-Paths w ↦ rw (w.claim-is, w.certificate-is) (w.report_paths-answer.ensures.stops_at_instance (a, l, f, r, coming, (subst (λ (k : JudgeKind). Fault (instance_kind k) (lines a) l f r) w.in-Paths.is fault)))
     ]
 
 -- the kind of the claim, if there is one
@@ -40,8 +40,8 @@ is_claimed k kind claimed is has = sym (ap kind_in (subst (λ (j : JudgeKind). c
 pub returns-clause-stops_at_claim : goal.returns-clause-stops_at_claim
 returns-clause-stops_at_claim g c = λ claimed b l f r has coming fault.
     elim c.match-kind.branch [
-      | in-Max w ↦ w.certificate-is ∙ w.tell_max-told.ensures.stops_at_claim (b, l, f, r, coming, (subst (λ (k : TextKind). Fault k (lines b) l f r) (is_claimed judges.Max c.args.kind claimed w.in-Max.is has) fault))
-      | in-Min w ↦ w.certificate-is ∙ w.tell_min-told.ensures.stops_at_claim (b, l, f, r, coming, (subst (λ (k : TextKind). Fault k (lines b) l f r) (is_claimed judges.Min c.args.kind claimed w.in-Min.is has) fault))
+      | in-Max w ↦ w.certificate-is ∙ w.report_max-answer.ensures.stops_at_claim (b, l, f, r, coming, (subst (λ (k : TextKind). Fault k (lines b) l f r) (is_claimed judges.Max c.args.kind claimed w.in-Max.is has) fault))
+      | in-Min w ↦ w.certificate-is ∙ w.report_min-answer.ensures.stops_at_claim (b, l, f, r, coming, (subst (λ (k : TextKind). Fault k (lines b) l f r) (is_claimed judges.Min c.args.kind claimed w.in-Min.is has) fault))
       | in-Infeasible w ↦ let nothing : None ≡ Some claimed = subst (λ (j : JudgeKind). claim_kind j ≡ Some claimed) w.in-Infeasible.is has in absurd cc
-      | in-Paths w ↦ w.certificate-is ∙ w.tell_paths-told.ensures.stops_at_claim (b, l, f, r, coming, (subst (λ (k : TextKind). Fault k (lines b) l f r) (is_claimed judges.Paths c.args.kind claimed w.in-Paths.is has) fault))
+      | in-Paths w ↦ w.certificate-is ∙ w.report_paths-answer.ensures.stops_at_claim (b, l, f, r, coming, (subst (λ (k : TextKind). Fault k (lines b) l f r) (is_claimed judges.Paths c.args.kind claimed w.in-Paths.is has) fault))
     ]

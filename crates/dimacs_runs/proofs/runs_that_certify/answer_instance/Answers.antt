@@ -2,9 +2,9 @@ use Rattle.std.proofs.Common.{ℕ, ◌∙◌, List, [], ◌∷◌, refl}
 use Rattle.dimacs_runs.specs.declared.jobs.CertifyKind.TheVariants as certifies
 use Rattle.dimacs_runs.specs.Commands.{MakesCertificate}
 use Rattle.dimacs_runs.specs.Files.{Read, ReadFile}
-use Rattle.dimacs_runs.specs.inside.Making.{MayMake}
+use Rattle.dimacs_runs.specs.inside.Outcomes.{IfEnds, settled, unclaimed_texts}
 use Rattle.dimacs_runs.proofs.FileLemmas.{one_first}
-use Rattle.dimacs_runs.proofs.MakingLemmas.{answers_files, answers_nothing, instance_made}
+use Rattle.dimacs_runs.proofs.MakingLemmas.{answers_files, answers_nothing}
 use Rattle.dimacs_runs.proofs.PlanLemmas.{each_text, sees_nothing}
 use Rattle.dimacs_runs.proofs.runs_that_certify.answer_instance.Goals as goal
 
@@ -14,14 +14,13 @@ returns-in_err-instance g c =
 
 pub returns : goal.returns
 returns g c =
-    let answer = c.certify_infeasible-answer.result in
-    let instance : ReadFile = record { name = c.in_ok-instance.instance.name.now; faults = g.F.Input.Source.faults c.certify_infeasible-answer.new.instance } in
+    let answer = settled c.certify_infeasible.result in
+    let instance : ReadFile = record { name = c.in_ok-instance.instance.name.now; faults = g.F.Input.Source.faults c.certify_infeasible.new.instance } in
     record {
       answers = answers_files (instance ∷ []) answer c.close_read-failure.result
           (rw c.in_ok-instance.ensures.named refl)
-          c.in_ok-instance.ensures.opened c.close_read-failure.ensures.seen c.name_failure.ensures
+          c.in_ok-instance.ensures.opened c.close_read-failure.ensures.seen (rw c.settle-answer.ensures at c.name_failure.ensures)
           (one_first c.close_read-failure.result (Read instance) c.close_read-failure.ensures.failure)
-          (rw c.in_ok-instance.ensures.faultless at c.certify_infeasible-answer.ensures.faults)
-          (each_text (_ ∷ []) (λ (texts : List (List ℕ)). MayMake (MakesCertificate certifies.Infeasible) texts answer) (λ a first.
-          instance_made certifies.Infeasible a answer (c.certify_infeasible-answer.ensures.certifies a (c.in_ok-instance.ensures.coming ∙ first))));
+          (rw c.in_ok-instance.ensures.faultless at c.certify_infeasible.ensures.faults)
+          (each_text (_ ∷ []) (λ (texts : List (List ℕ)). IfEnds unclaimed_texts (MakesCertificate certifies.Infeasible texts) answer) (λ a first. c.certify_infeasible.ensures.certifies a (c.in_ok-instance.ensures.coming ∙ first)));
     }

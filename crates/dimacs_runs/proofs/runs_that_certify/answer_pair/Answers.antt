@@ -1,9 +1,9 @@
 use Rattle.std.proofs.Common.{ℕ, ◌∙◌, List, [], ◌∷◌, ap, refl}
 use Rattle.dimacs_runs.specs.Commands.{Contents, MakesCertificate}
 use Rattle.dimacs_runs.specs.Files.{Read, ReadFile}
-use Rattle.dimacs_runs.specs.inside.Making.{MayMake}
+use Rattle.dimacs_runs.specs.inside.Outcomes.{IfEnds, unclaimed_texts}
 use Rattle.dimacs_runs.proofs.FileLemmas.{sees_two, two_first}
-use Rattle.dimacs_runs.proofs.MakingLemmas.{answers_files, answers_nothing, pair_made}
+use Rattle.dimacs_runs.proofs.MakingLemmas.{answers_files, answers_nothing}
 use Rattle.dimacs_runs.proofs.PlanLemmas.{each_text, sees_nothing}
 use Rattle.dimacs_runs.proofs.runs_that_certify.answer_pair.Goals as goal
 
@@ -27,8 +27,8 @@ returns g c =
           (sees_two c.close_read.ensures.seen c.close_read-2.ensures.seen) c.name_failure.ensures
           (rw c.or-failure.ensures (two_first c.close_read.result c.close_read-2.result (Read instance) (Read claim) c.close_read.ensures.failure c.close_read-2.ensures.failure))
           (rw (c.in_ok-instance.ensures.faultless, c.in_ok-claim.ensures.faultless) at c.certify_claim-answer.ensures.faults)
-          (each_text (_ ∷ _ ∷ []) (λ (texts : List (List ℕ)). MayMake (MakesCertificate c.args.kind) texts answer) (λ a first b second.
-          pair_made c.args.kind a b answer (c.certify_claim-answer.ensures.certifies a b
+          (each_text (_ ∷ _ ∷ []) (λ (texts : List (List ℕ)). IfEnds unclaimed_texts (MakesCertificate c.args.kind texts) answer) (λ a first b second.
+          (c.certify_claim-answer.ensures.certifies a b
           (c.in_ok-instance.ensures.coming ∙ first)
           (λ some. c.in_ok-claim.ensures.coming ∙ ap (λ (h : Contents). h c.args.claim.now) c.in_ok-instance.ensures.holds ∙ second))));
     }

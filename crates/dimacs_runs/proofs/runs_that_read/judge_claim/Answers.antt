@@ -1,11 +1,11 @@
 use Rattle.std.proofs.Common.{ℕ, ◌∙◌, List, [], ◌∷◌, ap, refl}
 use Rattle.dimacs_lines.specs.Devices.{Written}
-use Rattle.dimacs_runs.specs.Commands.{Contents, TellsJudged}
+use Rattle.dimacs_runs.specs.Commands.{Contents, ReportsJudged}
 use Rattle.dimacs_runs.specs.Files.{Read, ReadFile}
 use Rattle.dimacs_runs.specs.Judged.{Judged}
 use Rattle.dimacs_runs.specs.inside.Commands.{named}
 use Rattle.dimacs_runs.proofs.FileLemmas.{sees_three, sees_two, three_first}
-use Rattle.dimacs_runs.proofs.PlanLemmas.{each_text, is_claim, judged_told, one_of_three, reports_named, sees_nothing, stops_opening, uses_files}
+use Rattle.dimacs_runs.proofs.PlanLemmas.{each_text, is_claim, judged_reports, one_of_three, reports_named, sees_nothing, stops_opening, uses_files}
 use Rattle.dimacs_runs.proofs.runs_that_read.judge_claim.Goals as goal
 
 pub returns-in_err-instance : goal.returns-in_err-instance
@@ -38,8 +38,8 @@ returns g c =
           (rw (c.in_ok-instance.ensures.named, c.in_ok-claim.ensures.named, c.in_ok-certificate.ensures.named) refl) refl opened closed c.name_failure.ensures
           (rw (c.or-failure.ensures, c.or.ensures) (three_first c.close_read.result c.close_read-2.result c.close_read-3.result (Read instance) (Read claim) (Read certificate) c.close_read.ensures.failure c.close_read-2.ensures.failure c.close_read-3.ensures.failure))
           (rw (c.in_ok-instance.ensures.faultless, c.in_ok-claim.ensures.faultless, c.in_ok-certificate.ensures.faultless) at c.run_judge-ended.ensures.faults)
-          (each_text (_ ∷ _ ∷ _ ∷ []) (λ (texts : List (List ℕ)). TellsJudged c.args.kind texts (named ended failure) (old ∷ []) (new ∷ [])) (λ a first b second d third.
-          judged_told c.args.kind a b d (named ended failure) old new (reports_named (Judged c.args.kind a b d) ended failure old new (c.run_judge-ended.ensures.reports a b d
+          (each_text (_ ∷ _ ∷ _ ∷ []) (λ (texts : List (List ℕ)). ReportsJudged c.args.kind texts (named ended failure) (old ∷ []) (new ∷ [])) (λ a first b second d third.
+          judged_reports c.args.kind a b d (named ended failure) old new (reports_named (Judged c.args.kind a b d) ended failure old new (c.run_judge-ended.ensures.reports a b d
           (c.in_ok-instance.ensures.coming ∙ first)
           (is_claim c.args.kind _ b (c.in_ok-claim.ensures.coming ∙ ap (λ (h : Contents). h c.args.claim.now) c.in_ok-instance.ensures.holds ∙ second))
           (c.in_ok-certificate.ensures.coming ∙ ap (λ (h : Contents). h c.args.certificate.now) (c.in_ok-claim.ensures.holds ∙ c.in_ok-instance.ensures.holds) ∙ third)))))

@@ -1,7 +1,7 @@
 use Rattle.std.proofs.Common.{ℕ, ◌∙◌, List, [], ◌∷◌, ap, inl, inr, refl}
 use Rattle.dimacs_lines.specs.Devices.{Written}
 use Rattle.dimacs_runs.specs.declared.jobs.JudgeKind.TheVariants as judges
-use Rattle.dimacs_runs.specs.Commands.{Contents, TellsJudged}
+use Rattle.dimacs_runs.specs.Commands.{Contents, ReportsJudged}
 use Rattle.dimacs_runs.specs.Files.{Read, ReadFile}
 use Rattle.dimacs_runs.specs.Judged.{Judged}
 use Rattle.dimacs_runs.specs.inside.Commands.{named}
@@ -33,7 +33,7 @@ returns g c =
           (sees_two c.close_read.ensures.seen c.close_read-2.ensures.seen) c.name_failure.ensures
           (rw c.or-failure.ensures (two_first c.close_read.result c.close_read-2.result (Read instance) (Read set) c.close_read.ensures.failure c.close_read-2.ensures.failure))
           (without_second ended _ _ _ _ (rw (c.in_ok-instance.ensures.faultless, c.in_ok-set.ensures.faultless) at c.run_judge-ended.ensures.faults))
-          (each_text (_ ∷ _ ∷ []) (λ (texts : List (List ℕ)). TellsJudged judges.Infeasible texts (named ended failure) (old ∷ []) (new ∷ [])) (λ a first d second.
+          (each_text (_ ∷ _ ∷ []) (λ (texts : List (List ℕ)). ReportsJudged judges.Infeasible texts (named ended failure) (old ∷ []) (new ∷ [])) (λ a first d second.
           reports_named (Judged judges.Infeasible a [] d) ended failure old new (c.run_judge-ended.ensures.reports a [] d
           (c.in_ok-instance.ensures.coming ∙ first) (λ none. absurd cc)
           (c.in_ok-set.ensures.coming ∙ ap (λ (h : Contents). h c.args.set.now) c.in_ok-instance.ensures.holds ∙ second))))

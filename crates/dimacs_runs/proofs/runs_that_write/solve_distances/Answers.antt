@@ -1,8 +1,8 @@
 use Rattle.std.proofs.Common.{ℕ, ◌∙◌, List, [], ◌∷◌, None, ap, refl}
 use Rattle.dimacs_runs.specs.declared.jobs.SolveJob.TheVariants as solves
-use Rattle.dimacs_runs.specs.Commands.{Contents, TellsSolved}
+use Rattle.dimacs_runs.specs.Commands.{Contents, WritesSolved}
 use Rattle.dimacs_runs.specs.Files.{Read, ReadFile, WrittenFile, Wrote}
-use Rattle.dimacs_runs.specs.Outputs.{MayTell}
+use Rattle.dimacs_runs.specs.Outputs.{MayWrite}
 use Rattle.dimacs_runs.specs.Solved.{Solved}
 use Rattle.dimacs_runs.specs.inside.Commands.{named}
 use Rattle.dimacs_runs.proofs.FileLemmas.{sees_three, sees_two, three_first}
@@ -40,8 +40,8 @@ returns g c =
           (rw (c.in_ok-graph.ensures.named, c.in_ok-queries.ensures.named) refl) (rw c.in_ok-labels.ensures.named refl) opened closed c.name_failure.ensures
           (rw (c.or-failure.ensures, c.or.ensures) (three_first c.close_read.result c.close_read-2.result c.close_written.result (Read graph) (Read queries) (Wrote labels) c.close_read.ensures.failure c.close_read-2.ensures.failure c.close_written.ensures.failure))
           (without_third ended _ _ _ _ _ _ (rw (c.in_ok-graph.ensures.faultless, c.in_ok-queries.ensures.faultless, c.in_ok-labels.ensures.empty) at c.run_solve-ended.ensures.faults))
-          (each_text (_ ∷ _ ∷ []) (λ (texts : List (List ℕ)). TellsSolved solves.Paths texts (named ended failure) (g.F.Files.empty ∷ old ∷ []) (written.accepted ∷ new ∷ [])) (λ a first b second.
-          reports_all_named (MayTell (Solved solves.Paths a b)) ended failure (None ∷ g.F.Files.empty ∷ old ∷ []) (None ∷ written.accepted ∷ new ∷ []) (rw c.in_ok-labels.ensures.empty at (c.run_solve-ended.ensures.reports a b
+          (each_text (_ ∷ _ ∷ []) (λ (texts : List (List ℕ)). WritesSolved solves.Paths texts (named ended failure) (g.F.Files.empty ∷ old ∷ []) (written.accepted ∷ new ∷ [])) (λ a first b second.
+          reports_all_named (MayWrite (Solved solves.Paths a b)) ended failure (None ∷ g.F.Files.empty ∷ old ∷ []) (None ∷ written.accepted ∷ new ∷ []) (rw c.in_ok-labels.ensures.empty at (c.run_solve-ended.ensures.reports a b
           (c.in_ok-graph.ensures.coming ∙ first)
           (c.in_ok-queries.ensures.coming ∙ ap (λ (h : Contents). h c.args.queries.now) c.in_ok-graph.ensures.holds ∙ second)))))
           (λ memory. let same = c.run_solve-ended.ensures.memory memory in rw (same.1, same.2, c.in_ok-labels.ensures.empty) refl)

@@ -1,11 +1,11 @@
 use Rattle.std.proofs.Common.{ℕ, ◌∙◌, List, [], ◌∷◌, inl, refl}
-use Rattle.dimacs_runs.specs.Commands.{TellsSolved}
+use Rattle.dimacs_runs.specs.Commands.{WritesSolved}
 use Rattle.dimacs_runs.specs.Files.{Read, ReadFile, WrittenFile, Wrote}
-use Rattle.dimacs_runs.specs.Outputs.{MayTell}
+use Rattle.dimacs_runs.specs.Outputs.{MayWrite}
 use Rattle.dimacs_runs.specs.Solved.{Solved}
 use Rattle.dimacs_runs.specs.inside.Commands.{named}
 use Rattle.dimacs_runs.proofs.FileLemmas.{sees_three, sees_two, three_first}
-use Rattle.dimacs_runs.proofs.PlanLemmas.{each_text, flow_asks_nothing, flow_told, one_of, reports_all_named, sees_nothing, stops_creating, stops_opening, uses_files, without_second}
+use Rattle.dimacs_runs.proofs.PlanLemmas.{each_text, flow_asks_nothing, flow_writes, one_of, reports_all_named, sees_nothing, stops_creating, stops_opening, uses_files, without_second}
 use Rattle.dimacs_runs.proofs.runs_that_write.solve_flow.Goals as goal
 
 pub returns-in_err-instance : goal.returns-in_err-instance
@@ -42,9 +42,9 @@ returns g c =
           (rw c.in_ok-instance.ensures.named refl) (rw (c.in_ok-claim.ensures.named, c.in-Ok.ensures.named) refl) opened closed c.name_failure.ensures
           (rw (c.or-failure.ensures, c.or.ensures) (three_first c.close_read.result c.close_written-2.result c.close_written-3.result (Read instance) (Wrote claim) (Wrote certificate) c.close_read.ensures.failure c.close_written-2.ensures.failure c.close_written-3.ensures.failure))
           (without_second ended _ _ _ _ (rw (c.in_ok-instance.ensures.faultless, c.in_ok-claim.ensures.empty, c.in-Ok.ensures.empty) at c.run_solve-ended.ensures.faults))
-          (each_text (_ ∷ []) (λ (texts : List (List ℕ)). TellsSolved c.args.job texts (named ended failure) (g.F.Files.empty ∷ g.F.Files.empty ∷ old ∷ []) (claimed.accepted ∷ certified.accepted ∷ new ∷ [])) (λ a first.
-          flow_told c.args.job a [] (named ended failure) (g.F.Files.empty ∷ g.F.Files.empty ∷ old ∷ []) (claimed.accepted ∷ certified.accepted ∷ new ∷ []) c.requires
-          (reports_all_named (MayTell (Solved c.args.job a [])) ended failure (g.F.Files.empty ∷ g.F.Files.empty ∷ old ∷ []) (claimed.accepted ∷ certified.accepted ∷ new ∷ [])
+          (each_text (_ ∷ []) (λ (texts : List (List ℕ)). WritesSolved c.args.job texts (named ended failure) (g.F.Files.empty ∷ g.F.Files.empty ∷ old ∷ []) (claimed.accepted ∷ certified.accepted ∷ new ∷ [])) (λ a first.
+          flow_writes c.args.job a [] (named ended failure) (g.F.Files.empty ∷ g.F.Files.empty ∷ old ∷ []) (claimed.accepted ∷ certified.accepted ∷ new ∷ []) c.requires
+          (reports_all_named (MayWrite (Solved c.args.job a [])) ended failure (g.F.Files.empty ∷ g.F.Files.empty ∷ old ∷ []) (claimed.accepted ∷ certified.accepted ∷ new ∷ [])
           (rw (c.in_ok-claim.ensures.empty, c.in-Ok.ensures.empty) at (c.run_solve-ended.ensures.reports a [] (c.in_ok-instance.ensures.coming ∙ first) (flow_asks_nothing c.args.job _ [] c.requires))))))
           (λ memory. let same = c.run_solve-ended.ensures.memory memory in rw (same.0, same.1, same.2, c.in_ok-claim.ensures.empty, c.in-Ok.ensures.empty) refl)
           (λ unread. let same = quiet (inl (one_of unread)) in rw (same.0, same.1, same.2, c.in_ok-claim.ensures.empty, c.in-Ok.ensures.empty) refl);

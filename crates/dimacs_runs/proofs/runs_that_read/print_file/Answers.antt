@@ -1,12 +1,12 @@
 use Rattle.std.proofs.Common.{ℕ, ◌∙◌, List, [], ◌∷◌, ap, refl}
 use Rattle.dimacs_lines.specs.Devices.{Written}
-use Rattle.dimacs_runs.specs.Commands.{TellsOne}
+use Rattle.dimacs_runs.specs.Commands.{ReportsOne}
 use Rattle.dimacs_runs.specs.Files.{closed_read}
-use Rattle.dimacs_runs.specs.Runs.{Told}
+use Rattle.dimacs_runs.specs.Runs.{Prints}
 use Rattle.dimacs_runs.specs.inside.Commands.{named}
 use Rattle.dimacs_runs.proofs.FileLemmas.{one_first}
 use Rattle.dimacs_runs.proofs.PlanLemmas.{each_text, one_of, reports_named, sees_nothing, stops_opening, uses_files}
-use Rattle.dimacs_runs.proofs.runs_that_read.tell_file.Goals as goal
+use Rattle.dimacs_runs.proofs.runs_that_read.print_file.Goals as goal
 
 pub returns-in_err-text : goal.returns-in_err-text
 returns-in_err-text g c =
@@ -25,7 +25,7 @@ returns g c =
           (ap (λ (n : List ℕ). n ∷ []) c.in_ok-text.ensures.named) refl c.in_ok-text.ensures.opened c.close_read-failure.ensures.seen c.name_failure.ensures
           (one_first failure (closed_read c.in_ok-text.text.name.now faults) c.close_read-failure.ensures.failure)
           (rw c.in_ok-text.ensures.faultless at c.run_text-ended.ensures.faults)
-          (each_text (_ ∷ []) (λ (texts : List (List ℕ)). TellsOne (Told c.args.form c.args.kind) texts (named ended failure) (old ∷ []) (new ∷ [])) (λ bytes is. reports_named (Told c.args.form c.args.kind bytes) ended failure old new (c.run_text-ended.ensures.reports bytes (c.in_ok-text.ensures.coming ∙ is))))
+          (each_text (_ ∷ []) (λ (texts : List (List ℕ)). ReportsOne (Prints c.args.form c.args.kind) texts (named ended failure) (old ∷ []) (new ∷ [])) (λ bytes is. reports_named (Prints c.args.form c.args.kind bytes) ended failure old new (c.run_text-ended.ensures.reports bytes (c.in_ok-text.ensures.coming ∙ is))))
           (λ memory. ap (λ (w : Written). w.accepted ∷ []) (c.run_text-ended.ensures.memory memory))
           (λ unread. ap (λ (w : Written). w.accepted ∷ []) (quiet (one_of unread)));
     }

@@ -1,0 +1,136 @@
+-- Inside: the outcomes of runs, their texts, and what ends a run early.
+use Rattle.std.specs.Prelude.{ℕ, ℤ, ◌≡◌, List, [], ◌∷◌, Option, None, Result, Ok, Err, map}
+use Rattle.dimacs_lines.specs.Devices.{Written}
+use Rattle.dimacs_claims.specs.Cuts.{canonical_cut}
+use Rattle.dimacs_claims.specs.LabelTexts.{canonical_labels}
+use Rattle.dimacs_claims.specs.Potentials.{canonical_potentials}
+use Rattle.dimacs_claims.specs.SolutionTexts.{SolutionValue, canonical_solution, claimed}
+use Rattle.dimacs_judge.specs.declared.verdict.JudgeError.{JudgeError}
+use Rattle.dimacs_judge.specs.declared.verdict.JudgeError.TheVariants as judge_errors
+use Rattle.dimacs_judge.specs.declared.verdict.Verdict.{Verdict}
+use Rattle.dimacs_judge.specs.declared.verdict.Verdict.TheVariants as verdicts
+use Rattle.dimacs_judge.specs.declared.verdict.Where.TheVariants.{Arc}
+use Rattle.dimacs_records.specs.declared.faults.ReadError.{ReadError}
+use Rattle.dimacs_records.specs.declared.faults.ReadError.TheVariants as read_errors
+use Rattle.dimacs_records.specs.declared.kinds.TextKind.{TextKind}
+use Rattle.dimacs_records.specs.declared.reasons.Reason.TheVariants as reasons
+use Rattle.dimacs_network.specs.declared.network.ArcView.{ArcView}
+use Rattle.dimacs_solve.specs.declared.error.SolveError.{SolveError}
+use Rattle.dimacs_solve.specs.declared.error.SolveError.TheVariants as solve_errors
+use Rattle.dimacs_solve.specs.declared.maximum.MaxAnswer.{MaxAnswer}
+use Rattle.dimacs_solve.specs.declared.maximum.MaxAnswer.TheVariants as maximum
+use Rattle.dimacs_solve.specs.declared.least.MinAnswer.{MinAnswer}
+use Rattle.dimacs_solve.specs.declared.least.MinAnswer.TheVariants as least
+use Rattle.dimacs_spread.specs.Spread.{IsRefusal}
+use Rattle.dimacs_runs.specs.declared.jobs.SpreadKind.{SpreadKind}
+use Rattle.dimacs_runs.specs.declared.outcome.Status.{Status}
+use Rattle.dimacs_runs.specs.declared.outcome.RunError.{RunError}
+use Rattle.dimacs_runs.specs.declared.outcome.RunError.TheVariants.{Device, Memory}
+use Rattle.dimacs_runs.specs.declared.made.Made.{Made}
+use Rattle.dimacs_runs.specs.declared.made.Made.TheVariants.{Nothing, Solution, Cut, Potentials, Labels}
+use Rattle.dimacs_runs.specs.declared.made.Outcome.{Outcome}
+use Rattle.dimacs_runs.specs.declared.report.Report.{Report}
+use Rattle.dimacs_runs.specs.declared.report.Report.TheVariants as reports
+use Rattle.dimacs_runs.specs.declared.stop.Stop.{Stop}
+use Rattle.dimacs_runs.specs.declared.stop.Stop.TheVariants.{Error}
+use Rattle.dimacs_runs.specs.declared.stop.Stop.TheVariants as stops
+use Rattle.dimacs_runs.specs.Judgings.{OneMore}
+use Rattle.dimacs_runs.specs.Outputs.{AcceptAll, AcceptInTurn, MayWrite, WritesAlike}
+use Rattle.dimacs_runs.specs.Runs.{ReportsAlone}
+use Rattle.dimacs_runs.specs.Spread.{IsBestOf, SpreadsFlow}
+use Rattle.dimacs_runs.specs.inside.Reports.{report_lines, report_status}
+
+-- the bytes of a text
+abbrev pub made_text : Made → List ℕ
+made_text Nothing = []
+made_text (Solution solution) = canonical_solution (claimed solution)
+made_text (Cut cut) = canonical_cut cut
+made_text (Potentials potentials) = canonical_potentials potentials
+made_text (Labels labels) = canonical_labels labels
+
+-- the texts without the claim, and all: the claim, the certificate and the report
+abbrev pub unclaimed_texts : Outcome → List (List ℕ)
+unclaimed_texts o = made_text o.certificate ∷ report_lines o.report ∷ []
+
+abbrev pub outcome_texts : Outcome → List (List ℕ)
+outcome_texts o = made_text o.claim ∷ unclaimed_texts o
+
+-- a report with a certificate, and a report alone
+abbrev pub certified : Made → Report → Outcome
+certified certificate report = record { claim = Nothing; certificate = certificate; report = report }
+
+abbrev pub reporting : Report → Outcome
+reporting report = certified Nothing report
+
+-- what sinks have accepted, and how often each has failed
+abbrev pub accepted_by : List Written → List (Option (List ℕ))
+accepted_by sinks = map (λ (sink : Written). sink.accepted) sinks
+
+abbrev pub faults_by : List Written → List ℕ
+faults_by sinks = map (λ (sink : Written). sink.faults) sinks
+
+-- a sink that keeps no byte
+abbrev pub nowhere : Written
+nowhere = record { accepted = None; faults = 0 }
+
+-- how a run ends that is to write this, or has an error
+abbrev pub EndsWriting : Result Outcome RunError → Result Status RunError → List Written → List Written → Type 0
+EndsWriting (Ok o) (Ok status) old new = (status ≡ report_status o.report) × AcceptAll (outcome_texts o) (accepted_by old) (accepted_by new) × (faults_by new ≡ faults_by old)
+EndsWriting (Ok o) (Err error) old new = (error ≡ Device) × AcceptInTurn (outcome_texts o) (accepted_by old) (accepted_by new) × OneMore (faults_by old) (faults_by new)
+EndsWriting (Err error) result old new = (result ≡ Err error) × (new ≡ old)
+
+-- what a text of this kind that can't be read makes of a run, and the error of a judge or a solver
+abbrev pub unread_stop : TextKind → ReadError → Stop
+unread_stop kind (read_errors.Refused place reason) = stops.Report (reports.Fault kind place reason)
+unread_stop kind read_errors.Device = Error Device
+unread_stop kind read_errors.Memory = Error Memory
+
+abbrev pub judge_stop : JudgeError → Stop
+judge_stop (judge_errors.Refused place reason) = stops.Report (reports.No place reason)
+judge_stop judge_errors.Memory = Error Memory
+
+abbrev pub solve_stop : SolveError → Stop
+solve_stop (solve_errors.NegativeWeight arc) = stops.Report (reports.No (Arc arc) reasons.NegativeWeight)
+solve_stop (solve_errors.Refused place reason) = stops.Report (reports.No place reason)
+solve_stop solve_errors.Memory = Error Memory
+
+abbrev pub settled : Result Outcome Stop → Result Outcome RunError
+settled (Ok outcome) = Ok outcome
+settled (Err (stops.Report report)) = Ok (reporting report)
+settled (Err (Error error)) = Err error
+
+-- what follows from the answer of a judge, and of the solvers of flows
+abbrev pub judged : Result Verdict JudgeError → Result Outcome Stop
+judged (Ok verdict) = Ok (reporting (reports.Yes verdict))
+judged (Err error) = Err (judge_stop error)
+
+abbrev pub maximum_outcome : Result MaxAnswer SolveError → Result Outcome Stop
+maximum_outcome (Ok (maximum.Optimal solution cut)) = Ok (record { claim = Solution solution; certificate = Cut cut; report = reports.Yes (verdicts.Max solution.value) })
+maximum_outcome (Ok maximum.GaveUp) = Ok (reporting reports.GaveUp)
+maximum_outcome (Err error) = Err (solve_stop error)
+
+abbrev pub least_outcome : Result MinAnswer SolveError → Result Outcome Stop
+least_outcome (Ok (least.Optimal solution potentials)) = Ok (record { claim = Solution solution; certificate = Potentials potentials; report = reports.Yes (verdicts.Min solution.value) })
+least_outcome (Ok (least.Infeasible set)) = Ok (certified (Cut set) (reports.Yes verdicts.Infeasible))
+least_outcome (Ok least.GaveUp) = Ok (reporting reports.GaveUp)
+least_outcome (Err error) = Err (solve_stop error)
+
+-- the outcome, if there is one, is possible, by its status and these texts of it
+abbrev pub IfEnds : {O E : Type 0} → (Outcome → O) → (Status → O → Type 0) → Result Outcome E → Type 0
+IfEnds texts possible (Ok o) = possible (report_status o.report) (texts o)
+IfEnds texts possible (Err error) = Unit {0}
+
+-- so is the report, and no other; so are all texts; and those without the claim
+abbrev pub MayReport : (Status → List ℕ → Type 0) → Result Outcome RunError → Type 0
+MayReport reports = IfEnds (λ o. report_lines o.report) (ReportsAlone reports)
+
+abbrev pub MayProduce : (Status → List (List ℕ) → Type 0) → Result Outcome RunError → Type 0
+MayProduce writes = IfEnds outcome_texts (MayWrite writes)
+
+abbrev pub MayCertify : (Status → List (List ℕ) → Type 0) → Result Outcome RunError → Type 0
+MayCertify writes = IfEnds unclaimed_texts (WritesAlike writes)
+
+-- the flow that deals out a claim, or why there is none
+abbrev pub DealsOut : SpreadKind → List ArcView → SolutionValue → Result (List ℤ) JudgeError → Type 0
+DealsOut kind arcs s (Ok x) = SpreadsFlow arcs s x × IsBestOf kind arcs s x
+DealsOut kind arcs s (Err error) = IsRefusal arcs s.entries error

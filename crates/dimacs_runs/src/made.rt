@@ -1,0 +1,96 @@
+//! What a run makes: texts and a report.
+
+ghost use Rattle.std.specs.Prelude.{◌≡◌, ◌↔◌, ◌∷◌, [], IfOk, IsTrue};
+ghost use Rattle.dimacs_lines.specs.Puts.{Puts};
+ghost use Rattle.dimacs_runs.specs.declared.made.Made.TheVariants.{Nothing};
+ghost use Rattle.dimacs_runs.specs.inside.Outcomes.{EndsWriting, made_text};
+ghost use Rattle.dimacs_runs.specs.inside.Outcomes as outcomes;
+
+use crate::outcome::{RunError, Status};
+use crate::report::Report;
+use dimacs_claims::{
+    Cut, Labels, Potentials, Solution, write_cut, write_labels, write_potentials, write_solution,
+};
+use dimacs_lines::{DeviceFault, Sink};
+
+/// A text that a run made.
+#[derive(Drop)]
+pub(crate) enum Made {
+    Nothing,
+    Solution(Solution),
+    Cut(Cut),
+    Potentials(Potentials),
+    Labels(Labels),
+}
+
+impl Made {
+    /// Whether there is no text to write.
+    pub(crate) fn is_nothing(&self) -> bool
+        ensures { IsTrue result ↔ (self.now ≡ Nothing) }
+    {
+        matches!(self, Made::Nothing)
+    }
+
+    /// Writes the text.
+    fn write<K: Sink>(&self, sink: &mut K) -> Result<(), DeviceFault>
+        ensures puts { Puts result (K.seen sink.old) (made_text self.now) (K.seen sink.new) }
+        ensures unmade { self.now ≡ Nothing → sink.new ≡ sink.old }
+    {
+        match self {
+            Made::Nothing => Ok(()),
+            Made::Solution(solution) => write_solution(solution, sink),
+            Made::Cut(cut) => write_cut(cut, sink),
+            Made::Potentials(potentials) => write_potentials(potentials, sink),
+            Made::Labels(labels) => write_labels(labels, sink),
+        }
+    }
+}
+
+/// The texts that a run made, and its report.
+#[derive(Drop)]
+pub(crate) struct Outcome {
+    /// A solution. There is none for someone else's claim, nor of labels, which are claim and certificate in one.
+    pub(crate) claim: Made,
+    /// A certificate; or a solution in its place: a flow better than the claimed one, any feasible flow, or a claimed
+    /// flow dealt out to parallel arcs.
+    pub(crate) certificate: Made,
+    pub(crate) report: Report,
+}
+
+impl Outcome {
+    /// A report without texts.
+    pub(crate) fn reporting(report: Report) -> Outcome
+        ensures { result ≡ outcomes.reporting report }
+    {
+        Outcome::certified(Made::Nothing, report)
+    }
+
+    /// A report on someone else's claim, with a certificate or a text in its place.
+    pub(crate) fn certified(certificate: Made, report: Report) -> Outcome
+        ensures { result ≡ outcomes.certified certificate report }
+    {
+        Outcome {
+            claim: Made::Nothing,
+            certificate,
+            report,
+        }
+    }
+}
+
+/// Writes the claim, the certificate and the report of an outcome, in this order. Returns an error unchanged.
+pub(crate) fn write_outcome<C: Sink, D: Sink, K: Sink>(
+    outcome: Result<Outcome, RunError>,
+    claim: &mut C,
+    certificate: &mut D,
+    report: &mut K,
+) -> Result<Status, RunError>
+    ensures ends { EndsWriting outcome result
+        (C.seen claim.old ∷ D.seen certificate.old ∷ K.seen report.old ∷ []) (C.seen claim.new ∷ D.seen certificate.new ∷ K.seen report.new ∷ []) }
+    ensures unclaimed { IfOk outcome (λ o. o.claim ≡ Nothing) → claim.new ≡ claim.old }
+{
+    let outcome = outcome?;
+    outcome.claim.write(claim)?;
+    outcome.certificate.write(certificate)?;
+    outcome.report.write(report)?;
+    Ok(outcome.report.status())
+}

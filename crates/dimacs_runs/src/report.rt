@@ -1,0 +1,58 @@
+//! Reports of runs.
+
+ghost use Rattle.std.specs.Prelude.{◌≡◌};
+ghost use Rattle.dimacs_lines.specs.Puts.{Puts};
+ghost use Rattle.dimacs_runs.specs.inside.Reports.{report_lines, report_status};
+
+use crate::outcome::Status;
+use crate::refusal::{put_refusal, text_name};
+use crate::verdict::{put_distances, put_failure, put_gave_up, put_verdict};
+use dimacs_judge::{Verdict, Where};
+use dimacs_lines::{DeviceFault, Sink};
+use dimacs_records::{At, Reason, TextKind};
+
+/// The report of a run on an instance and on the claim about it.
+#[derive(Drop)]
+pub(crate) enum Report {
+    /// The judge accepts the claim.
+    Yes(Verdict),
+    /// The claimed distances from this many sources are right.
+    Distances(u32),
+    /// The first test that fails.
+    No(Where, Reason),
+    /// The fault of a text of this kind.
+    Fault(TextKind, At, Reason),
+    /// A solver gave up.
+    GaveUp,
+    /// No report, since the written text shows all.
+    Nothing,
+}
+
+impl Report {
+    /// The status of a run with this report.
+    pub(crate) fn status(&self) -> Status
+        ensures { result ≡ report_status self.now }
+    {
+        match self {
+            Report::Yes(_) | Report::Distances(_) | Report::Nothing => Status::Done,
+            Report::No(..) | Report::Fault(..) => Status::Refused,
+            Report::GaveUp => Status::GaveUp,
+        }
+    }
+
+    /// Writes the lines of the report.
+    pub(crate) fn write<K: Sink>(&self, sink: &mut K) -> Result<(), DeviceFault>
+        ensures { Puts result (K.seen sink.old) (report_lines self.now) (K.seen sink.new) }
+    {
+        match self {
+            Report::Yes(verdict) => put_verdict(sink, verdict),
+            Report::Distances(sources) => put_distances(sink, *sources),
+            Report::No(place, reason) => put_failure(sink, *place, *reason),
+            Report::Fault(kind, place, reason) => {
+                put_refusal(sink, text_name(*kind), *place, *reason)
+            }
+            Report::GaveUp => put_gave_up(sink),
+            Report::Nothing => Ok(()),
+        }
+    }
+}
