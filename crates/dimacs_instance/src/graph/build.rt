@@ -1,12 +1,13 @@
-//! Building a graph arc by arc.
+//! Building a graph, arc by arc or over a network.
 
 ghost use Rattle.std.specs.Prelude.{◌≡◌, ◌≤◌, ◌<◌, ◌++◌, ◌∷◌, [], OnOk, OnErr, length};
 ghost use Rattle.dimacs_lines.specs.Limits.{most_count, most_nodes, IsNode};
 ghost use Rattle.dimacs_network.specs.KeptArcs.{weight_arc};
+ghost use Rattle.dimacs_instance.specs.Graph.{IsGraph};
 
 use crate::graph::Graph;
 use dimacs_lines::Memory;
-use dimacs_network::{PlainArcs, WeightArc};
+use dimacs_network::{Network, PlainArcs, WeightArc};
 use std::alloc::Global;
 
 impl Graph<PlainArcs<WeightArc>> {
@@ -30,5 +31,15 @@ impl Graph<PlainArcs<WeightArc>> {
         ensures unchanged { OnErr result (self.new ≡ self.old) }
     {
         self.network.push(arc)
+    }
+}
+
+impl<N: Network> Graph<N> {
+    /// The graph over a network that has its arcs already. Allocates nothing.
+    pub fn over(network: N) -> Graph<N>
+        requires { IsGraph (record { nodes = N.node_count network; arcs = N.list network }) }
+        ensures { result ≡ record { nodes = N.node_count network; arcs = N.list network } }
+    {
+        Graph { network }
     }
 }

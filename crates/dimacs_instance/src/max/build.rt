@@ -1,12 +1,13 @@
-//! Building a maximum flow instance arc by arc.
+//! Building a maximum flow instance, arc by arc or over a network.
 
 ghost use Rattle.std.specs.Prelude.{◌≡◌, ◌≢◌, ◌≤◌, ◌<◌, ◌≤ℤ◌, ◌++◌, ◌∷◌, [], OnOk, OnErr, length, pos};
 ghost use Rattle.dimacs_lines.specs.Limits.{most_count, most_nodes, IsNode};
 ghost use Rattle.dimacs_network.specs.KeptArcs.{capacity_arc};
+ghost use Rattle.dimacs_instance.specs.MaxFlows.{IsMax};
 
 use crate::max::MaxInstance;
 use dimacs_lines::Memory;
-use dimacs_network::{CapacityArc, PlainArcs};
+use dimacs_network::{CapacityArc, Network, PlainArcs};
 use std::alloc::Global;
 
 impl MaxInstance<PlainArcs<CapacityArc>> {
@@ -41,5 +42,19 @@ impl MaxInstance<PlainArcs<CapacityArc>> {
         ensures unchanged { OnErr result (self.new ≡ self.old) }
     {
         self.network.push(arc)
+    }
+}
+
+impl<N: Network> MaxInstance<N> {
+    /// The instance over a network that has its arcs already. Allocates nothing.
+    pub fn over(network: N, source: u32, sink: u32) -> MaxInstance<N>
+        requires { IsMax (record { nodes = N.node_count network; source = source; sink = sink; arcs = N.list network }) }
+        ensures { result ≡ record { nodes = N.node_count network; source = source; sink = sink; arcs = N.list network } }
+    {
+        MaxInstance {
+            source,
+            sink,
+            network,
+        }
     }
 }

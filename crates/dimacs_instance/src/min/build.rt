@@ -1,14 +1,15 @@
-//! Building a minimum cost flow instance, supply by supply and arc by arc.
+//! Building a minimum cost flow instance, supply by supply, and arc by arc or over a network.
 
 ghost use Rattle.std.specs.Prelude.{◌≡◌, ◌≤◌, ◌<◌, ◌++◌, ◌∷◌, [], OnOk, OnErr, length};
 ghost use Rattle.std.specs.FinMap.{empty};
+ghost use Rattle.std.specs.List.{All};
 ghost use Rattle.dimacs_lines.specs.Limits.{most_count, most_nodes, IsNode};
 ghost use Rattle.dimacs_network.specs.Arcs.{JoinsNodes};
 ghost use Rattle.dimacs_instance.specs.MinFlows.{HasBounds, with_supply};
 
 use crate::min::MinInstance;
 use dimacs_lines::Memory;
-use dimacs_network::{ArcView, PlainArcs};
+use dimacs_network::{ArcView, Network, PlainArcs};
 use dimacs_nodes::NodeMap;
 use std::alloc::Global;
 
@@ -44,5 +45,18 @@ impl MinInstance<PlainArcs<ArcView>> {
         ensures unchanged { OnErr result (self.new ≡ self.old) }
     {
         self.network.push(arc)
+    }
+    /// The same supplies over a network that has its arcs already. Arcs that were added are dropped. Allocates nothing.
+    pub fn over<N: Network>(self, network: N) -> MinInstance<N>
+        requires nodes { N.node_count network ≡ self.nodes }
+        requires few { length (N.list network) ≤ most_count }
+        requires joined { All (JoinsNodes self.nodes) (N.list network) }
+        requires bounds { All HasBounds (N.list network) }
+        ensures { result ≡ record self { arcs = N.list network } }
+    {
+        MinInstance {
+            supplies: self.supplies,
+            network,
+        }
     }
 }
