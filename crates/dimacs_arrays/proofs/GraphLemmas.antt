@@ -1,40 +1,27 @@
--- The arrays of a graph, arc by arc.
-use Rattle.std.proofs.Common.{◌≡◌, inl, ℕ, ◌+◌, ◌<◌, List, [], ◌∷◌, ◌++◌, length, map, sym, ap, ◌∙◌, arith}
-use Rattle.std.specs.List.{range_with_len}
+-- The arrays of a graph.
+use Rattle.std.proofs.Common.{ℕ, ◌≤◌, All, length, refl, arith}
 use Rattle.std.proofs.lemmas.Int.{ints}
 use Rattle.std.proofs.lemmas.List.Elements.{All-weaker}
-use Rattle.std.proofs.lemmas.List.FromFn.{get_or-map-range_with_len, length-map-range_with_len, map-range_with_len_more}
-use Rattle.dimacs_records.specs.declared.reasons.Reason.{Reason}
+use Rattle.dimacs_lines.specs.Limits.{most_count, most_nodes}
 use Rattle.dimacs_records.specs.declared.reasons.Reason.TheVariants.{NodeRange}
+use Rattle.dimacs_network.specs.Arcs.{JoinsNodes}
 use Rattle.dimacs_network.specs.declared.network.ArcView.{ArcView}
-use Rattle.dimacs_network.specs.Arcs.{NetworkValue, arc_at, no_arc}
-use Rattle.dimacs_instance.specs.Graph.{HasWeightAlone}
-use Rattle.dimacs_judge.specs.declared.verdict.Where.TheVariants.{Arc, Node}
-use Rattle.dimacs_judge.specs.Tests.{AllClear, ClearBelow, First}
+use Rattle.dimacs_instance.specs.Graph.{HasWeightAlone, IsGraph}
+use Rattle.dimacs_judge.specs.declared.verdict.Where.TheVariants.{Node}
+use Rattle.dimacs_judge.specs.Tests.{AllClear}
 use Rattle.dimacs_judge.proofs.Firsts.{AllOneWay, one_test_one_way}
-use Rattle.dimacs_judge.proofs.RowLemmas.{arc_clear_more, arc_first}
-use Rattle.dimacs_judge.proofs.RowLists.{first_after}
 use Rattle.dimacs_arrays.specs.declared.graph.GraphArrays.{GraphArrays}
-use Rattle.dimacs_arrays.specs.Limits.{ArcFails, count_rows, limit_row}
-use Rattle.dimacs_arrays.specs.GraphArrays.{IsGraphFrom, graph_limits, source_rows, weighted_arc}
-use Rattle.dimacs_arrays.proofs.LimitLemmas.{HasLawfulBounds, counts_clear, counts_one_way, limit_one_way, limits_clear, one_clear}
+use Rattle.dimacs_arrays.specs.GraphArrays.{IsGraphFrom, graph_limits, graph_spelled, source_rows, weighted_arc}
+use Rattle.dimacs_arrays.specs.inside.Lent.{IsInRange}
+use Rattle.dimacs_arrays.proofs.LentLemmas.{lent_all, lent_many}
+use Rattle.dimacs_arrays.proofs.LimitLemmas.{HasLawfulBounds, all_limits_clear, limits_one_way, one_clear}
 
 module _ (a : GraphArrays) where
   abbrev count : ℕ
   count = length a.tails.now
 
-  --   the first arcs
-  abbrev pub weighted_arcs : ℕ → List ArcView
-  weighted_arcs n = map (weighted_arc a) (range_with_len 0 n)
-
-  --   the graph with these arcs
-  abbrev pub graph_begun : ℕ → NetworkValue
-  graph_begun n = record { nodes = a.nodes; arcs = weighted_arcs n }
-
   pub graph_one_way : (s : ℕ) → AllOneWay (graph_limits a s)
-  graph_one_way s =
-      let counts = counts_one_way a.nodes count in
-      (counts.0, (counts.1.0, (one_test_one_way (Node s) NodeRange _, (limit_one_way a.nodes (weighted_arcs count), tt))))
+  graph_one_way s = limits_one_way a.nodes count (source_rows a.nodes s) (graph_spelled a).arcs (one_test_one_way (Node s) NodeRange _, tt)
 
   lawful_bounds : (b : ArcView) → HasWeightAlone b → HasLawfulBounds b
   lawful_bounds b alone = (omega (arith, ints, alone.0), omega (arith, ints, alone.0, alone.1))
@@ -42,23 +29,13 @@ module _ (a : GraphArrays) where
   pub graph_clear : (s : ℕ) → IsGraphFrom a s → AllClear (graph_limits a s)
   graph_clear s law =
       let graph = law.0 in
-      let counts = counts_clear a.nodes count graph.nodes_few (omega (arith, graph.arcs_few, length-map-range_with_len (weighted_arc a) 0 count)) in
-      (counts.0, (counts.1.0, (one_clear (Node s) NodeRange _ (λ off. off law.1), (limits_clear a.nodes (weighted_arcs count) graph.joined (All-weaker HasWeightAlone HasLawfulBounds lawful_bounds (weighted_arcs count) graph.weights), tt))))
+      all_limits_clear a.nodes count (source_rows a.nodes s) (graph_spelled a).arcs graph.nodes_few (omega (arith, graph.arcs_few, lent_many (weighted_arc a) count))
+      (one_clear (Node s) NodeRange _ (λ off. off law.1), tt) graph.joined (All-weaker HasWeightAlone HasLawfulBounds lawful_bounds (graph_spelled a).arcs graph.weights)
 
-  --   the first number out of range, and one in range
-  module _ (s : ℕ) (counts : AllClear (count_rows a.nodes count)) (source : AllClear (source_rows a.nodes s)) (k : ℕ) (inside : k < count) (arc : ArcView) (arc_is : arc ≡ weighted_arc a k) (below : ClearBelow (limit_row a.nodes (weighted_arcs count)) k) where
-    same_arc : arc_at (weighted_arcs count) k ≡ arc
-    same_arc = get_or-map-range_with_len (weighted_arc a) 0 count k k no_arc inside (omega arith) ∙ sym arc_is
-
-    pub arc_limit : (reason : Reason) → ArcFails a.nodes arc reason → First (graph_limits a s) (Arc (k + 1)) reason
-    arc_limit reason fault =
-        first_after (count_rows a.nodes count) (source_rows a.nodes s ++ limit_row a.nodes (weighted_arcs count) ∷ []) (Arc (k + 1)) reason counts
-        (first_after (source_rows a.nodes s) (limit_row a.nodes (weighted_arcs count) ∷ []) (Arc (k + 1)) reason source
-        (inl (arc_first (weighted_arcs count) _ k reason (omega (arith, inside, length-map-range_with_len (weighted_arc a) 0 count)) below (rw same_arc fault))))
-
-    pub arc_passes : ((reason : Reason) → ¬ ArcFails a.nodes arc reason) → ClearBelow (limit_row a.nodes (weighted_arcs count)) (k + 1)
-    arc_passes none = arc_clear_more (weighted_arcs count) _ k below (rw same_arc none)
-
-  pub arc_pushed : (k : ℕ) (arc : ArcView) (old new : NetworkValue) → arc ≡ weighted_arc a k → old ≡ graph_begun k → new ≡ record old { arcs = old.arcs ++ arc ∷ [] } → new ≡ graph_begun (k + 1)
-  arc_pushed k arc old new arc_is old_is new_is =
-      new_is ∙ rw (old_is, arc_is) (ap (λ (arcs : List ArcView). record { nodes = a.nodes; arcs = arcs }) (sym (map-range_with_len_more (weighted_arc a) 0 k k (omega arith))))
+  pub graph_lawful : a.nodes ≤ most_nodes → count ≤ most_count → All (IsInRange a.nodes) (graph_spelled a).arcs → IsGraph (graph_spelled a)
+  graph_lawful nodes_few arcs_few in_range = record {
+    nodes_few = nodes_few;
+    arcs_few = omega (arith, arcs_few, lent_many (weighted_arc a) count);
+    joined = All-weaker (IsInRange a.nodes) (JoinsNodes a.nodes) (λ b in_it. in_it.0) (graph_spelled a).arcs in_range;
+    weights = lent_all (weighted_arc a) count (IsInRange a.nodes) HasWeightAlone (λ k in_it. (refl, refl, in_it.1.3)) in_range;
+  }

@@ -6,6 +6,7 @@ mod DistanceLemmas
 mod GraphLemmas
 mod InfeasibleLemmas
 mod LabelLemmas
+mod LentLemmas
 pub mod LimitLemmas
 mod MaxLemmas
 mod MinLemmas

@@ -1,28 +1,22 @@
--- The arrays of a minimum cost flow instance, supply by supply and arc by arc.
-use Rattle.std.proofs.Common.{◌≡◌, inl, ℕ, suc, ◌+◌, ◌<◌, ◌≤◌, ◌==◌, List, [], ◌∷◌, ◌++◌, length, map, take, get_or, false, refl, sym, ap, ◌∙◌, arith}
+-- The arrays of a minimum cost flow instance, supply by supply.
+use Rattle.std.proofs.Common.{◌≡◌, ℕ, suc, ◌+◌, ◌<◌, ◌≤◌, ◌==◌, List, [], ◌∷◌, ◌++◌, length, take, get_or, false, refl, sym, ap, ◌∙◌, arith}
 use Rattle.std.specs.Prelude.{ℤ, pos}
 use Rattle.std.specs.List.{list_any, range_with_len, zip}
 use Rattle.std.specs.FinMap.{empty, from_entries, insert}
 use Rattle.std.proofs.lemmas.Bool.{ne_eqb}
 use Rattle.std.proofs.lemmas.List.{length-take-le, take_all, take_more}
 use Rattle.std.proofs.lemmas.List.Elements.{All-weaker}
-use Rattle.std.proofs.lemmas.List.FromFn.{get_or-map-range_with_len, length-map-range_with_len, map-range_with_len_more}
 use Rattle.dimacs_records.specs.NodeValues.{is_of, without_zeros}
-use Rattle.dimacs_records.specs.declared.reasons.Reason.{Reason}
 use Rattle.dimacs_records.proofs.NameLemmas.{map_more, without_zeros-empty}
 use Rattle.dimacs_records.proofs.ZeroLemmas.{without_zeros-insert}
 use Rattle.dimacs_network.specs.declared.network.ArcView.{ArcView}
 use Rattle.dimacs_instance.specs.MinFlows.{MinValue, IsMin, HasBounds, with_supply}
-use Rattle.dimacs_judge.specs.declared.verdict.Where.TheVariants.{Arc}
-use Rattle.dimacs_network.specs.Arcs.{arc_at, no_arc}
-use Rattle.dimacs_judge.specs.Tests.{AllClear, ClearBelow, First}
+use Rattle.dimacs_judge.specs.Tests.{AllClear}
 use Rattle.dimacs_judge.proofs.Firsts.{AllOneWay}
-use Rattle.dimacs_judge.proofs.RowLemmas.{arc_clear_more, arc_first}
-use Rattle.dimacs_judge.proofs.RowLists.{first_after}
 use Rattle.dimacs_arrays.specs.declared.min.MinArrays.{MinArrays}
-use Rattle.dimacs_arrays.specs.Limits.{ArcFails, count_rows, limit_row}
 use Rattle.dimacs_arrays.specs.MinArrays.{min_arc, min_limits, min_spelled, supplies_by_node}
-use Rattle.dimacs_arrays.proofs.LimitLemmas.{HasLawfulBounds, counts_clear, counts_one_way, limit_one_way, limits_clear}
+use Rattle.dimacs_arrays.proofs.LentLemmas.{lent_many}
+use Rattle.dimacs_arrays.proofs.LimitLemmas.{HasLawfulBounds, all_limits_clear, limits_one_way}
 
 -- ---- supplies
 abbrev by_node : List ℤ → List (ℕ × ℤ)
@@ -73,37 +67,10 @@ module _ (a : MinArrays) where
   abbrev count : ℕ
   count = length a.tails.now
 
-  --   the first arcs
-  abbrev pub min_arcs : ℕ → List ArcView
-  min_arcs n = map (min_arc a) (range_with_len 0 n)
-
-  --   the instance with these arcs
-  abbrev pub min_begun : ℕ → MinValue
-  min_begun n = record { nodes = a.nodes; supplies = supplies_by_node a.supplies.now; arcs = min_arcs n }
-
   pub min_one_way : AllOneWay (min_limits a)
-  min_one_way =
-      let counts = counts_one_way a.nodes count in
-      (counts.0, (counts.1.0, (limit_one_way a.nodes (min_arcs count), tt)))
+  min_one_way = limits_one_way a.nodes count [] (min_spelled a).arcs tt
 
   pub min_clear : IsMin (min_spelled a) → AllClear (min_limits a)
   min_clear law =
-      let counts = counts_clear a.nodes count law.nodes_few (omega (arith, law.arcs_few, length-map-range_with_len (min_arc a) 0 count)) in
-      (counts.0, (counts.1.0, (limits_clear a.nodes (min_arcs count) law.joined (All-weaker HasBounds HasLawfulBounds (λ b bounds. (bounds.0, bounds.1)) (min_arcs count) law.bounds), tt)))
-
-  --   the first number out of range, and one in range
-  module _ (counts : AllClear (count_rows a.nodes count)) (k : ℕ) (inside : k < count) (arc : ArcView) (arc_is : arc ≡ min_arc a k) (below : ClearBelow (limit_row a.nodes (min_arcs count)) k) where
-    same_arc : arc_at (min_arcs count) k ≡ arc
-    same_arc = get_or-map-range_with_len (min_arc a) 0 count k k no_arc inside (omega arith) ∙ sym arc_is
-
-    pub arc_limit : (reason : Reason) → ArcFails a.nodes arc reason → First (min_limits a) (Arc (k + 1)) reason
-    arc_limit reason fault =
-        first_after (count_rows a.nodes count) (limit_row a.nodes (min_arcs count) ∷ []) (Arc (k + 1)) reason counts
-        (inl (arc_first (min_arcs count) _ k reason (omega (arith, inside, length-map-range_with_len (min_arc a) 0 count)) below (rw same_arc fault)))
-
-    pub arc_passes : ((reason : Reason) → ¬ ArcFails a.nodes arc reason) → ClearBelow (limit_row a.nodes (min_arcs count)) (k + 1)
-    arc_passes none = arc_clear_more (min_arcs count) _ k below (rw same_arc none)
-
-  pub arc_pushed : (k : ℕ) (arc : ArcView) (old new : MinValue) → arc ≡ min_arc a k → old ≡ min_begun k → new ≡ record old { arcs = old.arcs ++ arc ∷ [] } → new ≡ min_begun (k + 1)
-  arc_pushed k arc old new arc_is old_is new_is =
-      new_is ∙ rw (old_is, arc_is) (ap (λ (arcs : List ArcView). record { nodes = a.nodes; supplies = supplies_by_node a.supplies.now; arcs = arcs }) (sym (map-range_with_len_more (min_arc a) 0 k k (omega arith))))
+      all_limits_clear a.nodes count [] (min_spelled a).arcs law.nodes_few (omega (arith, law.arcs_few, lent_many (min_arc a) count)) tt law.joined
+      (All-weaker HasBounds HasLawfulBounds (λ b bounds. (bounds.0, bounds.1)) (min_spelled a).arcs law.bounds)

@@ -1,5 +1,6 @@
 pub mod Answers
 pub mod LabelTrees
+pub mod Lent
 pub mod MinCertified
 pub mod Reached
 pub mod Rising

@@ -36,7 +36,7 @@ pub fn certify_max_arrays(
 {
     arrays.lengths_hold()?;
     lengths_hold(&[ArrayLength::of(Array::Flows, flows.len(), arrays.tails.len())])?;
-    let instance = arrays.instance(alloc)?;
+    let instance = arrays.instance()?;
     Ok(certify_over(alloc, &instance, flows)?)
 }
 

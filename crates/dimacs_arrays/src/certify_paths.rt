@@ -23,6 +23,6 @@ pub fn certify_paths_arrays(
 {
     arrays.lengths_hold()?;
     lengths_hold(&[ArrayLength::of(Array::Distances, distances.len(), arrays.nodes as usize)])?;
-    let graph = arrays.graph(alloc, source)?;
+    let graph = arrays.graph(source)?;
     Ok(certify_paths_by_node(alloc, &graph, source, distances)?)
 }

@@ -1,19 +1,19 @@
 //! Graphs as arrays.
 
-ghost use Rattle.std.specs.Prelude.{◌≡◌, ◌<◌, length, OnOk};
+ghost use Rattle.std.specs.Prelude.{◌≡◌, ◌<◌, length, IfOk, OnOk};
 ghost use Rattle.dimacs_lines.specs.Limits.{IsNode};
-ghost use Rattle.dimacs_network.specs.KeptArcs.{weight_arc};
+ghost use Rattle.dimacs_instance.specs.Graph.{IsGraph};
 ghost use Rattle.dimacs_arrays.specs.GraphArrays.{graph_lengths, graph_limits, graph_spelled, source_rows, weighted_arc};
 ghost use Rattle.dimacs_arrays.specs.inside.Answers.{Spells, TellsLengths, TellsLimits};
 
 use crate::error::{Array, ArrayError};
 use crate::lengths::{ArrayLength, lengths_hold};
-use crate::limits::{PastLimit, arc_fault, counts_hold};
+use crate::lent_arcs::{ArcArrays, LentArcs};
+use crate::limits::{PastLimit, counts_hold};
 use dimacs_instance::Graph;
 use dimacs_judge::Where;
-use dimacs_network::{KeptArc, PlainArcs, WeightArc};
+use dimacs_network::ArcView;
 use dimacs_records::Reason;
-use std::alloc::Global;
 
 /// A graph as arrays: the k-th arc goes from the k-th tail to the k-th head and has the k-th weight.
 #[repr(C)]
@@ -25,22 +25,24 @@ pub struct GraphArrays<'a> {
     pub weights: &'a [i64],
 }
 
-impl GraphArrays<'_> {
-    /// The arc with this index, from 0.
+impl<'a> ArcArrays for GraphArrays<'a> {
+    ghost arc_of = { weighted_arc };
+
+    ghost HasArc = { λ a k. (k < length a.tails.now) × (k < length a.heads.now) × (k < length a.weights.now) };
+
     #[inline(always)]
-    fn arc(&self, k: usize) -> WeightArc
-        requires within { k < length self.now.tails.now }
-        requires heads { length self.now.heads.now ≡ length self.now.tails.now }
-        requires weights { length self.now.weights.now ≡ length self.now.tails.now }
-        ensures { weight_arc result.tail result.head result.weight ≡ weighted_arc self.now k }
-    {
-        WeightArc {
+    fn arc(&self, k: usize) -> ArcView {
+        ArcView {
             tail: self.tails[k],
             head: self.heads[k],
-            weight: self.weights[k],
+            low: 0,
+            cap: 0,
+            cost: self.weights[k],
         }
     }
+}
 
+impl<'a> GraphArrays<'a> {
     /// Whether there are a head and a weight for each tail.
     pub(crate) fn lengths_hold(&self) -> Result<(), ArrayError>
         ensures { TellsLengths (graph_lengths self.now) result }
@@ -67,26 +69,15 @@ impl GraphArrays<'_> {
     }
 
     /// The graph that the arrays spell, or the first number out of range; the source is tested, too.
-    pub(crate) fn graph(
-        &self,
-        alloc: Global,
-        source: u32,
-    ) -> Result<Graph<PlainArcs<WeightArc>>, ArrayError>
+    pub(crate) fn graph(&self, source: u32) -> Result<Graph<LentArcs<GraphArrays<'a>>>, ArrayError>
         requires heads { length self.now.heads.now ≡ length self.now.tails.now }
         requires weights { length self.now.weights.now ≡ length self.now.tails.now }
         ensures spells { Spells (graph_limits self.now source) (graph_spelled self.now) result }
+        ensures lawful { IfOk result IsGraph }
         ensures source { OnOk result (IsNode self.now.nodes source) }
     {
         counts_hold(self.nodes, self.tails.len())?;
         self.source_holds(source)?;
-        let mut graph = Graph::new(alloc, self.nodes);
-        for k in 0..self.tails.len() {
-            let arc = self.arc(k);
-            if let Some(reason) = arc_fault(self.nodes, arc.view()) {
-                return Err(ArrayError::Limit(Where::Arc(k as u32 + 1), reason));
-            }
-            graph.push(arc)?;
-        }
-        Ok(graph)
+        Ok(Graph::over(LentArcs::of(*self, self.nodes, self.tails.len())?))
     }
 }

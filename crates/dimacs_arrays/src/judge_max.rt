@@ -33,7 +33,7 @@ pub fn judge_max_arrays(
         ArrayLength::of(Array::Flows, flows.len(), arrays.tails.len()),
         ArrayLength::of(Array::Inside, inside.len(), arrays.nodes as usize),
     ])?;
-    let instance = arrays.instance(alloc)?;
+    let instance = arrays.instance()?;
     Ok(judge_over(alloc, &instance, flows, inside)?)
 }
 

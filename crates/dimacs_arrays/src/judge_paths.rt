@@ -35,6 +35,6 @@ pub fn judge_paths_arrays(
             arrays.nodes as usize,
         ),
     ])?;
-    let graph = arrays.graph(alloc, source)?;
+    let graph = arrays.graph(source)?;
     Ok(judge_paths_by_node(alloc, &graph, source, distances, predecessors)?)
 }

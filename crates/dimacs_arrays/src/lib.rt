@@ -4,7 +4,7 @@
 //! An instance is a struct of slices: the k-th arc goes from the k-th tail to the k-th head. Nodes count from 1; an
 //! array by node begins with node 1. Each call first tests the lengths of the arrays, then whether the numbers are in
 //! the ranges of instances. Its answer is that of the judge, the certifier or the solver for the instance that the
-//! arrays spell.
+//! arrays spell. Arcs are read in place; a claim, and what is by node, is copied.
 #![tactic(auto)]
 
 mod by_node;
@@ -22,6 +22,7 @@ mod judge_paths;
 mod label_tree;
 mod labels;
 mod lengths;
+mod lent_arcs;
 mod limits;
 mod max;
 mod min;

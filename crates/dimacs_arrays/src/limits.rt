@@ -1,14 +1,14 @@
 //! Testing that the numbers of an instance are in the ranges that texts have.
 
-ghost use Rattle.std.specs.Prelude.{◌≤◌, ◌≤ℤ◌, pos, IfNone, OnOk};
+ghost use Rattle.std.specs.Prelude.{◌≤◌, IfNone, OnOk};
 ghost use Rattle.dimacs_lines.specs.Limits.{most_count, most_nodes};
 ghost use Rattle.dimacs_arrays.specs.Limits.{ArcFails, count_rows};
 ghost use Rattle.dimacs_arrays.specs.inside.Answers.{TellsLimits};
-ghost use Rattle.dimacs_network.specs.Arcs.{JoinsNodes};
+ghost use Rattle.dimacs_arrays.specs.inside.Lent.{IsInRange, TellsArcs};
 ghost use Rattle.dimacs_judge.specs.inside.Tests.{TellsReason};
 
 use dimacs_judge::Where;
-use dimacs_network::{ArcView, MAX_ARCS};
+use dimacs_network::{ArcView, MAX_ARCS, Network};
 use dimacs_records::{MAX_NODES, Reason};
 
 /// The first number out of range: its place, and the reason.
@@ -38,12 +38,27 @@ pub(crate) fn counts_hold(nodes: u32, arcs: usize) -> Result<(), PastLimit>
     Ok(())
 }
 
+/// Whether all arcs are in range.
+pub(crate) fn arcs_hold<N: Network>(network: &N) -> Result<(), PastLimit>
+    ensures { TellsArcs (N.node_count network.now) (N.list network.now) result }
+{
+    let nodes = network.nodes();
+    for i in 0..network.arcs() {
+        if let Some(reason) = arc_fault(nodes, network.arc(i)) {
+            return Err(PastLimit {
+                place: Where::Arc(i + 1),
+                reason,
+            });
+        }
+    }
+    Ok(())
+}
+
 /// The reason to refuse an arc in a network with this many nodes, if there is one.
 #[inline(always)]
-pub(crate) fn arc_fault(nodes: u32, arc: ArcView) -> Option<Reason>
+fn arc_fault(nodes: u32, arc: ArcView) -> Option<Reason>
     ensures tells { TellsReason (ArcFails nodes arc) result }
-    ensures joined { IfNone result (JoinsNodes nodes arc) }
-    ensures bounds { IfNone result ((pos 0 ≤ℤ arc.low) × (arc.low ≤ℤ arc.cap)) }
+    ensures in_range { IfNone result (IsInRange nodes arc) }
 {
     if arc.tail == 0 || arc.tail > nodes || arc.head == 0 || arc.head > nodes {
         return Some(Reason::NodeRange);

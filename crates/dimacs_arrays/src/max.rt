@@ -1,19 +1,19 @@
 //! Maximum flow instances as arrays.
 
-ghost use Rattle.std.specs.Prelude.{◌≡◌, ◌≢◌, ◌<◌, length, OnOk};
+ghost use Rattle.std.specs.Prelude.{◌≡◌, ◌≢◌, ◌<◌, length, IfOk, OnOk};
 ghost use Rattle.dimacs_lines.specs.Limits.{IsNode};
-ghost use Rattle.dimacs_network.specs.KeptArcs.{capacity_arc};
+ghost use Rattle.dimacs_instance.specs.MaxFlows.{IsMax};
 ghost use Rattle.dimacs_arrays.specs.MaxArrays.{end_rows, max_arc, max_lengths, max_limits, max_spelled};
 ghost use Rattle.dimacs_arrays.specs.inside.Answers.{Spells, TellsLengths, TellsLimits};
 
 use crate::error::{Array, ArrayError};
 use crate::lengths::{ArrayLength, lengths_hold};
-use crate::limits::{PastLimit, arc_fault, counts_hold};
+use crate::lent_arcs::{ArcArrays, LentArcs};
+use crate::limits::{PastLimit, counts_hold};
 use dimacs_instance::MaxInstance;
 use dimacs_judge::Where;
-use dimacs_network::{CapacityArc, PlainArcs};
+use dimacs_network::ArcView;
 use dimacs_records::Reason;
-use std::alloc::Global;
 
 /// A maximum flow instance as arrays: the k-th arc goes from the k-th tail to the k-th head and has the k-th capacity.
 #[repr(C)]
@@ -27,22 +27,24 @@ pub struct MaxArrays<'a> {
     pub caps: &'a [i64],
 }
 
-impl MaxArrays<'_> {
-    /// The arc with this index, from 0.
+impl<'a> ArcArrays for MaxArrays<'a> {
+    ghost arc_of = { max_arc };
+
+    ghost HasArc = { λ a k. (k < length a.tails.now) × (k < length a.heads.now) × (k < length a.caps.now) };
+
     #[inline(always)]
-    fn arc(&self, k: usize) -> CapacityArc
-        requires within { k < length self.now.tails.now }
-        requires heads { length self.now.heads.now ≡ length self.now.tails.now }
-        requires caps { length self.now.caps.now ≡ length self.now.tails.now }
-        ensures { capacity_arc result.tail result.head result.cap ≡ max_arc self.now k }
-    {
-        CapacityArc {
+    fn arc(&self, k: usize) -> ArcView {
+        ArcView {
             tail: self.tails[k],
             head: self.heads[k],
+            low: 0,
             cap: self.caps[k],
+            cost: 0,
         }
     }
+}
 
+impl<'a> MaxArrays<'a> {
     /// Whether there are a head and a capacity for each tail.
     pub(crate) fn lengths_hold(&self) -> Result<(), ArrayError>
         ensures { TellsLengths (max_lengths self.now) result }
@@ -83,24 +85,15 @@ impl MaxArrays<'_> {
     }
 
     /// The instance that the arrays spell, or the first number out of range.
-    pub(crate) fn instance(
-        &self,
-        alloc: Global,
-    ) -> Result<MaxInstance<PlainArcs<CapacityArc>>, ArrayError>
+    pub(crate) fn instance(&self) -> Result<MaxInstance<LentArcs<MaxArrays<'a>>>, ArrayError>
         requires heads { length self.now.heads.now ≡ length self.now.tails.now }
         requires caps { length self.now.caps.now ≡ length self.now.tails.now }
-        ensures { Spells (max_limits self.now) (max_spelled self.now) result }
+        ensures spells { Spells (max_limits self.now) (max_spelled self.now) result }
+        ensures lawful { IfOk result IsMax }
     {
         counts_hold(self.nodes, self.tails.len())?;
         self.ends_hold()?;
-        let mut instance = MaxInstance::new(alloc, self.nodes, self.source, self.sink);
-        for k in 0..self.tails.len() {
-            let arc = self.arc(k);
-            if let Some(reason) = arc_fault(self.nodes, arc.view()) {
-                return Err(ArrayError::Limit(Where::Arc(k as u32 + 1), reason));
-            }
-            instance.push(arc)?;
-        }
-        Ok(instance)
+        let network = LentArcs::of(*self, self.nodes, self.tails.len())?;
+        Ok(MaxInstance::over(network, self.source, self.sink))
     }
 }

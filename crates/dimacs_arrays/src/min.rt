@@ -7,9 +7,9 @@ ghost use Rattle.dimacs_arrays.specs.inside.Answers.{Spells, TellsLengths};
 
 use crate::error::{Array, ArrayError};
 use crate::lengths::{ArrayLength, lengths_hold};
-use crate::limits::{arc_fault, counts_hold};
+use crate::lent_arcs::{ArcArrays, LentArcs};
+use crate::limits::counts_hold;
 use dimacs_instance::MinInstance;
-use dimacs_judge::Where;
 use dimacs_lines::Memory;
 use dimacs_network::{ArcView, PlainArcs};
 use std::alloc::Global;
@@ -28,17 +28,14 @@ pub struct MinArrays<'a> {
     pub supplies: &'a [i64],
 }
 
-impl MinArrays<'_> {
-    /// The arc with this index, from 0.
+impl<'a> ArcArrays for MinArrays<'a> {
+    ghost arc_of = { min_arc };
+
+    ghost HasArc = { λ a k. (k < length a.tails.now) × (k < length a.heads.now) × (k < length a.lows.now)
+        × (k < length a.caps.now) × (k < length a.costs.now) };
+
     #[inline(always)]
-    fn arc(&self, k: usize) -> ArcView
-        requires within { k < length self.now.tails.now }
-        requires heads { length self.now.heads.now ≡ length self.now.tails.now }
-        requires lows { length self.now.lows.now ≡ length self.now.tails.now }
-        requires caps { length self.now.caps.now ≡ length self.now.tails.now }
-        requires costs { length self.now.costs.now ≡ length self.now.tails.now }
-        ensures { result ≡ min_arc self.now k }
-    {
+    fn arc(&self, k: usize) -> ArcView {
         ArcView {
             tail: self.tails[k],
             head: self.heads[k],
@@ -47,7 +44,9 @@ impl MinArrays<'_> {
             cost: self.costs[k],
         }
     }
+}
 
+impl<'a> MinArrays<'a> {
     /// Whether there are a head, bounds and a cost for each tail, and a supply for each node.
     pub(crate) fn lengths_hold(&self) -> Result<(), ArrayError>
         ensures { TellsLengths (min_lengths self.now) result }
@@ -79,7 +78,7 @@ impl MinArrays<'_> {
     pub(crate) fn instance(
         &self,
         alloc: Global,
-    ) -> Result<MinInstance<PlainArcs<ArcView>>, ArrayError>
+    ) -> Result<MinInstance<LentArcs<MinArrays<'a>>>, ArrayError>
         requires heads { length self.now.heads.now ≡ length self.now.tails.now }
         requires lows { length self.now.lows.now ≡ length self.now.tails.now }
         requires caps { length self.now.caps.now ≡ length self.now.tails.now }
@@ -88,14 +87,7 @@ impl MinArrays<'_> {
         ensures { Spells (min_limits self.now) (min_spelled self.now) result }
     {
         counts_hold(self.nodes, self.tails.len())?;
-        let mut instance = self.supplied(alloc)?;
-        for k in 0..self.tails.len() {
-            let arc = self.arc(k);
-            if let Some(reason) = arc_fault(self.nodes, arc) {
-                return Err(ArrayError::Limit(Where::Arc(k as u32 + 1), reason));
-            }
-            instance.push(arc)?;
-        }
-        Ok(instance)
+        let network = LentArcs::of(*self, self.nodes, self.tails.len())?;
+        Ok(self.supplied(alloc)?.over(network))
     }
 }

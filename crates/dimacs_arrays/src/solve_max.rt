@@ -35,7 +35,7 @@ pub fn solve_max_arrays(
     ensures { SolvesMaxArrays arrays.now limit result }
 {
     arrays.lengths_hold()?;
-    let instance = arrays.instance(alloc)?;
+    let instance = arrays.instance()?;
     Ok(solve_over(alloc, &instance, limit)?)
 }
 

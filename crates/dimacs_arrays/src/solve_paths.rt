@@ -43,7 +43,7 @@ pub fn solve_paths_arrays(
     ensures { SolvesPathsArrays arrays.now source result }
 {
     arrays.lengths_hold()?;
-    let graph = arrays.graph(alloc, source)?;
+    let graph = arrays.graph(source)?;
     Ok(solve_over(alloc, &graph, source)?)
 }
 

@@ -1,4 +1,4 @@
-use Rattle.std.proofs.Common.{List, [], ◌∷◌, ℕ, ℤ, length, subst}
+use Rattle.std.proofs.Common.{List, [], ◌∷◌, ℕ, ℤ, length}
 use Rattle.std.specs.Global.{Vec}
 use Rattle.dimacs_lines.specs.Limits.{IsNode}
 use Rattle.dimacs_network.specs.Arcs.{NetworkValue}
@@ -31,11 +31,9 @@ certify_paths_by_node-requires c = rw c.in_ok-graph.ensures.spells (record { sou
 pub returns-in_err-certify_paths_by_node : goal.returns-in_err-certify_paths_by_node
 returns-in_err-certify_paths_by_node c =
     let rest = rw c.of.ensures at c.in_ok-lengths_hold-2.ensures in
-    let law : IsGraph c.in_ok-graph.graph = subst (λ (m : NetworkValue). IsGraph m) c.graph-2.view_is c.graph-2.invariant in
-    call_tells_refusal (call c.args.arrays.now c.args.source c.args.distances.now) c.in_ok-lengths_hold.ensures rest c.in_ok-graph.graph c.in_ok-graph.ensures.spells (law, c.in_ok-graph.ensures.source) _ c.in_err-certify_paths_by_node.ensures _ c.from_residual-in_err-certify_paths_by_node.ensures.1
+    call_tells_refusal (call c.args.arrays.now c.args.source c.args.distances.now) c.in_ok-lengths_hold.ensures rest c.in_ok-graph.graph c.in_ok-graph.ensures.spells (c.in_ok-graph.ensures.lawful, c.in_ok-graph.ensures.source) _ c.in_err-certify_paths_by_node.ensures _ c.from_residual-in_err-certify_paths_by_node.ensures.1
 
 pub returns : goal.returns
 returns c =
     let rest = rw c.of.ensures at c.in_ok-lengths_hold-2.ensures in
-    let law : IsGraph c.in_ok-graph.graph = subst (λ (m : NetworkValue). IsGraph m) c.graph-2.view_is c.graph-2.invariant in
-    call_tells (call c.args.arrays.now c.args.source c.args.distances.now) c.in_ok-lengths_hold.ensures rest c.in_ok-graph.graph c.in_ok-graph.ensures.spells (law, c.in_ok-graph.ensures.source) c.in_ok-certify_paths_by_node.field-0 c.in_ok-certify_paths_by_node.ensures
+    call_tells (call c.args.arrays.now c.args.source c.args.distances.now) c.in_ok-lengths_hold.ensures rest c.in_ok-graph.graph c.in_ok-graph.ensures.spells (c.in_ok-graph.ensures.lawful, c.in_ok-graph.ensures.source) c.in_ok-certify_paths_by_node.field-0 c.in_ok-certify_paths_by_node.ensures

@@ -1,4 +1,4 @@
-use Rattle.std.proofs.Common.{◌∙◌, List, [], ◌∷◌, ℕ, ℤ, length, subst, sym}
+use Rattle.std.proofs.Common.{◌∙◌, List, [], ◌∷◌, ℕ, ℤ, length, sym}
 use Rattle.std.proofs.lemmas.List.FromFn.{length-map-range_with_len}
 use Rattle.dimacs_instance.specs.MaxFlows.{MaxValue, IsMax}
 use Rattle.dimacs_judge.specs.declared.verdict.Verdict.{Verdict}
@@ -21,21 +21,19 @@ call a x inside = record { lengths = max_lengths a; claim_lengths = claim_length
 pub returns-in_err-instance : goal.returns-in_err-instance
 returns-in_err-instance c =
     let rest = rw (c.of.ensures, c.of-2.ensures) at c.in_ok-lengths_hold-2.ensures in
-    call_tells_limit (call c.args.arrays.now c.args.flows.now c.args.inside.now) c.in_ok-lengths_hold.ensures rest (max_one_way c.args.arrays.now) (max_clear c.args.arrays.now) _ c.in_err-instance.ensures _ c.from_residual-in_err-instance.ensures.1
+    call_tells_limit (call c.args.arrays.now c.args.flows.now c.args.inside.now) c.in_ok-lengths_hold.ensures rest (max_one_way c.args.arrays.now) (max_clear c.args.arrays.now) _ c.in_err-instance.ensures.spells _ c.from_residual-in_err-instance.ensures.1
 
 pub judge_over-requires-clause-flows : goal.judge_over-requires-clause-flows
 judge_over-requires-clause-flows c =
     let rest = rw (c.of.ensures, c.of-2.ensures) at c.in_ok-lengths_hold-2.ensures in
-    rw c.in_ok-instance.ensures ((all_fit (claim_lengths c.args.arrays.now c.args.flows.now c.args.inside.now) rest).0 ∙ sym (length-map-range_with_len (max_arc c.args.arrays.now) 0 (length c.args.arrays.now.tails.now)))
+    rw c.in_ok-instance.ensures.spells ((all_fit (claim_lengths c.args.arrays.now c.args.flows.now c.args.inside.now) rest).0 ∙ sym (length-map-range_with_len (max_arc c.args.arrays.now) 0 (length c.args.arrays.now.tails.now)))
 
 pub returns-in_err-judge_over : goal.returns-in_err-judge_over
 returns-in_err-judge_over c =
     let rest = rw (c.of.ensures, c.of-2.ensures) at c.in_ok-lengths_hold-2.ensures in
-    let law : IsMax c.in_ok-instance.instance = subst (λ (m : MaxValue). IsMax m) c.instance-2.view_is c.instance-2.invariant in
-    call_tells_refusal (call c.args.arrays.now c.args.flows.now c.args.inside.now) c.in_ok-lengths_hold.ensures rest c.in_ok-instance.instance c.in_ok-instance.ensures law _ c.in_err-judge_over.ensures _ c.from_residual-in_err-judge_over.ensures.1
+    call_tells_refusal (call c.args.arrays.now c.args.flows.now c.args.inside.now) c.in_ok-lengths_hold.ensures rest c.in_ok-instance.instance c.in_ok-instance.ensures.spells c.in_ok-instance.ensures.lawful _ c.in_err-judge_over.ensures _ c.from_residual-in_err-judge_over.ensures.1
 
 pub returns : goal.returns
 returns c =
     let rest = rw (c.of.ensures, c.of-2.ensures) at c.in_ok-lengths_hold-2.ensures in
-    let law : IsMax c.in_ok-instance.instance = subst (λ (m : MaxValue). IsMax m) c.instance-2.view_is c.instance-2.invariant in
-    call_tells (call c.args.arrays.now c.args.flows.now c.args.inside.now) c.in_ok-lengths_hold.ensures rest c.in_ok-instance.instance c.in_ok-instance.ensures law _ c.in_ok-judge_over.ensures
+    call_tells (call c.args.arrays.now c.args.flows.now c.args.inside.now) c.in_ok-lengths_hold.ensures rest c.in_ok-instance.instance c.in_ok-instance.ensures.spells c.in_ok-instance.ensures.lawful _ c.in_ok-judge_over.ensures

@@ -1,4 +1,4 @@
-use Rattle.std.proofs.Common.{[], ℕ, refl, subst}
+use Rattle.std.proofs.Common.{[], ℕ, refl}
 use Rattle.dimacs_instance.specs.MaxFlows.{MaxValue, IsMax}
 use Rattle.dimacs_arrays.specs.declared.max.MaxArrays.{MaxArrays}
 use Rattle.dimacs_arrays.specs.declared.solve_max.MaxSolved.{MaxSolved}
@@ -12,14 +12,12 @@ call a limit = record { lengths = max_lengths a; claim_lengths = []; limits = ma
 
 pub returns-in_err-instance : goal.returns-in_err-instance
 returns-in_err-instance c =
-    call_tells_limit (call c.args.arrays.now c.args.limit) c.in_ok-lengths_hold.ensures refl (max_one_way c.args.arrays.now) (max_clear c.args.arrays.now) _ c.in_err-instance.ensures _ c.from_residual-in_err-instance.ensures.1
+    call_tells_limit (call c.args.arrays.now c.args.limit) c.in_ok-lengths_hold.ensures refl (max_one_way c.args.arrays.now) (max_clear c.args.arrays.now) _ c.in_err-instance.ensures.spells _ c.from_residual-in_err-instance.ensures.1
 
 pub returns-in_err-solve_over : goal.returns-in_err-solve_over
 returns-in_err-solve_over c =
-    let law : IsMax c.in_ok-instance.instance = subst (λ (m : MaxValue). IsMax m) c.instance-2.view_is c.instance-2.invariant in
-    call_tells_refusal (call c.args.arrays.now c.args.limit) c.in_ok-lengths_hold.ensures refl c.in_ok-instance.instance c.in_ok-instance.ensures law _ c.in_err-solve_over.ensures _ c.from_residual-in_err-solve_over.ensures.1
+    call_tells_refusal (call c.args.arrays.now c.args.limit) c.in_ok-lengths_hold.ensures refl c.in_ok-instance.instance c.in_ok-instance.ensures.spells c.in_ok-instance.ensures.lawful _ c.in_err-solve_over.ensures _ c.from_residual-in_err-solve_over.ensures.1
 
 pub returns : goal.returns
 returns c =
-    let law : IsMax c.in_ok-instance.instance = subst (λ (m : MaxValue). IsMax m) c.instance-2.view_is c.instance-2.invariant in
-    call_tells (call c.args.arrays.now c.args.limit) c.in_ok-lengths_hold.ensures refl c.in_ok-instance.instance c.in_ok-instance.ensures law _ c.in_ok-solve_over.ensures
+    call_tells (call c.args.arrays.now c.args.limit) c.in_ok-lengths_hold.ensures refl c.in_ok-instance.instance c.in_ok-instance.ensures.spells c.in_ok-instance.ensures.lawful _ c.in_ok-solve_over.ensures

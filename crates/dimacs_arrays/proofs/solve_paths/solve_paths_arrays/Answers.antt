@@ -1,4 +1,4 @@
-use Rattle.std.proofs.Common.{[], ℕ, refl, subst}
+use Rattle.std.proofs.Common.{[], ℕ, refl}
 use Rattle.dimacs_lines.specs.Limits.{IsNode}
 use Rattle.dimacs_network.specs.Arcs.{NetworkValue}
 use Rattle.dimacs_instance.specs.Graph.{IsGraph}
@@ -22,10 +22,8 @@ solve_over-requires c = rw c.in_ok-graph.ensures.spells (record { source = c.in_
 
 pub returns-in_err-solve_over : goal.returns-in_err-solve_over
 returns-in_err-solve_over c =
-    let law : IsGraph c.in_ok-graph.graph = subst (λ (m : NetworkValue). IsGraph m) c.graph-2.view_is c.graph-2.invariant in
-    call_tells_refusal (call c.args.arrays.now c.args.source) c.in_ok-lengths_hold.ensures refl c.in_ok-graph.graph c.in_ok-graph.ensures.spells (law, c.in_ok-graph.ensures.source) _ c.in_err-solve_over.ensures _ c.from_residual-in_err-solve_over.ensures.1
+    call_tells_refusal (call c.args.arrays.now c.args.source) c.in_ok-lengths_hold.ensures refl c.in_ok-graph.graph c.in_ok-graph.ensures.spells (c.in_ok-graph.ensures.lawful, c.in_ok-graph.ensures.source) _ c.in_err-solve_over.ensures _ c.from_residual-in_err-solve_over.ensures.1
 
 pub returns : goal.returns
 returns c =
-    let law : IsGraph c.in_ok-graph.graph = subst (λ (m : NetworkValue). IsGraph m) c.graph-2.view_is c.graph-2.invariant in
-    call_tells (call c.args.arrays.now c.args.source) c.in_ok-lengths_hold.ensures refl c.in_ok-graph.graph c.in_ok-graph.ensures.spells (law, c.in_ok-graph.ensures.source) c.in_ok-solve_over.field-0 c.in_ok-solve_over.ensures
+    call_tells (call c.args.arrays.now c.args.source) c.in_ok-lengths_hold.ensures refl c.in_ok-graph.graph c.in_ok-graph.ensures.spells (c.in_ok-graph.ensures.lawful, c.in_ok-graph.ensures.source) c.in_ok-solve_over.field-0 c.in_ok-solve_over.ensures

@@ -1,23 +1,14 @@
-use Rattle.std.proofs.Common.{◌∙◌, arith}
-use Rattle.std.proofs.lemmas.List.FromFn.{length-map-range_with_len}
-use Rattle.dimacs_arrays.specs.GraphArrays.{weighted_arc}
-use Rattle.dimacs_arrays.proofs.GraphLemmas.{arc_limit, arc_passes, arc_pushed}
+use Rattle.dimacs_arrays.proofs.GraphLemmas.{graph_lawful}
 use Rattle.dimacs_arrays.proofs.graph.GraphArrays.graph.Goals as goal
 
-pub returns-in-Some-clause-spells : goal.returns-in-Some-clause-spells
-returns-in-Some-clause-spells c =
-    let arc_is = c.view.ensures ∙ c.arc-arc.ensures in
-    arc_limit c.args.self.now c.args.source c.in_ok-counts_hold.ensures.tells c.in_ok-source_holds.ensures.tells c.loop-k.k c.loop-k-test.true c.view.result arc_is c.loop-k.invariant.within c.in-Some.reason c.in-Some.ensures.tells
+pub over-requires : goal.over-requires
+over-requires c =
+    let few = c.in_ok-counts_hold.ensures.few in
+    let lent = c.in_ok-of.ensures in
+    rw lent.network (graph_lawful c.args.self.now few.0 few.1 lent.arcs)
 
-pub push-requires-clause-room : goal.push-requires-clause-room
-push-requires-clause-room c =
-    let many = length-map-range_with_len (weighted_arc c.args.self.now) 0 c.loop-k.k in
-    rw c.loop-k.invariant.made (omega (arith, many, c.loop-k-test.true, c.in_ok-counts_hold.ensures.few.1))
-
-pub loop-k-preserved : goal.loop-k-preserved
-loop-k-preserved c =
-    let arc_is = c.view.ensures ∙ c.arc-arc.ensures in
-    record {
-      made = arc_pushed c.args.self.now c.loop-k.k _ _ _ c.arc-arc.ensures c.loop-k.invariant.made c.in_ok-push.ensures.pushed;
-      within = arc_passes c.args.self.now c.args.source c.in_ok-counts_hold.ensures.tells c.in_ok-source_holds.ensures.tells c.loop-k.k c.loop-k-test.true c.view.result arc_is c.loop-k.invariant.within c.in_default.ensures.tells;
-    }
+pub returns-clause-lawful : goal.returns-clause-lawful
+returns-clause-lawful c =
+    let few = c.in_ok-counts_hold.ensures.few in
+    let lent = c.in_ok-of.ensures in
+    rw (c.over.ensures, lent.network) (graph_lawful c.args.self.now few.0 few.1 lent.arcs)

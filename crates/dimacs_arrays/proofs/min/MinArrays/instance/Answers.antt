@@ -1,20 +1,9 @@
-use Rattle.std.proofs.Common.{arith}
-use Rattle.std.proofs.lemmas.List.FromFn.{length-map-range_with_len}
+use Rattle.std.proofs.Common.{length, arith}
 use Rattle.dimacs_arrays.specs.MinArrays.{min_arc}
-use Rattle.dimacs_arrays.proofs.MinLemmas.{arc_limit, arc_passes, arc_pushed}
+use Rattle.dimacs_arrays.proofs.LentLemmas.{lent_many}
 use Rattle.dimacs_arrays.proofs.min.MinArrays.instance.Goals as goal
 
-pub returns-in-Some : goal.returns-in-Some
-returns-in-Some c =
-    arc_limit c.args.self.now c.in_ok-counts_hold.ensures.tells c.loop-k.k c.loop-k-test.true c.arc-arc.result c.arc-arc.ensures c.loop-k.invariant.within c.in-Some.reason c.in-Some.ensures.tells
-
-pub push-requires-clause-room : goal.push-requires-clause-room
-push-requires-clause-room c =
-    let many = length-map-range_with_len (min_arc c.args.self.now) 0 c.loop-k.k in
-    rw c.loop-k.invariant.made (omega (arith, many, c.loop-k-test.true, c.in_ok-counts_hold.ensures.few.1))
-
-pub loop-k-preserved : goal.loop-k-preserved
-loop-k-preserved c = record {
-  made = arc_pushed c.args.self.now c.loop-k.k c.arc-arc.result _ _ c.arc-arc.ensures c.loop-k.invariant.made c.in_ok-push.ensures.pushed;
-  within = arc_passes c.args.self.now c.in_ok-counts_hold.ensures.tells c.loop-k.k c.loop-k-test.true c.arc-arc.result c.arc-arc.ensures c.loop-k.invariant.within c.in_default.ensures.tells;
-}
+pub over-requires-clause-few : goal.over-requires-clause-few
+over-requires-clause-few c =
+    let a = c.args.self.now in
+    rw c.in_ok-network.ensures.network (omega (arith, c.in_ok-counts_hold.ensures.few.1, lent_many (min_arc a) (length a.tails.now)))

@@ -1,0 +1,22 @@
+-- Inside: the arcs that arrays hold, and whether they are in range.
+use Rattle.std.specs.Prelude.{ℕ, List, Result, Ok, Err, map}
+use Rattle.std.specs.List.{All, range_with_len}
+use Rattle.dimacs_network.specs.declared.network.ArcView.{ArcView}
+use Rattle.dimacs_network.specs.Arcs.{JoinsNodes}
+use Rattle.dimacs_instance.specs.MinFlows.{HasBounds}
+use Rattle.dimacs_judge.specs.Tests.{FirstOfRow}
+use Rattle.dimacs_arrays.specs.Limits.{limit_row}
+use Rattle.dimacs_arrays.specs.declared.limits.PastLimit.{PastLimit}
+
+-- so many arcs, by index
+abbrev pub lent_arcs : (ℕ → ArcView) → ℕ → List ArcView
+lent_arcs arc_of count = map arc_of (range_with_len 0 count)
+
+-- the arc joins nodes, and its numbers are in range
+abbrev pub IsInRange : ℕ → ArcView → Type 0
+IsInRange nodes a = JoinsNodes nodes a × HasBounds a
+
+-- all arcs are in range, or the first that isn't
+abbrev pub TellsArcs : {X : Type 0} → ℕ → List ArcView → Result X PastLimit → Type 0
+TellsArcs nodes arcs (Ok done) = All (IsInRange nodes) arcs
+TellsArcs nodes arcs (Err limit) = FirstOfRow (limit_row nodes arcs) limit.place limit.reason

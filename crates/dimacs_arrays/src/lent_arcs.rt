@@ -1,0 +1,96 @@
+//! Arcs that a caller lends as arrays: a network without a copy.
+
+ghost use Rattle.std.specs.Prelude.{◌≡◌, ◌<◌, ◌≤◌, ℕ, IfOk};
+ghost use Rattle.dimacs_lines.specs.Limits.{most_count};
+ghost use Rattle.dimacs_network.specs.declared.network.ArcView.{ArcView};
+ghost use Rattle.dimacs_arrays.specs.inside.Lent.{TellsArcs, lent_arcs};
+
+use crate::limits::{PastLimit, arcs_hold};
+use dimacs_network::{ArcView, Network};
+use std::marker::Model;
+
+/// Arrays with an item for each arc.
+pub(crate) trait ArcArrays: Copy {
+    ghost arc_of: { Self → ℕ → ArcView };
+
+    ghost HasArc: { Self → ℕ → Type 0 };
+
+    /// The arc with this index, from 0.
+    fn arc(&self, k: usize) -> ArcView
+        requires { HasArc self.now k }
+        ensures { result ≡ arc_of self.now k };
+}
+
+/// The network of the arcs that arrays hold. It has no index: `find` goes over all of them.
+#[derive(Drop)]
+pub(crate) struct LentArcs<A: ArcArrays> {
+    nodes: u32,
+    count: u32,
+    arrays: A,
+}
+
+impl<A: ArcArrays> Model for LentArcs<A> {
+    ghost use Rattle.std.specs.Prelude.{◌<◌, ◌≤◌, ℕ};
+    ghost use Rattle.dimacs_lines.specs.Limits.{most_count};
+    ghost use Rattle.dimacs_network.specs.Arcs.{NetworkValue};
+    ghost use Rattle.dimacs_arrays.specs.inside.Lent.{lent_arcs};
+
+    ghost Value = { NetworkValue };
+
+    ghost view = { λ l. record { nodes = l.nodes; arcs = lent_arcs (A.arc_of l.arrays) l.count } };
+
+    ghost invariant = { λ l. ((k : ℕ) → k < l.count → A.HasArc l.arrays k) × (l.count ≤ most_count) };
+}
+
+impl<A: ArcArrays> LentArcs<A> {
+    /// The network, if all arcs are in the ranges of instances; otherwise the first that isn't.
+    pub(crate) fn of(arrays: A, nodes: u32, count: usize) -> Result<LentArcs<A>, PastLimit>
+        requires each { (k : ℕ) → k < count → A.HasArc arrays k }
+        requires few { count ≤ most_count }
+        ensures network { IfOk result (λ network. network ≡ record { nodes = nodes; arcs = lent_arcs (A.arc_of arrays) count }) }
+        ensures arcs { TellsArcs nodes (lent_arcs (A.arc_of arrays) count) result }
+    {
+        let network = LentArcs {
+            nodes,
+            count: count as u32,
+            arrays,
+        };
+        arcs_hold(&network)?;
+        Ok(network)
+    }
+}
+
+impl<A: ArcArrays> Network for LentArcs<A> {
+    ghost node_count = { λ n. n.nodes };
+
+    ghost list = { λ n. n.arcs };
+
+    #[inline(always)]
+    fn nodes(&self) -> u32 {
+        self.nodes
+    }
+
+    #[inline(always)]
+    fn arcs(&self) -> u32 {
+        self.count
+    }
+
+    #[inline(always)]
+    fn arc(&self, i: u32) -> ArcView {
+        self.arrays.arc(i as usize)
+    }
+
+    fn find(&self, tail: u32, head: u32, k: u32) -> Option<u32> {
+        let mut left = k;
+        for i in 0..self.arcs() {
+            let arc = self.arc(i);
+            if arc.tail == tail && arc.head == head {
+                if left == 0 {
+                    return Some(i);
+                }
+                left -= 1;
+            }
+        }
+        None
+    }
+}
