@@ -8,7 +8,7 @@ use crate::max::MaxArrays;
 use dimacs_instance::MaxInstance;
 use dimacs_judge::{Flow, JudgeError, value_of};
 use dimacs_network::Network;
-use dimacs_solve::{Ascent, solve_max_flow};
+use dimacs_solve::{MaxFlowAnswer, solve_max_flow};
 use std::alloc::Global;
 
 /// The answer to a maximum flow instance.
@@ -48,7 +48,7 @@ fn solve_over<N: Network>(
     ensures { SolvesMaxFlow instance.now limit result }
 {
     match solve_max_flow(alloc, instance, limit)? {
-        Ascent::Top(flow, cut) => {
+        MaxFlowAnswer::Optimal(flow, cut) => {
             let inside = bytes_of(alloc, &cut)?;
             Ok(MaxSolved::Optimal {
                 value: value_of(instance, &flow),
@@ -56,6 +56,6 @@ fn solve_over<N: Network>(
                 inside,
             })
         }
-        Ascent::GaveUp => Ok(MaxSolved::GaveUp),
+        MaxFlowAnswer::GaveUp => Ok(MaxSolved::GaveUp),
     }
 }

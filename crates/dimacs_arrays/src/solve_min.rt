@@ -15,7 +15,7 @@ use dimacs_instance::MinInstance;
 use dimacs_judge::{Flow, JudgeError, cost_within};
 use dimacs_lines::Memory;
 use dimacs_network::Network;
-use dimacs_solve::{Descent, solve_min_flow};
+use dimacs_solve::{MinFlowAnswer, solve_min_flow};
 use std::alloc::Global;
 
 /// The answer to a minimum cost flow instance.
@@ -67,11 +67,13 @@ fn solve_over<N: Network>(
     ensures { SolvesMinFlow instance.now limit result }
 {
     match solve_min_flow(alloc, instance, limit)? {
-        Descent::Bottom(flow, potentials) => Ok(least_by(alloc, instance, flow, potentials)?),
-        Descent::Nowhere(set) => Ok(MinSolved::Infeasible {
+        MinFlowAnswer::Optimal(flow, potentials) => Ok(least_by(
+            alloc, instance, flow, potentials,
+        )?),
+        MinFlowAnswer::Infeasible(set) => Ok(MinSolved::Infeasible {
             inside: bytes_of(alloc, &set)?,
         }),
-        Descent::GaveUp => Ok(MinSolved::GaveUp),
+        MinFlowAnswer::GaveUp => Ok(MinSolved::GaveUp),
     }
 }
 

@@ -14,9 +14,9 @@ use std::alloc::Global;
 
 /// The end of a climb.
 #[derive(Drop)]
-pub enum Ascent {
+pub enum MaxFlowAnswer {
     /// A maximum flow, with a cut that is tight for it.
-    Top(Flow, Cut),
+    Optimal(Flow, Cut),
     /// The limit was reached: so many flows were tested, and none of them is maximum.
     GaveUp,
 }
@@ -27,7 +27,7 @@ pub fn solve_max_flow<N: Network>(
     alloc: Global,
     instance: &MaxInstance<N>,
     limit: u64,
-) -> Result<Ascent, Memory>
+) -> Result<MaxFlowAnswer, Memory>
     ensures { IfOk result (Climbs instance.now limit) }
 {
     let network = instance.network();
@@ -35,9 +35,9 @@ pub fn solve_max_flow<N: Network>(
     let mut flow = Flow::zero(alloc, network.arcs())?;
     for _turn in 0..limit {
         match decide_max_over(alloc, instance, &incidence, &flow)? {
-            MaxDecision::Optimal(cut) => return Ok(Ascent::Top(flow, cut)),
+            MaxDecision::Optimal(cut) => return Ok(MaxFlowAnswer::Optimal(flow, cut)),
             MaxDecision::Better(better) => flow = improve_max(alloc, instance, better),
         }
     }
-    Ok(Ascent::GaveUp)
+    Ok(MaxFlowAnswer::GaveUp)
 }

@@ -16,11 +16,11 @@ use std::alloc::Global;
 
 /// The end of a descent.
 #[derive(Drop)]
-pub enum Descent {
+pub enum MinFlowAnswer {
     /// A flow of least cost, with potentials that are slack for it.
-    Bottom(Flow, Potentials),
+    Optimal(Flow, Potentials),
     /// No flow is feasible; the set shows it.
-    Nowhere(Cut),
+    Infeasible(Cut),
     /// The limit was reached: after so many steps, each to a better flow, the flow still isn't least.
     GaveUp,
 }
@@ -31,7 +31,7 @@ pub fn solve_min_flow<N: Network>(
     alloc: Global,
     instance: &MinInstance<N>,
     limit: u64,
-) -> Result<Descent, Memory>
+) -> Result<MinFlowAnswer, Memory>
     ensures { IfOk result (Descends instance.now limit) }
 {
     if limit > 0 {
@@ -47,7 +47,7 @@ fn descend_by_steps<N: Network>(
     alloc: Global,
     instance: &MinInstance<N>,
     limit: u64,
-) -> Result<Descent, Memory>
+) -> Result<MinFlowAnswer, Memory>
     ensures { IfOk result (Descends instance.now limit) }
 {
     let network = instance.network();
@@ -55,15 +55,15 @@ fn descend_by_steps<N: Network>(
     let mut flow = started(alloc, network)?;
     for _step in 0..limit {
         match ask_over(alloc, instance, &incidence, &flow)? {
-            Reply::Least(slack) => return Ok(Descent::Bottom(flow, slack)),
-            Reply::Infeasible(set) => return Ok(Descent::Nowhere(set)),
+            Reply::Optimal(slack) => return Ok(MinFlowAnswer::Optimal(flow, slack)),
+            Reply::Infeasible(set) => return Ok(MinFlowAnswer::Infeasible(set)),
             Reply::Better(better) => flow = better,
         }
     }
     match ask_over(alloc, instance, &incidence, &flow)? {
-        Reply::Least(slack) => Ok(Descent::Bottom(flow, slack)),
-        Reply::Infeasible(set) => Ok(Descent::Nowhere(set)),
-        Reply::Better(_better) => Ok(Descent::GaveUp),
+        Reply::Optimal(slack) => Ok(MinFlowAnswer::Optimal(flow, slack)),
+        Reply::Infeasible(set) => Ok(MinFlowAnswer::Infeasible(set)),
+        Reply::Better(_better) => Ok(MinFlowAnswer::GaveUp),
     }
 }
 

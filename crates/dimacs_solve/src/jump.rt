@@ -4,7 +4,7 @@ ghost use Rattle.std.specs.Prelude.{◌<◌, ℕ, IfOk, IfSome};
 ghost use Rattle.dimacs_decide.specs.Bounds.{KeepsBounds};
 ghost use Rattle.dimacs_solve.specs.Descending.{Descends};
 
-use crate::descend::Descent;
+use crate::descend::MinFlowAnswer;
 use crate::question::{Reply, ask};
 use dimacs_claims::Potentials;
 use dimacs_decide::keeps_bounds;
@@ -19,7 +19,7 @@ use std::alloc::Global;
 pub(crate) fn jump<N: Network>(
     alloc: Global,
     instance: &MinInstance<N>,
-) -> Result<Option<Descent>, Memory>
+) -> Result<Option<MinFlowAnswer>, Memory>
     ensures { IfOk result (λ found. IfSome found (λ end. (limit : ℕ) → 0 < limit → Descends instance.now limit end)) }
 {
     let made = make_least_flow(alloc, instance)?;
@@ -36,13 +36,13 @@ fn settled<N: Network>(
     instance: &MinInstance<N>,
     flow: Flow,
     potentials: Potentials,
-) -> Result<Option<Descent>, Memory>
+) -> Result<Option<MinFlowAnswer>, Memory>
     requires { KeepsBounds instance.now.arcs flow }
     ensures { IfOk result (λ found. IfSome found (λ end. (limit : ℕ) → 0 < limit → Descends instance.now limit end)) }
 {
     match ask(alloc, instance, &flow, potentials)? {
-        Reply::Least(slack) => Ok(Some(Descent::Bottom(flow, slack))),
-        Reply::Infeasible(set) => Ok(Some(Descent::Nowhere(set))),
+        Reply::Optimal(slack) => Ok(Some(MinFlowAnswer::Optimal(flow, slack))),
+        Reply::Infeasible(set) => Ok(Some(MinFlowAnswer::Infeasible(set))),
         Reply::Better(_better) => Ok(None),
     }
 }

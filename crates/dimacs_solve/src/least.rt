@@ -7,7 +7,7 @@ ghost use Rattle.dimacs_judge.specs.Potentials.{Slack};
 ghost use Rattle.dimacs_solve.specs.Descending.{start_flow};
 ghost use Rattle.dimacs_solve.specs.SolveMin.{SolvesMin};
 
-use crate::descend::{Descent, solve_min_flow};
+use crate::descend::{MinFlowAnswer, solve_min_flow};
 use crate::error::SolveError;
 use dimacs_claims::{Cut, Potentials, Solution};
 use dimacs_instance::MinInstance;
@@ -38,9 +38,9 @@ pub fn solve_min<N: Network>(
     ensures { SolvesMin instance.now limit result }
 {
     match solve_min_flow(alloc, instance, limit)? {
-        Descent::Bottom(flow, potentials) => outcome(alloc, instance, &flow, potentials),
-        Descent::Nowhere(set) => Ok(MinAnswer::Infeasible(set)),
-        Descent::GaveUp => Ok(MinAnswer::GaveUp),
+        MinFlowAnswer::Optimal(flow, potentials) => outcome(alloc, instance, &flow, potentials),
+        MinFlowAnswer::Infeasible(set) => Ok(MinAnswer::Infeasible(set)),
+        MinFlowAnswer::GaveUp => Ok(MinAnswer::GaveUp),
     }
 }
 

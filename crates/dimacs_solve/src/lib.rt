@@ -16,8 +16,8 @@ mod paths;
 mod question;
 mod search;
 
-pub use climb::{Ascent, solve_max_flow};
-pub use descend::{Descent, solve_min_flow};
+pub use climb::{MaxFlowAnswer, solve_max_flow};
+pub use descend::{MinFlowAnswer, solve_min_flow};
 pub use error::SolveError;
 pub use improve::improve_max;
 pub use least::{MinAnswer, solve_min};

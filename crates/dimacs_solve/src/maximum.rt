@@ -2,7 +2,7 @@
 
 ghost use Rattle.dimacs_solve.specs.SolveMax.{SolvesMax};
 
-use crate::climb::{Ascent, solve_max_flow};
+use crate::climb::{MaxFlowAnswer, solve_max_flow};
 use crate::error::SolveError;
 use dimacs_claims::{Cut, Solution};
 use dimacs_instance::MaxInstance;
@@ -29,10 +29,10 @@ pub fn solve_max<N: Network>(
     ensures { SolvesMax instance.now limit result }
 {
     match solve_max_flow(alloc, instance, limit)? {
-        Ascent::Top(flow, cut) => {
+        MaxFlowAnswer::Optimal(flow, cut) => {
             let solution = max_solution(alloc, instance, &flow)?;
             Ok(MaxAnswer::Optimal(solution, cut))
         }
-        Ascent::GaveUp => Ok(MaxAnswer::GaveUp),
+        MaxFlowAnswer::GaveUp => Ok(MaxAnswer::GaveUp),
     }
 }

@@ -22,8 +22,8 @@ use std::alloc::Global;
 /// The reply about a flow within its bounds.
 #[derive(Drop)]
 pub(crate) enum Reply {
-    /// It has least cost; the potentials show it.
-    Least(Potentials),
+    /// It costs least; the potentials show it.
+    Optimal(Potentials),
     /// No flow is feasible; the set shows it.
     Infeasible(Cut),
     /// It isn't least; this flow is better.
@@ -89,7 +89,7 @@ fn ask_cost<N: Network>(
     ensures { IfOk result (IsReply instance.now flow.now) }
 {
     match decide_min_from(alloc, instance, flow, potentials)? {
-        MinDecision::Optimal(slack) => Ok(Reply::Least(slack)),
+        MinDecision::Optimal(slack) => Ok(Reply::Optimal(slack)),
         MinDecision::Better(cheaper) => Ok(Reply::Better(cheaper)),
     }
 }

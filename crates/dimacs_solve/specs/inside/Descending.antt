@@ -12,6 +12,6 @@ use Rattle.dimacs_solve.specs.Descending.{IsBetter}
 
 -- the reply about a flow
 abbrev pub IsReply : MinValue → List ℤ → Reply → Type 0
-IsReply i x (replies.Least p) = Least i x × Slack i.arcs x (potential_of p) × (p.nodes ≡ i.nodes)
+IsReply i x (replies.Optimal p) = Least i x × Slack i.arcs x (potential_of p) × (p.nodes ≡ i.nodes)
 IsReply i x (replies.Infeasible set) = ShowsNoFlow i set
 IsReply i x (replies.Better y) = (¬ Least i x) × KeepsBounds i.arcs y × IsBetter i x y
