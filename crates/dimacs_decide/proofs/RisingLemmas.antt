@@ -13,9 +13,13 @@ use Rattle.dimacs_judge.specs.inside.Tests.{TellsReason}
 use Rattle.dimacs_judge.specs.Walks.{IsWalk}
 use Rattle.dimacs_decide.specs.Distances.{AreDistancesFrom, IsTight, IsTightlyReached, claim_row, reach_row}
 use Rattle.dimacs_decide.specs.inside.DistanceBlocks.{IsBlockOf}
-use Rattle.dimacs_decide.specs.inside.TightTrees.{AreTightTails, IsTightTree, IsWholeTightTree, NotesTail, ReachesAll}
+use Rattle.dimacs_decide.specs.declared.dense_table.DenseTable.{DenseTable}
+use Rattle.dimacs_decide.specs.declared.rising.TheConstants.{REACHED}
+use Rattle.dimacs_decide.specs.inside.DenseTables.{HasNodes, SameNodes, value_at}
+use Rattle.dimacs_decide.specs.inside.Rising.{AreTightTails, HasTail, IsRisingTree, NotesTail, is_reached}
+use Rattle.dimacs_decide.specs.inside.TightTrees.{IsTightTree, IsWholeTightTree, ReachesAll}
 use Rattle.dimacs_decide.proofs.ClaimLemmas.{made_of, true_claim}
-use Rattle.dimacs_decide.proofs.TightLemmas.{few, grown}
+use Rattle.dimacs_decide.proofs.TightLemmas.{begun, few, grown}
 
 -- ---- the arcs
 pub no_fault : (fails : Reason → Type 0) (outcome : Option Reason) → is_some outcome ≡ false → TellsReason fails outcome → (reason : Reason) → ¬ fails reason
@@ -38,11 +42,38 @@ tails_more arcs claim a before after has notes are v some = elim (notes v) [
   | inr new ↦ (a, has, sym new.0, sym new.1, new.2)
 ]
 
+-- ---- only the source
+marks_same : (n : ℕ) → n ≡ REACHED → (n == REACHED) ≡ true
+marks_same n is = elim (eqb_tells n REACHED) [ inl same ↦ same.0 | inr apart ↦ absurd (apart.1 is) ]
+
+marks_apart : (n : ℕ) → n ≢ REACHED → (n == REACHED) ≡ false
+marks_apart n apart = elim (eqb_tells n REACHED) [ inl same ↦ absurd (apart same.1) | inr other ↦ other.0 ]
+
+module _ (nodes : ℕ) (arcs : List ArcView) (claim : ℕ → Option ℤ) (old new : DenseTable ℕ) (joined : All (JoinsNodes nodes) arcs) (small : nodes ≤ most_nodes) (are : AreTightTails arcs claim (value_at old)) where
+  --   no tail is the mark, which is greater than every node
+  unmarked : (v : ℕ) → value_at old v ≢ REACHED
+  unmarked v is =
+      let (a, has, tail, head, tight) = are v (λ none. let e : 0 ≡ REACHED = sym none ∙ is in omega (arith, e)) in
+      let ends : JoinsNodes nodes a = All-contains (JoinsNodes nodes) arcs a joined has in
+      omega (arith, ends.0.1, small, tail, is)
+
+  pub rising_begun : (s : ℕ) → IsNode nodes s → HasNodes old nodes → claim s ≡ Some (pos 0) → IsBlock nodes (record { source = s; radius = None; labels = [] })
+      → value_at new s ≡ REACHED → ((v : ℕ) → v ≢ s → value_at new v ≡ value_at old v) → SameNodes old new
+      → IsRisingTree nodes arcs claim (record { source = s; radius = None; labels = [] }) new
+  rising_begun s node each named lawful here others same = record {
+    each = omega (arith, each, same);
+    tree = begun nodes arcs claim s (is_reached new) node named lawful (marks_same _ here) (λ v apart. marks_apart _ (λ is. unmarked v (sym (others v apart) ∙ is)));
+    waiting = λ v waits some. elim (cases_eq v s) [
+      | inl is ↦ absurd (waits (ap (value_at new) is ∙ here))
+      | inr apart ↦ subst (HasTail arcs claim v) (sym (others v apart)) (are v (λ none. some (others v apart ∙ none)))
+    ];
+  }
+
 -- ---- one more node
-module _ (nodes : ℕ) (arcs : List ArcView) (claim : ℕ → Option ℤ) (b : BlockValue) (reached : ℕ → Bool) (is : IsTightTree nodes arcs claim b reached) (joined : All (JoinsNodes nodes) arcs) (tails : ℕ → ℕ) (are : AreTightTails arcs claim tails)
-    (node pred : ℕ) (from : pred ≡ tails node) (some : pred ≢ 0) where
-  arc : (a : ArcView) × Contains arcs a × (a.tail ≡ tails node) × (a.head ≡ node) × IsTight claim a
-  arc = are node (λ none. some (from ∙ none))
+module _ (nodes : ℕ) (arcs : List ArcView) (claim : ℕ → Option ℤ) (b : BlockValue) (tails : DenseTable ℕ) (is : IsRisingTree nodes arcs claim b tails) (joined : All (JoinsNodes nodes) arcs)
+    (node pred : ℕ) (from : pred ≡ value_at tails node) (some : pred ≢ 0) (waits : pred ≢ REACHED) where
+  arc : (a : ArcView) × Contains arcs a × (a.tail ≡ value_at tails node) × (a.head ≡ node) × IsTight claim a
+  arc = is.waiting node (λ marked. waits (from ∙ marked)) (λ none. some (from ∙ none))
 
   ends : JoinsNodes nodes arc.0
   ends = All-contains (JoinsNodes nodes) arcs arc.0 joined arc.1
@@ -59,19 +90,35 @@ module _ (nodes : ℕ) (arcs : List ArcView) (claim : ℕ → Option ℤ) (b : B
   pub pred_within : IsNode nodes pred
   pred_within = subst (IsNode nodes) tail ends.0
 
-  pub few_before : nodes ≤ most_nodes → reached node ≡ false → length b.labels < most_count
-  few_before small new = few nodes arcs claim b reached arc.0 is (ap reached to ∙ new) small ends.1
+  pub not_reached : is_reached tails node ≡ false
+  not_reached = marks_apart _ (λ marked. waits (from ∙ marked))
+
+  pub few_before : nodes ≤ most_nodes → length b.labels < most_count
+  few_before small = few nodes arcs claim b (is_reached tails) arc.0 is.tree (ap (is_reached tails) to ∙ not_reached) small ends.1
 
   abbrev pub Places : ℕ → ℕ → Type 0
-  Places n p = (d : ℤ) (after : ℕ → Bool) → reached p ≡ true → reached n ≡ false → claim n ≡ Some d → IsBlock nodes (with_label b (record { dist = d; id = n; pred = p }))
-      → ((v : ℕ) → label (with_label b (record { dist = d; id = n; pred = p })) v ≡ cond (n == v) (Some d) (label b v)) → after n ≡ true → ((v : ℕ) → v ≢ n → after v ≡ reached v)
+  Places n p = (d : ℤ) (after : ℕ → Bool) → is_reached tails p ≡ true → is_reached tails n ≡ false → claim n ≡ Some d → IsBlock nodes (with_label b (record { dist = d; id = n; pred = p }))
+      → ((v : ℕ) → label (with_label b (record { dist = d; id = n; pred = p })) v ≡ cond (n == v) (Some d) (label b v)) → after n ≡ true → ((v : ℕ) → v ≢ n → after v ≡ is_reached tails v)
       → IsTightTree nodes arcs claim (with_label b (record { dist = d; id = n; pred = p })) after
 
   along : Places arc.0.head arc.0.tail
-  along d after led new named lawful adds here others = grown nodes arcs claim b reached arc.0 is new d after arc.1 ends.1 led arc.4 named lawful adds here others
+  along d after led new named lawful adds here others = grown nodes arcs claim b (is_reached tails) arc.0 is.tree new d after arc.1 ends.1 led arc.4 named lawful adds here others
 
-  pub placed : Places node pred
-  placed = subst (λ n. Places n pred) to (subst (Places arc.0.head) tail along)
+  onto : Places node pred
+  onto = subst (λ n. Places n pred) to (subst (Places arc.0.head) tail along)
+
+  pub placed : (d : ℤ) (after : DenseTable ℕ) → is_reached tails pred ≡ true → claim node ≡ Some d → IsBlock nodes (with_label b (record { dist = d; id = node; pred = pred }))
+      → ((v : ℕ) → label (with_label b (record { dist = d; id = node; pred = pred })) v ≡ cond (node == v) (Some d) (label b v))
+      → value_at after node ≡ REACHED → ((v : ℕ) → v ≢ node → value_at after v ≡ value_at tails v) → SameNodes tails after
+      → IsRisingTree nodes arcs claim (with_label b (record { dist = d; id = node; pred = pred })) after
+  placed d after led named lawful adds here others same = record {
+    each = omega (arith, is.each, same);
+    tree = onto d (is_reached after) led not_reached named lawful adds (marks_same _ here) (λ v apart. ap (λ n. n == REACHED) (others v apart));
+    waiting = λ v left tail. elim (cases_eq v node) [
+      | inl at ↦ absurd (left (ap (value_at after) at ∙ here))
+      | inr apart ↦ subst (HasTail arcs claim v) (sym (others v apart)) (is.waiting v (λ marked. left (others v apart ∙ marked)) (λ none. tail (others v apart ∙ none)))
+    ];
+  }
 
 -- ---- the nodes so far
 pub all_more : (nodes v : ℕ) (claim : ℕ → Option ℤ) (reached after : ℕ → Bool) → ((u : ℕ) → u < v → IsNode nodes u → IsSome (claim u) → reached u ≡ true) → ((u : ℕ) → reached u ≡ true → after u ≡ true) → (IsSome (claim v) → after v ≡ true)

@@ -1,12 +1,14 @@
 pub mod Cancelling
 pub mod Counting
 pub mod Cycles
+pub mod DenseTables
 pub mod DistanceBlocks
 pub mod FewLabels
 pub mod Heights
 pub mod Raising
 pub mod Residual
 pub mod ResidualCapacities
+pub mod Rising
 pub mod Sending
 pub mod Imbalances
 pub mod TightTrees

@@ -1,16 +1,78 @@
 //! The claimed distances of a block, by node.
 
-ghost use Rattle.std.specs.Prelude.{◌≡◌, ℕ, IfOk};
+ghost use Rattle.std.specs.Prelude.{◌≡◌, ℕ, IfOk, IfSome, Some};
 ghost use Rattle.std.specs.FinMap as map;
 ghost use Rattle.std.specs.Option.{ForSome};
 ghost use Rattle.dimacs_records.specs.Ranges.{IsWide};
 ghost use Rattle.dimacs_claims.specs.Labels.{IsBlock, label};
+ghost use Rattle.dimacs_decide.specs.inside.DenseTables.{value_at};
+ghost use Rattle.dimacs_decide.specs.inside.DistanceBlocks.{below_none};
 
 use crate::claim::DistanceClaim;
+use crate::dense_table::DenseTable;
 use dimacs_claims::Block;
 use dimacs_lines::Memory;
 use dimacs_nodes::WideMap;
 use std::alloc::Global;
+
+/// Stands for no distance in a table of 32-bit distances.
+const NONE: i32 = i32::MAX;
+
+/// The claimed distances of a block, if all fit into 32 bits, each found in constant time, whatever the order of its
+/// labels is.
+#[derive(Drop)]
+pub(crate) struct BlockClaim32 {
+    distances: DenseTable<i32>,
+}
+
+impl BlockClaim32 {
+    /// Copies the labels, from the last to the first. None if a distance doesn't fit. Takes 4 bytes for each node.
+    pub(crate) fn new(
+        alloc: Global,
+        nodes: u32,
+        block: &Block,
+    ) -> Result<Option<BlockClaim32>, Memory>
+        requires { IsBlock nodes block.now }
+        ensures { IfOk result (λ found. IfSome found (λ claim. (id : ℕ) → below_none (value_at claim.distances id) ≡ label block.now id)) }
+    {
+        let mut distances = DenseTable::new(alloc, NONE, nodes)?;
+        let labels = block.labels();
+        let mut at = labels.len();
+        while at > 0 {
+            at -= 1;
+            let label = labels.at(at);
+            let Some(dist) = short(label.dist) else {
+                return Ok(None);
+            };
+            distances.set(label.id, dist);
+        }
+        distances.set(block.source(), 0);
+        Ok(Some(BlockClaim32 { distances }))
+    }
+}
+
+/// A distance in 32 bits; none if it doesn't fit.
+#[inline(always)]
+fn short(dist: i128) -> Option<i32>
+    ensures { IfSome result (λ short. below_none short ≡ Some dist) }
+{
+    let short = i32::try_from(dist).ok()?;
+    if short < NONE { Some(short) } else { None }
+}
+
+impl DistanceClaim for BlockClaim32 {
+    ghost claimed = { λ claim id. below_none (value_at claim.distances id) };
+
+    #[inline(always)]
+    fn of(&self, id: u32) -> Option<i128> {
+        let dist = self.distances.get(id);
+        if dist < NONE {
+            Some(i128::from(dist))
+        } else {
+            None
+        }
+    }
+}
 
 /// The claimed distances of a block, each found in constant time, whatever the order of its labels is.
 #[derive(Drop)]

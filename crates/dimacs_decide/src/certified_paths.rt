@@ -10,7 +10,7 @@ ghost use Rattle.dimacs_decide.specs.Distances.{AreDistancesFrom};
 ghost use Rattle.dimacs_decide.specs.inside.DistanceBlocks.{DecidesBlock, IsMadeOf};
 ghost use Rattle.dimacs_decide.specs.inside.FewLabels.{AreFree};
 
-use crate::block_claim::BlockClaim;
+use crate::block_claim::{BlockClaim, BlockClaim32};
 use crate::claim::DistanceClaim;
 use crate::distances::decide_block;
 use crate::few_labels::{Tables, few_block, labels_few};
@@ -68,6 +68,41 @@ fn certify_one<N: Network>(
         if let Some(block) = certify_few(alloc, graph, tables, claimed)? {
             return Ok(block);
         }
+        return search_one(alloc, graph, lists, claimed);
+    }
+    certify_many(alloc, graph, lists, claimed)
+}
+
+/// Decides one block by a search.
+fn search_one<N: Network>(
+    alloc: Global,
+    graph: &Graph<N>,
+    lists: &mut Option<AdjacencyLists>,
+    claimed: &Block,
+) -> Result<Block, JudgeError>
+    requires lawful { IsBlock graph.now.nodes claimed.now }
+    requires lists { IfSome lists.old (AreAdjacencyLists Tail graph.now.arcs) }
+    ensures decides { DecidesBlock graph.now claimed.now.source (label claimed.now) result }
+    ensures lists { OnOk result (IfSome lists.new (AreAdjacencyLists Tail graph.now.arcs)) }
+{
+    let claim = BlockClaim::new(alloc, claimed)?;
+    search_block(alloc, graph, lists, claimed.source(), &claim)
+}
+
+/// Decides one block over all arcs, by tables in one list.
+fn certify_many<N: Network>(
+    alloc: Global,
+    graph: &Graph<N>,
+    lists: &mut Option<AdjacencyLists>,
+    claimed: &Block,
+) -> Result<Block, JudgeError>
+    requires lawful { IsBlock graph.now.nodes claimed.now }
+    requires lists { IfSome lists.old (AreAdjacencyLists Tail graph.now.arcs) }
+    ensures decides { DecidesBlock graph.now claimed.now.source (label claimed.now) result }
+    ensures lists { OnOk result (IfSome lists.new (AreAdjacencyLists Tail graph.now.arcs)) }
+{
+    if let Some(claim) = BlockClaim32::new(alloc, graph.network().nodes(), claimed)? {
+        return certify_block(alloc, graph, lists, claimed.source(), &claim);
     }
     let claim = BlockClaim::new(alloc, claimed)?;
     certify_block(alloc, graph, lists, claimed.source(), &claim)
@@ -96,8 +131,7 @@ fn certify_few<N: Network>(
     Ok(Some(block))
 }
 
-/// Decides one block over all arcs: by one pass over the arcs, if each distance has a tight arc of positive weight, otherwise by a
-/// search over adjacency lists, which are built for the first block that needs them.
+/// Decides one block by one pass over all arcs, if each distance has a tight arc of positive weight, otherwise by a search.
 fn certify_block<N: Network, C: DistanceClaim>(
     alloc: Global,
     graph: &Graph<N>,
@@ -110,9 +144,25 @@ fn certify_block<N: Network, C: DistanceClaim>(
     ensures decides { DecidesBlock graph.now source (C.claimed claim.now) result }
     ensures lists { OnOk result (IfSome lists.new (AreAdjacencyLists Tail graph.now.arcs)) }
 {
-    if let Some(block) = rising_block(alloc, graph, source, claim)? {
-        return Ok(block);
+    match rising_block(alloc, graph, source, claim)? {
+        Some(block) => Ok(block),
+        None => search_block(alloc, graph, lists, source, claim),
     }
+}
+
+/// Decides one block by a search over adjacency lists, which are built for the first block that needs them.
+fn search_block<N: Network, C: DistanceClaim>(
+    alloc: Global,
+    graph: &Graph<N>,
+    lists: &mut Option<AdjacencyLists>,
+    source: u32,
+    claim: &C,
+) -> Result<Block, JudgeError>
+    requires source { IsNode graph.now.nodes source }
+    requires lists { IfSome lists.old (AreAdjacencyLists Tail graph.now.arcs) }
+    ensures decides { DecidesBlock graph.now source (C.claimed claim.now) result }
+    ensures lists { OnOk result (IfSome lists.new (AreAdjacencyLists Tail graph.now.arcs)) }
+{
     let linked = linked(alloc, graph.network(), lists.take())?;
     let block = decide_block(alloc, graph, &linked, source, claim)?;
     *lists = Some(linked);

@@ -1,23 +1,27 @@
 //! Deciding whether claimed distances are right, by predecessors that one pass over the arcs finds.
 
-ghost use Rattle.std.specs.Prelude.{◌≡◌, ◌≤◌, All, IfOk, IfSome, IsSome, IsTrue, OnOk, true};
+ghost use Rattle.std.specs.Prelude.{◌≡◌, ◌≢◌, ◌≤◌, All, IfOk, IfSome, IsSome, IsTrue, OnOk, Some, pos, true};
 ghost use Rattle.dimacs_lines.specs.Limits.{most_nodes, IsNode};
 ghost use Rattle.dimacs_network.specs.Arcs.{JoinsNodes};
 ghost use Rattle.dimacs_judge.specs.Tests.{Clear};
-ghost use Rattle.dimacs_nodes.specs.Tables.{value_of};
 ghost use Rattle.dimacs_decide.specs.Distances.{AreDistancesFrom, claim_row};
+ghost use Rattle.dimacs_decide.specs.inside.DenseTables.{HasNode, HasNodes, SameNodes, value_at};
 ghost use Rattle.dimacs_decide.specs.inside.DistanceBlocks.{IsBlockOf};
-ghost use Rattle.dimacs_decide.specs.inside.TightTrees.{AreTightTails, IsTightTree, NotesTail, ReachesAll, TreeGrows};
+ghost use Rattle.dimacs_decide.specs.inside.Rising.{AreTightTails, IsRisingTree, NotesTail, RisingGrows, is_reached};
+ghost use Rattle.dimacs_decide.specs.inside.TightTrees.{ReachesAll};
 
 use crate::claim::DistanceClaim;
+use crate::dense_table::DenseTable;
 use crate::distances::{arc_fault, source_holds};
-use crate::tight_tree::{TightTree, tight_dist};
-use dimacs_claims::Block;
+use crate::tight_tree::tight_dist;
+use dimacs_claims::{Block, Label};
 use dimacs_instance::Graph;
 use dimacs_lines::Memory;
 use dimacs_network::{ArcView, Network};
-use dimacs_nodes::NodeTable;
 use std::alloc::Global;
+
+/// Stands for a node that was reached, in a table of tails. Greater than every ID.
+const REACHED: u32 = u32::MAX;
 
 /// A block that shows the claimed distances, if each has a tight arc of positive weight. None doesn't mean that they
 /// are wrong. One pass over the arcs.
@@ -38,10 +42,9 @@ pub(crate) fn rising_block<N: Network, C: DistanceClaim>(
     let Some(tails) = tight_tails(alloc, network, claim)? else {
         return Ok(None);
     };
-    let reached = NodeTable::new(alloc, false);
-    let mut tree = TightTree::new(alloc, network, source, claim, reached)?;
-    if lead_all(alloc, network, claim, &tails, &mut tree)? {
-        Ok(Some(tree.into_block()))
+    let mut tree = RisingTree::new(alloc, network, source, claim, tails)?;
+    if lead_all(alloc, network, claim, &mut tree)? {
+        Ok(Some(tree.block))
     } else {
         Ok(None)
     }
@@ -53,34 +56,114 @@ fn tight_tails<N: Network, C: DistanceClaim>(
     alloc: Global,
     network: &N,
     claim: &C,
-) -> Result<Option<NodeTable<u32>>, Memory>
+) -> Result<Option<DenseTable<u32>>, Memory>
+    requires { All (JoinsNodes (N.node_count network.now)) (N.list network.now) }
     ensures clear { IfOk result (λ found. IfSome found (λ tails. Clear (claim_row (N.list network.now) (C.claimed claim.now)))) }
-    ensures tails { IfOk result (λ found. IfSome found (λ tails. AreTightTails (N.list network.now) (C.claimed claim.now) (value_of tails))) }
+    ensures tails { IfOk result (λ found. IfSome found (λ tails. AreTightTails (N.list network.now) (C.claimed claim.now) (value_at tails))) }
+    ensures nodes { IfOk result (λ found. IfSome found (λ tails. HasNodes tails (N.node_count network.now))) }
 {
-    let mut tails = NodeTable::new(alloc, 0u32);
+    let mut tails = DenseTable::new(alloc, 0u32, network.nodes())?;
     for i in 0..network.arcs() {
         let arc = network.arc(i);
         if arc_fault(claim, arc).is_some() {
             return Ok(None);
         }
-        note_tail(claim, arc, &mut tails)?;
+        note_tail(claim, arc, &mut tails);
     }
     Ok(Some(tails))
 }
 
 /// Keeps the tail of an arc, if the arc is tight and its weight is positive.
 #[inline(always)]
-fn note_tail<C: DistanceClaim>(
-    claim: &C,
-    arc: ArcView,
-    tails: &mut NodeTable<u32>,
-) -> Result<(), Memory>
-    ensures { OnOk result (NotesTail (C.claimed claim.now) arc (value_of tails.old) (value_of tails.new)) }
+fn note_tail<C: DistanceClaim>(claim: &C, arc: ArcView, tails: &mut DenseTable<u32>)
+    requires { HasNode tails.old arc.head }
+    ensures tails { NotesTail (C.claimed claim.now) arc (value_at tails.old) (value_at tails.new) }
+    ensures nodes { SameNodes tails.old tails.new }
 {
     if arc.cost > 0 && tight_dist(claim, arc).is_some() {
-        tails.set(arc.head, arc.tail)?;
+        tails.set(arc.head, arc.tail);
     }
-    Ok(())
+}
+
+/// The nodes that were reached over tight arcs, in the order of the search, and tight arcs to the others.
+#[derive(Drop)]
+struct RisingTree {
+    block: Block,
+    /// For each node `REACHED`, or the tail of a tight arc of positive weight to it, 0 for none.
+    tails: DenseTable<u32>,
+}
+
+impl RisingTree {
+    /// The search that has reached only its source.
+    fn new<N: Network, C: DistanceClaim>(
+        alloc: Global,
+        network: &N,
+        source: u32,
+        claim: &C,
+        tails: DenseTable<u32>,
+    ) -> Result<RisingTree, Memory>
+        requires few_nodes { N.node_count network.now ≤ most_nodes }
+        requires joined { All (JoinsNodes (N.node_count network.now)) (N.list network.now) }
+        requires source { IsNode (N.node_count network.now) source }
+        requires claimed { C.claimed claim.now source ≡ Some (pos 0) }
+        requires nodes { HasNodes tails (N.node_count network.now) }
+        requires tails { AreTightTails (N.list network.now) (C.claimed claim.now) (value_at tails) }
+        ensures source { IfOk result (λ tree. tree.block.source ≡ source) }
+        ensures tree { IfOk result (λ tree. IsRisingTree (N.node_count network.now) (N.list network.now)
+            (C.claimed claim.now) tree.block tree.tails) }
+    {
+        let mut tails = tails;
+        tails.set(source, REACHED);
+        let block = Block::new(alloc, source);
+        Ok(RisingTree { block, tails })
+    }
+
+    /// Whether a node was reached.
+    #[inline(always)]
+    fn reaches(&self, node: u32) -> bool
+        ensures { result ≡ is_reached self.now.tails node }
+    {
+        self.tails.get(node) == REACHED
+    }
+
+    /// Whether this is a node that was reached.
+    #[inline(always)]
+    fn leads(&self, pred: u32) -> bool
+        ensures { IsTrue result → (pred ≢ 0) × (pred ≢ REACHED) × (is_reached self.now.tails pred ≡ true) }
+    {
+        pred > 0 && pred < REACHED && self.reaches(pred)
+    }
+
+    /// Reaches a node from its predecessor, if that was reached and the node wasn't.
+    #[inline(always)]
+    fn place<N: Network, C: DistanceClaim>(
+        &mut self,
+        network: &N,
+        claim: &C,
+        node: u32,
+    ) -> Result<(), Memory>
+        requires few_nodes { N.node_count network.now ≤ most_nodes }
+        requires joined { All (JoinsNodes (N.node_count network.now)) (N.list network.now) }
+        requires tree { IsRisingTree (N.node_count network.now) (N.list network.now) (C.claimed claim.now) self.old.block self.old.tails }
+        ensures tree { OnOk result (IsRisingTree (N.node_count network.now) (N.list network.now) (C.claimed claim.now)
+            self.new.block self.new.tails) }
+        ensures grows { OnOk result (RisingGrows self.old.block self.old.tails self.new.block self.new.tails) }
+    {
+        let pred = self.tails.get(node);
+        if !self.leads(pred) {
+            return Ok(());
+        }
+        let Some(dist) = claim.of(node) else {
+            return Ok(());
+        };
+        self.tails.set(node, REACHED);
+        self.block.add(Label {
+            dist,
+            id: node,
+            pred,
+        })?;
+        Ok(())
+    }
 }
 
 /// Reaches all nodes with a claim, in the order of IDs, each after its predecessors. Returns whether that succeeds.
@@ -89,20 +172,18 @@ fn lead_all<N: Network, C: DistanceClaim>(
     alloc: Global,
     network: &N,
     claim: &C,
-    tails: &NodeTable<u32>,
-    tree: &mut TightTree,
+    tree: &mut RisingTree,
 ) -> Result<bool, Memory>
     requires few_nodes { N.node_count network.now ≤ most_nodes }
     requires joined { All (JoinsNodes (N.node_count network.now)) (N.list network.now) }
-    requires tails { AreTightTails (N.list network.now) (C.claimed claim.now) (value_of tails.now) }
-    requires tree { IsTightTree (N.node_count network.now) (N.list network.now) (C.claimed claim.now) tree.old.block (value_of tree.old.reached) }
+    requires tree { IsRisingTree (N.node_count network.now) (N.list network.now) (C.claimed claim.now) tree.old.block tree.old.tails }
     ensures source { OnOk result (tree.new.block.source ≡ tree.old.block.source) }
-    ensures tree { OnOk result (IsTightTree (N.node_count network.now) (N.list network.now) (C.claimed claim.now) tree.new.block (value_of tree.new.reached)) }
-    ensures all { IfOk result (λ all. IsTrue all → ReachesAll (N.node_count network.now) (C.claimed claim.now) (value_of tree.new.reached)) }
+    ensures tree { OnOk result (IsRisingTree (N.node_count network.now) (N.list network.now) (C.claimed claim.now) tree.new.block tree.new.tails) }
+    ensures all { IfOk result (λ all. IsTrue all → ReachesAll (N.node_count network.now) (C.claimed claim.now) (is_reached tree.new.tails)) }
 {
     let mut way = Vec::new(alloc);
     for v in 1..network.nodes() + 1 {
-        let led = lead(network, claim, tails, tree, &mut way, v)?;
+        let led = lead(network, claim, tree, &mut way, v)?;
         if !led {
             return Ok(false);
         }
@@ -116,42 +197,44 @@ fn lead_all<N: Network, C: DistanceClaim>(
 fn lead<N: Network, C: DistanceClaim>(
     network: &N,
     claim: &C,
-    tails: &NodeTable<u32>,
-    tree: &mut TightTree,
+    tree: &mut RisingTree,
     way: &mut Vec<u32>,
     node: u32,
 ) -> Result<bool, Memory>
     requires few_nodes { N.node_count network.now ≤ most_nodes }
     requires joined { All (JoinsNodes (N.node_count network.now)) (N.list network.now) }
-    requires tails { AreTightTails (N.list network.now) (C.claimed claim.now) (value_of tails.now) }
-    requires tree { IsTightTree (N.node_count network.now) (N.list network.now) (C.claimed claim.now) tree.old.block (value_of tree.old.reached) }
-    ensures tree { OnOk result (IsTightTree (N.node_count network.now) (N.list network.now) (C.claimed claim.now) tree.new.block (value_of tree.new.reached)) }
-    ensures grows { OnOk result (TreeGrows tree.old.block (value_of tree.old.reached) tree.new.block (value_of tree.new.reached)) }
-    ensures led { IfOk result (λ led. IsTrue led → IsSome (C.claimed claim.now node) → value_of tree.new.reached node ≡ true) }
+    requires tree { IsRisingTree (N.node_count network.now) (N.list network.now) (C.claimed claim.now) tree.old.block tree.old.tails }
+    ensures tree { OnOk result (IsRisingTree (N.node_count network.now) (N.list network.now) (C.claimed claim.now) tree.new.block tree.new.tails) }
+    ensures grows { OnOk result (RisingGrows tree.old.block tree.old.tails tree.new.block tree.new.tails) }
+    ensures led { IfOk result (λ led. IsTrue led → IsSome (C.claimed claim.now node) → is_reached tree.new.tails node ≡ true) }
 {
-    if claim.of(node).is_none() {
+    if tree.reaches(node) || claim.of(node).is_none() {
         return Ok(true);
     }
-    climb(network, tails, tree, way, node)?;
+    climb(network, tree, way, node)?;
     while let Some(next) = way.pop() {
-        tree.place(network, claim, tails, next)?;
+        tree.place(network, claim, next)?;
     }
+    tree.place(network, claim, node)?;
     Ok(tree.reaches(node))
 }
 
-/// Puts a node and its predecessors on the path, up to the first that was reached.
+/// Puts the predecessors of a node on the path, up to the first that was reached.
 #[inline(always)]
 fn climb<N: Network>(
     network: &N,
-    tails: &NodeTable<u32>,
-    tree: &TightTree,
+    tree: &RisingTree,
     way: &mut Vec<u32>,
     node: u32,
 ) -> Result<(), Memory> {
-    let mut at = node;
-    while at > 0 && !tree.reaches(at) && way.len() < network.nodes() as usize {
+    let mut at = tree.tails.get(node);
+    while at > 0 && way.len() < network.nodes() as usize {
+        let next = tree.tails.get(at);
+        if next == REACHED {
+            return Ok(());
+        }
         way.push(at)?;
-        at = tails.get(at);
+        at = next;
     }
     Ok(())
 }

@@ -10,7 +10,7 @@ ghost use Rattle.dimacs_claims.specs.Labels.{label};
 ghost use Rattle.dimacs_nodes.specs.Tables.{value_of};
 ghost use Rattle.dimacs_decide.specs.Distances.{IsTight};
 ghost use Rattle.dimacs_decide.specs.inside.FewLabels.{IsUnreached};
-ghost use Rattle.dimacs_decide.specs.inside.TightTrees.{AreTightTails, IsPassed, IsTightTree, IsWholeTightTree, TreeGrows, node_at};
+ghost use Rattle.dimacs_decide.specs.inside.TightTrees.{IsPassed, IsTightTree, IsWholeTightTree, TreeGrows, node_at};
 
 use crate::claim::DistanceClaim;
 use dimacs_claims::{Block, Label};
@@ -100,47 +100,6 @@ impl TightTree {
         } else {
             self.block.labels().at(at - 1).id
         }
-    }
-
-    /// Reaches a node from its predecessor, if that was reached and the node wasn't.
-    #[inline(always)]
-    pub fn place<N: Network, C: DistanceClaim>(
-        &mut self,
-        network: &N,
-        claim: &C,
-        tails: &NodeTable<u32>,
-        node: u32,
-    ) -> Result<(), Memory>
-        requires few_nodes { N.node_count network.now ≤ most_nodes }
-        requires joined { All (JoinsNodes (N.node_count network.now)) (N.list network.now) }
-        requires tails { AreTightTails (N.list network.now) (C.claimed claim.now) (value_of tails.now) }
-        requires tree { IsTightTree (N.node_count network.now) (N.list network.now) (C.claimed claim.now) self.old.block (value_of self.old.reached) }
-        ensures tree { OnOk result (IsTightTree (N.node_count network.now) (N.list network.now) (C.claimed claim.now)
-            self.new.block (value_of self.new.reached)) }
-        ensures grows { OnOk result (TreeGrows self.old.block (value_of self.old.reached) self.new.block (value_of self.new.reached)) }
-    {
-        let pred = tails.get(node);
-        if !self.is_next(pred, node) {
-            return Ok(());
-        }
-        let Some(dist) = claim.of(node) else {
-            return Ok(());
-        };
-        self.reached.set(node, true)?;
-        self.block.add(Label {
-            dist,
-            id: node,
-            pred,
-        })?;
-        Ok(())
-    }
-
-    /// Whether a predecessor was reached and its node wasn't.
-    #[inline(always)]
-    fn is_next(&self, pred: u32, node: u32) -> bool
-        ensures { IsTrue result → (pred ≢ 0) × (value_of self.now.reached pred ≡ true) × (value_of self.now.reached node ≡ false) }
-    {
-        pred > 0 && self.reached.get(pred) && !self.reached.get(node)
     }
 
     /// Goes over the arcs that leave a node that was reached.

@@ -1,5 +1,5 @@
 -- Inside: what a search over tight arcs has reached.
-use Rattle.std.specs.Prelude.{ℕ, zero, suc, ◌≡◌, ◌≢◌, ◌≤◌, ◌+◌, ◌⊎◌, Bool, true, not, List, All, Contains, length, get_or, Option, Some, None, IsSome, is_some, ℤ}
+use Rattle.std.specs.Prelude.{ℕ, zero, suc, ◌≡◌, ◌≤◌, ◌+◌, Bool, true, not, List, All, length, get_or, Option, Some, None, IsSome, is_some, ℤ}
 use Rattle.dimacs_lines.specs.Limits.{IsNode}
 use Rattle.dimacs_network.specs.declared.network.ArcView.{ArcView}
 use Rattle.dimacs_claims.specs.Labels.{BlockValue, IsBlock, label, no_label}
@@ -40,14 +40,6 @@ pub record TreeGrows (b : BlockValue) (reached : ℕ → Bool) (b' : BlockValue)
 pub record IsWholeTightTree (nodes : ℕ) (arcs : List ArcView) (claim : ℕ → Option ℤ) (b : BlockValue) (reached : ℕ → Bool) : Type 0 where
   pub tree : IsTightTree nodes arcs claim b reached
   pub closed : (v : ℕ) → IsTightlyReached arcs b.source claim v → reached v ≡ true
-
--- each tail but 0 has a tight arc to the node
-abbrev pub AreTightTails : List ArcView → (ℕ → Option ℤ) → (ℕ → ℕ) → Type 0
-AreTightTails arcs claim tails = (v : ℕ) → tails v ≢ 0 → (a : ArcView) × Contains arcs a × (a.tail ≡ tails v) × (a.head ≡ v) × IsTight claim a
-
--- tails change only at the head, to the tail of this arc, if the arc is tight
-abbrev pub NotesTail : (ℕ → Option ℤ) → ArcView → (ℕ → ℕ) → (ℕ → ℕ) → Type 0
-NotesTail claim a before after = (v : ℕ) → (after v ≡ before v) ⊎ ((after v ≡ a.tail) × (v ≡ a.head) × IsTight claim a)
 
 -- each node with a claim was reached
 abbrev pub ReachesAll : ℕ → (ℕ → Option ℤ) → (ℕ → Bool) → Type 0

@@ -1,11 +1,10 @@
-use Rattle.dimacs_nodes.specs.Tables.{value_of}
-use Rattle.dimacs_decide.specs.inside.TightTrees.{IsTightTree, TreeGrows}
+use Rattle.dimacs_decide.specs.inside.Rising.{IsRisingTree, RisingGrows}
 use Rattle.dimacs_decide.proofs.rising.lead.Given as goal
 
 abbrev pub invariant-loop-next : goal.invariant-loop-next
 invariant-loop-next g l = record {
-  tree : IsTightTree (g.N.Network.node_count l.network) (g.N.Network.list l.network) (g.C.DistanceClaim.claimed l.claim) l.tree.block (value_of l.tree.reached);
-  grows : TreeGrows l.initial.tree.block (value_of l.initial.tree.reached) l.tree.block (value_of l.tree.reached);
+  tree : IsRisingTree (g.N.Network.node_count l.network) (g.N.Network.list l.network) (g.C.DistanceClaim.claimed l.claim) l.tree.block l.tree.tails;
+  grows : RisingGrows l.initial.tree.block l.initial.tree.tails l.tree.block l.tree.tails;
 }
 
 abbrev pub decreases-loop-next : goal.decreases-loop-next

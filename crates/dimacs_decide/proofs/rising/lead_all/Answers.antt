@@ -1,5 +1,5 @@
 use Rattle.std.proofs.Common.{◌∙◌, arith}
-use Rattle.dimacs_nodes.specs.Tables.{value_of}
+use Rattle.dimacs_decide.specs.inside.Rising.{is_reached}
 use Rattle.dimacs_decide.proofs.RisingLemmas.{all_more}
 use Rattle.dimacs_decide.proofs.rising.lead_all.Goals as goal
 
@@ -9,8 +9,10 @@ returns-then-not-led-clause-source g c = c.in_ok-led.ensures.grows.places 0 (ome
 pub loop-v-preserved : goal.loop-v-preserved
 loop-v-preserved g c =
     let grows = c.in_ok-led.ensures.grows in
+    let reached = is_reached c.loop-v.tree.tails in
+    let after = is_reached c.lead.new.tree.tails in
     record {
       source = grows.places 0 (omega arith) ∙ c.loop-v.invariant.source;
       tree = c.in_ok-led.ensures.tree;
-      all = all_more (g.N.Network.node_count c.args.network.now) c.loop-v.v (g.C.DistanceClaim.claimed c.args.claim.now) (value_of c.loop-v.tree.reached) (value_of c.lead.new.tree.reached) c.loop-v.invariant.all grows.kept (c.in_ok-led.ensures.led c.if-not-led.false);
+      all = all_more (g.N.Network.node_count c.args.network.now) c.loop-v.v (g.C.DistanceClaim.claimed c.args.claim.now) reached after c.loop-v.invariant.all grows.kept (c.in_ok-led.ensures.led c.if-not-led.false);
     }

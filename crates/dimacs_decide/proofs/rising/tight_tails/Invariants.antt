@@ -1,12 +1,13 @@
-use Rattle.dimacs_nodes.specs.Tables.{value_of}
 use Rattle.dimacs_judge.specs.Tests.{ClearBelow}
 use Rattle.dimacs_decide.specs.Distances.{claim_row}
-use Rattle.dimacs_decide.specs.inside.TightTrees.{AreTightTails}
+use Rattle.dimacs_decide.specs.inside.DenseTables.{HasNodes, value_at}
+use Rattle.dimacs_decide.specs.inside.Rising.{AreTightTails}
 use Rattle.dimacs_decide.proofs.rising.tight_tails.Given as goal
 
 -- the arcs before i
 abbrev pub invariant-loop-i : goal.invariant-loop-i
 invariant-loop-i g l = record {
   clear : ClearBelow (claim_row (g.N.Network.list l.network) (g.C.DistanceClaim.claimed l.claim)) l.i;
-  tails : AreTightTails (g.N.Network.list l.network) (g.C.DistanceClaim.claimed l.claim) (value_of l.tails);
+  tails : AreTightTails (g.N.Network.list l.network) (g.C.DistanceClaim.claimed l.claim) (value_at l.tails);
+  nodes : HasNodes l.tails (g.N.Network.node_count l.network);
 }

@@ -1,0 +1,15 @@
+use Rattle.std.proofs.Common.{ℕ, ◌≤◌, length}
+use Rattle.dimacs_decide.specs.inside.DenseTables.{HasNodes, value_at}
+use Rattle.dimacs_decide.specs.inside.DistanceBlocks.{below_none}
+use Rattle.dimacs_decide.proofs.BlockClaimLemmas.{AreFrom}
+use Rattle.dimacs_decide.proofs.block_claim.BlockClaim32.new.Given as goal
+
+abbrev pub invariant-loop-at : goal.invariant-loop-at
+invariant-loop-at l = record {
+  within : l.at ≤ length l.block.labels;
+  nodes : HasNodes l.distances l.nodes;
+  distances : AreFrom l.block.labels l.at (λ v. below_none (value_at l.distances v));
+}
+
+abbrev pub decreases-loop-at : goal.decreases-loop-at
+decreases-loop-at l = l.at
