@@ -10,7 +10,9 @@ use crate::memory_files::{Done, held};
 use crate::tables::{case, cell, rows};
 use crate::words::words;
 use dimacs_lines::{FlakySink, FlakySource, MemorySink};
-use dimacs_runs::{Counted, Files, RunError, run_command};
+use dimacs_runs::{
+    CommandError, Counted, Files, NO_RUN, RunError, Status, exit_status, run_command,
+};
 use std::alloc::{AllocError, Global};
 use std::process::Abort;
 use std::test::Fail;
@@ -211,6 +213,14 @@ fn add(lines: &mut String, sign: &str, name: &str) -> Result<(), AllocError> {
     lines.push('\n')
 }
 
+/// The exit status of a command that ended so.
+fn status_of(ended: Option<Result<Status, CommandError>>) -> u8 {
+    match ended {
+        Some(ended) => exit_status(&ended.map_err(|error| error.run_error())),
+        None => NO_RUN,
+    }
+}
+
 /// Command lines, each with what is done with files, what it prints, the device that fails and what could not be done
 /// with it, and its exit status.
 static COMMANDS: &str = "\
@@ -291,17 +301,15 @@ fn ends(rt: &impl Abort, alloc: Global, line: &str) -> Result<(), Fail> {
     let mut printed = MemorySink::new(alloc);
     let given = words(alloc, command)?;
     let ended = run_command(alloc, &given, &mut files, &mut printed);
-    same(
-        rt,
-        command,
-        ended.status,
-        status.parse::<u8>().expect(rt, command),
-    );
+    let wanted = status.parse::<u8>().expect(rt, command);
+    same(rt, command, status_of(ended), wanted);
     holds(rt, command, printed.bytes() == output.as_bytes());
     same(rt, command, shown(alloc, &files.done)?.as_str(), done);
-    let failure = match ended.failure {
-        Some(failure) => format!(in alloc; "{} {}", failure.device(), failure.call())?,
-        None => String::new(alloc),
+    let failure = match ended {
+        Some(Err(CommandError::Device(failure))) => {
+            format!(in alloc; "{} {}", failure.device(), failure.call())?
+        }
+        _ => String::new(alloc),
     };
     same(rt, command, failure.as_str(), told);
     Ok(())
