@@ -18,7 +18,7 @@ use Rattle.dimacs_lines.specs.Limits.{IsNode}
 use Rattle.dimacs_records.proofs.ZeroLemmas.{get-removed}
 use Rattle.dimacs_claims.specs.Cuts.{CutValue, IsCut, empty_cut, with_node}
 use Rattle.dimacs_claims.specs.Potentials.{PotentialsValue, potential_of, with_potential, zero_potentials}
-use Rattle.dimacs_judge.specs.Cuts.{members}
+use Rattle.dimacs_optimality.specs.Cuts.{members}
 use Rattle.dimacs_arrays.specs.inside.MinCertified.{AreShifted, IsLeastOf, IsWiderBy}
 use Rattle.dimacs_arrays.specs.MinArrays.{IsWider}
 use Rattle.dimacs_arrays.specs.ByNode.{AreBits, marked, number_of}

@@ -1,8 +1,8 @@
 //! Certifying that a flow is maximum, over arrays.
 
 ghost use Rattle.std.specs.Prelude.{◌≡◌, length};
-ghost use Rattle.dimacs_judge.specs.FlowTests.{feasible_max_rows};
-ghost use Rattle.dimacs_judge.specs.Tests.{Settles};
+ghost use Rattle.dimacs_optimality.specs.FlowTests.{feasible_max_rows};
+ghost use Rattle.dimacs_optimality.specs.Tests.{Settles};
 ghost use Rattle.dimacs_arrays.specs.MaxArrays.{CertifiesMaxArrays, CertifiesMaxFlow};
 
 use crate::by_node::bytes_of;

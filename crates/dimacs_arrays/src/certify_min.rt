@@ -1,7 +1,7 @@
 //! Certifying that a flow costs least, over arrays.
 
 ghost use Rattle.std.specs.Prelude.{◌≡◌, length, IfOk};
-ghost use Rattle.dimacs_judge.specs.Tests.{Settles};
+ghost use Rattle.dimacs_optimality.specs.Tests.{Settles};
 ghost use Rattle.dimacs_arrays.specs.MinArrays.{CertifiesMinArrays, CertifiesMinFlow, min_claimed_rows};
 ghost use Rattle.dimacs_arrays.specs.inside.MinCertified.{IsLeastBy};
 

@@ -3,8 +3,7 @@
 ghost use Rattle.std.specs.Prelude.{ℕ, ◌≡◌, ◌≤◌, ◌↔◌, None, Some, length, IfErr, IfOk, IsTrue, pos};
 ghost use Rattle.dimacs_lines.specs.Limits.{most_nodes, IsNode};
 ghost use Rattle.dimacs_nodes.specs.Tables.{value_of};
-ghost use Rattle.dimacs_judge.specs.Tests.{FirstOfRow, Settles, TellsRow};
-ghost use Rattle.dimacs_judge.specs.inside.Tests.{Refuses};
+ghost use Rattle.dimacs_optimality.specs.Tests.{FirstOfRow, Settles, TellsRow, Refuses};
 ghost use Rattle.dimacs_decide.specs.Claims.{claimed_by_node};
 ghost use Rattle.dimacs_arrays.specs.Paths.{AreInOrder, AreLabelsBy, IsPred, back_row, label_rows, pred_by_node, pred_row};
 ghost use Rattle.dimacs_arrays.specs.inside.LabelTrees.{AreLed, IsLabelTree};

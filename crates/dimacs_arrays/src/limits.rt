@@ -5,7 +5,7 @@ ghost use Rattle.dimacs_lines.specs.Limits.{most_count, most_nodes};
 ghost use Rattle.dimacs_arrays.specs.Limits.{ArcFails, count_rows};
 ghost use Rattle.dimacs_arrays.specs.inside.Answers.{TellsLimits};
 ghost use Rattle.dimacs_arrays.specs.inside.Lent.{IsInRange, TellsArcs};
-ghost use Rattle.dimacs_judge.specs.inside.Tests.{TellsReason};
+ghost use Rattle.dimacs_optimality.specs.inside.Tests.{TellsReason};
 
 use dimacs_judge::Where;
 use dimacs_network::{ArcView, MAX_ARCS, Network};

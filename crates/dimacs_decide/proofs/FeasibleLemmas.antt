@@ -10,13 +10,13 @@ use Rattle.dimacs_claims.specs.Cuts.{CutValue, empty_cut, with_node}
 use Rattle.dimacs_network.specs.declared.network.ArcView.{ArcView}
 use Rattle.dimacs_network.specs.Arcs.{JoinsNodes}
 use Rattle.dimacs_instance.specs.MinFlows.{IsMin, MinValue, positive_part, supply_of}
-use Rattle.dimacs_judge.specs.Cuts.{enters, leaves, members}
-use Rattle.dimacs_judge.specs.Feasible.{FeasibleMin}
-use Rattle.dimacs_judge.specs.Flows.{net, when}
-use Rattle.dimacs_judge.specs.InfeasibleJudge.{ShowsNoFlow}
-use Rattle.dimacs_judge.specs.ViolatedSets.{Violated}
-use Rattle.dimacs_judge.proofs.Duality.{across_is, violated_has_no_flow}
-use Rattle.dimacs_judge.proofs.Sums.{sum_nodes-zero}
+use Rattle.dimacs_optimality.specs.Cuts.{enters, leaves, members}
+use Rattle.dimacs_optimality.specs.Feasible.{FeasibleMin}
+use Rattle.dimacs_optimality.specs.Flows.{net, when}
+use Rattle.dimacs_optimality.specs.InfeasibleJudge.{ShowsNoFlow}
+use Rattle.dimacs_optimality.specs.ViolatedSets.{Violated}
+use Rattle.dimacs_optimality.proofs.Duality.{across_is, violated_has_no_flow}
+use Rattle.dimacs_optimality.proofs.Sums.{sum_nodes-zero}
 use Rattle.dimacs_decide.specs.Bounds.{KeepsBounds}
 use Rattle.dimacs_decide.specs.FeasibilityDecision.{imbalance_at, total_excess}
 use Rattle.dimacs_decide.specs.inside.Sending.{IsSent, IsStuck}

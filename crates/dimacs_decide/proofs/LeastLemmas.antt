@@ -11,14 +11,14 @@ use Rattle.dimacs_nodes.proofs.Nodes.{get-empty, get-insert}
 use Rattle.dimacs_lines.specs.Limits.{IsNode}
 use Rattle.dimacs_claims.specs.Potentials.{PotentialsValue, potential_of, with_potential, zero_potentials}
 use Rattle.dimacs_instance.specs.MinFlows.{MinValue, IsMin}
-use Rattle.dimacs_judge.specs.Feasible.{FeasibleMin}
-use Rattle.dimacs_judge.specs.Flows.{cost, net}
-use Rattle.dimacs_judge.specs.Optimum.{Least}
-use Rattle.dimacs_judge.specs.Potentials.{IsSlackAt, Slack}
-use Rattle.dimacs_judge.specs.Rows.{amount_at}
+use Rattle.dimacs_optimality.specs.Feasible.{FeasibleMin}
+use Rattle.dimacs_optimality.specs.Flows.{cost, net}
+use Rattle.dimacs_optimality.specs.Optimum.{Least}
+use Rattle.dimacs_optimality.specs.Potentials.{IsSlackAt, Slack}
+use Rattle.dimacs_optimality.specs.Rows.{amount_at}
 use Rattle.dimacs_network.specs.Arcs.{no_arc, arc_at}
-use Rattle.dimacs_judge.proofs.Duality.{slack_is_least}
-use Rattle.dimacs_judge.proofs.Passing.{pair_at, pairs_from}
+use Rattle.dimacs_optimality.proofs.Duality.{slack_is_least}
+use Rattle.dimacs_optimality.proofs.Passing.{pair_at, pairs_from}
 use Rattle.dimacs_network.specs.declared.adjacency_lists.Side.TheVariants.{Tail, Head}
 use Rattle.dimacs_decide.specs.Bounds.{KeepsBounds}
 use Rattle.dimacs_decide.specs.declared.heights.Label.{Label}

@@ -8,12 +8,12 @@ use Rattle.dimacs_network.specs.Arcs.{JoinsNodes, arc_at, no_arc}
 use Rattle.dimacs_records.specs.declared.reasons.Reason.{Reason}
 use Rattle.dimacs_claims.specs.declared.block.Label.{Label}
 use Rattle.dimacs_claims.specs.Labels.{BlockValue}
-use Rattle.dimacs_judge.specs.CertificateTests.{RelaxFails}
-use Rattle.dimacs_judge.specs.Labels.{HasTightArc}
-use Rattle.dimacs_judge.specs.Tests.{Clear}
-use Rattle.dimacs_judge.specs.Walks.{IsWalk}
-use Rattle.dimacs_judge.specs.LightestArcs.{AreCovering, Covers}
-use Rattle.dimacs_judge.specs.inside.Leaving.{arcs_in}
+use Rattle.dimacs_optimality.specs.CertificateTests.{RelaxFails}
+use Rattle.dimacs_optimality.specs.Labels.{HasTightArc}
+use Rattle.dimacs_optimality.specs.Tests.{Clear}
+use Rattle.dimacs_optimality.specs.Walks.{IsWalk}
+use Rattle.dimacs_optimality.specs.LightestArcs.{AreCovering, Covers}
+use Rattle.dimacs_optimality.specs.LeastArcs.{arcs_in}
 use Rattle.dimacs_decide.specs.Distances.{IsTight, claim_row}
 use Rattle.dimacs_decide.specs.inside.FewLabels.{AreLightest}
 use Rattle.dimacs_decide.specs.inside.TightTrees.{IsTightTree}

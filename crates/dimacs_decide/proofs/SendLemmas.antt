@@ -11,9 +11,9 @@ use Rattle.dimacs_claims.specs.Cuts.{CutValue, empty_cut, with_node}
 use Rattle.dimacs_lines.specs.Limits.{IsNode}
 use Rattle.dimacs_network.specs.declared.network.ArcView.{ArcView}
 use Rattle.dimacs_network.specs.Arcs.{JoinsNodes, no_arc, arc_at}
-use Rattle.dimacs_judge.specs.Cuts.{members}
-use Rattle.dimacs_judge.specs.Rows.{amount_at}
-use Rattle.dimacs_judge.proofs.Passing.{pair_at, pairs_from}
+use Rattle.dimacs_optimality.specs.Cuts.{members}
+use Rattle.dimacs_optimality.specs.Rows.{amount_at}
+use Rattle.dimacs_optimality.proofs.Passing.{pair_at, pairs_from}
 use Rattle.dimacs_network.specs.declared.adjacency_lists.Side.TheVariants.{Tail, Head}
 use Rattle.dimacs_decide.specs.Bounds.{KeepsBounds}
 use Rattle.dimacs_decide.specs.declared.search.Visit.{Visit}

@@ -17,9 +17,9 @@ use crate::few_labels::{Tables, few_block, labels_few};
 use crate::rising::rising_block;
 use dimacs_claims::{Block, Distances, Labels};
 use dimacs_instance::Graph;
-use dimacs_judge::JudgeError;
 use dimacs_lines::Memory;
 use dimacs_network::{AdjacencyLists, Network, Side};
+use dimacs_optimality::JudgeError;
 use std::alloc::Global;
 
 /// Decides whether the distances in every block are right. Weights may be negative. If they are right, it returns

@@ -12,11 +12,11 @@ ghost use Rattle.dimacs_decide.specs.inside.Traces.{IsCycle};
 use crate::heights::{Label, gain};
 use crate::residual_capacity::residual_capacity_from;
 use crate::trace::Cycle;
-use dimacs_judge::Flow;
 use dimacs_lines::Memory;
 use dimacs_methods::ResidualArc;
 use dimacs_network::Network;
 use dimacs_nodes::NodeTable;
+use dimacs_optimality::Flow;
 use std::alloc::Global;
 
 /// Whether these residual arcs, about which nothing is known, form a cycle with residual capacity and negative cost

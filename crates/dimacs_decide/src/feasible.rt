@@ -2,7 +2,7 @@
 
 ghost use Rattle.std.specs.Prelude.{◌≡◌, ◌≤◌, ◌+◌, ◌<ℤ◌, ℕ, pos, true, IfOk};
 ghost use Rattle.dimacs_lines.specs.Limits.{most_nodes, IsNode};
-ghost use Rattle.dimacs_judge.specs.Cuts.{members};
+ghost use Rattle.dimacs_optimality.specs.Cuts.{members};
 ghost use Rattle.dimacs_nodes.specs.Tables.{value_of};
 ghost use Rattle.dimacs_decide.specs.Bounds.{KeepsBounds};
 ghost use Rattle.dimacs_decide.specs.FeasibilityDecision.{DecidesFeasible};
@@ -15,10 +15,10 @@ use crate::search::Search;
 use crate::send::{Sending, send};
 use dimacs_claims::Cut;
 use dimacs_instance::MinInstance;
-use dimacs_judge::Flow;
 use dimacs_lines::Memory;
 use dimacs_network::Network;
 use dimacs_nodes::NodeTable;
+use dimacs_optimality::Flow;
 use std::alloc::Global;
 
 /// The answer about a flow that keeps the bounds of the arcs.

@@ -8,16 +8,16 @@ ghost use Rattle.dimacs_network.specs.Arcs.{JoinsNodes, arc_at};
 ghost use Rattle.dimacs_network.specs.AdjacencyLists.{end_of, other_end};
 ghost use Rattle.dimacs_instance.specs.MinFlows.{HasBounds};
 ghost use Rattle.dimacs_records.specs.Ranges.{IsWhole};
-ghost use Rattle.dimacs_judge.specs.Rows.{amount_at};
+ghost use Rattle.dimacs_optimality.specs.Rows.{amount_at};
 ghost use Rattle.dimacs_nodes.specs.Tables.{value_of};
 ghost use Rattle.dimacs_decide.specs.Bounds.{KeepsBounds};
 ghost use Rattle.dimacs_decide.specs.inside.Heights.{AreHeights, BelowBound, IsRound, Lifts, below_of, either_of, gain_at, height_of, unraised};
 
 use crate::residual_capacity::residual_capacity_from;
-use dimacs_judge::Flow;
 use dimacs_lines::Memory;
 use dimacs_network::{ArcView, Network, Side};
 use dimacs_nodes::NodeTable;
+use dimacs_optimality::Flow;
 
 /// How high a node's potential was raised, and by which residual arc: 1 plus the index of its arc, 0 for none, and the
 /// side from which it is taken.

@@ -2,16 +2,16 @@
 
 ghost use Rattle.std.specs.Prelude.{◌≡◌, ◌≢◌, ◌≤◌, ◌+◌, ◌^◌, ◌↔◌, ℕ, IsTrue, pos, IfOk};
 ghost use Rattle.dimacs_lines.specs.Limits.{most_nodes};
-ghost use Rattle.dimacs_judge.specs.inside.Ranges.{IsOfSize};
+ghost use Rattle.dimacs_optimality.specs.inside.Ranges.{IsOfSize};
 ghost use Rattle.dimacs_nodes.specs.Tables.{value_of};
 ghost use Rattle.dimacs_decide.specs.Bounds.{KeepsBounds};
 ghost use Rattle.dimacs_decide.specs.inside.Imbalances.{AreImbalances, Stands};
 
 use dimacs_instance::MinInstance;
-use dimacs_judge::{Balances, Flow};
 use dimacs_lines::Memory;
 use dimacs_network::Network;
 use dimacs_nodes::NodeTable;
+use dimacs_optimality::{Balances, Flow};
 use std::alloc::Global;
 
 /// The excess of each node: its supply less its balance. Takes memory for the ends of arcs and the nodes whose excess

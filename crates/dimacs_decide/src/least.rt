@@ -5,7 +5,7 @@ ghost use Rattle.std.specs.Prelude.{◌≡◌, ◌≤◌, ◌≤ℤ◌, ◌+◌,
 ghost use Rattle.dimacs_lines.specs.Limits.{most_nodes, IsNode};
 ghost use Rattle.dimacs_claims.specs.Potentials.{potential_of};
 ghost use Rattle.dimacs_records.specs.Ranges.{IsWide};
-ghost use Rattle.dimacs_judge.specs.Feasible.{FeasibleMin};
+ghost use Rattle.dimacs_optimality.specs.Feasible.{FeasibleMin};
 ghost use Rattle.dimacs_nodes.specs.Tables.{value_of};
 ghost use Rattle.dimacs_network.specs.declared.adjacency_lists.Side.TheVariants.{Tail};
 ghost use Rattle.dimacs_decide.specs.MinDecision.{DecidesMin};
@@ -18,11 +18,11 @@ use crate::heights::{Label, round, unraised_label};
 use crate::trace::cycle_in;
 use dimacs_claims::Potentials;
 use dimacs_instance::MinInstance;
-use dimacs_judge::{Flow, slack_tests};
 use dimacs_lines::Memory;
 use dimacs_methods::{Guess, ResidualArc, guess_potentials};
 use dimacs_network::{Network, Side};
 use dimacs_nodes::NodeTable;
+use dimacs_optimality::{Flow, slack_tests};
 use std::alloc::Global;
 
 /// The answer about the cost of a feasible flow.

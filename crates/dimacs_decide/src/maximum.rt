@@ -3,7 +3,7 @@
 ghost use Rattle.std.specs.Prelude.{◌≢◌, ◌<◌, ℕ, List, ℤ, IfOk};
 ghost use Rattle.dimacs_lines.specs.Limits.{IsNode};
 ghost use Rattle.dimacs_network.specs.declared.network.ArcView.{ArcView};
-ghost use Rattle.dimacs_judge.specs.Feasible.{FeasibleMax};
+ghost use Rattle.dimacs_optimality.specs.Feasible.{FeasibleMax};
 ghost use Rattle.dimacs_nodes.specs.Tables.{value_of};
 ghost use Rattle.dimacs_decide.specs.MaxDecision.{DecidesMax};
 ghost use Rattle.dimacs_decide.specs.Incidence.{IsIncidenceOf};
@@ -15,10 +15,10 @@ use crate::search::{MOST, Search};
 use crate::send::{Sending, send};
 use dimacs_claims::Cut;
 use dimacs_instance::MaxInstance;
-use dimacs_judge::Flow;
 use dimacs_lines::Memory;
 use dimacs_network::Network;
 use dimacs_nodes::NodeTable;
+use dimacs_optimality::Flow;
 use std::alloc::Global;
 
 /// The answer about the value of a feasible flow.

@@ -2,16 +2,16 @@
 use Rattle.std.proofs.Common.{◌≡◌, ◌∙◌, ap, get_or, refl, inl, inr, ℕ, suc, zero, ◌+◌, ◌<◌, List, [], ◌∷◌, length, take, add-one, arith, Err, Option, ℤ}
 use Rattle.dimacs_network.specs.declared.network.ArcView.{ArcView}
 use Rattle.dimacs_records.specs.declared.reasons.Reason.{Reason}
-use Rattle.dimacs_judge.specs.declared.verdict.JudgeError.{JudgeError}
-use Rattle.dimacs_judge.specs.declared.verdict.JudgeError.TheVariants.{Refused, Memory}
-use Rattle.dimacs_judge.specs.declared.verdict.Where.{Where}
+use Rattle.dimacs_optimality.specs.declared.verdict.JudgeError.{JudgeError}
+use Rattle.dimacs_optimality.specs.declared.verdict.JudgeError.TheVariants.{Refused, Memory}
+use Rattle.dimacs_optimality.specs.declared.verdict.Where.{Where}
 use Rattle.dimacs_claims.specs.declared.block.Label.{Label}
 use Rattle.dimacs_claims.specs.Labels.{BlockValue, label, label_at}
-use Rattle.dimacs_judge.specs.inside.Labels.{block_at}
-use Rattle.dimacs_judge.specs.CertificateTests.{label_rows, weight_row}
+use Rattle.dimacs_optimality.specs.inside.Labels.{block_at}
+use Rattle.dimacs_optimality.specs.CertificateTests.{label_rows, weight_row}
 use Rattle.dimacs_judge.specs.inside.CertificateTests.{block_rows, distance_rows}
-use Rattle.dimacs_judge.specs.Tests.{AllClear, Clear, First}
-use Rattle.dimacs_judge.specs.inside.Tests.{TellsAll}
+use Rattle.dimacs_optimality.specs.Tests.{AllClear, Clear, First}
+use Rattle.dimacs_optimality.specs.inside.Tests.{TellsAll}
 
 blocks_more_suc : (arcs : List ArcView) (blocks : List BlockValue) (k : ℕ) → k < length blocks → AllClear (label_rows arcs (take k blocks)) → AllClear (block_rows arcs (block_at blocks k)) → AllClear (label_rows arcs (take (suc k) blocks))
 blocks_more_suc arcs [] k inside before here = absurd (omega arith)

@@ -4,11 +4,11 @@ use Rattle.std.specs.Int.{w128}
 use Rattle.std.proofs.lemmas.Int.{ints, to_z-of_z}
 use Rattle.dimacs_lines.specs.Limits.{most_nodes}
 use Rattle.dimacs_network.specs.declared.network.ArcView.{ArcView}
-use Rattle.dimacs_judge.specs.inside.Ranges.{IsOfSize}
-use Rattle.dimacs_judge.specs.Flows.{when}
-use Rattle.dimacs_judge.specs.Cuts.{leaves, enters}
-use Rattle.dimacs_judge.specs.ViolatedSets.{sum_where, supply_in}
-use Rattle.dimacs_judge.proofs.StepLemmas.{sum_where_more}
+use Rattle.dimacs_optimality.specs.inside.Ranges.{IsOfSize}
+use Rattle.dimacs_optimality.specs.Flows.{when}
+use Rattle.dimacs_optimality.specs.Cuts.{leaves, enters}
+use Rattle.dimacs_optimality.specs.ViolatedSets.{sum_where, supply_in}
+use Rattle.dimacs_optimality.proofs.StepLemmas.{sum_where_more}
 
 -- adding numbers of this size doesn't overflow
 pub sum_stays : (sum x : ℤ) → IsOfSize (2 ^ 120) sum → IsOfSize (2 ^ 63) x → to_z w128 (of_z w128 (to_z w128 (of_z w128 sum) +ℤ to_z w128 (of_z w128 x))) ≡ sum +ℤ x

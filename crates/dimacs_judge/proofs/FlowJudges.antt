@@ -4,26 +4,25 @@ use Rattle.std.specs.Prelude.{IsErrAnd}
 use Rattle.dimacs_instance.specs.MaxFlows.{MaxValue, IsMax}
 use Rattle.dimacs_instance.specs.MinFlows.{MinValue, IsMin}
 use Rattle.dimacs_records.specs.declared.reasons.Reason.{Reason}
-use Rattle.dimacs_judge.specs.declared.verdict.JudgeError.{JudgeError}
-use Rattle.dimacs_judge.specs.declared.verdict.JudgeError.TheVariants.{Refused}
-use Rattle.dimacs_judge.specs.declared.verdict.Verdict.{Verdict}
-use Rattle.dimacs_judge.specs.declared.verdict.Verdict.TheVariants.{Max, Min}
-use Rattle.dimacs_judge.specs.declared.verdict.Where.{Where}
-use Rattle.dimacs_judge.specs.CertificateTests.{cut_rows, slack_row}
-use Rattle.dimacs_judge.specs.Cuts.{CutTight}
-use Rattle.dimacs_judge.specs.Feasible.{value}
+use Rattle.dimacs_optimality.specs.declared.verdict.JudgeError.{JudgeError}
+use Rattle.dimacs_optimality.specs.declared.verdict.JudgeError.TheVariants.{Refused}
+use Rattle.dimacs_optimality.specs.declared.verdict.Verdict.{Verdict}
+use Rattle.dimacs_optimality.specs.declared.verdict.Verdict.TheVariants.{Max, Min}
+use Rattle.dimacs_optimality.specs.declared.verdict.Where.{Where}
+use Rattle.dimacs_optimality.specs.CertificateTests.{cut_rows, slack_row}
+use Rattle.dimacs_optimality.specs.Cuts.{CutTight}
+use Rattle.dimacs_optimality.specs.Feasible.{value}
 use Rattle.dimacs_judge.specs.FlowJudges.{PassesMaxFlow, PassesMinFlow, ShowsMaxFlow, ShowsMinFlow, max_flow_rows, min_flow_rows}
-use Rattle.dimacs_judge.specs.Flows.{cost}
-use Rattle.dimacs_judge.specs.FlowTests.{feasible_max_rows, feasible_min_rows, cost_row, max_demand, min_demand}
-use Rattle.dimacs_judge.specs.Potentials.{Slack}
-use Rattle.dimacs_judge.specs.Tests.{Row, AllClear, Clear, First, FirstOfRow, Judges}
-use Rattle.dimacs_judge.specs.inside.Tests.{Refuses}
-use Rattle.dimacs_judge.proofs.Duality.{tight_is_maximum, slack_is_least}
-use Rattle.dimacs_judge.proofs.Firsts.{AllOneWay}
-use Rattle.dimacs_judge.proofs.Passing.{costs_clear, costs_wide, feasible_max_clear, feasible_max_holds, feasible_min_clear, feasible_min_holds, slack_clear, tight_cut_clear}
-use Rattle.dimacs_judge.proofs.Reasons.{bound_one_way, balance_one_way, cost_one_way, cut_one_way, slack_one_way}
-use Rattle.dimacs_judge.proofs.RowLists.{all_clear-append, first_after}
-use Rattle.dimacs_judge.proofs.Settling.{error_judges, refused_in_front}
+use Rattle.dimacs_optimality.specs.Flows.{cost}
+use Rattle.dimacs_optimality.specs.FlowTests.{feasible_max_rows, feasible_min_rows, cost_row, max_demand, min_demand}
+use Rattle.dimacs_optimality.specs.Potentials.{Slack}
+use Rattle.dimacs_optimality.specs.Tests.{Row, AllClear, Clear, First, FirstOfRow, Judges, Refuses}
+use Rattle.dimacs_optimality.proofs.Duality.{tight_is_maximum, slack_is_least}
+use Rattle.dimacs_optimality.proofs.Firsts.{AllOneWay}
+use Rattle.dimacs_optimality.proofs.Passing.{costs_clear, costs_wide, feasible_max_clear, feasible_max_holds, feasible_min_clear, feasible_min_holds, slack_clear, tight_cut_clear}
+use Rattle.dimacs_optimality.proofs.Reasons.{bound_one_way, balance_one_way, cost_one_way, cut_one_way, slack_one_way}
+use Rattle.dimacs_optimality.proofs.RowLists.{all_clear-append, first_after}
+use Rattle.dimacs_optimality.proofs.Settling.{error_judges, refused_in_front}
 
 -- ---- a flow and a cut
 module _ (i : MaxValue) (law : IsMax i) (x : List ℤ) (set : ℕ → Bool) where

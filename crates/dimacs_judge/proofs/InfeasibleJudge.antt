@@ -4,17 +4,16 @@ use Rattle.std.specs.Prelude.{IsErrAnd}
 use Rattle.dimacs_claims.specs.Cuts.{CutValue}
 use Rattle.dimacs_instance.specs.MinFlows.{MinValue}
 use Rattle.dimacs_records.specs.declared.reasons.Reason.TheVariants as reasons
-use Rattle.dimacs_judge.specs.declared.verdict.JudgeError.{JudgeError}
-use Rattle.dimacs_judge.specs.declared.verdict.Verdict.{Verdict}
-use Rattle.dimacs_judge.specs.declared.verdict.Verdict.TheVariants.{Infeasible}
-use Rattle.dimacs_judge.specs.declared.verdict.Where.TheVariants as places
-use Rattle.dimacs_judge.specs.Cuts.{members}
-use Rattle.dimacs_judge.specs.InfeasibleJudge.{PassesInfeasible, ShowsNoFlow, infeasible_rows}
-use Rattle.dimacs_judge.specs.Tests.{AllClear, First, Judges}
-use Rattle.dimacs_judge.specs.inside.Tests.{Refuses}
-use Rattle.dimacs_judge.proofs.Firsts.{AllOneWay, one_test_one_way}
-use Rattle.dimacs_judge.proofs.Passing.{nodes_are, nodes_clear, set_violated, violated_clear}
-use Rattle.dimacs_judge.proofs.Settling.{error_judges}
+use Rattle.dimacs_optimality.specs.declared.verdict.JudgeError.{JudgeError}
+use Rattle.dimacs_optimality.specs.declared.verdict.Verdict.{Verdict}
+use Rattle.dimacs_optimality.specs.declared.verdict.Verdict.TheVariants.{Infeasible}
+use Rattle.dimacs_optimality.specs.declared.verdict.Where.TheVariants as places
+use Rattle.dimacs_optimality.specs.Cuts.{members}
+use Rattle.dimacs_optimality.specs.InfeasibleJudge.{PassesInfeasible, ShowsNoFlow, infeasible_rows}
+use Rattle.dimacs_optimality.specs.Tests.{AllClear, First, Judges, Refuses}
+use Rattle.dimacs_optimality.proofs.Firsts.{AllOneWay, one_test_one_way}
+use Rattle.dimacs_optimality.proofs.Passing.{nodes_are, nodes_clear, set_violated, violated_clear}
+use Rattle.dimacs_optimality.proofs.Settling.{error_judges}
 
 module _ (i : MinValue) (c : CutValue) where
   infeasible_one_way : AllOneWay (infeasible_rows i c)

@@ -2,7 +2,7 @@
 use Rattle.std.proofs.Common.{◌≡◌, inl, inr, false, ℕ, ◌+◌, ◌<◌, ◌≤◌, List, length, get_or, slice_get, Option, Some, None, ℤ, ◌+ℤ◌, ◌<ℤ◌, ◌≤ℤ◌, refl, sym, ap, subst, ◌∙◌, arith}
 use Rattle.std.proofs.lemmas.Int.{ints, by_lt_z}
 use Rattle.std.proofs.lemmas.Bool.{cases_lt, cases_order}
-use Rattle.std.proofs.lemmas.List.{get_or_default, get_or-map, length-map}
+use Rattle.std.proofs.lemmas.List.{get_or_default, length-map}
 use Rattle.std.specs.Option.{is_some}
 use Rattle.std.specs.Result.{is_err, result_err}
 use Rattle.std.specs.Prelude.{Result, Ok, Err}
@@ -14,16 +14,18 @@ use Rattle.dimacs_network.specs.AdjacencyLists.{IsLast}
 use Rattle.dimacs_claims.specs.declared.block.Label.{Label}
 use Rattle.dimacs_claims.specs.Labels.{BlockValue, IsBlock, IsNear, label, no_label}
 use Rattle.dimacs_claims.proofs.BlockLemmas.{has_pred}
-use Rattle.dimacs_judge.specs.CertificateTests.{RelaxFails, relax_row}
-use Rattle.dimacs_judge.specs.LightestArcs.{AreCovering, Covers}
-use Rattle.dimacs_judge.specs.inside.Leaving.{ArePassedFrom, IsPassed, WeightsFall, arcs_in}
+use Rattle.dimacs_optimality.specs.CertificateTests.{RelaxFails, relax_row}
+use Rattle.dimacs_optimality.specs.LightestArcs.{AreCovering, Covers}
+use Rattle.dimacs_judge.specs.inside.Leaving.{ArePassedFrom, IsPassed}
+use Rattle.dimacs_optimality.specs.LeastArcs.{WeightsFall, arcs_in}
 use Rattle.dimacs_judge.specs.inside.NodeLabels.{AreMade, IsKnown, Known, RelaxesArc}
-use Rattle.dimacs_network.specs.Arcs.{arc_at, no_arc}
-use Rattle.dimacs_judge.specs.Tests.{Clear}
-use Rattle.dimacs_judge.specs.inside.Tests.{TellsReason}
-use Rattle.dimacs_judge.proofs.Distances.{near_label}
-use Rattle.dimacs_judge.proofs.LabelsPassing.{stays_near}
+use Rattle.dimacs_network.specs.Arcs.{arc_at}
+use Rattle.dimacs_optimality.specs.Tests.{Clear}
+use Rattle.dimacs_optimality.specs.inside.Tests.{TellsReason}
+use Rattle.dimacs_optimality.proofs.Distances.{near_label}
+use Rattle.dimacs_optimality.proofs.LabelsPassing.{stays_near}
 use Rattle.dimacs_judge.proofs.NodeLabelLemmas.{labels_still, labels_this, some_makes}
+use Rattle.dimacs_optimality.proofs.LeastLemmas.{at_place}
 
 -- ---- one arc
 near_less : (radius : Option ℤ) (x y : ℤ) → x ≤ℤ y → IsNear radius y → IsNear radius x
@@ -100,9 +102,6 @@ module _ (a : ArcView) (old new : ℕ → Known) (b : BlockValue) (passes : Rela
   }
 
 -- ---- the arcs of a node
-pub at_place : (arcs : List ArcView) (order : List ℕ) (p : ℕ) → p < length order → arc_at (arcs_in arcs order) p ≡ arc_at arcs (get_or order p 0)
-at_place arcs order p inside = get_or-map (arc_at arcs) order p 0 no_arc inside
-
 module _ (arcs : List ArcView) (order : List ℕ) (b : BlockValue) (at : ℕ → Known) (node : ℕ) where
   -- the arcs from this place on, as far as they leave the node, are relaxed
   abbrev pub ArePassedOn : ℕ → Type 0

@@ -5,10 +5,10 @@ use Rattle.std.proofs.lemmas.List.{length-map}
 use Rattle.dimacs_records.specs.declared.reasons.Reason.{Reason}
 use Rattle.dimacs_records.specs.declared.records.Record.TheVariants.{SourceQuery}
 use Rattle.dimacs_instance.specs.QueryTexts.{QueriesValue, Sources, Pairs, pair_query, query_lines}
-use Rattle.dimacs_judge.specs.declared.verdict.Where.{Where}
-use Rattle.dimacs_judge.specs.declared.verdict.Where.TheVariants.{Node}
-use Rattle.dimacs_judge.specs.QueryTests.{ends_of, listed_row, sources_asked}
-use Rattle.dimacs_judge.specs.Tests.{ClearBelow, Clear, FirstOfRow}
+use Rattle.dimacs_optimality.specs.declared.verdict.Where.{Where}
+use Rattle.dimacs_optimality.specs.declared.verdict.Where.TheVariants.{Node}
+use Rattle.dimacs_optimality.specs.QueryTests.{ends_of, listed_row, sources_asked}
+use Rattle.dimacs_optimality.specs.Tests.{ClearBelow, Clear, FirstOfRow}
 
 module _ (ids : List ℕ) (why : Reason) (fails : ℕ → Type 0) where
   pub listed_clear_end : (n : ℕ) → length ids ≤ n → ClearBelow (listed_row ids why fails) n → Clear (listed_row ids why fails)

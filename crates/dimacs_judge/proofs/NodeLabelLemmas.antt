@@ -21,17 +21,17 @@ use Rattle.dimacs_claims.proofs.BegunLemmas.{unlabelled}
 use Rattle.dimacs_claims.proofs.BlockLemmas.{fresh_has_none, has_pred, label-with_label, label_at_wide}
 use Rattle.dimacs_claims.proofs.ByIdLemmas.{distance_in-at, fresh_apart, label_elsewhere}
 use Rattle.dimacs_judge.specs.declared.node_label.NodeLabel.{NodeLabel}
-use Rattle.dimacs_judge.specs.declared.verdict.Where.{Where}
-use Rattle.dimacs_judge.specs.declared.verdict.Where.TheVariants.{Arc}
-use Rattle.dimacs_judge.specs.CertificateTests.{RelaxFails, relax_row, support_row}
+use Rattle.dimacs_optimality.specs.declared.verdict.Where.{Where}
+use Rattle.dimacs_optimality.specs.declared.verdict.Where.TheVariants.{Arc}
+use Rattle.dimacs_optimality.specs.CertificateTests.{RelaxFails, relax_row, support_row}
 use Rattle.dimacs_judge.specs.inside.CertificateTests.{distance_rows}
-use Rattle.dimacs_judge.specs.Labels.{HasTightArc}
+use Rattle.dimacs_optimality.specs.Labels.{HasTightArc}
 use Rattle.dimacs_judge.specs.inside.Distances.{LeadsAside, LeadsTo}
 use Rattle.dimacs_judge.specs.inside.NodeLabels.{AreBlank, AreMade, AreMadeAlone, AreMadeBelow, AreWide, IsBlank, IsKnown, IsTight, Known, Makes, RelaxesArc, LabelsMade, SaysSame, is_made, made_count}
 use Rattle.dimacs_network.specs.Arcs.{arc_at, no_arc}
-use Rattle.dimacs_judge.specs.Tests.{Clear, ClearBelow, FirstOfRow, TellsRow}
-use Rattle.dimacs_judge.specs.inside.Tests.{Tells, TellsReason}
-use Rattle.dimacs_judge.proofs.RowLemmas.{relax_clear_more, relax_first}
+use Rattle.dimacs_optimality.specs.Tests.{Clear, ClearBelow, FirstOfRow, TellsRow}
+use Rattle.dimacs_optimality.specs.inside.Tests.{Tells, TellsReason}
+use Rattle.dimacs_optimality.proofs.RowLemmas.{relax_clear_more, relax_first}
 
 pub made_from : (k : Known) → 2 ^ 31 ≤ k.pred → is_made k ≡ true
 made_from k past = grind (arith, nat_tests)

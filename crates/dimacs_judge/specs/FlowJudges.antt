@@ -3,13 +3,13 @@ use Rattle.std.specs.Prelude.{ℕ, ◌<◌, Bool, List, [], ◌∷◌, ◌++◌,
 use Rattle.dimacs_instance.specs.MaxFlows.{MaxValue}
 use Rattle.dimacs_instance.specs.MinFlows.{MinValue}
 use Rattle.dimacs_records.specs.Ranges.{IsWide}
-use Rattle.dimacs_judge.specs.CertificateTests.{cut_rows, slack_row}
-use Rattle.dimacs_judge.specs.Cuts.{CutTight}
-use Rattle.dimacs_judge.specs.Feasible.{FeasibleMax, FeasibleMin}
-use Rattle.dimacs_judge.specs.FlowTests.{feasible_max_rows, feasible_min_rows, cost_row, cost_through}
-use Rattle.dimacs_judge.specs.Optimum.{Maximum, Least}
-use Rattle.dimacs_judge.specs.Potentials.{Slack}
-use Rattle.dimacs_judge.specs.Tests.{Row}
+use Rattle.dimacs_optimality.specs.CertificateTests.{cut_rows, slack_row}
+use Rattle.dimacs_optimality.specs.Cuts.{CutTight}
+use Rattle.dimacs_optimality.specs.Feasible.{FeasibleMax, FeasibleMin}
+use Rattle.dimacs_optimality.specs.FlowTests.{feasible_max_rows, feasible_min_rows, cost_row, cost_through}
+use Rattle.dimacs_optimality.specs.Optimum.{Maximum, Least}
+use Rattle.dimacs_optimality.specs.Potentials.{Slack}
+use Rattle.dimacs_optimality.specs.Tests.{Row}
 
 -- the tests of a flow and a cut, in order
 abbrev pub max_flow_rows : MaxValue → List ℤ → (ℕ → Bool) → List Row

@@ -1,12 +1,4 @@
 pub mod CertificateTests
 pub mod Distances
-pub mod FlowTests
-pub mod Labels
 pub mod Leaving
 pub mod NodeLabels
-pub mod OnePass
-pub mod Passed
-pub mod Places
-pub mod QueryTests
-pub mod Ranges
-pub mod Tests

@@ -3,18 +3,18 @@
 ghost use Rattle.std.specs.Prelude.{◌≡◌, ◌≤◌, ◌^◌, ◌+ℤ◌, ◌-ℤ◌, ◌<ℤ◌, ◌⊎◌, ◌↔◌, IsTrue, length};
 ghost use Rattle.dimacs_lines.specs.Limits.{most_count};
 ghost use Rattle.dimacs_instance.specs.MinFlows.{supply_of};
-ghost use Rattle.dimacs_judge.specs.CertificateTests.{violated_row};
-ghost use Rattle.dimacs_judge.specs.Cuts.{members, leaves, enters};
-ghost use Rattle.dimacs_judge.specs.Flows.{when};
-ghost use Rattle.dimacs_judge.specs.inside.Ranges.{IsOfSize};
-ghost use Rattle.dimacs_judge.specs.Tests.{TellsRow};
-ghost use Rattle.dimacs_judge.specs.ViolatedSets as theory;
-ghost use Rattle.dimacs_judge.specs.ViolatedSets.{most_out, least_out};
+ghost use Rattle.dimacs_optimality.specs.CertificateTests.{violated_row};
+ghost use Rattle.dimacs_optimality.specs.Cuts.{members, leaves, enters};
+ghost use Rattle.dimacs_optimality.specs.Flows.{when};
+ghost use Rattle.dimacs_optimality.specs.inside.Ranges.{IsOfSize};
+ghost use Rattle.dimacs_optimality.specs.Tests.{TellsRow};
+ghost use Rattle.dimacs_optimality.specs.ViolatedSets as theory;
+ghost use Rattle.dimacs_optimality.specs.ViolatedSets.{most_out, least_out};
 
-use crate::verdict::Where;
 use dimacs_claims::Cut;
 use dimacs_instance::MinInstance;
 use dimacs_network::{ArcView, Network};
+use dimacs_optimality::Where;
 use dimacs_records::Reason;
 
 /// The most and the least that can flow out of a set, less what flows into it.

@@ -2,22 +2,19 @@
 
 ghost use Rattle.std.specs.Prelude.{◌≡◌, length};
 ghost use Rattle.dimacs_claims.specs.Potentials.{potential_of};
-ghost use Rattle.dimacs_judge.specs.declared.verdict.Verdict.TheVariants.{Max, Min};
-ghost use Rattle.dimacs_judge.specs.Cuts.{members};
-ghost use Rattle.dimacs_judge.specs.Feasible.{value};
+ghost use Rattle.dimacs_optimality.specs.declared.verdict.Verdict.TheVariants.{Max, Min};
+ghost use Rattle.dimacs_optimality.specs.Cuts.{members};
+ghost use Rattle.dimacs_optimality.specs.Feasible.{value};
 ghost use Rattle.dimacs_judge.specs.FlowJudges.{ShowsMaxFlow, ShowsMinFlow, max_flow_rows, min_flow_rows};
-ghost use Rattle.dimacs_judge.specs.Flows.{cost};
-ghost use Rattle.dimacs_judge.specs.Tests.{Judges};
+ghost use Rattle.dimacs_optimality.specs.Flows.{cost};
+ghost use Rattle.dimacs_optimality.specs.Tests.{Judges};
 
-use crate::costs::cost_within;
-use crate::cuts::cut_tests;
-use crate::feasible::feasible;
-use crate::flow::Flow;
-use crate::potentials::slack_tests;
-use crate::verdict::{JudgeError, Verdict};
 use dimacs_claims::{Cut, Potentials};
 use dimacs_instance::{MaxInstance, MinInstance};
 use dimacs_network::Network;
+use dimacs_optimality::{
+    Flow, JudgeError, Verdict, balances_if_feasible, cost_within, cut_tests, slack_tests,
+};
 use std::alloc::Global;
 
 /// Judges by a cut whether a flow is maximum. A yes, `Max` with the flow's value, means: the flow is feasible, and no
@@ -37,7 +34,7 @@ pub fn judge_max_flow<N: Network>(
         result }
 {
     let network = instance.network();
-    let balances = feasible(alloc, network, flow, instance)?;
+    let balances = balances_if_feasible(alloc, network, flow, instance)?;
     cut_tests(instance, flow, cut)?;
     Ok(Verdict::Max(balances.of(instance.source())))
 }
@@ -60,7 +57,7 @@ pub fn judge_min_flow<N: Network>(
         (λ verdict. verdict ≡ Min (cost instance.now.arcs flow.now)) result }
 {
     let network = instance.network();
-    feasible(alloc, network, flow, instance)?;
+    balances_if_feasible(alloc, network, flow, instance)?;
     let cost = cost_within(network, flow)?;
     slack_tests(instance, flow, potentials)?;
     Ok(Verdict::Min(cost))

@@ -1,17 +1,16 @@
 //! Judging that an instance has no feasible flow.
 
 ghost use Rattle.std.specs.Prelude.{◌≡◌, ◌≢◌, Err};
-ghost use Rattle.dimacs_judge.specs.declared.verdict.JudgeError.TheVariants.{Memory};
-ghost use Rattle.dimacs_judge.specs.declared.verdict.Verdict.TheVariants.{Infeasible};
-ghost use Rattle.dimacs_judge.specs.InfeasibleJudge.{ShowsNoFlow, infeasible_rows};
-ghost use Rattle.dimacs_judge.specs.Tests.{Judges};
+ghost use Rattle.dimacs_optimality.specs.declared.verdict.JudgeError.TheVariants.{Memory};
+ghost use Rattle.dimacs_optimality.specs.declared.verdict.Verdict.TheVariants.{Infeasible};
+ghost use Rattle.dimacs_optimality.specs.InfeasibleJudge.{ShowsNoFlow, infeasible_rows};
+ghost use Rattle.dimacs_optimality.specs.Tests.{Judges};
 
-use crate::agreement::nodes_agree;
 use crate::crossing::set_is_violated;
-use crate::verdict::{JudgeError, Verdict};
 use dimacs_claims::Cut;
 use dimacs_instance::MinInstance;
 use dimacs_network::Network;
+use dimacs_optimality::{JudgeError, Verdict, nodes_agree};
 
 /// Judges by a set of nodes whether no flow is feasible. A yes, `Infeasible`, means that there is none, of whole
 /// numbers of any size and sign. Allocates nothing, so `Memory` never comes.

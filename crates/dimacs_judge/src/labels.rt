@@ -2,19 +2,19 @@
 
 ghost use Rattle.std.specs.Prelude.{◌≡◌, ◌<◌, ◌+ℤ◌, ◌<ℤ◌, ℤ, Some, All, length, IsTrue, ◌↔◌, IfSome, OnOk};
 ghost use Rattle.dimacs_claims.specs.Labels.{AreLabels, IsNear, label_at};
-ghost use Rattle.dimacs_judge.specs.CertificateTests.{RelaxFails, label_rows, negative_row, relax_row, support_row, weight_row};
+ghost use Rattle.dimacs_optimality.specs.CertificateTests.{RelaxFails, label_rows, negative_row, relax_row, support_row, weight_row};
 ghost use Rattle.dimacs_judge.specs.inside.CertificateTests.{block_rows};
-ghost use Rattle.dimacs_judge.specs.Labels.{AreDistances, HasArcOfWeight, LabelsOk};
-ghost use Rattle.dimacs_judge.specs.inside.Labels.{block_at};
+ghost use Rattle.dimacs_optimality.specs.Labels.{AreDistances, HasArcOfWeight, LabelsOk};
+ghost use Rattle.dimacs_optimality.specs.inside.Labels.{block_at};
 ghost use Rattle.dimacs_records.specs.Ranges.{IsWide};
 ghost use Rattle.dimacs_records.specs.declared.reasons.Reason.TheVariants as reasons;
-ghost use Rattle.dimacs_judge.specs.Tests.{Decides, TellsRow};
-ghost use Rattle.dimacs_judge.specs.inside.Tests.{TellsReason, Tells};
+ghost use Rattle.dimacs_optimality.specs.Tests.{Decides, TellsRow};
+ghost use Rattle.dimacs_optimality.specs.inside.Tests.{TellsReason, Tells};
 
-use crate::verdict::Where;
 use dimacs_claims::{Label, LabelList, Labels};
 use dimacs_instance::Graph;
 use dimacs_network::{ArcView, Network};
+use dimacs_optimality::Where;
 use dimacs_records::Reason;
 
 /// Tests the labels of all blocks. If they pass, each label is the distance from the block's source, over all walks,

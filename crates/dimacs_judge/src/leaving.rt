@@ -4,19 +4,20 @@ ghost use Rattle.std.specs.Prelude.{◌≡◌, ◌≤◌, ◌+ℤ◌, ℕ, Some,
 ghost use Rattle.dimacs_network.specs.declared.network.ArcView.{ArcView};
 ghost use Rattle.dimacs_claims.specs.Labels.{IsBlock, IsNear, label};
 ghost use Rattle.dimacs_records.specs.Ranges.{IsWide};
-ghost use Rattle.dimacs_judge.specs.CertificateTests.{relax_row};
-ghost use Rattle.dimacs_judge.specs.inside.Leaving.{AreLeast, ArePassedFrom, IsPassed};
+ghost use Rattle.dimacs_optimality.specs.CertificateTests.{relax_row};
+ghost use Rattle.dimacs_judge.specs.inside.Leaving.{ArePassedFrom, IsPassed};
+ghost use Rattle.dimacs_optimality.specs.LeastArcs.{AreLeast};
 ghost use Rattle.dimacs_judge.specs.inside.NodeLabels.{AreMade, IsLabelled, known};
-ghost use Rattle.dimacs_judge.specs.Tests.{Clear};
+ghost use Rattle.dimacs_optimality.specs.Tests.{Clear};
 
 use crate::distance::Distance;
 use crate::labels::escape_fault;
-use crate::least_arcs::LeastArcs;
 use crate::node_label::NodeLabel;
 use crate::node_labels::pass_arc;
 use dimacs_claims::Block;
 use dimacs_network::Network;
 use dimacs_nodes::NodeTable;
+use dimacs_optimality::LeastArcs;
 
 /// A block has few labels if there are more than this many arcs for each.
 const ARCS_A_LABEL: usize = 8;

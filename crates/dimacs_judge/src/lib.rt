@@ -1,61 +1,36 @@
 //! Judges of flows and distances: whether a claim with its certificate passes the tests, and what that shows.
 //!
-//! The theory is in `laws`: a tight cut shows that a flow is maximum, slack potentials show that it costs least, a
-//! violated set shows that no flow is feasible, and labels show distances. All other code makes tests, over any
-//! `Network`. `judge_max`, `judge_min`, `judge_infeasible` and `judge_paths` make all tests of a claim, the other
-//! functions some of them.
+//! `judge_max`, `judge_min`, `judge_infeasible` and `judge_paths` make all tests of a claim, the other functions some of
+//! them, over any `Network`. `decide_max` decides without a certificate. Flows, the tests of flows and the theorems come
+//! from `dimacs_optimality`.
 #![tactic(auto)]
 
-mod agreement;
-mod arc_test;
-mod balances;
-mod costs;
 mod crossing;
-mod cuts;
+mod decision;
 mod distance;
-mod entries;
-mod feasible;
-mod flow;
 mod flow_judges;
 mod infeasible;
 mod labels;
-mod laws;
 mod least;
-mod least_arcs;
 mod leaving;
 mod maximum;
 mod node_label;
 mod node_labels;
-mod one_pass;
-mod passed;
 mod paths;
-mod places;
-mod potentials;
 mod queries;
-mod solution;
-mod value;
-mod verdict;
 
-pub use balances::Balances;
-pub use costs::cost_within;
-pub use cuts::cut_tests;
-pub use entries::{flow_of, placed};
-pub use feasible::{bounds_hold, feasible_max, feasible_min};
-pub use flow::Flow;
+pub use decision::decide_max;
+pub use dimacs_decide::MaxDecision as Decision;
+pub use dimacs_optimality::{
+    Answer, Balances, Flow, FlowPlaces, JudgeError, Verdict, Where, bounds_hold, cost_within,
+    cut_tests, entries_for, exchange, feasible_max, feasible_min, flow_of, labels_give_distances,
+    lightest_arcs, max_claim_tests, max_solution, min_claim_tests, min_solution, passing_shows,
+    placed, slack_is_least, slack_tests, tight_cut_is_maximum, value_of, violated_has_no_flow,
+};
 pub use flow_judges::{judge_max_flow, judge_min_flow};
 pub use infeasible::judge_infeasible;
 pub use labels::label_tests;
-pub use laws::{
-    exchange, labels_give_distances, passing_shows, slack_is_least, tight_cut_is_maximum,
-    violated_has_no_flow,
-};
-pub use least::{judge_min, judge_min_placed, min_claim_tests};
-pub use least_arcs::lightest_arcs;
-pub use maximum::{judge_max, judge_max_placed, max_claim_tests};
+pub use least::{judge_min, judge_min_placed};
+pub use maximum::{judge_max, judge_max_placed};
 pub use paths::judge_paths;
-pub use places::FlowPlaces;
-pub use potentials::slack_tests;
 pub use queries::{answer_queries, index_for, query_nodes_hold, source_asked};
-pub use solution::{entries_for, max_solution, min_solution};
-pub use value::value_of;
-pub use verdict::{Answer, JudgeError, Verdict, Where};

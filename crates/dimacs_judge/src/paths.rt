@@ -1,17 +1,16 @@
 //! Judging that labels are distances.
 
 ghost use Rattle.dimacs_instance.specs.QueryTexts.{AreLawful, asked};
-ghost use Rattle.dimacs_judge.specs.Answers.{AnswersQueries};
-ghost use Rattle.dimacs_judge.specs.PathsJudge.{ShowsDistances, paths_rows};
-ghost use Rattle.dimacs_judge.specs.Tests.{Judges};
+ghost use Rattle.dimacs_optimality.specs.Answers.{AnswersQueries};
+ghost use Rattle.dimacs_optimality.specs.PathsJudge.{ShowsDistances, paths_rows};
+ghost use Rattle.dimacs_optimality.specs.Tests.{Judges};
 
-use crate::agreement::nodes_agree;
 use crate::node_labels::labelled_blocks_hold;
 use crate::queries::{answers, blocks_exist, query_nodes_hold};
-use crate::verdict::{JudgeError, Verdict};
 use dimacs_claims::Labels;
 use dimacs_instance::{Graph, Queries};
 use dimacs_network::Network;
+use dimacs_optimality::{JudgeError, Verdict, nodes_agree};
 use std::alloc::Global;
 
 /// Judges whether labels are distances, and answers the queries by them. A yes means for every block, even if no query

@@ -3,16 +3,16 @@
 ghost use Rattle.std.specs.Prelude.{◌≡◌, ◌<◌, ◌≤◌, ◌↔◌, IsTrue, All, List, Some, IfOk, OnOk, map, length, slice_get};
 ghost use Rattle.dimacs_records.specs.declared.reasons.Reason.TheVariants as reasons;
 ghost use Rattle.dimacs_instance.specs.QueryTexts.{AreLawful, Pairs, asked};
-ghost use Rattle.dimacs_judge.specs.Answers.{AnswersQueries, answer_to, distance_from, radius_from};
-ghost use Rattle.dimacs_judge.specs.QueryTests.{HasBlock, HasFullBlock, IsServed, block_row, listed_row, nodes_asked, query_node_row, sources_asked};
-ghost use Rattle.dimacs_judge.specs.inside.QueryTests.{AreNumbers, TellsBlocks};
-ghost use Rattle.dimacs_judge.specs.Tests.{TellsRow};
+ghost use Rattle.dimacs_optimality.specs.Answers.{AnswersQueries, answer_to, distance_from, radius_from};
+ghost use Rattle.dimacs_optimality.specs.QueryTests.{HasBlock, HasFullBlock, IsServed, block_row, listed_row, nodes_asked, query_node_row, sources_asked};
+ghost use Rattle.dimacs_optimality.specs.inside.QueryTests.{AreNumbers, TellsBlocks};
+ghost use Rattle.dimacs_optimality.specs.Tests.{TellsRow};
 
-use crate::verdict::{Answer, JudgeError, Verdict, Where};
 use dimacs_claims::Labels;
 use dimacs_instance::Queries;
 use dimacs_lines::Memory;
 use dimacs_nodes::NodeMap;
+use dimacs_optimality::{Answer, JudgeError, Verdict, Where};
 use dimacs_records::Reason;
 use std::alloc::Global;
 

@@ -2,8 +2,8 @@
 use Rattle.std.proofs.Common.{List, Result, Ok, Err, refl}
 use Rattle.std.specs.Prelude.{ℤ, IfErr, IfOk}
 use Rattle.dimacs_claims.specs.SolutionTexts.{SolutionValue}
-use Rattle.dimacs_judge.specs.declared.verdict.JudgeError.{JudgeError}
-use Rattle.dimacs_judge.specs.declared.verdict.JudgeError.TheVariants.{Memory, Refused}
+use Rattle.dimacs_optimality.specs.declared.verdict.JudgeError.{JudgeError}
+use Rattle.dimacs_optimality.specs.declared.verdict.JudgeError.TheVariants.{Memory, Refused}
 use Rattle.dimacs_network.specs.declared.network.ArcView.{ArcView}
 use Rattle.dimacs_spread.specs.Spread.{Deals, IsRefusal, KeepsBoundsIfAny, NoneCheaper}
 use Rattle.dimacs_runs.specs.declared.jobs.SpreadKind.TheVariants.{Max, Min}

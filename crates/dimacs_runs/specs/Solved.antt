@@ -17,11 +17,11 @@ use Rattle.dimacs_instance.specs.MaxTexts.{GivesMax}
 use Rattle.dimacs_instance.specs.MinFlows.{MinValue}
 use Rattle.dimacs_instance.specs.MinTexts.{GivesMin}
 use Rattle.dimacs_instance.specs.QueryTexts.{QueriesValue, GivesQueries}
-use Rattle.dimacs_judge.specs.declared.verdict.Where.{Where}
-use Rattle.dimacs_judge.specs.declared.verdict.Where.TheVariants.{Arc}
-use Rattle.dimacs_judge.specs.InfeasibleJudge.{ShowsNoFlow}
-use Rattle.dimacs_judge.specs.QueryTests.{query_node_row}
-use Rattle.dimacs_judge.specs.Tests.{Clear, FirstOfRow}
+use Rattle.dimacs_optimality.specs.declared.verdict.Where.{Where}
+use Rattle.dimacs_optimality.specs.declared.verdict.Where.TheVariants.{Arc}
+use Rattle.dimacs_optimality.specs.InfeasibleJudge.{ShowsNoFlow}
+use Rattle.dimacs_optimality.specs.QueryTests.{query_node_row}
+use Rattle.dimacs_optimality.specs.Tests.{Clear, FirstOfRow}
 use Rattle.dimacs_solve.specs.Climbing.{GivesUp}
 use Rattle.dimacs_solve.specs.Descending.{GivesUpMin}
 use Rattle.dimacs_solve.specs.Paths.{AreProduced, HasNoNegativeWeight, IsFirstNegative}

@@ -6,8 +6,8 @@ use Rattle.dimacs_claims.specs.declared.solution.Entry.{Entry}
 use Rattle.dimacs_claims.specs.SolutionTexts.{SolutionValue, GivesSolution, canonical_solution}
 use Rattle.dimacs_instance.specs.MaxTexts.{GivesMax}
 use Rattle.dimacs_instance.specs.MinTexts.{GivesMin}
-use Rattle.dimacs_judge.specs.declared.verdict.Where.{Where}
-use Rattle.dimacs_judge.specs.Entries.{IsSolutionOf}
+use Rattle.dimacs_optimality.specs.declared.verdict.Where.{Where}
+use Rattle.dimacs_optimality.specs.Entries.{IsSolutionOf}
 use Rattle.dimacs_network.specs.declared.network.ArcView.{ArcView}
 use Rattle.dimacs_spread.specs.Spread.{Deals, IsRefusedAt, KeepsBoundsIfAny, NoneCheaper}
 use Rattle.dimacs_runs.specs.declared.jobs.SpreadKind.{SpreadKind}

@@ -1,7 +1,7 @@
 //! Certifying that an instance has no feasible flow.
 
 ghost use Rattle.std.specs.Prelude.{◌≡◌, ◌≢◌, ◌∷◌, [], ℕ, List, Some, Err};
-ghost use Rattle.dimacs_judge.specs.Feasible.{FeasibleMin};
+ghost use Rattle.dimacs_optimality.specs.Feasible.{FeasibleMin};
 ghost use Rattle.dimacs_runs.specs.declared.jobs.CertifyKind.TheVariants as certifies;
 ghost use Rattle.dimacs_runs.specs.declared.outcome.RunError.TheVariants.{Device};
 ghost use Rattle.dimacs_runs.specs.Certified.{Certified, CertifiesInfeasible};

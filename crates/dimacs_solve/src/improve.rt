@@ -1,7 +1,7 @@
 //! Improving a flow between two tests, by a heuristic.
 
 ghost use Rattle.std.specs.Prelude.{◌≡◌, ◌≤ℤ◌, length, IsTrue};
-ghost use Rattle.dimacs_judge.specs.Feasible.{FeasibleMax, value};
+ghost use Rattle.dimacs_optimality.specs.Feasible.{FeasibleMax, value};
 
 use dimacs_instance::MaxInstance;
 use dimacs_judge::{Flow, feasible_max, value_of};

@@ -2,8 +2,8 @@
 
 ghost use Rattle.std.specs.Prelude.{◌≡◌, ℕ, Ok};
 ghost use Rattle.dimacs_claims.specs.Potentials.{potential_of};
-ghost use Rattle.dimacs_judge.specs.Optimum.{Least};
-ghost use Rattle.dimacs_judge.specs.Potentials.{Slack};
+ghost use Rattle.dimacs_optimality.specs.Optimum.{Least};
+ghost use Rattle.dimacs_optimality.specs.Potentials.{Slack};
 ghost use Rattle.dimacs_solve.specs.Descending.{start_flow};
 ghost use Rattle.dimacs_solve.specs.SolveMin.{SolvesMin};
 

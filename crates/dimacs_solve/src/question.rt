@@ -2,7 +2,7 @@
 //! costs less.
 
 ghost use Rattle.std.specs.Prelude.{IfOk};
-ghost use Rattle.dimacs_judge.specs.Feasible.{FeasibleMin};
+ghost use Rattle.dimacs_optimality.specs.Feasible.{FeasibleMin};
 ghost use Rattle.dimacs_decide.specs.Bounds.{KeepsBounds};
 ghost use Rattle.dimacs_decide.specs.FeasibilityDecision.{DecidesFeasible};
 ghost use Rattle.dimacs_decide.specs.Incidence.{IsIncidenceOf};

@@ -5,9 +5,9 @@ use Rattle.std.proofs.lemmas.Bool.{cases_Bool}
 use Rattle.dimacs_network.specs.declared.network.ArcView.{ArcView}
 use Rattle.dimacs_network.specs.Arcs.{joins, arc_at}
 use Rattle.dimacs_network.proofs.ArcLemmas.{joins_ends}
-use Rattle.dimacs_judge.specs.Flows.{cost, sum_arcs, when}
-use Rattle.dimacs_judge.specs.Rows.{amount_at}
-use Rattle.dimacs_judge.proofs.Products.{mul_add, mul_sub, mul_comm, mul_le, mul_ge}
+use Rattle.dimacs_optimality.specs.Flows.{cost, sum_arcs, when}
+use Rattle.dimacs_optimality.specs.Rows.{amount_at}
+use Rattle.dimacs_optimality.proofs.Products.{mul_add, mul_sub, mul_comm, mul_le, mul_ge}
 use Rattle.dimacs_spread.specs.Spread.{arc_sum}
 use Rattle.dimacs_spread.specs.inside.Raised.{AreWithin, CheapestAreFull}
 use Rattle.dimacs_spread.proofs.EndLemmas.{ends_of}

@@ -10,8 +10,8 @@ use Rattle.dimacs_network.specs.declared.network.ArcView.{ArcView}
 use Rattle.dimacs_network.specs.Arcs.{joins, IsKthBetween, arc_at, no_arc}
 use Rattle.dimacs_records.specs.Ranges.{IsWhole}
 use Rattle.dimacs_records.specs.declared.reasons.Reason.{Reason}
-use Rattle.dimacs_judge.specs.declared.verdict.Where.{Where}
-use Rattle.dimacs_judge.specs.Rows.{amount_at}
+use Rattle.dimacs_optimality.specs.declared.verdict.Where.{Where}
+use Rattle.dimacs_optimality.specs.Rows.{amount_at}
 use Rattle.dimacs_spread.specs.Spread.{arc_sum, caps, Deals, entry_sum, Fails, FirstArcsFail, KeepsBounds, KeepsBoundsIfAny, lows, NoneCheaper, sum_row}
 use Rattle.dimacs_spread.specs.inside.Raised.{AreDealt}
 use Rattle.dimacs_spread.specs.inside.Rests.{AddUp, IsFirstLike, IsOfRest}

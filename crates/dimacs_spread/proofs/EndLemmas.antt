@@ -8,7 +8,7 @@ use Rattle.dimacs_claims.specs.declared.solution.Entry.{Entry}
 use Rattle.dimacs_network.specs.declared.network.ArcView.{ArcView}
 use Rattle.dimacs_network.specs.Arcs.{joins, IsKthBetween, arc_at, no_arc}
 use Rattle.dimacs_network.proofs.ArcLemmas.{joins_ends}
-use Rattle.dimacs_judge.specs.Claims.{is_between}
+use Rattle.dimacs_optimality.specs.Claims.{is_between}
 use Rattle.dimacs_spread.specs.inside.Raised.{AreAlike}
 use Rattle.dimacs_spread.specs.inside.Rests.{IsFirstLike}
 

@@ -10,7 +10,7 @@ use Rattle.dimacs_instance.specs.MinFlows.{HasBounds}
 use Rattle.dimacs_network.specs.declared.network.ArcView.{ArcView}
 use Rattle.dimacs_network.specs.Arcs.{arc_at, no_arc}
 use Rattle.dimacs_records.specs.Ranges.{IsWhole}
-use Rattle.dimacs_judge.specs.Rows.{amount_at}
+use Rattle.dimacs_optimality.specs.Rows.{amount_at}
 use Rattle.dimacs_spread.specs.declared.arcs_by_cost.ArcOfCost.{ArcOfCost}
 use Rattle.dimacs_spread.specs.inside.ArcsByCost.{AreByCost, place_at}
 use Rattle.dimacs_spread.specs.inside.Raised.{AreAlike, AreDealt, AreDealtUpTo, AreWithin, CheapestAreFull, IsMore, IsRaised}

@@ -7,10 +7,10 @@ use Rattle.std.proofs.lemmas.List.{length-set, length-replicate, get_or-replicat
 use Rattle.dimacs_claims.specs.declared.solution.Entry.{Entry}
 use Rattle.dimacs_network.specs.declared.network.ArcView.{ArcView}
 use Rattle.dimacs_network.specs.Arcs.{joins, IsKthBetween, arc_at}
-use Rattle.dimacs_judge.specs.Claims.{is_between}
-use Rattle.dimacs_judge.specs.Flows.{when}
-use Rattle.dimacs_judge.specs.Rows.{amount_at}
-use Rattle.dimacs_judge.specs.inside.Ranges.{IsOfSize}
+use Rattle.dimacs_optimality.specs.Claims.{is_between}
+use Rattle.dimacs_optimality.specs.Flows.{when}
+use Rattle.dimacs_optimality.specs.Rows.{amount_at}
+use Rattle.dimacs_optimality.specs.inside.Ranges.{IsOfSize}
 use Rattle.dimacs_spread.specs.Spread.{arc_sum, entry_sum}
 use Rattle.dimacs_spread.specs.inside.Rests.{AddUp, AreLows, AreRests, IsFirstLike}
 use Rattle.dimacs_spread.proofs.EndLemmas.{alike_joins, entry_joins, first_alike}

@@ -3,8 +3,8 @@ use Rattle.std.proofs.Common.{◌≡◌, ℕ, zero, suc, ◌<◌, Bool, true, fa
 use Rattle.std.proofs.lemmas.Int.{ints}
 use Rattle.dimacs_network.specs.declared.network.ArcView.{ArcView}
 use Rattle.dimacs_network.specs.Arcs.{joins, arc_at}
-use Rattle.dimacs_judge.specs.Flows.{when}
-use Rattle.dimacs_judge.specs.Rows.{amount_at}
+use Rattle.dimacs_optimality.specs.Flows.{when}
+use Rattle.dimacs_optimality.specs.Rows.{amount_at}
 use Rattle.dimacs_spread.specs.Spread.{arc_sum, KeepsBounds}
 
 -- ---- terms

@@ -6,15 +6,15 @@ use Rattle.dimacs_network.specs.declared.network.ArcView.{ArcView}
 use Rattle.dimacs_network.specs.Arcs.{joins, IsKthBetween, arc_at}
 use Rattle.dimacs_records.specs.declared.reasons.Reason.{Reason}
 use Rattle.dimacs_records.specs.declared.reasons.Reason.TheVariants.{UnknownArc, BelowLow, AboveCap}
-use Rattle.dimacs_judge.specs.declared.verdict.Where.{Where}
-use Rattle.dimacs_judge.specs.declared.verdict.Where.TheVariants.{Solution}
-use Rattle.dimacs_judge.specs.declared.verdict.JudgeError.{JudgeError}
-use Rattle.dimacs_judge.specs.declared.verdict.JudgeError.TheVariants.{Refused, Memory}
-use Rattle.dimacs_judge.specs.Claims.{is_between, entry_at, IsKnown}
-use Rattle.dimacs_judge.specs.Flows.{sum_arcs, when, cost}
-use Rattle.dimacs_judge.specs.FlowTests.{BoundFails}
-use Rattle.dimacs_judge.specs.Rows.{amount_at, arc_row}
-use Rattle.dimacs_judge.specs.Tests.{Row, Clear, FirstOfRow}
+use Rattle.dimacs_optimality.specs.declared.verdict.Where.{Where}
+use Rattle.dimacs_optimality.specs.declared.verdict.Where.TheVariants.{Solution}
+use Rattle.dimacs_optimality.specs.declared.verdict.JudgeError.{JudgeError}
+use Rattle.dimacs_optimality.specs.declared.verdict.JudgeError.TheVariants.{Refused, Memory}
+use Rattle.dimacs_optimality.specs.Claims.{is_between, entry_at, IsKnown}
+use Rattle.dimacs_optimality.specs.Flows.{sum_arcs, when, cost}
+use Rattle.dimacs_optimality.specs.FlowTests.{BoundFails}
+use Rattle.dimacs_optimality.specs.Rows.{amount_at, arc_row}
+use Rattle.dimacs_optimality.specs.Tests.{Row, Clear, FirstOfRow}
 
 -- the sum of the entries from one node to another
 abbrev pub entry_sum : List Entry → ℕ → ℕ → ℤ

@@ -3,16 +3,16 @@
 ghost use Rattle.std.specs.Prelude.{◌≡◌, ◌<◌, ◌+◌, ◌^◌, ◌+ℤ◌, [], ℕ, ℤ, List, pos, length, replicate, IfErr, IfNone, IfOk, IfSome, OnOk, ◌≢◌};
 ghost use Rattle.std.specs.List.{All};
 ghost use Rattle.dimacs_instance.specs.MinFlows.{HasBounds};
-ghost use Rattle.dimacs_judge.specs.Rows.{amount_at};
-ghost use Rattle.dimacs_judge.specs.Tests.{TellsRow};
+ghost use Rattle.dimacs_optimality.specs.Rows.{amount_at};
+ghost use Rattle.dimacs_optimality.specs.Tests.{TellsRow};
 ghost use Rattle.dimacs_spread.specs.Spread.{unknown_row};
 ghost use Rattle.dimacs_spread.specs.inside.Rests.{AddUp, AreLows, AreRests, IsOfRest, RestFails};
 
 use crate::arcs_by_ends::ArcsByEnds;
 use dimacs_claims::Entry;
-use dimacs_judge::Where;
 use dimacs_lines::Memory;
 use dimacs_network::Network;
+use dimacs_optimality::Where;
 use dimacs_records::Reason;
 use std::alloc::Global;
 

@@ -12,8 +12,8 @@ use crate::raise::raise_all;
 use crate::rests::{add_entries, no_amounts, no_rests, put_lows, put_rests};
 use dimacs_claims::{Entry, Solution};
 use dimacs_instance::{MaxInstance, MinInstance};
-use dimacs_judge::{Flow, JudgeError, Where};
 use dimacs_network::Network;
+use dimacs_optimality::{Flow, JudgeError, Where};
 use dimacs_records::Reason;
 use std::alloc::Global;
 

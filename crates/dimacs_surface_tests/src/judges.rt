@@ -11,9 +11,9 @@ use dimacs_instance::{
     MaxInstance, MinInstance, Network, read_graph, read_max, read_min, read_queries,
 };
 use dimacs_judge::{
-    Answer, Flow, FlowPlaces, JudgeError, Verdict, Where, cut_tests, feasible_max, feasible_min,
-    flow_of, judge_infeasible, judge_max, judge_max_placed, judge_min, judge_min_placed,
-    judge_paths, label_tests, slack_tests,
+    Answer, Decision, Flow, FlowPlaces, JudgeError, Verdict, Where, cut_tests, decide_max,
+    feasible_max, feasible_min, flow_of, judge_infeasible, judge_max, judge_max_placed, judge_min,
+    judge_min_placed, judge_paths, label_tests, slack_tests,
 };
 use dimacs_lines::MemorySource;
 use dimacs_records::{ReadError, Reason};
@@ -113,6 +113,47 @@ fn a_maximum_flow_is_feasible_and_its_cut_is_tight(rt: HostRuntime) -> Result<()
     let refusal = (Where::Node(1), Reason::SourceOutside);
     let tests = tests_of_max(rt.alloc(), b"p cut 3 0\n")?;
     same(&rt, "the empty set", tests, Err(refusal));
+    Ok(())
+}
+
+/// What is decided of a flow in the first network without a cut.
+fn decided(alloc: Global, claim: &[u8]) -> Result<Decision, Fail> {
+    let instance = read_max(alloc, &mut MemorySource::new(MAX))?;
+    let flow = flow_in(alloc, instance.network(), claim)?;
+    feasible_max(alloc, &instance, &flow)?;
+    Ok(decide_max(alloc, &instance, &flow)?)
+}
+
+/// The nodes of a tight cut, or the amounts of a better flow.
+fn spelled(alloc: Global, decision: &Decision) -> Result<String, Fail> {
+    match decision {
+        Decision::Optimal(cut) => {
+            let mut said = String::from_str(alloc, "cut")?;
+            for id in 1..4 {
+                if cut.contains(id) {
+                    write!(said, " {id}")?;
+                }
+            }
+            Ok(said)
+        }
+        Decision::Better(flow) => {
+            let mut said = String::from_str(alloc, "flow")?;
+            for amount in flow.amounts() {
+                write!(said, " {amount}")?;
+            }
+            Ok(said)
+        }
+    }
+}
+
+#[test]
+fn a_flow_is_decided_without_a_cut(rt: HostRuntime) -> Result<(), Fail> {
+    let maximum = decided(rt.alloc(), MAXIMUM)?;
+    let cut = spelled(rt.alloc(), &maximum)?;
+    same(&rt, "a maximum flow", cut.as_str(), "cut 1 2");
+    let smaller = decided(rt.alloc(), b"f 1 2 2\nf 2 3 2\ns 2\n")?;
+    let better = spelled(rt.alloc(), &smaller)?;
+    same(&rt, "a smaller flow", better.as_str(), "flow 2 2 1");
     Ok(())
 }
 

@@ -10,10 +10,10 @@ use Rattle.dimacs_judge.specs.declared.node_label.NodeLabel.{NodeLabel}
 use Rattle.dimacs_judge.specs.declared.node_labels.Tables.{Tables}
 use Rattle.dimacs_judge.specs.declared.node_labels.Weights.{Weights}
 use Rattle.dimacs_judge.specs.declared.node_labels.Weights.TheVariants.{Untested, NotNegative}
-use Rattle.dimacs_judge.specs.CertificateTests.{negative_row, relax_row}
+use Rattle.dimacs_optimality.specs.CertificateTests.{negative_row, relax_row}
 use Rattle.dimacs_network.specs.Arcs.{arc_at}
-use Rattle.dimacs_judge.specs.Labels.{HasTightArc}
-use Rattle.dimacs_judge.specs.Tests.{Clear, ClearBelow}
+use Rattle.dimacs_optimality.specs.Labels.{HasTightArc}
+use Rattle.dimacs_optimality.specs.Tests.{Clear, ClearBelow}
 use Rattle.dimacs_judge.specs.inside.Distances.{below}
 
 -- what is known of the weights is true

@@ -5,11 +5,11 @@ use Rattle.dimacs_claims.specs.Cuts.{canonical_cut}
 use Rattle.dimacs_claims.specs.LabelTexts.{canonical_labels}
 use Rattle.dimacs_claims.specs.Potentials.{canonical_potentials}
 use Rattle.dimacs_claims.specs.SolutionTexts.{SolutionValue, canonical_solution, claimed}
-use Rattle.dimacs_judge.specs.declared.verdict.JudgeError.{JudgeError}
-use Rattle.dimacs_judge.specs.declared.verdict.JudgeError.TheVariants as judge_errors
-use Rattle.dimacs_judge.specs.declared.verdict.Verdict.{Verdict}
-use Rattle.dimacs_judge.specs.declared.verdict.Verdict.TheVariants as verdicts
-use Rattle.dimacs_judge.specs.declared.verdict.Where.TheVariants.{Arc}
+use Rattle.dimacs_optimality.specs.declared.verdict.JudgeError.{JudgeError}
+use Rattle.dimacs_optimality.specs.declared.verdict.JudgeError.TheVariants as judge_errors
+use Rattle.dimacs_optimality.specs.declared.verdict.Verdict.{Verdict}
+use Rattle.dimacs_optimality.specs.declared.verdict.Verdict.TheVariants as verdicts
+use Rattle.dimacs_optimality.specs.declared.verdict.Where.TheVariants.{Arc}
 use Rattle.dimacs_records.specs.declared.faults.ReadError.{ReadError}
 use Rattle.dimacs_records.specs.declared.faults.ReadError.TheVariants as read_errors
 use Rattle.dimacs_records.specs.declared.kinds.TextKind.{TextKind}

@@ -2,7 +2,7 @@
 use Rattle.std.specs.Prelude.{ℕ, ◌≡◌, ◌<◌, ◌⊎◌, List, length, set, ℤ, pos, ◌+ℤ◌, ◌-ℤ◌, ◌≤ℤ◌, ◌<ℤ◌}
 use Rattle.dimacs_network.specs.declared.network.ArcView.{ArcView}
 use Rattle.dimacs_network.specs.Arcs.{arc_at}
-use Rattle.dimacs_judge.specs.Rows.{amount_at}
+use Rattle.dimacs_optimality.specs.Rows.{amount_at}
 use Rattle.dimacs_spread.specs.declared.arcs_by_cost.ArcOfCost.{ArcOfCost}
 use Rattle.dimacs_spread.specs.inside.ArcsByCost.{place_at}
 use Rattle.dimacs_spread.specs.inside.Rests.{IsFirstLike}

@@ -5,10 +5,10 @@ use Rattle.dimacs_network.specs.declared.network.ArcView.{ArcView}
 use Rattle.dimacs_network.specs.Arcs.{IsKthBetween, arc_at}
 use Rattle.dimacs_records.specs.declared.reasons.Reason.{Reason}
 use Rattle.dimacs_records.specs.declared.reasons.Reason.TheVariants.{BelowLow, AboveCap}
-use Rattle.dimacs_judge.specs.declared.verdict.Where.{Where}
-use Rattle.dimacs_judge.specs.declared.verdict.Where.TheVariants.{Arc}
-use Rattle.dimacs_judge.specs.Rows.{amount_at}
-use Rattle.dimacs_judge.specs.inside.Ranges.{IsOfSize}
+use Rattle.dimacs_optimality.specs.declared.verdict.Where.{Where}
+use Rattle.dimacs_optimality.specs.declared.verdict.Where.TheVariants.{Arc}
+use Rattle.dimacs_optimality.specs.Rows.{amount_at}
+use Rattle.dimacs_optimality.specs.inside.Ranges.{IsOfSize}
 use Rattle.dimacs_spread.specs.Spread.{arc_sum, entry_sum}
 
 -- f is the first arc with the ends of arc k

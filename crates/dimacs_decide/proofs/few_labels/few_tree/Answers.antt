@@ -1,6 +1,6 @@
 use Rattle.std.proofs.Common.{◌∙◌, refl, subst}
 use Rattle.dimacs_claims.specs.Labels.{BlockValue, label}
-use Rattle.dimacs_judge.specs.Tests.{Clear}
+use Rattle.dimacs_optimality.specs.Tests.{Clear}
 use Rattle.dimacs_nodes.specs.Tables.{value_of}
 use Rattle.dimacs_decide.specs.Distances.{claim_row}
 use Rattle.dimacs_decide.specs.inside.TightTrees.{IsTightTree}

@@ -1,5 +1,5 @@
 use Rattle.std.proofs.Common.{ℕ, ◌^◌}
-use Rattle.dimacs_judge.specs.inside.Ranges.{IsOfSize}
+use Rattle.dimacs_optimality.specs.inside.Ranges.{IsOfSize}
 use Rattle.dimacs_nodes.specs.Tables.{value_of}
 use Rattle.dimacs_decide.proofs.FeasibleLemmas.{AreImbalancesBelow}
 use Rattle.dimacs_decide.proofs.imbalance.imbalances.Given as goal

@@ -4,10 +4,10 @@ use Rattle.std.proofs.lemmas.Bool.{false≢true}
 use Rattle.std.proofs.lemmas.Slice.Zip.{AllZip-long}
 use Rattle.dimacs_claims.specs.Potentials.{potential_of}
 use Rattle.dimacs_records.specs.declared.reasons.Reason.{Reason}
-use Rattle.dimacs_judge.specs.declared.verdict.Where.{Where}
-use Rattle.dimacs_judge.specs.CertificateTests.{slack_row}
-use Rattle.dimacs_judge.specs.Tests.{Row, Decides}
-use Rattle.dimacs_judge.proofs.Duality.{slack_is_least}
+use Rattle.dimacs_optimality.specs.declared.verdict.Where.{Where}
+use Rattle.dimacs_optimality.specs.CertificateTests.{slack_row}
+use Rattle.dimacs_optimality.specs.Tests.{Row, Decides}
+use Rattle.dimacs_optimality.proofs.Duality.{slack_is_least}
 use Rattle.dimacs_decide.proofs.least.show_least.Goals as goal
 
 -- if no test fails, it holds

@@ -1,5 +1,5 @@
 use Rattle.std.proofs.Common.{◌<◌}
-use Rattle.dimacs_judge.specs.Cuts.{members}
+use Rattle.dimacs_optimality.specs.Cuts.{members}
 use Rattle.dimacs_nodes.specs.Tables.{value_of}
 use Rattle.dimacs_decide.specs.inside.Residual.{rank_of}
 use Rattle.dimacs_decide.specs.inside.Sending.{IsSent, IsStuck}

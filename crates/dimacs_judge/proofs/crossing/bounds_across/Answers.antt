@@ -1,8 +1,8 @@
 use Rattle.std.proofs.Common.{rules, ◌^◌, arith, w64, SFits}
 use Rattle.std.proofs.lemmas.Int.{ints}
-use Rattle.dimacs_judge.specs.inside.Ranges.{IsOfSize}
+use Rattle.dimacs_optimality.specs.inside.Ranges.{IsOfSize}
 use Rattle.dimacs_judge.proofs.CrossLemmas.{bound_more}
-use Rattle.dimacs_judge.specs.Cuts.{members}
+use Rattle.dimacs_optimality.specs.Cuts.{members}
 use Rattle.dimacs_judge.proofs.crossing.bounds_across.Goals as goal
 
 pub loop-i-preserved : goal.loop-i-preserved

@@ -1,5 +1,5 @@
 use Rattle.dimacs_judge.proofs.CrossLemmas.{IsBoundOf}
-use Rattle.dimacs_judge.specs.Cuts.{members}
+use Rattle.dimacs_optimality.specs.Cuts.{members}
 use Rattle.dimacs_judge.proofs.crossing.bounds_across.Given as goal
 
 -- the bounds over the arcs so far

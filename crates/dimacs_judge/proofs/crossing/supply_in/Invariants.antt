@@ -1,5 +1,5 @@
 use Rattle.dimacs_judge.proofs.CrossLemmas.{IsSupplyOf}
-use Rattle.dimacs_judge.specs.Cuts.{members}
+use Rattle.dimacs_optimality.specs.Cuts.{members}
 use Rattle.dimacs_instance.specs.MinFlows.{supply_of}
 use Rattle.dimacs_judge.proofs.crossing.supply_in.Given as goal
 

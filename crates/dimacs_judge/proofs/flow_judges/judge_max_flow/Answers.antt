@@ -1,9 +1,9 @@
 use Rattle.std.proofs.Common.{◌≡◌, ◌∙◌, ap, rules, SFits}
 use Rattle.std.specs.Int.{w128}
 use Rattle.std.proofs.lemmas.Int.{to_z-of_z}
-use Rattle.dimacs_judge.specs.declared.verdict.Verdict.TheVariants.{Max}
-use Rattle.dimacs_judge.specs.Cuts.{members}
-use Rattle.dimacs_judge.specs.Feasible.{value}
+use Rattle.dimacs_optimality.specs.declared.verdict.Verdict.TheVariants.{Max}
+use Rattle.dimacs_optimality.specs.Cuts.{members}
+use Rattle.dimacs_optimality.specs.Feasible.{value}
 use Rattle.dimacs_judge.proofs.FlowJudges.{max_infeasible, max_passed, max_untight}
 use Rattle.dimacs_judge.proofs.flow_judges.judge_max_flow.Goals as goal
 

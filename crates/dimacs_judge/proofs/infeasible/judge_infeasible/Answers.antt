@@ -1,8 +1,8 @@
 use Rattle.std.proofs.Common.{refl, inl, inr}
-use Rattle.dimacs_judge.specs.Cuts.{members}
-use Rattle.dimacs_judge.specs.InfeasibleJudge.{infeasible_rows}
-use Rattle.dimacs_judge.specs.Tests.{AllClear}
-use Rattle.dimacs_judge.proofs.Duality.{violated_has_no_flow}
+use Rattle.dimacs_optimality.specs.Cuts.{members}
+use Rattle.dimacs_optimality.specs.InfeasibleJudge.{infeasible_rows}
+use Rattle.dimacs_optimality.specs.Tests.{AllClear}
+use Rattle.dimacs_optimality.proofs.Duality.{violated_has_no_flow}
 use Rattle.dimacs_judge.proofs.InfeasibleJudge.{infeasible_passes, infeasible_judged}
 use Rattle.dimacs_judge.proofs.infeasible.judge_infeasible.Goals as goal
 

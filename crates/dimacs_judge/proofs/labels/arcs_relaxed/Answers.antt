@@ -1,6 +1,6 @@
 use Rattle.std.proofs.Common.{arith}
 use Rattle.dimacs_judge.proofs.BlockLemmas.{label_at-block}
-use Rattle.dimacs_judge.proofs.RowLemmas.{relax_clear_more, relax_first, arc_clear_end}
+use Rattle.dimacs_optimality.proofs.RowLemmas.{relax_clear_more, relax_first, arc_clear_end}
 use Rattle.dimacs_judge.proofs.labels.arcs_relaxed.Goals as goal
 
 pub returns-in-Some : goal.returns-in-Some

@@ -1,6 +1,6 @@
 use Rattle.std.proofs.Common.{take}
-use Rattle.dimacs_judge.specs.CertificateTests.{label_rows}
-use Rattle.dimacs_judge.specs.Tests.{AllClear}
+use Rattle.dimacs_optimality.specs.CertificateTests.{label_rows}
+use Rattle.dimacs_optimality.specs.Tests.{AllClear}
 use Rattle.dimacs_judge.proofs.labels.blocks_hold.Given as goal
 
 -- all tests of the blocks so far pass

@@ -1,7 +1,7 @@
 use Rattle.std.proofs.Common.{IsTrue, false, refl, arith}
 use Rattle.std.specs.Int.{w128}
 use Rattle.std.proofs.lemmas.Int.{to_z-of_z}
-use Rattle.dimacs_judge.proofs.SupportLemmas.{none_more, none_left, few_between, arc_found}
+use Rattle.dimacs_optimality.proofs.SupportLemmas.{none_more, none_left, few_between, arc_found}
 use Rattle.dimacs_judge.proofs.labels.has_arc_of_weight.Goals as goal
 
 pub returns-in_default : goal.returns-in_default

@@ -1,4 +1,4 @@
-use Rattle.dimacs_judge.proofs.SupportLemmas.{NoneBelow}
+use Rattle.dimacs_optimality.proofs.SupportLemmas.{NoneBelow}
 use Rattle.dimacs_judge.proofs.labels.has_arc_of_weight.Given as goal
 
 -- none of the first arcs between the ends has the weight

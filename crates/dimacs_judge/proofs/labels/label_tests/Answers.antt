@@ -1,6 +1,6 @@
-use Rattle.dimacs_judge.specs.CertificateTests.{label_rows}
-use Rattle.dimacs_judge.proofs.LabelsPassing.{labels_hold, labels_clear, told_distances}
-use Rattle.dimacs_judge.proofs.Settling.{decided}
+use Rattle.dimacs_optimality.specs.CertificateTests.{label_rows}
+use Rattle.dimacs_optimality.proofs.LabelsPassing.{labels_hold, labels_clear, told_distances}
+use Rattle.dimacs_optimality.proofs.Settling.{decided}
 use Rattle.dimacs_judge.proofs.labels.label_tests.Goals as goal
 
 pub returns-clause-decides : goal.returns-clause-decides

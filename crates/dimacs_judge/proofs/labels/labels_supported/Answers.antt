@@ -1,7 +1,7 @@
 use Rattle.std.proofs.Common.{IsTrue, false, refl}
-use Rattle.dimacs_judge.specs.inside.Labels.{block_at}
+use Rattle.dimacs_optimality.specs.inside.Labels.{block_at}
 use Rattle.dimacs_judge.proofs.BlockLemmas.{label_at-block}
-use Rattle.dimacs_judge.proofs.RowLemmas.{support_clear_more, support_first, support_clear_end}
+use Rattle.dimacs_optimality.proofs.RowLemmas.{support_clear_more, support_first, support_clear_end}
 use Rattle.dimacs_judge.proofs.labels.labels_supported.Goals as goal
 
 pub returns-then-not-is_supported : goal.returns-then-not-is_supported

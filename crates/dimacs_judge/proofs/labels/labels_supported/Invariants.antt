@@ -1,6 +1,6 @@
-use Rattle.dimacs_judge.specs.inside.Labels.{block_at}
-use Rattle.dimacs_judge.specs.CertificateTests.{support_row}
-use Rattle.dimacs_judge.specs.Tests.{ClearBelow}
+use Rattle.dimacs_optimality.specs.inside.Labels.{block_at}
+use Rattle.dimacs_optimality.specs.CertificateTests.{support_row}
+use Rattle.dimacs_optimality.specs.Tests.{ClearBelow}
 use Rattle.dimacs_judge.proofs.labels.labels_supported.Given as goal
 
 abbrev pub invariant-loop-i : goal.invariant-loop-i

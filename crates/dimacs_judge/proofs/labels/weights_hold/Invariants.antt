@@ -1,5 +1,5 @@
-use Rattle.dimacs_judge.specs.CertificateTests.{negative_row}
-use Rattle.dimacs_judge.specs.Tests.{ClearBelow}
+use Rattle.dimacs_optimality.specs.CertificateTests.{negative_row}
+use Rattle.dimacs_optimality.specs.Tests.{ClearBelow}
 use Rattle.dimacs_judge.proofs.labels.weights_hold.Given as goal
 
 abbrev pub invariant-loop-i : goal.invariant-loop-i

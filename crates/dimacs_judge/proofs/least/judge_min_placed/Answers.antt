@@ -2,9 +2,9 @@ use Rattle.std.proofs.Common.{rules, refl, SFits}
 use Rattle.std.specs.Int.{w128}
 use Rattle.std.proofs.lemmas.Int.{to_z-of_z}
 use Rattle.std.proofs.lemmas.Slice.Zip.{AllZip-long}
-use Rattle.dimacs_judge.specs.MinJudge.{min_claim_rows}
-use Rattle.dimacs_judge.proofs.MinJudge.{min_judged, claim_refused, nodes_refused, slack_refused, min_passed}
-use Rattle.dimacs_judge.proofs.Settling.{refuted_refuses}
+use Rattle.dimacs_optimality.specs.MinJudge.{min_claim_rows}
+use Rattle.dimacs_optimality.proofs.MinJudge.{min_judged, claim_refused, nodes_refused, slack_refused, min_passed}
+use Rattle.dimacs_optimality.proofs.Settling.{refuted_refuses}
 use Rattle.dimacs_judge.proofs.least.judge_min_placed.Goals as goal
 
 pub returns-in_err-flow : goal.returns-in_err-flow

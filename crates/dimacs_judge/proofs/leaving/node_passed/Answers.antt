@@ -7,10 +7,12 @@ use Rattle.dimacs_network.specs.declared.network.ArcView.{ArcView}
 use Rattle.dimacs_network.specs.declared.adjacency_lists.Side.TheVariants.{Tail}
 use Rattle.dimacs_network.specs.AdjacencyLists.{IsLast}
 use Rattle.dimacs_claims.specs.Labels.{IsNear}
-use Rattle.dimacs_judge.specs.inside.Leaving.{IsPassed, WeightsFall, arcs_in}
+use Rattle.dimacs_judge.specs.inside.Leaving.{IsPassed}
+use Rattle.dimacs_optimality.specs.LeastArcs.{WeightsFall, arcs_in}
 use Rattle.dimacs_judge.specs.inside.NodeLabels.{known}
 use Rattle.dimacs_network.specs.Arcs.{arc_at, no_arc}
-use Rattle.dimacs_judge.proofs.LeavingLemmas.{ArePassedOn, at_place, no_reason, node_beyond, node_done, node_more, passed_still, passed_this}
+use Rattle.dimacs_judge.proofs.LeavingLemmas.{ArePassedOn, no_reason, node_beyond, node_done, node_more, passed_still, passed_this}
+use Rattle.dimacs_optimality.proofs.LeastLemmas.{at_place}
 use Rattle.dimacs_judge.proofs.NodeLabelLemmas.{known_after, known_wide, label_wide}
 use Rattle.dimacs_judge.proofs.leaving.node_passed.Goals as goal
 

@@ -2,9 +2,9 @@ use Rattle.std.proofs.Common.{rules, refl, SFits}
 use Rattle.std.specs.Int.{w128}
 use Rattle.std.proofs.lemmas.Int.{to_z-of_z}
 use Rattle.std.proofs.lemmas.Slice.Zip.{AllZip-long}
-use Rattle.dimacs_judge.specs.MaxJudge.{max_claim_rows}
-use Rattle.dimacs_judge.proofs.MaxJudge.{max_judged, claim_refused, nodes_refused, cut_refused, max_passed}
-use Rattle.dimacs_judge.proofs.Settling.{refuted_refuses}
+use Rattle.dimacs_optimality.specs.MaxJudge.{max_claim_rows}
+use Rattle.dimacs_optimality.proofs.MaxJudge.{max_judged, claim_refused, nodes_refused, cut_refused, max_passed}
+use Rattle.dimacs_optimality.proofs.Settling.{refuted_refuses}
 use Rattle.dimacs_judge.proofs.maximum.judge_max_placed.Goals as goal
 
 pub returns-in_err-flow : goal.returns-in_err-flow

@@ -1,8 +1,8 @@
 use Rattle.std.proofs.Common.{◌≡◌, ◌≤◌, ◌+◌, arith, length, sym, Err}
-use Rattle.dimacs_judge.specs.declared.verdict.Where.TheVariants.{Arc}
+use Rattle.dimacs_optimality.specs.declared.verdict.Where.TheVariants.{Arc}
 use Rattle.dimacs_judge.specs.inside.NodeLabels.{known}
 use Rattle.dimacs_judge.proofs.NodeLabelLemmas.{all_counted, both_told, labels_told, count_on, clear_after, first_after, known_after, known_wide, made_after, made_all}
-use Rattle.dimacs_judge.proofs.RowLemmas.{arc_clear_end}
+use Rattle.dimacs_optimality.proofs.RowLemmas.{arc_clear_end}
 use Rattle.dimacs_judge.proofs.node_labels.arcs_passed.Goals as goal
 
 pub loop-i-init : goal.loop-i-init

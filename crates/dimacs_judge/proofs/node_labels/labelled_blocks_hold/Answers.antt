@@ -1,11 +1,11 @@
 use Rattle.std.proofs.Common.{◌≡◌, ◌<◌, Err, inl, length, subst}
 use Rattle.std.proofs.lemmas.Result.{err_from_is_err_and}
 use Rattle.dimacs_claims.specs.Labels.{BlockValue}
-use Rattle.dimacs_judge.specs.CertificateTests.{weight_row}
+use Rattle.dimacs_optimality.specs.CertificateTests.{weight_row}
 use Rattle.dimacs_judge.specs.inside.CertificateTests.{distance_rows}
-use Rattle.dimacs_judge.specs.inside.Labels.{block_at}
-use Rattle.dimacs_judge.specs.Tests.{AllClear, Clear, FirstOfRow}
-use Rattle.dimacs_judge.specs.inside.Tests.{TellsAll}
+use Rattle.dimacs_optimality.specs.inside.Labels.{block_at}
+use Rattle.dimacs_optimality.specs.Tests.{AllClear, Clear, FirstOfRow}
+use Rattle.dimacs_optimality.specs.inside.Tests.{TellsAll}
 use Rattle.dimacs_judge.proofs.BlockLemmas.{after_weights, block_is, blocks_first, blocks_more, blocks_told}
 use Rattle.dimacs_judge.proofs.node_labels.labelled_blocks_hold.Goals as goal
 

@@ -1,8 +1,8 @@
 use Rattle.std.proofs.Common.{IfSome, take}
-use Rattle.dimacs_judge.specs.CertificateTests.{label_rows}
-use Rattle.dimacs_judge.specs.inside.Leaving.{AreLeast}
+use Rattle.dimacs_optimality.specs.CertificateTests.{label_rows}
+use Rattle.dimacs_optimality.specs.LeastArcs.{AreLeast}
 use Rattle.dimacs_judge.specs.inside.NodeLabels.{AllBlank, AreAsTested}
-use Rattle.dimacs_judge.specs.Tests.{AllClear}
+use Rattle.dimacs_optimality.specs.Tests.{AllClear}
 use Rattle.dimacs_judge.proofs.node_labels.labelled_blocks_hold.Given as goal
 
 -- all tests of the blocks so far pass

@@ -3,7 +3,7 @@ use Rattle.dimacs_judge.specs.inside.NodeLabels.{is_made, known, known_by}
 use Rattle.dimacs_claims.specs.Labels.{no_label}
 use Rattle.dimacs_claims.specs.declared.block.Label.{Label}
 use Rattle.dimacs_judge.proofs.NodeLabelLemmas.{label_made}
-use Rattle.dimacs_judge.proofs.RowLemmas.{support_clear_more, support_first, support_clear_end}
+use Rattle.dimacs_optimality.proofs.RowLemmas.{support_clear_more, support_first, support_clear_end}
 use Rattle.dimacs_judge.proofs.node_labels.labels_made.Goals as goal
 
 pub returns-then-not-is_made : goal.returns-then-not-is_made

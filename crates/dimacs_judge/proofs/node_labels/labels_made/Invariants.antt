@@ -1,9 +1,9 @@
 use Rattle.std.proofs.Common.{◌≡◌, List}
 use Rattle.dimacs_network.specs.declared.network.ArcView.{ArcView}
 use Rattle.dimacs_claims.specs.Labels.{BlockValue}
-use Rattle.dimacs_judge.specs.CertificateTests.{support_row}
+use Rattle.dimacs_optimality.specs.CertificateTests.{support_row}
 use Rattle.dimacs_judge.specs.inside.NodeLabels.{AreMade, known}
-use Rattle.dimacs_judge.specs.Tests.{ClearBelow}
+use Rattle.dimacs_optimality.specs.Tests.{ClearBelow}
 use Rattle.dimacs_judge.proofs.node_labels.labels_made.Given as goal
 
 abbrev pub invariant-loop-i : goal.invariant-loop-i

@@ -1,6 +1,6 @@
 use Rattle.std.proofs.Common.{Err, is_some, sym, ap, ◌∙◌}
 use Rattle.std.proofs.lemmas.Result.{err_from_is_err_and}
-use Rattle.dimacs_judge.proofs.RowLemmas.{weights_told}
+use Rattle.dimacs_optimality.proofs.RowLemmas.{weights_told}
 use Rattle.dimacs_judge.proofs.node_labels.test_weights_for.Goals as goal
 
 pub returns-in_err-weights_hold-in-Untested-clause-tests : goal.returns-in_err-weights_hold-in-Untested-clause-tests

@@ -1,11 +1,11 @@
 use Rattle.std.proofs.Common.{List, Err, inl, inr, subst}
 use Rattle.dimacs_network.specs.declared.network.ArcView.{ArcView}
 use Rattle.dimacs_instance.specs.QueryTexts.{asked}
-use Rattle.dimacs_judge.specs.CertificateTests.{label_rows}
-use Rattle.dimacs_judge.specs.PathsJudge.{paths_rows}
-use Rattle.dimacs_judge.specs.Tests.{AllClear}
-use Rattle.dimacs_judge.specs.inside.Tests.{TellsAll}
-use Rattle.dimacs_judge.proofs.PathsPassing.{paths_shown, paths_judged, blocks_refused, labels_refused}
+use Rattle.dimacs_optimality.specs.CertificateTests.{label_rows}
+use Rattle.dimacs_optimality.specs.PathsJudge.{paths_rows}
+use Rattle.dimacs_optimality.specs.Tests.{AllClear}
+use Rattle.dimacs_optimality.specs.inside.Tests.{TellsAll}
+use Rattle.dimacs_optimality.proofs.PathsPassing.{paths_shown, paths_judged, blocks_refused, labels_refused}
 use Rattle.dimacs_judge.proofs.paths.judge_paths.Goals as goal
 
 pub returns-in_err-query_nodes_hold : goal.returns-in_err-query_nodes_hold

@@ -1,6 +1,6 @@
 use Rattle.std.proofs.Common.{rules}
 use Rattle.dimacs_nodes.proofs.Nodes.{get-empty}
-use Rattle.dimacs_judge.proofs.BlockNumbers.{numbers_more}
+use Rattle.dimacs_optimality.proofs.BlockNumbers.{numbers_more}
 use Rattle.dimacs_judge.proofs.queries.block_numbers.Goals as goal
 
 pub loop-i-init : goal.loop-i-init

@@ -1,5 +1,5 @@
 use Rattle.std.proofs.Common.{take}
-use Rattle.dimacs_judge.specs.inside.QueryTests.{AreNumbers}
+use Rattle.dimacs_optimality.specs.inside.QueryTests.{AreNumbers}
 use Rattle.dimacs_judge.proofs.queries.block_numbers.Given as goal
 
 -- each source of the blocks so far has its number

@@ -1,5 +1,5 @@
 use Rattle.std.proofs.Common.{sym, ◌∙◌}
-use Rattle.dimacs_judge.proofs.BlockNumbers.{distance_none, distance_some}
+use Rattle.dimacs_optimality.proofs.BlockNumbers.{distance_none, distance_some}
 use Rattle.dimacs_judge.proofs.queries.distance.Goals as goal
 
 pub returns-in_err-number : goal.returns-in_err-number

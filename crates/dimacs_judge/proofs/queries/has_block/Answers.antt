@@ -1,5 +1,5 @@
 use Rattle.std.proofs.Common.{◌∙◌}
-use Rattle.dimacs_judge.proofs.BlockNumbers.{numbered_tells}
+use Rattle.dimacs_optimality.proofs.BlockNumbers.{numbered_tells}
 use Rattle.dimacs_judge.proofs.queries.has_block.Goals as goal
 
 pub returns : goal.returns

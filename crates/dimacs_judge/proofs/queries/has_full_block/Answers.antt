@@ -1,5 +1,5 @@
 use Rattle.std.proofs.Common.{◌≡◌, ◌∙◌, true, false, get_or, is_some, not, sym, ap}
-use Rattle.dimacs_judge.proofs.BlockNumbers.{full_tells, no_full_block}
+use Rattle.dimacs_optimality.proofs.BlockNumbers.{full_tells, no_full_block}
 use Rattle.dimacs_judge.proofs.queries.has_full_block.Goals as goal
 
 pub returns-in-Some : goal.returns-in-Some

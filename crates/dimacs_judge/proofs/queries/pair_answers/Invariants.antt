@@ -1,5 +1,5 @@
 use Rattle.std.proofs.Common.{◌≡◌, map, take}
-use Rattle.dimacs_judge.specs.Answers.{answer_to}
+use Rattle.dimacs_optimality.specs.Answers.{answer_to}
 use Rattle.dimacs_judge.proofs.queries.pair_answers.Given as goal
 
 abbrev pub invariant-loop-pair : goal.invariant-loop-pair

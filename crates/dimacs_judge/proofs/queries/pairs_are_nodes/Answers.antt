@@ -1,7 +1,7 @@
 use Rattle.std.proofs.Common.{◌≡◌, ◌*◌, ◌+◌, ◌<◌, ℕ, subst, arith}
 use Rattle.dimacs_instance.specs.QueryTexts.{Pairs}
-use Rattle.dimacs_judge.specs.QueryTests.{query_node_row}
-use Rattle.dimacs_judge.specs.Tests.{ClearBelow}
+use Rattle.dimacs_optimality.specs.QueryTests.{query_node_row}
+use Rattle.dimacs_optimality.specs.Tests.{ClearBelow}
 use Rattle.dimacs_judge.proofs.ListedRows.{listed_clear_more, listed_clear_end, listed_first, length-ends, from_at, to_at}
 use Rattle.dimacs_judge.proofs.queries.pairs_are_nodes.Goals as goal
 

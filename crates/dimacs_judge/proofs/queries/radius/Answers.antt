@@ -1,5 +1,5 @@
 use Rattle.std.proofs.Common.{◌≡◌, ◌∙◌, get_or, sym}
-use Rattle.dimacs_judge.proofs.BlockNumbers.{radius_none, radius_some}
+use Rattle.dimacs_optimality.proofs.BlockNumbers.{radius_none, radius_some}
 use Rattle.dimacs_judge.proofs.queries.radius.Goals as goal
 
 pub returns-in_err-number : goal.returns-in_err-number

@@ -1,7 +1,7 @@
 use Rattle.std.proofs.Common.{◌<◌}
 use Rattle.dimacs_records.specs.declared.reasons.Reason.TheVariants.{QueryNode}
-use Rattle.dimacs_judge.specs.QueryTests.{listed_row}
-use Rattle.dimacs_judge.specs.Tests.{ClearBelow}
+use Rattle.dimacs_optimality.specs.QueryTests.{listed_row}
+use Rattle.dimacs_optimality.specs.Tests.{ClearBelow}
 use Rattle.dimacs_judge.proofs.queries.sources_are_nodes.Given as goal
 
 abbrev pub invariant-loop-id : goal.invariant-loop-id

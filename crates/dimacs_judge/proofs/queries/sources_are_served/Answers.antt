@@ -1,7 +1,7 @@
 use Rattle.std.proofs.Common.{IsTrue, false, refl, arith}
 use Rattle.std.proofs.lemmas.Option.{get_or_from_slice_get, slice_get_within}
 use Rattle.dimacs_instance.specs.QueryTexts.{asked}
-use Rattle.dimacs_judge.specs.QueryTests.{IsServed}
+use Rattle.dimacs_optimality.specs.QueryTests.{IsServed}
 use Rattle.dimacs_judge.proofs.ListedRows.{listed_clear_more, listed_clear_end, listed_first, length-sources}
 use Rattle.dimacs_judge.proofs.queries.sources_are_served.Goals as goal
 

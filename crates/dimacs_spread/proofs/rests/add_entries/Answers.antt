@@ -4,7 +4,7 @@ use Rattle.std.proofs.lemmas.Int.{ints, to_z-of_z}
 use Rattle.std.proofs.lemmas.List.{take_all, take_more}
 use Rattle.dimacs_claims.specs.declared.solution.Entry.{Entry}
 use Rattle.dimacs_network.specs.Arcs.{IsKthBetween}
-use Rattle.dimacs_judge.specs.Claims.{no_entry, entry_at}
+use Rattle.dimacs_optimality.specs.Claims.{no_entry, entry_at}
 use Rattle.dimacs_spread.specs.Spread.{unknown_row}
 use Rattle.dimacs_spread.specs.inside.Rests.{AddUp}
 use Rattle.dimacs_spread.proofs.EndLemmas.{first_itself, known_from}

@@ -1,5 +1,5 @@
 use Rattle.std.proofs.Common.{◌+◌, List, [], length, take, ℤ}
-use Rattle.dimacs_judge.specs.Tests.{ClearBelow}
+use Rattle.dimacs_optimality.specs.Tests.{ClearBelow}
 use Rattle.dimacs_spread.specs.Spread.{unknown_row}
 use Rattle.dimacs_spread.specs.inside.Rests.{AddUp, AreRests}
 use Rattle.dimacs_spread.proofs.rests.add_entries.Given as goal

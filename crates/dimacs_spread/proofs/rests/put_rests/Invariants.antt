@@ -1,5 +1,5 @@
 use Rattle.std.proofs.Common.{◌≡◌, ℕ, ◌<◌, ◌≤◌, ◌+ℤ◌}
-use Rattle.dimacs_judge.specs.Rows.{amount_at}
+use Rattle.dimacs_optimality.specs.Rows.{amount_at}
 use Rattle.dimacs_spread.proofs.rests.put_rests.Given as goal
 
 -- the arcs so far have their rests, and the others don't

@@ -1,7 +1,7 @@
 use Rattle.std.proofs.Common.{rules, arith, w64, SFits}
 use Rattle.std.proofs.lemmas.Int.{ints}
 use Rattle.dimacs_judge.proofs.CrossLemmas.{leaving_sum, entering_sum}
-use Rattle.dimacs_judge.specs.Cuts.{members}
+use Rattle.dimacs_optimality.specs.Cuts.{members}
 use Rattle.dimacs_judge.proofs.crossing.Crossing.with.Goals as goal
 
 pub returns-in-true-false-clause-most : goal.returns-in-true-false-clause-most

@@ -1,5 +1,0 @@
-use Rattle.dimacs_judge.proofs.Duality as theory
-use Rattle.dimacs_judge.proofs.laws.slack_is_least.Goals as goal
-
-pub returns : goal.returns
-returns c = theory.slack_is_least

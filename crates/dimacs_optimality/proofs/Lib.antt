@@ -1,0 +1,25 @@
+pub mod Products
+pub mod Sums
+pub mod Duality
+pub mod Distances
+pub mod RowLemmas
+pub mod StepLemmas
+pub mod SupportLemmas
+pub mod Firsts
+pub mod RowLists
+pub mod Settling
+pub mod Reasons
+pub mod Passing
+pub mod LabelsPassing
+mod PassedLemmas
+mod PlaceLemmas
+mod EntryLemmas
+pub mod Claims
+pub mod BlockNumbers
+pub mod QueriesPassing
+pub mod PathsPassing
+mod OnePass
+pub mod MaxJudge
+pub mod MinJudge
+mod SolutionLemmas
+pub mod LeastLemmas

@@ -1,0 +1,8 @@
+pub mod Labels
+pub mod LightestArcs
+pub mod OnePass
+pub mod Passed
+pub mod Places
+pub mod QueryTests
+pub mod Ranges
+pub mod Tests
