@@ -33,9 +33,9 @@ IN_C = """#include <dimacs.h>
 int main(void) {
     const char *text = "p cut 4 1\\nu 1\\n";
     uint8_t line[256];
-    size_t told;
-    uint32_t status = dimacs_show(DIMACS_TEXT_CUT, (const uint8_t *)text, strlen(text), line, sizeof line, &told);
-    printf("%.*s%s %s\\n", (int)told, (char *)line, DIMACS_VERSION, dimacs_version() == DIMACS_VERSION_NUMBER ? "both" : "one");
+    size_t needed;
+    uint32_t status = dimacs_show(DIMACS_TEXT_CUT, (const uint8_t *)text, strlen(text), line, sizeof line, &needed);
+    printf("%.*s%s %s\\n", (int)needed, (char *)line, DIMACS_VERSION, dimacs_version() == DIMACS_VERSION_NUMBER ? "both" : "one");
     return (int)status;
 }
 """
@@ -176,11 +176,11 @@ def test_cmake(its):
         return
     put(f"{its.place}/CMakeLists.txt", BY_CMAKE.format(series=re.match(r"\d+\.\d+", its.version)[0]))
     its.run("sh", "-c", "cmake -S . -B made && cmake --build made")
-    told = its.said
+    needed = its.said
     for made in ("shown", "alone"):
         is_built = os.path.exists(f"{its.place}/made/{made}")
         is_so = is_built and its.run(f"made/{made}") == f"i cut 4 1\n{its.version} both\n"
-        its.said = its.said if is_built else told
+        its.said = its.said if is_built else needed
         its.expect(f"C by CMake, {made}", is_so)
 
 

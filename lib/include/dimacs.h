@@ -6,13 +6,13 @@
  *
  * A call returns the exit status of the command, and hands out what the command prints and writes to files. It
  * follows snprintf: as much as fits into `room` bytes goes to `out`, without a 0 at its end, and the length of the
- * whole to *told. If *told is greater than room, call again with so much room. If room is 0, `out` may be null.
+ * whole to *needed. If *needed is greater than room, call again with so much room. If room is 0, `out` may be null.
  *
  * The caller answers for the following, which no contract sees. Otherwise the behaviour of a call is undefined:
- *   - A pointer points to memory of the length beside it. If the length is 0, it may be null. A `told` is never
+ *   - A pointer points to memory of the length beside it. If the length is 0, it may be null. A `needed` is never
  *     null.
  *   - A pointer is aligned for its type: to 8 bytes for int64_t, size_t or an instance, to 4 for uint32_t.
- *   - What a call writes (`out`, `told` and so on) overlaps neither what it reads nor another room.
+ *   - What a call writes (`out`, `needed` and so on) overlaps neither what it reads nor another room.
  *   - The same holds for each array of an instance. Its length counts items, as do the rooms for items. A pointer to
  *     an instance is never null.
  *   - Calls may run in several threads at once, even over the same texts and arrays, if none writes what another one
@@ -82,7 +82,7 @@ enum {
  * Only the lines of pairs may have more than 100 bytes. */
 uint32_t dimacs_judge(uint32_t kind, const uint8_t *instance, size_t instance_length, const uint8_t *claim,
                       size_t claim_length, const uint8_t *certificate, size_t certificate_length, uint8_t *out,
-                      size_t room, size_t *told);
+                      size_t room, size_t *needed);
 
 /* Certifies a claim that has no certificate: a solution (DIMACS_MAX or DIMACS_MIN), distances (DIMACS_PATHS), or
  * that no flow is feasible (DIMACS_INFEASIBLE, whose claim isn't read). Hands out the line of the verdict or of the
@@ -94,8 +94,8 @@ uint32_t dimacs_judge(uint32_t kind, const uint8_t *instance, size_t instance_le
  *   - otherwise nothing, nor if the cost of that solution is out of range.
  * The length of the texts doesn't bound the time, except for paths. */
 uint32_t dimacs_certify(uint32_t kind, const uint8_t *instance, size_t instance_length, const uint8_t *claim,
-                        size_t claim_length, uint8_t *out, size_t room, size_t *told, uint8_t *shown,
-                        size_t shown_room, size_t *shown_told);
+                        size_t claim_length, uint8_t *out, size_t room, size_t *needed, uint8_t *shown,
+                        size_t shown_room, size_t *shown_needed);
 
 /* Deals a claimed flow out to parallel arcs: DIMACS_MAX or DIMACS_MIN. Adds up the entries with the same tail and
  * head, in any order, and hands out to `shown` a solution with the claimed value and an entry for every arc, in the
@@ -104,8 +104,8 @@ uint32_t dimacs_certify(uint32_t kind, const uint8_t *instance, size_t instance_
  * `x solution LINE 0 UnknownArc`, or, if no 64-bit numbers on the arcs add up to a sum, `x arc K AboveCap` or
  * `BelowLow`, and no solution is handed out. */
 uint32_t dimacs_spread(uint32_t kind, const uint8_t *instance, size_t instance_length, const uint8_t *claim,
-                       size_t claim_length, uint8_t *out, size_t room, size_t *told, uint8_t *shown, size_t shown_room,
-                       size_t *shown_told);
+                       size_t claim_length, uint8_t *out, size_t room, size_t *needed, uint8_t *shown,
+                       size_t shown_room, size_t *shown_needed);
 
 /* Solves an instance: DIMACS_MAX, DIMACS_MIN or DIMACS_PATHS. Hands out the line of the verdict to `out`, and to
  * `solution` and `certificate` texts by which dimacs_judge answers yes: a solution, and a cut or potentials. If no
@@ -115,17 +115,17 @@ uint32_t dimacs_spread(uint32_t kind, const uint8_t *instance, size_t instance_l
  * `limit` steps to better flows (DIMACS_MIN), or if the least cost is out of range; paths have no limit. The length
  * of the texts doesn't bound the time, except for paths. */
 uint32_t dimacs_solve(uint32_t kind, const uint8_t *instance, size_t instance_length, const uint8_t *queries,
-                      size_t queries_length, uint64_t limit, uint8_t *out, size_t room, size_t *told, uint8_t *solution,
-                      size_t solution_room, size_t *solution_told, uint8_t *certificate, size_t certificate_room,
-                      size_t *certificate_told);
+                      size_t queries_length, uint64_t limit, uint8_t *out, size_t room, size_t *needed,
+                      uint8_t *solution, size_t solution_room, size_t *solution_needed, uint8_t *certificate,
+                      size_t certificate_room, size_t *certificate_needed);
 
 /* Hands out the canonical form of a text of this kind (DIMACS_TEXT_ ..) with DIMACS_DONE, or the line of its fault
  * with DIMACS_REFUSED. It is made whole before it is handed out, so with too little room all of the work is done
  * twice. Room as long as the text is often enough. */
-uint32_t dimacs_convert(uint32_t kind, const uint8_t *text, size_t length, uint8_t *out, size_t room, size_t *told);
+uint32_t dimacs_convert(uint32_t kind, const uint8_t *text, size_t length, uint8_t *out, size_t room, size_t *needed);
 
 /* Hands out a line that describes a text of this kind, or the line of its fault. */
-uint32_t dimacs_show(uint32_t kind, const uint8_t *text, size_t length, uint8_t *out, size_t room, size_t *told);
+uint32_t dimacs_show(uint32_t kind, const uint8_t *text, size_t length, uint8_t *out, size_t room, size_t *needed);
 
 /* ---- Arrays in memory ----
  *
@@ -179,7 +179,8 @@ typedef struct {
  * sink, Balance; the source, SourceOutside; the sink, SinkInside; each arc, NotSaturated or BackFlow. If one of the
  * last four fails, the flow may be maximum all the same, by another cut. */
 uint32_t dimacs_judge_max_arrays(const dimacs_max *instance, const int64_t *flows, size_t flows_length,
-                                 const uint8_t *inside, size_t inside_length, uint8_t *out, size_t room, size_t *told);
+                                 const uint8_t *inside, size_t inside_length, uint8_t *out, size_t room,
+                                 size_t *needed);
 
 /* Judges that a flow, by arc, costs least, by potentials of the nodes. The reduced cost of an arc is its cost, minus
  * the potential of its tail, plus that of its head. Hands out `v min COST`, or the first test that fails: each arc,
@@ -188,13 +189,13 @@ uint32_t dimacs_judge_max_arrays(const dimacs_max *instance, const int64_t *flow
  * carries less than its capacity. With NotTight the flow may cost least all the same, by other potentials. */
 uint32_t dimacs_judge_min_arrays(const dimacs_min *instance, const int64_t *flows, size_t flows_length,
                                  const int64_t *potentials, size_t potentials_length, uint8_t *out, size_t room,
-                                 size_t *told);
+                                 size_t *needed);
 
 /* Judges that an instance has no feasible flow, by the set of the nodes whose byte in `inside` isn't 0: their
  * supplies sum to more than can flow out of the set, or to less than must. Hands out `v infeasible`, or
  * `x certificate 0 0 NotViolated`; then there may be no feasible flow all the same, by another set. */
 uint32_t dimacs_judge_infeasible_arrays(const dimacs_min *instance, const uint8_t *inside, size_t inside_length,
-                                        uint8_t *out, size_t room, size_t *told);
+                                        uint8_t *out, size_t room, size_t *needed);
 
 /* Judges that the distances from the source, by node, are the least weights of walks, by the predecessors of the
  * nodes. A node that isn't reached has the distance DIMACS_UNREACHED, and predecessor 0, as the source has. Hands
@@ -203,7 +204,7 @@ uint32_t dimacs_judge_infeasible_arrays(const dimacs_min *instance, const uint8_
  * predecessor gives its distance; each arc, Escapes if its head isn't reached, or NotShortest. */
 uint32_t dimacs_judge_paths_arrays(const dimacs_graph *graph, uint32_t source, const int64_t *distances,
                                    size_t distances_length, const uint32_t *predecessors, size_t predecessors_length,
-                                   uint8_t *out, size_t room, size_t *told);
+                                   uint8_t *out, size_t room, size_t *needed);
 
 /* Certifies a flow, by arc, that has no certificate. Makes the tests of dimacs_judge_max_arrays except those of the
  * cut, and hands out the same lines. With a yes `inside` gets a byte for each node: 1 inside a cut by which that
@@ -211,24 +212,25 @@ uint32_t dimacs_judge_paths_arrays(const dimacs_graph *graph, uint32_t source, c
  * and `better` gets a feasible flow of greater value, an amount for each arc. The number of arcs doesn't bound the
  * time. */
 uint32_t dimacs_certify_max_arrays(const dimacs_max *instance, const int64_t *flows, size_t flows_length, uint8_t *out,
-                                   size_t room, size_t *told, uint8_t *inside, size_t inside_room, size_t *inside_told,
-                                   int64_t *better, size_t better_room, size_t *better_told);
+                                   size_t room, size_t *needed, uint8_t *inside, size_t inside_room,
+                                   size_t *inside_needed, int64_t *better, size_t better_room, size_t *better_needed);
 
 /* The same for a flow of least cost. Makes the tests of dimacs_judge_min_arrays except the last, and hands out the
  * same lines. With a yes it hands out potentials, by node, by which that judge answers yes; or it returns
  * DIMACS_GAVE_UP. If the flow is feasible but another costs less, the line is `x solution 0 0 NotLeast`, and
  * `better` gets such a flow. */
 uint32_t dimacs_certify_min_arrays(const dimacs_min *instance, const int64_t *flows, size_t flows_length, uint8_t *out,
-                                   size_t room, size_t *told, int64_t *potentials, size_t potentials_room,
-                                   size_t *potentials_told, int64_t *better, size_t better_room, size_t *better_told);
+                                   size_t room, size_t *needed, int64_t *potentials, size_t potentials_room,
+                                   size_t *potentials_needed, int64_t *better, size_t better_room,
+                                   size_t *better_needed);
 
 /* Certifies that an instance has no feasible flow, without a set. Exactly if no flow is feasible, it hands out
  * `v infeasible`, and to `inside` a byte for each node: 1 in a set that dimacs_judge_infeasible_arrays accepts, 0
  * outside. Otherwise it hands out `x instance 0 0 Feasible`, and a feasible flow to `flows`, an amount for each arc.
  * The number of arcs doesn't bound the time. */
-uint32_t dimacs_certify_infeasible_arrays(const dimacs_min *instance, uint8_t *out, size_t room, size_t *told,
-                                          uint8_t *inside, size_t inside_room, size_t *inside_told, int64_t *flows,
-                                          size_t flows_room, size_t *flows_told);
+uint32_t dimacs_certify_infeasible_arrays(const dimacs_min *instance, uint8_t *out, size_t room, size_t *needed,
+                                          uint8_t *inside, size_t inside_room, size_t *inside_needed, int64_t *flows,
+                                          size_t flows_room, size_t *flows_needed);
 
 /* Certifies distances from the source, by node, that have no predecessors, in time by the number of arcs and nodes.
  * Exactly if they are the least weights of walks, it hands out `v sp ss 1`, and predecessors, by node, that
@@ -236,30 +238,30 @@ uint32_t dimacs_certify_infeasible_arrays(const dimacs_min *instance, uint8_t *o
  * arc whose tail is reached, Escapes if its head isn't, or NotShortest; each node that is reached, NoTightArc if no
  * walk of arcs that give the distances leads to it. */
 uint32_t dimacs_certify_paths_arrays(const dimacs_graph *graph, uint32_t source, const int64_t *distances,
-                                     size_t distances_length, uint8_t *out, size_t room, size_t *told,
-                                     uint32_t *predecessors, size_t predecessors_room, size_t *predecessors_told);
+                                     size_t distances_length, uint8_t *out, size_t room, size_t *needed,
+                                     uint32_t *predecessors, size_t predecessors_room, size_t *predecessors_needed);
 
 /* Solves maximum flow, beginning with the flow of zeros; gives up after `limit` flows that aren't maximum. Hands out
  * `v max VALUE`, an amount for each arc to `flows`, and a byte for each node to `inside`: dimacs_judge_max_arrays
  * accepts them. */
-uint32_t dimacs_solve_max_arrays(const dimacs_max *instance, uint64_t limit, uint8_t *out, size_t room, size_t *told,
-                                 int64_t *flows, size_t flows_room, size_t *flows_told, uint8_t *inside,
-                                 size_t inside_room, size_t *inside_told);
+uint32_t dimacs_solve_max_arrays(const dimacs_max *instance, uint64_t limit, uint8_t *out, size_t room, size_t *needed,
+                                 int64_t *flows, size_t flows_room, size_t *flows_needed, uint8_t *inside,
+                                 size_t inside_room, size_t *inside_needed);
 
 /* Solves least cost; gives up after `limit` steps, each to a better flow, or if the least cost is out of range.
  * Hands out `v min COST`, an amount for each arc to `flows`, and a potential for each node: dimacs_judge_min_arrays
  * accepts them. If no flow is feasible, it hands out only `v infeasible`, and a byte for each node to `inside`, by
  * which dimacs_judge_infeasible_arrays answers yes. */
-uint32_t dimacs_solve_min_arrays(const dimacs_min *instance, uint64_t limit, uint8_t *out, size_t room, size_t *told,
-                                 int64_t *flows, size_t flows_room, size_t *flows_told, int64_t *potentials,
-                                 size_t potentials_room, size_t *potentials_told, uint8_t *inside, size_t inside_room,
-                                 size_t *inside_told);
+uint32_t dimacs_solve_min_arrays(const dimacs_min *instance, uint64_t limit, uint8_t *out, size_t room, size_t *needed,
+                                 int64_t *flows, size_t flows_room, size_t *flows_needed, int64_t *potentials,
+                                 size_t potentials_room, size_t *potentials_needed, uint8_t *inside, size_t inside_room,
+                                 size_t *inside_needed);
 
 /* Solves shortest paths from the source. Hands out `v sp ss 1`, and a distance and a predecessor for each node:
  * dimacs_judge_paths_arrays accepts them. Refuses the first arc of negative weight by `x arc K NegativeWeight`. */
-uint32_t dimacs_solve_paths_arrays(const dimacs_graph *graph, uint32_t source, uint8_t *out, size_t room, size_t *told,
-                                   int64_t *distances, size_t distances_room, size_t *distances_told,
-                                   uint32_t *predecessors, size_t predecessors_room, size_t *predecessors_told);
+uint32_t dimacs_solve_paths_arrays(const dimacs_graph *graph, uint32_t source, uint8_t *out, size_t room,
+                                   size_t *needed, int64_t *distances, size_t distances_room, size_t *distances_needed,
+                                   uint32_t *predecessors, size_t predecessors_room, size_t *predecessors_needed);
 
 #ifdef __cplusplus
 }

@@ -514,16 +514,16 @@ class TextRoom {
 
     std::uint8_t *at() noexcept { return reinterpret_cast<std::uint8_t *>(bytes_.data()); }
     std::size_t room() const noexcept { return bytes_.size(); }
-    bool fits() const noexcept { return told <= bytes_.size(); }
-    void grow() { bytes_.resize(std::max(told, bytes_.size())); }
-    std::string_view text() const noexcept { return std::string_view(bytes_).substr(0, told); }
+    bool fits() const noexcept { return needed <= bytes_.size(); }
+    void grow() { bytes_.resize(std::max(needed, bytes_.size())); }
+    std::string_view text() const noexcept { return std::string_view(bytes_).substr(0, needed); }
 
     std::string take() {
-        bytes_.resize(told);
+        bytes_.resize(needed);
         return std::move(bytes_);
     }
 
-    std::size_t told = 0;
+    std::size_t needed = 0;
 
   private:
     std::string bytes_;
@@ -539,11 +539,11 @@ class Room {
     std::size_t room() const noexcept { return items_.size(); }
 
     std::vector<T> take() {
-        items_.resize(told);
+        items_.resize(needed);
         return std::move(items_);
     }
 
-    std::size_t told = 0;
+    std::size_t needed = 0;
 
   private:
     std::vector<T> items_;
@@ -552,7 +552,7 @@ class Room {
 // Makes a call with three words for each room.
 template <class Call, class... Rooms>
 std::uint32_t with_rooms(const Call &call, Rooms &...rooms) {
-    return std::apply(call, std::tuple_cat(std::make_tuple(rooms.at(), rooms.room(), &rooms.told)...));
+    return std::apply(call, std::tuple_cat(std::make_tuple(rooms.at(), rooms.room(), &rooms.needed)...));
 }
 
 // Throws for a status that leaves the claim undecided.

@@ -8,7 +8,7 @@ out has to be accepted as a text. The last line counts what agreed, and what did
 Not compared, since arrays and texts differ there by design:
   - wrong lengths, and numbers past the limits of instances, which are misuse of arrays and faults of texts;
   - a claimed value, which a text has and arrays haven't: the right one is printed;
-  - where NotMaximum and NotLeast are told, which is at the text's VALUE, and of arrays `solution 0 0`;
+  - where NotMaximum and NotLeast are needed, which is at the text's VALUE, and of arrays `solution 0 0`;
   - potentials past 64 bits, which a text can say: then certify_min_arrays and solve_min_arrays give up, and the text has to
     get a yes;
   - predecessors that don't lead back to the source: no text has an order of labels for them, so each is refused by

@@ -18,7 +18,7 @@ typedef struct {
 } Marks;
 
 static uint8_t out[100];
-static size_t told;
+static size_t needed;
 
 /* ---- memory that is exactly an array's, so that a read beyond it would be seen; none for none ---- */
 
@@ -124,9 +124,9 @@ static void judges_max(void) {
         dimacs_max instance = exact_max(judged_max[k].instance);
         dimacs_numbers flows = exact_numbers(judged_max[k].flows);
         Marks inside = exact_marks(judged_max[k].inside);
-        told = 99;
-        uint32_t status = dimacs_judge_max_arrays(&instance, flows.at, flows.length, inside.at, inside.length, out, 100, &told);
-        check(judged_max[k].name, status, out, told, judged_max[k].status, judged_max[k].said);
+        needed = 99;
+        uint32_t status = dimacs_judge_max_arrays(&instance, flows.at, flows.length, inside.at, inside.length, out, 100, &needed);
+        check(judged_max[k].name, status, out, needed, judged_max[k].status, judged_max[k].said);
         let_go();
     }
 }
@@ -179,10 +179,10 @@ static void judges_min(void) {
     EACH(k, judged_min) {
         dimacs_min instance = exact_min(judged_min[k].instance);
         dimacs_numbers flows = exact_numbers(judged_min[k].flows), potentials = exact_numbers(judged_min[k].potentials);
-        told = 99;
+        needed = 99;
         uint32_t status = dimacs_judge_min_arrays(&instance, flows.at, flows.length, potentials.at, potentials.length, out,
-                                                  100, &told);
-        check(judged_min[k].name, status, out, told, judged_min[k].status, judged_min[k].said);
+                                                  100, &needed);
+        check(judged_min[k].name, status, out, needed, judged_min[k].status, judged_min[k].said);
         let_go();
     }
 }
@@ -211,9 +211,9 @@ static void judges_infeasible(void) {
     EACH(k, judged_infeasible) {
         dimacs_min instance = exact_min(judged_infeasible[k].instance);
         Marks inside = exact_marks(judged_infeasible[k].inside);
-        told = 99;
-        uint32_t status = dimacs_judge_infeasible_arrays(&instance, inside.at, inside.length, out, 100, &told);
-        check(judged_infeasible[k].name, status, out, told, judged_infeasible[k].status, judged_infeasible[k].said);
+        needed = 99;
+        uint32_t status = dimacs_judge_infeasible_arrays(&instance, inside.at, inside.length, out, 100, &needed);
+        check(judged_infeasible[k].name, status, out, needed, judged_infeasible[k].status, judged_infeasible[k].said);
         let_go();
     }
 }
@@ -263,10 +263,10 @@ static void judges_paths(void) {
         dimacs_graph graph = exact_graph(judged_paths[k].graph);
         dimacs_numbers distances = exact_numbers(judged_paths[k].distances);
         dimacs_nodes predecessors = exact_nodes(judged_paths[k].predecessors);
-        told = 99;
+        needed = 99;
         uint32_t status = dimacs_judge_paths_arrays(&graph, judged_paths[k].source, distances.at, distances.length,
-                                                    predecessors.at, predecessors.length, out, 100, &told);
-        check(judged_paths[k].name, status, out, told, judged_paths[k].status, judged_paths[k].said);
+                                                    predecessors.at, predecessors.length, out, 100, &needed);
+        check(judged_paths[k].name, status, out, needed, judged_paths[k].status, judged_paths[k].said);
         let_go();
     }
 }
@@ -276,7 +276,7 @@ static void judges_paths(void) {
 static uint8_t inside[9];
 static int64_t potentials[9], better[9];
 static uint32_t predecessors[9];
-static size_t shown_told, better_told;
+static size_t shown_needed, better_needed;
 
 static const struct {
     const char *name;
@@ -296,9 +296,9 @@ static const struct {
 };
 
 static uint32_t certify_max(const dimacs_max *instance, dimacs_numbers flows) {
-    told = shown_told = better_told = 99;
-    return dimacs_certify_max_arrays(instance, flows.at, flows.length, out, 100, &told, inside, 9, &shown_told, better, 9,
-                                     &better_told);
+    needed = shown_needed = better_needed = 99;
+    return dimacs_certify_max_arrays(instance, flows.at, flows.length, out, 100, &needed, inside, 9, &shown_needed, better, 9,
+                                     &better_needed);
 }
 
 static void certifies_max(void) {
@@ -308,18 +308,18 @@ static void certifies_max(void) {
         const char *name = certified_max[k].name;
         memset(inside, '#', 9);
         uint32_t status = certify_max(&instance, flows);
-        check(name, status, out, told, certified_max[k].status, certified_max[k].said);
-        check_that(name, shown_told == certified_max[k].inside && better_told == certified_max[k].better);
-        check_that(name, inside[shown_told] == '#');
+        check(name, status, out, needed, certified_max[k].status, certified_max[k].said);
+        check_that(name, shown_needed == certified_max[k].inside && better_needed == certified_max[k].better);
+        check_that(name, inside[shown_needed] == '#');
         if (status == DIMACS_DONE) {
-            status = dimacs_judge_max_arrays(&instance, flows.at, flows.length, inside, shown_told, out, 100, &told);
-            check(name, status, out, told, 0, certified_max[k].said);
+            status = dimacs_judge_max_arrays(&instance, flows.at, flows.length, inside, shown_needed, out, 100, &needed);
+            check(name, status, out, needed, 0, certified_max[k].said);
         }
-        for (int turn = 0; better_told > 0 && turn < 9; turn++) {
-            dimacs_numbers again = exact_numbers((dimacs_numbers){better, better_told});
+        for (int turn = 0; better_needed > 0 && turn < 9; turn++) {
+            dimacs_numbers again = exact_numbers((dimacs_numbers){better, better_needed});
             status = certify_max(&instance, again);
         }
-        check_that(name, certified_max[k].better == 0 || (status == 0 && !memcmp(out, "v max 6\n", told)));
+        check_that(name, certified_max[k].better == 0 || (status == 0 && !memcmp(out, "v max 6\n", needed)));
         let_go();
     }
 }
@@ -345,9 +345,9 @@ static const struct {
 };
 
 static uint32_t certify_min(const dimacs_min *instance, dimacs_numbers flows) {
-    told = shown_told = better_told = 99;
-    return dimacs_certify_min_arrays(instance, flows.at, flows.length, out, 100, &told, potentials, 9, &shown_told, better, 9,
-                                     &better_told);
+    needed = shown_needed = better_needed = 99;
+    return dimacs_certify_min_arrays(instance, flows.at, flows.length, out, 100, &needed, potentials, 9, &shown_needed, better, 9,
+                                     &better_needed);
 }
 
 static void certifies_min(void) {
@@ -356,17 +356,17 @@ static void certifies_min(void) {
         dimacs_numbers flows = exact_numbers(certified_min[k].flows);
         const char *name = certified_min[k].name;
         uint32_t status = certify_min(&instance, flows);
-        check(name, status, out, told, certified_min[k].status, certified_min[k].said);
-        check_that(name, shown_told == certified_min[k].potentials && better_told == certified_min[k].better);
+        check(name, status, out, needed, certified_min[k].status, certified_min[k].said);
+        check_that(name, shown_needed == certified_min[k].potentials && better_needed == certified_min[k].better);
         if (status == DIMACS_DONE) {
-            status = dimacs_judge_min_arrays(&instance, flows.at, flows.length, potentials, shown_told, out, 100, &told);
-            check(name, status, out, told, 0, certified_min[k].said);
+            status = dimacs_judge_min_arrays(&instance, flows.at, flows.length, potentials, shown_needed, out, 100, &needed);
+            check(name, status, out, needed, 0, certified_min[k].said);
         }
-        for (int turn = 0; better_told > 0 && turn < 9; turn++) {
-            dimacs_numbers again = exact_numbers((dimacs_numbers){better, better_told});
+        for (int turn = 0; better_needed > 0 && turn < 9; turn++) {
+            dimacs_numbers again = exact_numbers((dimacs_numbers){better, better_needed});
             status = certify_min(&instance, again);
         }
-        check_that(name, certified_min[k].better == 0 || (status == 0 && !memcmp(out, "v min 14\n", told)));
+        check_that(name, certified_min[k].better == 0 || (status == 0 && !memcmp(out, "v min 14\n", needed)));
         let_go();
     }
 }
@@ -400,19 +400,19 @@ static void certifies_infeasible(void) {
     EACH(k, certified_infeasible) {
         dimacs_min instance = exact_min(certified_infeasible[k].instance);
         const char *name = certified_infeasible[k].name;
-        told = shown_told = better_told = 99;
-        uint32_t status = dimacs_certify_infeasible_arrays(&instance, out, 100, &told, inside, 9, &shown_told, better, 9,
-                                                           &better_told);
-        check(name, status, out, told, certified_infeasible[k].status, certified_infeasible[k].said);
-        check_that(name, shown_told == certified_infeasible[k].inside && better_told == certified_infeasible[k].flows);
+        needed = shown_needed = better_needed = 99;
+        uint32_t status = dimacs_certify_infeasible_arrays(&instance, out, 100, &needed, inside, 9, &shown_needed, better, 9,
+                                                           &better_needed);
+        check(name, status, out, needed, certified_infeasible[k].status, certified_infeasible[k].said);
+        check_that(name, shown_needed == certified_infeasible[k].inside && better_needed == certified_infeasible[k].flows);
         if (status == DIMACS_DONE) {
-            status = dimacs_judge_infeasible_arrays(&instance, inside, shown_told, out, 100, &told);
-            check(name, status, out, told, 0, "v infeasible\n");
+            status = dimacs_judge_infeasible_arrays(&instance, inside, shown_needed, out, 100, &needed);
+            check(name, status, out, needed, 0, "v infeasible\n");
         } else if (status == DIMACS_REFUSED) {
-            dimacs_numbers flows = exact_numbers((dimacs_numbers){better, better_told});
+            dimacs_numbers flows = exact_numbers((dimacs_numbers){better, better_needed});
             instance.costs = instance.lows; /* which flows are feasible doesn't depend on them */
             status = certify_min(&instance, flows);
-            check_that(name, status == DIMACS_DONE || !memcmp(out, "x solution 0 0 NotLeast\n", told));
+            check_that(name, status == DIMACS_DONE || !memcmp(out, "x solution 0 0 NotLeast\n", needed));
         }
         let_go();
     }
@@ -446,15 +446,15 @@ static void certifies_paths(void) {
         dimacs_nodes wanted = certified_paths[k].predecessors;
         const char *name = certified_paths[k].name;
         uint32_t source = certified_paths[k].source;
-        told = shown_told = 99;
-        uint32_t status = dimacs_certify_paths_arrays(&graph, source, distances.at, distances.length, out, 100, &told,
-                                                      predecessors, 9, &shown_told);
-        check(name, status, out, told, certified_paths[k].status, certified_paths[k].said);
-        check_that(name, shown_told == wanted.length && (shown_told == 0 || !memcmp(predecessors, wanted.at, 4 * shown_told)));
+        needed = shown_needed = 99;
+        uint32_t status = dimacs_certify_paths_arrays(&graph, source, distances.at, distances.length, out, 100, &needed,
+                                                      predecessors, 9, &shown_needed);
+        check(name, status, out, needed, certified_paths[k].status, certified_paths[k].said);
+        check_that(name, shown_needed == wanted.length && (shown_needed == 0 || !memcmp(predecessors, wanted.at, 4 * shown_needed)));
         if (status == DIMACS_DONE) {
-            status = dimacs_judge_paths_arrays(&graph, source, distances.at, distances.length, predecessors, shown_told, out,
-                                               100, &told);
-            check(name, status, out, told, 0, "v sp ss 1\n");
+            status = dimacs_judge_paths_arrays(&graph, source, distances.at, distances.length, predecessors, shown_needed, out,
+                                               100, &needed);
+            check(name, status, out, needed, 0, "v sp ss 1\n");
         }
         let_go();
     }
@@ -463,7 +463,7 @@ static void certifies_paths(void) {
 /* ---- solving: what is handed out is judged too ---- */
 
 static int64_t amounts[9];
-static size_t amounts_told, inside_told;
+static size_t amounts_needed, inside_needed;
 
 static const struct {
     const char *name;
@@ -488,14 +488,14 @@ static void solves_max(void) {
     EACH(k, solved_max) {
         dimacs_max instance = exact_max(solved_max[k].instance);
         const char *name = solved_max[k].name;
-        told = amounts_told = inside_told = 99;
-        uint32_t status = dimacs_solve_max_arrays(&instance, solved_max[k].limit, out, 100, &told, amounts, 9, &amounts_told,
-                                                  inside, 9, &inside_told);
-        check(name, status, out, told, solved_max[k].status, solved_max[k].said);
-        check_that(name, amounts_told == solved_max[k].amounts && inside_told == solved_max[k].inside);
+        needed = amounts_needed = inside_needed = 99;
+        uint32_t status = dimacs_solve_max_arrays(&instance, solved_max[k].limit, out, 100, &needed, amounts, 9, &amounts_needed,
+                                                  inside, 9, &inside_needed);
+        check(name, status, out, needed, solved_max[k].status, solved_max[k].said);
+        check_that(name, amounts_needed == solved_max[k].amounts && inside_needed == solved_max[k].inside);
         if (status == DIMACS_DONE) {
-            status = dimacs_judge_max_arrays(&instance, amounts, amounts_told, inside, inside_told, out, 100, &told);
-            check(name, status, out, told, 0, solved_max[k].said);
+            status = dimacs_judge_max_arrays(&instance, amounts, amounts_needed, inside, inside_needed, out, 100, &needed);
+            check(name, status, out, needed, 0, solved_max[k].said);
         }
         let_go();
     }
@@ -527,17 +527,17 @@ static void solves_min(void) {
     EACH(k, solved_min) {
         dimacs_min instance = exact_min(solved_min[k].instance);
         const char *name = solved_min[k].name;
-        told = amounts_told = shown_told = inside_told = 99;
-        uint32_t status = dimacs_solve_min_arrays(&instance, solved_min[k].limit, out, 100, &told, amounts, 9, &amounts_told,
-                                                  potentials, 9, &shown_told, inside, 9, &inside_told);
-        check(name, status, out, told, solved_min[k].status, solved_min[k].said);
-        check_that(name, amounts_told == solved_min[k].amounts && shown_told == solved_min[k].potentials);
-        check_that(name, inside_told == solved_min[k].inside);
+        needed = amounts_needed = shown_needed = inside_needed = 99;
+        uint32_t status = dimacs_solve_min_arrays(&instance, solved_min[k].limit, out, 100, &needed, amounts, 9, &amounts_needed,
+                                                  potentials, 9, &shown_needed, inside, 9, &inside_needed);
+        check(name, status, out, needed, solved_min[k].status, solved_min[k].said);
+        check_that(name, amounts_needed == solved_min[k].amounts && shown_needed == solved_min[k].potentials);
+        check_that(name, inside_needed == solved_min[k].inside);
         if (status == DIMACS_DONE) {
-            status = inside_told
-                         ? dimacs_judge_infeasible_arrays(&instance, inside, inside_told, out, 100, &told)
-                         : dimacs_judge_min_arrays(&instance, amounts, amounts_told, potentials, shown_told, out, 100, &told);
-            check(name, status, out, told, 0, solved_min[k].said);
+            status = inside_needed
+                         ? dimacs_judge_infeasible_arrays(&instance, inside, inside_needed, out, 100, &needed)
+                         : dimacs_judge_min_arrays(&instance, amounts, amounts_needed, potentials, shown_needed, out, 100, &needed);
+            check(name, status, out, needed, 0, solved_min[k].said);
         }
         let_go();
     }
@@ -571,15 +571,15 @@ static void solves_paths(void) {
         dimacs_nodes before = solved_paths[k].predecessors;
         const char *name = solved_paths[k].name;
         uint32_t source = solved_paths[k].source;
-        told = amounts_told = shown_told = 99;
-        uint32_t status = dimacs_solve_paths_arrays(&graph, source, out, 100, &told, amounts, 9, &amounts_told, predecessors, 9,
-                                                    &shown_told);
-        check(name, status, out, told, solved_paths[k].status, solved_paths[k].said);
-        check_that(name, amounts_told == far.length && (far.length == 0 || !memcmp(amounts, far.at, 8 * far.length)));
-        check_that(name, shown_told == before.length && (shown_told == 0 || !memcmp(predecessors, before.at, 4 * shown_told)));
+        needed = amounts_needed = shown_needed = 99;
+        uint32_t status = dimacs_solve_paths_arrays(&graph, source, out, 100, &needed, amounts, 9, &amounts_needed, predecessors, 9,
+                                                    &shown_needed);
+        check(name, status, out, needed, solved_paths[k].status, solved_paths[k].said);
+        check_that(name, amounts_needed == far.length && (far.length == 0 || !memcmp(amounts, far.at, 8 * far.length)));
+        check_that(name, shown_needed == before.length && (shown_needed == 0 || !memcmp(predecessors, before.at, 4 * shown_needed)));
         if (status == DIMACS_DONE) {
-            status = dimacs_judge_paths_arrays(&graph, source, amounts, amounts_told, predecessors, shown_told, out, 100, &told);
-            check(name, status, out, told, 0, "v sp ss 1\n");
+            status = dimacs_judge_paths_arrays(&graph, source, amounts, amounts_needed, predecessors, shown_needed, out, 100, &needed);
+            check(name, status, out, needed, 0, "v sp ss 1\n");
         }
         let_go();
     }
@@ -593,34 +593,34 @@ static void keeps_to_the_room(void) {
     dimacs_numbers good = FLOW, slow = SLOW;
     const uint8_t cut[] = {1, 0, 0, 0};
     int64_t whole[5];
-    dimacs_certify_max_arrays(&network, slow.at, 5, out, 100, &told, NULL, 0, &shown_told, whole, 5, &better_told);
+    dimacs_certify_max_arrays(&network, slow.at, 5, out, 100, &needed, NULL, 0, &shown_needed, whole, 5, &better_needed);
     for (size_t room = 0; room <= 9; room++) {
         uint8_t *line = malloc(room ? room : 1), *set = malloc(room ? room : 1);
         int64_t *flow = malloc(room ? 8 * room : 1);
         memset(line, '#', room);
         memset(set, '#', room);
-        uint32_t status = dimacs_certify_max_arrays(&network, good.at, 5, line, room, &told, set, room, &shown_told, flow,
-                                                    room, &better_told);
-        check_that("a yes and its cut", status == 0 && told == 8 && shown_told == 4 && better_told == 0);
+        uint32_t status = dimacs_certify_max_arrays(&network, good.at, 5, line, room, &needed, set, room, &shown_needed, flow,
+                                                    room, &better_needed);
+        check_that("a yes and its cut", status == 0 && needed == 8 && shown_needed == 4 && better_needed == 0);
         check_that("the front of the line", !memcmp(line, "v max 6\n", room < 8 ? room : 8) && (room < 9 || line[8] == '#'));
         check_that("the front of the cut", !memcmp(set, cut, room < 4 ? room : 4) && (room < 5 || set[4] == '#'));
         for (size_t k = 0; k < room; k++) {
             flow[k] = -1;
         }
-        status = dimacs_certify_max_arrays(&network, slow.at, 5, line, room, &told, set, room, &shown_told, flow, room,
-                                           &better_told);
-        check_that("a better flow", status == 1 && told == 26 && shown_told == 0 && better_told == 5);
+        status = dimacs_certify_max_arrays(&network, slow.at, 5, line, room, &needed, set, room, &shown_needed, flow, room,
+                                           &better_needed);
+        check_that("a better flow", status == 1 && needed == 26 && shown_needed == 0 && better_needed == 5);
         check_that("its front", !memcmp(flow, whole, 8 * (room < 5 ? room : 5)) && (room < 6 || flow[5] == -1));
-        status = dimacs_solve_max_arrays(&network, 9, line, room, &told, flow, room, &amounts_told, set, room, &inside_told);
-        check_that("a flow and its cut", status == 0 && told == 8 && amounts_told == 5 && inside_told == 4);
+        status = dimacs_solve_max_arrays(&network, 9, line, room, &needed, flow, room, &amounts_needed, set, room, &inside_needed);
+        check_that("a flow and its cut", status == 0 && needed == 8 && amounts_needed == 5 && inside_needed == 4);
         check_that("their fronts", room == 0 || (flow[0] == 4 && set[0] == 1 && line[0] == 'v'));
         free(line);
         free(set);
         free(flow);
     }
-    uint32_t status = dimacs_certify_max_arrays(&network, good.at, 5, NULL, 0, &told, NULL, 0, &shown_told, NULL, 0,
-                                                &better_told);
-    check_that("no room, and null", status == 0 && told == 8 && shown_told == 4 && better_told == 0);
+    uint32_t status = dimacs_certify_max_arrays(&network, good.at, 5, NULL, 0, &needed, NULL, 0, &shown_needed, NULL, 0,
+                                                &better_needed);
+    check_that("no room, and null", status == 0 && needed == 8 && shown_needed == 4 && better_needed == 0);
 }
 
 /* Nothing is read of arrays that are longer than arcs may be many, and none is taken for so many nodes. */
@@ -629,16 +629,16 @@ static void refuses_great_counts(void) {
     few.nodes = 134217729;
     dimacs_numbers flows = FLOW;
     uint32_t status = certify_max(&few, flows);
-    check("a node too many", status, out, told, 2, "x node 134217729 NumberRange\n");
+    check("a node too many", status, out, needed, 2, "x node 134217729 NumberRange\n");
     few.nodes = UINT32_MAX;
     status = certify_max(&few, flows);
-    check("the greatest number of nodes", status, out, told, 2, "x node 134217729 NumberRange\n");
+    check("the greatest number of nodes", status, out, needed, 2, "x node 134217729 NumberRange\n");
     size_t arcs = 268435457;
     void *at = mmap(NULL, 8 * arcs, PROT_NONE, MAP_PRIVATE | MAP_ANONYMOUS | MAP_NORESERVE, -1, 0);
     if (at != MAP_FAILED) {
         dimacs_max many = {4, 1, 4, {at, arcs}, {at, arcs}, {at, arcs}};
         status = certify_max(&many, (dimacs_numbers){at, arcs});
-        check("an arc too many", status, out, told, 2, "x arc 268435457 NumberRange\n");
+        check("an arc too many", status, out, needed, 2, "x arc 268435457 NumberRange\n");
         munmap(at, 8 * arcs);
     }
 }

@@ -16,14 +16,14 @@
 static int passed, failed;
 
 /* A case passes where the call answered this status and handed out this text, whole. */
-MAYBE_UNUSED static void check(const char *name, uint32_t status, const uint8_t *out, size_t told, uint32_t wanted,
+MAYBE_UNUSED static void check(const char *name, uint32_t status, const uint8_t *out, size_t needed, uint32_t wanted,
                                const char *text) {
-    if (status == wanted && told == strlen(text) && memcmp(out, text, told) == 0) {
+    if (status == wanted && needed == strlen(text) && memcmp(out, text, needed) == 0) {
         passed++;
         return;
     }
     failed++;
-    printf("%s: wanted status %u and '%s', got status %u and '%.*s'\n", name, wanted, text, status, (int)told,
+    printf("%s: wanted status %u and '%s', got status %u and '%.*s'\n", name, wanted, text, status, (int)needed,
            (const char *)out);
 }
 

@@ -38,46 +38,46 @@ int main(void) {
     check_that("the instance has 100 MB", max.length > 100000000);
 
     uint8_t out[100];
-    size_t told;
+    size_t needed;
     uint32_t status = dimacs_judge(DIMACS_MAX, max.bytes, max.length, flow.bytes, flow.length, (const uint8_t *)line,
-                                   strlen(line), out, sizeof out, &told);
+                                   strlen(line), out, sizeof out, &needed);
     char wanted[100];
     sprintf(wanted, "v max %lld\n", ARCS / CHAIN * 1000000LL);
-    check("judged", status, out, told, 0, wanted);
+    check("judged", status, out, needed, 0, wanted);
 
     uint8_t *room = malloc(max.length);
     size_t length;
     status = dimacs_convert(DIMACS_TEXT_MAX, max.bytes, max.length, room, max.length, &length);
     check_that("converted to its canonical form, which is shorter", status == 0 && length < max.length);
     status = dimacs_judge(DIMACS_MAX, room, length, flow.bytes, flow.length, (const uint8_t *)line, strlen(line), out,
-                          sizeof out, &told);
-    check("judged in that form", status, out, told, 0, wanted);
+                          sizeof out, &needed);
+    check("judged in that form", status, out, needed, 0, wanted);
 
-    size_t shown_told;
-    status = dimacs_certify(DIMACS_MAX, max.bytes, max.length, flow.bytes, flow.length, out, sizeof out, &told, room,
-                            max.length, &shown_told);
-    check("certified", status, out, told, 0, wanted);
+    size_t shown_needed;
+    status = dimacs_certify(DIMACS_MAX, max.bytes, max.length, flow.bytes, flow.length, out, sizeof out, &needed, room,
+                            max.length, &shown_needed);
+    check("certified", status, out, needed, 0, wanted);
 
     uint8_t *made = malloc(max.length);
-    size_t made_told;
-    status = dimacs_solve(DIMACS_MAX, max.bytes, max.length, NULL, 0, DIMACS_LIMIT, out, sizeof out, &told, made,
-                          max.length, &made_told, room, max.length, &shown_told);
-    check("solved", status, out, told, 0, wanted);
-    check_that("there was room", made_told <= max.length && shown_told <= max.length);
-    status = dimacs_judge(DIMACS_MAX, max.bytes, max.length, made, made_told, room, shown_told, out, sizeof out, &told);
-    check("judged by what was made", status, out, told, 0, wanted);
+    size_t made_needed;
+    status = dimacs_solve(DIMACS_MAX, max.bytes, max.length, NULL, 0, DIMACS_LIMIT, out, sizeof out, &needed, made,
+                          max.length, &made_needed, room, max.length, &shown_needed);
+    check("solved", status, out, needed, 0, wanted);
+    check_that("there was room", made_needed <= max.length && shown_needed <= max.length);
+    status = dimacs_judge(DIMACS_MAX, max.bytes, max.length, made, made_needed, room, shown_needed, out, sizeof out, &needed);
+    check("judged by what was made", status, out, needed, 0, wanted);
     free(made);
 
-    status = dimacs_show(DIMACS_TEXT_SOLUTION, flow.bytes, flow.length, out, sizeof out, &told);
+    status = dimacs_show(DIMACS_TEXT_SOLUTION, flow.bytes, flow.length, out, sizeof out, &needed);
     sprintf(wanted, "i solution %lld %d\n", ARCS / CHAIN * 1000000LL, ARCS);
-    check("shown", status, out, told, 0, wanted);
+    check("shown", status, out, needed, 0, wanted);
 
     /* the last entry carries more than its arc */
     flow.bytes[flow.length - 2] = '1';
     status = dimacs_judge(DIMACS_MAX, max.bytes, max.length, flow.bytes, flow.length, (const uint8_t *)line,
-                          strlen(line), out, sizeof out, &told);
+                          strlen(line), out, sizeof out, &needed);
     sprintf(wanted, "x arc %d AboveCap\n", ARCS);
-    check("refused at the last arc", status, out, told, 1, wanted);
+    check("refused at the last arc", status, out, needed, 1, wanted);
 
     /* the last chain carries one less, as its value says */
     uint8_t *entry = flow.bytes + flow.length;
@@ -88,10 +88,10 @@ int main(void) {
     }
     sprintf(wanted, "s %lld\n", ARCS / CHAIN * 1000000LL - 1);
     memcpy(flow.bytes, wanted, strlen(wanted));
-    status = dimacs_certify(DIMACS_MAX, max.bytes, max.length, flow.bytes, flow.length, out, sizeof out, &told, room,
-                            max.length, &shown_told);
-    check("certified to be slow", status, out, told, 1, "x solution 1 2 NotMaximum\n");
-    check_that("a better solution is handed out", shown_told > ARCS && memcmp(room, wanted, strlen(wanted)) != 0);
+    status = dimacs_certify(DIMACS_MAX, max.bytes, max.length, flow.bytes, flow.length, out, sizeof out, &needed, room,
+                            max.length, &shown_needed);
+    check("certified to be slow", status, out, needed, 1, "x solution 1 2 NotMaximum\n");
+    check_that("a better solution is handed out", shown_needed > ARCS && memcmp(room, wanted, strlen(wanted)) != 0);
     free(room);
     free(max.bytes);
     free(flow.bytes);

@@ -17,8 +17,8 @@ static int64_t flows[ARCS], better[ARCS], potentials[MOST_NODES], distances[MOST
 static uint8_t inside[MOST_NODES];
 
 static uint8_t out[100];
-static size_t told, made_told, better_told, inside_told;
-#define OUT out, sizeof out, &told
+static size_t needed, made_needed, better_needed, inside_needed;
+#define OUT out, sizeof out, &needed
 #define ALL(array) {array, ARCS}
 
 static const dimacs_max maximum = {NODES, 1, 2, ALL(tails), ALL(heads), ALL(caps)};
@@ -94,7 +94,7 @@ static uint32_t judge_max(const int64_t *by_arc, const uint8_t *by_node) {
 }
 
 static uint32_t certify_max(void) {
-    return dimacs_certify_max_arrays(&maximum, flows, ARCS, OUT, inside, NODES, &made_told, better, ARCS, &better_told);
+    return dimacs_certify_max_arrays(&maximum, flows, ARCS, OUT, inside, NODES, &made_needed, better, ARCS, &better_needed);
 }
 
 static uint32_t judge_min(const int64_t *by_arc) {
@@ -102,7 +102,7 @@ static uint32_t judge_min(const int64_t *by_arc) {
 }
 
 static uint32_t certify_min(void) {
-    return dimacs_certify_min_arrays(&least, flows, ARCS, OUT, potentials, NODES, &made_told, better, ARCS, &better_told);
+    return dimacs_certify_min_arrays(&least, flows, ARCS, OUT, potentials, NODES, &made_needed, better, ARCS, &better_needed);
 }
 
 static uint32_t judge_paths(const uint32_t *by_node) {
@@ -110,27 +110,27 @@ static uint32_t judge_paths(const uint32_t *by_node) {
 }
 
 static uint32_t certify_paths(void) {
-    return dimacs_certify_paths_arrays(&graph, 1, distances, ARCS, OUT, made, ARCS, &made_told);
+    return dimacs_certify_paths_arrays(&graph, 1, distances, ARCS, OUT, made, ARCS, &made_needed);
 }
 
 static uint32_t solve_max(uint64_t limit) {
-    return dimacs_solve_max_arrays(&maximum, limit, OUT, better, ARCS, &better_told, inside, NODES, &inside_told);
+    return dimacs_solve_max_arrays(&maximum, limit, OUT, better, ARCS, &better_needed, inside, NODES, &inside_needed);
 }
 
 static uint32_t solve_min(uint64_t limit) {
-    return dimacs_solve_min_arrays(&paired, limit, OUT, better, ARCS, &better_told, potentials, ARCS, &made_told, inside,
-                                   ARCS, &inside_told);
+    return dimacs_solve_min_arrays(&paired, limit, OUT, better, ARCS, &better_needed, potentials, ARCS, &made_needed, inside,
+                                   ARCS, &inside_needed);
 }
 
 static uint32_t solve_paths(void) {
-    return dimacs_solve_paths_arrays(&graph, 1, OUT, distances, ARCS, &better_told, made, ARCS, &made_told);
+    return dimacs_solve_paths_arrays(&graph, 1, OUT, distances, ARCS, &better_needed, made, ARCS, &made_needed);
 }
 
 static uint32_t judge_set(void) { return dimacs_judge_infeasible_arrays(&paired, inside, ARCS, OUT); }
 
 /* A case passes where the call answered this status and handed out this line, whole. */
 static void has(const char *name, uint32_t status, uint32_t wanted, const char *line) {
-    check(name, status, out, told, wanted, line);
+    check(name, status, out, needed, wanted, line);
 }
 
 static void test_max(void) {
@@ -142,10 +142,10 @@ static void test_max(void) {
     has("judge max by a narrow cut", judge_max(flows, inside), DIMACS_REFUSED, "x arc 999999 NotSaturated\n");
     has("solve max up to a limit", solve_max(1), DIMACS_GAVE_UP, "g limit\n");
     has("solve max", solve_max(DIMACS_LIMIT), DIMACS_DONE, yes);
-    check_that("a flow and a byte for each node are handed out", better_told == ARCS && inside_told == NODES);
+    check_that("a flow and a byte for each node are handed out", better_needed == ARCS && inside_needed == NODES);
     has("judge max by what was made", judge_max(better, inside), DIMACS_DONE, yes);
     has("certify max", certify_max(), DIMACS_DONE, yes);
-    check_that("a byte for each node is handed out", made_told == NODES && better_told == 0);
+    check_that("a byte for each node is handed out", made_needed == NODES && better_needed == 0);
     has("judge max by what was handed out", judge_max(flows, inside), DIMACS_DONE, yes);
     flows[ARCS - 1]--;
     has("judge max out of balance", judge_max(flows, inside), DIMACS_REFUSED, "x node 999002 Balance\n");
@@ -153,7 +153,7 @@ static void test_max(void) {
     for (int arc = ARCS - STEPS; arc < ARCS - 1; arc++)
         flows[arc]--;
     has("certify max of a slow flow", certify_max(), DIMACS_REFUSED, "x solution 0 0 NotMaximum\n");
-    check_that("a better flow is handed out", made_told == 0 && better_told == ARCS);
+    check_that("a better flow is handed out", made_needed == 0 && better_needed == ARCS);
     has("judge max of the better flow", judge_max(better, inside), DIMACS_DONE, yes);
     flows[0] = -1;
     has("judge max below 0", judge_max(flows, inside), DIMACS_REFUSED, "x arc 1 BelowLow\n");
@@ -172,7 +172,7 @@ static void test_min(void) {
     potentials[LAST - 1] = 3;
     has("judge min by steep potentials", judge_min(flows), DIMACS_REFUSED, "x arc 1000000 NotTight\n");
     has("certify min", certify_min(), DIMACS_DONE, yes);
-    check_that("a potential for each node is handed out", made_told == NODES && better_told == 0);
+    check_that("a potential for each node is handed out", made_needed == NODES && better_needed == 0);
     has("judge min by what was handed out", judge_min(flows), DIMACS_DONE, yes);
     flows[ARCS - 1]++;
     has("judge min out of balance", judge_min(flows), DIMACS_REFUSED, "x node 2 Balance\n");
@@ -180,7 +180,7 @@ static void test_min(void) {
     for (int arc = ARCS - 2 * STEPS; arc < ARCS - 1; arc++)
         flows[arc] += chain_of(arc) == CHAINS ? 1 : -1;
     has("certify min of a dear flow", certify_min(), DIMACS_REFUSED, "x solution 0 0 NotLeast\n");
-    check_that("a better flow is handed out", made_told == 0 && better_told == ARCS);
+    check_that("a better flow is handed out", made_needed == 0 && better_needed == ARCS);
     has("judge min of the better flow", judge_min(better), DIMACS_DONE, yes);
     flows[0] = -1;
     has("judge min below the bound", judge_min(flows), DIMACS_REFUSED, "x arc 1 BelowLow\n");
@@ -195,14 +195,14 @@ static void test_pairs(void) {
     make_pairs();
     has("judge a set", judge_set(), DIMACS_DONE, "v infeasible\n");
     has("solve min where no flow is feasible", solve_min(DIMACS_LIMIT), DIMACS_DONE, "v infeasible\n");
-    check_that("a set alone is handed out", better_told == 0 && made_told == 0 && inside_told == ARCS);
+    check_that("a set alone is handed out", better_needed == 0 && made_needed == 0 && inside_needed == ARCS);
     has("judge a set that was handed out", judge_set(), DIMACS_DONE, "v infeasible\n");
     supplies[ARCS - 2] = 1;
     supplies[ARCS - 1] = -1;
     has("judge a set that is met", judge_set(), DIMACS_REFUSED, "x certificate 0 0 NotViolated\n");
     has("solve min up to a limit", solve_min(0), DIMACS_GAVE_UP, "g limit\n");
     has("solve min", solve_min(DIMACS_LIMIT), DIMACS_DONE, "v min 500000\n");
-    check_that("a flow and potentials are handed out", better_told == ARCS && made_told == ARCS && inside_told == 0);
+    check_that("a flow and potentials are handed out", better_needed == ARCS && made_needed == ARCS && inside_needed == 0);
     uint32_t status = dimacs_judge_min_arrays(&paired, better, ARCS, potentials, ARCS, OUT);
     has("judge min by what was made", status, DIMACS_DONE, "v min 500000\n");
     tails[ARCS - 1] = 0;
@@ -215,10 +215,10 @@ static void test_paths(int weight) {
     make_cycle(weight);
     has("judge paths", judge_paths(predecessors), DIMACS_DONE, "v sp ss 1\n");
     has("certify paths", certify_paths(), DIMACS_DONE, "v sp ss 1\n");
-    check_that("a predecessor for each node is handed out", made_told == ARCS);
+    check_that("a predecessor for each node is handed out", made_needed == ARCS);
     has("judge paths by what was handed out", judge_paths(made), DIMACS_DONE, "v sp ss 1\n");
     has("solve paths", solve_paths(), DIMACS_DONE, "v sp ss 1\n");
-    check_that("a distance and a predecessor for each node are handed out", better_told == ARCS && made_told == ARCS);
+    check_that("a distance and a predecessor for each node are handed out", better_needed == ARCS && made_needed == ARCS);
     has("judge paths by what was made", judge_paths(made), DIMACS_DONE, "v sp ss 1\n");
     distances[ARCS - 1]++;
     has("judge paths of a long one", judge_paths(predecessors), DIMACS_REFUSED, "x node 1000000 NoTightArc\n");

@@ -60,19 +60,19 @@ static const dimacs_max max_arrays = {4, 1, 4, {tails, 5}, {heads, 5}, {caps, 5}
 static const dimacs_min min_arrays = {4, {tails, 5}, {heads, 5}, {lows, 5}, {caps, 5}, {costs, 5}, {supplies, 4}};
 static const dimacs_graph graph_arrays = {4, {tails, 5}, {heads, 5}, {weights, 5}};
 
-/* What calls hand out; a room that a call hasn't is told as 99. */
+/* What calls hand out; a room that a call hasn't is needed as 99. */
 typedef struct {
     uint8_t out[400];
     int64_t shown[50], better[50], marks[50];
-    size_t told, shown_told, better_told, marks_told;
+    size_t needed, shown_needed, better_needed, marks_needed;
 } Handed;
 
 static Handed to;
 
-#define OUT to.out, 400, &to.told
-#define SHOWN (uint8_t *)to.shown, 400, &to.shown_told
-#define BETTER to.better, 50, &to.better_told
-#define MARKS (uint8_t *)to.marks, 400, &to.marks_told
+#define OUT to.out, 400, &to.needed
+#define SHOWN (uint8_t *)to.shown, 400, &to.shown_needed
+#define BETTER to.better, 50, &to.better_needed
+#define MARKS (uint8_t *)to.marks, 400, &to.marks_needed
 
 static uint32_t judge_max(void) { return dimacs_judge(DIMACS_MAX, TEXT(max), TEXT(flow), TEXT(cut), OUT); }
 static uint32_t judge_min(void) { return dimacs_judge(DIMACS_MIN, TEXT(min), TEXT(least), TEXT(pot), OUT); }
@@ -86,7 +86,7 @@ static uint32_t certify_paths(void) { return dimacs_certify(DIMACS_PATHS, TEXT(g
 static uint32_t spread_max(void) { return dimacs_spread(DIMACS_MAX, TEXT(max), TEXT(flow), OUT, SHOWN); }
 static uint32_t certify_dear(void) { return dimacs_certify(DIMACS_MIN, TEXT(min), TEXT(dear), OUT, SHOWN); }
 static uint32_t solve(uint32_t kind, const char *instance, uint64_t limit) {
-    return dimacs_solve(kind, TEXT(instance), TEXT(pairs), limit, OUT, (uint8_t *)to.better, 400, &to.better_told, SHOWN);
+    return dimacs_solve(kind, TEXT(instance), TEXT(pairs), limit, OUT, (uint8_t *)to.better, 400, &to.better_needed, SHOWN);
 }
 static uint32_t solve_max(void) { return solve(DIMACS_MAX, max, 9); }
 static uint32_t solve_min(void) { return solve(DIMACS_MIN, min, 9); }
@@ -104,10 +104,10 @@ static uint32_t judge_paths_arrays(void) {
 }
 static uint32_t misused_arrays(void) { return dimacs_judge_paths_arrays(&graph_arrays, 5, distances, 4, predecessors, 4, OUT); }
 static uint32_t certify_max_by(const int64_t *by_arc) {
-    return dimacs_certify_max_arrays(&max_arrays, by_arc, 5, OUT, SHOWN, to.better, 50, &to.better_told);
+    return dimacs_certify_max_arrays(&max_arrays, by_arc, 5, OUT, SHOWN, to.better, 50, &to.better_needed);
 }
 static uint32_t certify_min_by(const int64_t *by_arc) {
-    return dimacs_certify_min_arrays(&min_arrays, by_arc, 5, OUT, to.shown, 50, &to.shown_told, to.better, 50, &to.better_told);
+    return dimacs_certify_min_arrays(&min_arrays, by_arc, 5, OUT, to.shown, 50, &to.shown_needed, to.better, 50, &to.better_needed);
 }
 static uint32_t certify_max_arrays(void) { return certify_max_by(flows); }
 static uint32_t certify_slow_arrays(void) { return certify_max_by(slow_flows); }
@@ -121,11 +121,11 @@ static uint32_t certify_infeasible_by(const int64_t *by_node) {
 static uint32_t certify_infeasible_arrays(void) { return certify_infeasible_by(potentials); }
 static uint32_t certify_feasible_arrays(void) { return certify_infeasible_by(supplies); }
 static uint32_t certify_paths_arrays(void) {
-    return dimacs_certify_paths_arrays(&graph_arrays, 1, distances, 4, OUT, (uint32_t *)to.shown, 100, &to.shown_told);
+    return dimacs_certify_paths_arrays(&graph_arrays, 1, distances, 4, OUT, (uint32_t *)to.shown, 100, &to.shown_needed);
 }
 static uint32_t solve_max_arrays(void) { return dimacs_solve_max_arrays(&max_arrays, 9, OUT, BETTER, MARKS); }
 static uint32_t solve_min_by(const dimacs_min *instance) {
-    return dimacs_solve_min_arrays(instance, 9, OUT, BETTER, to.shown, 50, &to.shown_told, MARKS);
+    return dimacs_solve_min_arrays(instance, 9, OUT, BETTER, to.shown, 50, &to.shown_needed, MARKS);
 }
 static uint32_t solve_min_arrays(void) { return solve_min_by(&min_arrays); }
 static uint32_t solve_surplus_arrays(void) {
@@ -134,7 +134,7 @@ static uint32_t solve_surplus_arrays(void) {
     return solve_min_by(&more);
 }
 static uint32_t solve_paths_arrays(void) {
-    return dimacs_solve_paths_arrays(&graph_arrays, 1, OUT, BETTER, (uint32_t *)to.shown, 100, &to.shown_told);
+    return dimacs_solve_paths_arrays(&graph_arrays, 1, OUT, BETTER, (uint32_t *)to.shown, 100, &to.shown_needed);
 }
 
 static const struct {
@@ -181,17 +181,17 @@ static const struct {
 /* Whatever was handed out before is gone. */
 static void clear(Handed *it) {
     memset(it, '#', sizeof *it);
-    it->told = it->shown_told = it->better_told = it->marks_told = 99;
+    it->needed = it->shown_needed = it->better_needed = it->marks_needed = 99;
 }
 
 /* Whether nothing is handed out. */
 static int is_nothing(const Handed *it) {
     Handed nothing;
     clear(&nothing);
-    nothing.told = 0;
-    nothing.shown_told = it->shown_told ? 99 : 0;
-    nothing.better_told = it->better_told ? 99 : 0;
-    nothing.marks_told = it->marks_told ? 99 : 0;
+    nothing.needed = 0;
+    nothing.shown_needed = it->shown_needed ? 99 : 0;
+    nothing.better_needed = it->better_needed ? 99 : 0;
+    nothing.marks_needed = it->marks_needed ? 99 : 0;
     return !memcmp(it, &nothing, sizeof nothing);
 }
 
@@ -200,7 +200,7 @@ static int is_nothing(const Handed *it) {
 static void refuse_each(const char *name, uint32_t (*call)(void), uint32_t wanted) {
     refused = 0;
     clear(&to);
-    check_that(name, call() == wanted && (to.told > 0) == (call != spread_max));
+    check_that(name, call() == wanted && (to.needed > 0) == (call != spread_max));
     Handed whole = to;
     for (refused = 1;; refused++) {
         asked = held = 0;

@@ -186,11 +186,11 @@ def answering(status, line, *counts):
     """A call of a library that hands out this line, and says that it has so many items for each room."""
 
     def call(*words):
-        out, _, told, *rooms = words[-9:]
+        out, _, needed, *rooms = words[-9:]
         out[: len(line)] = line
-        told._obj.value = len(line)
-        for room_told, count in zip(rooms[2::3], counts):
-            room_told._obj.value = count
+        needed._obj.value = len(line)
+        for room_needed, count in zip(rooms[2::3], counts):
+            room_needed._obj.value = count
         return status
 
     return call

@@ -29,7 +29,7 @@ static const char surplus[] = "p min 2 1\nn 1 1\na 1 2 0 5 1\n";
 static const char both[] = "p cut 2 2\nu 1\nu 2\n";
 
 static uint8_t out[400], shown[400], solved[400];
-static size_t told, shown_told, solved_told;
+static size_t needed, shown_needed, solved_needed;
 
 static const struct {
     const char *name;
@@ -57,10 +57,10 @@ static const struct {
 
 static void judges(void) {
     for (size_t k = 0; k < sizeof judged / sizeof *judged; k++) {
-        told = 99;
+        needed = 99;
         uint32_t status = dimacs_judge(judged[k].kind, TEXT(judged[k].instance), TEXT(judged[k].claim),
-                                       TEXT(judged[k].certificate), out, sizeof out, &told);
-        check(judged[k].name, status, out, told, judged[k].status, judged[k].said);
+                                       TEXT(judged[k].certificate), out, sizeof out, &needed);
+        check(judged[k].name, status, out, needed, judged[k].status, judged[k].said);
     }
 }
 
@@ -87,25 +87,25 @@ static const struct {
 
 static void certifies(void) {
     for (size_t k = 0; k < sizeof certified / sizeof *certified; k++) {
-        told = shown_told = 99;
+        needed = shown_needed = 99;
         uint32_t status = dimacs_certify(certified[k].kind, TEXT(certified[k].instance), TEXT(certified[k].solution), out,
-                                         sizeof out, &told, shown, sizeof shown, &shown_told);
-        check(certified[k].name, status, out, told, certified[k].status, certified[k].said);
+                                         sizeof out, &needed, shown, sizeof shown, &shown_needed);
+        check(certified[k].name, status, out, needed, certified[k].status, certified[k].said);
         size_t length = strlen(certified[k].shown);
-        check_that(certified[k].name, length == 0 ? shown_told == 0 : shown_told >= length && !memcmp(shown, certified[k].shown, length));
+        check_that(certified[k].name, length == 0 ? shown_needed == 0 : shown_needed >= length && !memcmp(shown, certified[k].shown, length));
     }
 }
 
 /* A certificate is judged by the judge, and so is a better flow. */
 static void accepts_its_own(void) {
     size_t again;
-    dimacs_certify(DIMACS_MIN, TEXT(min), TEXT(dear), out, sizeof out, &told, shown, sizeof shown, &shown_told);
+    dimacs_certify(DIMACS_MIN, TEXT(min), TEXT(dear), out, sizeof out, &needed, shown, sizeof shown, &shown_needed);
     uint8_t better[400];
-    memcpy(better, shown, shown_told);
-    size_t length = shown_told;
-    uint32_t status = dimacs_certify(DIMACS_MIN, TEXT(min), better, length, out, sizeof out, &told, shown, sizeof shown, &shown_told);
-    check("the better flow is least", status, out, told, 0, "v min 14\n");
-    status = dimacs_judge(DIMACS_MIN, TEXT(min), better, length, shown, shown_told, out, sizeof out, &again);
+    memcpy(better, shown, shown_needed);
+    size_t length = shown_needed;
+    uint32_t status = dimacs_certify(DIMACS_MIN, TEXT(min), better, length, out, sizeof out, &needed, shown, sizeof shown, &shown_needed);
+    check("the better flow is least", status, out, needed, 0, "v min 14\n");
+    status = dimacs_judge(DIMACS_MIN, TEXT(min), better, length, shown, shown_needed, out, sizeof out, &again);
     check("its potentials are accepted", status, out, again, 0, "v min 14\n");
 }
 
@@ -145,19 +145,19 @@ static int begins(const uint8_t *text, size_t length, const char *front) {
 static void solves_all(void) {
     for (size_t k = 0; k < sizeof solves / sizeof *solves; k++) {
         const char *name = solves[k].name;
-        told = shown_told = solved_told = 99;
+        needed = shown_needed = solved_needed = 99;
         uint32_t kind = solves[k].kind;
         uint32_t status = dimacs_solve(kind, TEXT(solves[k].instance), TEXT(solves[k].queries), solves[k].limit, out,
-                                       sizeof out, &told, solved, sizeof solved, &solved_told, shown, sizeof shown, &shown_told);
-        check(name, status, out, told, solves[k].status, solves[k].said);
-        check_that(name, begins(solved, solved_told, solves[k].solution) && begins(shown, shown_told, solves[k].certificate));
+                                       sizeof out, &needed, solved, sizeof solved, &solved_needed, shown, sizeof shown, &shown_needed);
+        check(name, status, out, needed, solves[k].status, solves[k].said);
+        check_that(name, begins(solved, solved_needed, solves[k].solution) && begins(shown, shown_needed, solves[k].certificate));
         if (status == DIMACS_DONE) {
-            int is_set = kind == DIMACS_MIN && solved_told == 0;
+            int is_set = kind == DIMACS_MIN && solved_needed == 0;
             const uint8_t *claim = kind == DIMACS_PATHS ? (const uint8_t *)solves[k].queries : solved;
-            size_t length = kind == DIMACS_PATHS ? strlen(solves[k].queries) : solved_told;
-            status = dimacs_judge(is_set ? DIMACS_INFEASIBLE : kind, TEXT(solves[k].instance), claim, length, shown, shown_told,
-                                  out, sizeof out, &told);
-            check(name, status, out, told, 0, solves[k].said);
+            size_t length = kind == DIMACS_PATHS ? strlen(solves[k].queries) : solved_needed;
+            status = dimacs_judge(is_set ? DIMACS_INFEASIBLE : kind, TEXT(solves[k].instance), claim, length, shown, shown_needed,
+                                  out, sizeof out, &needed);
+            check(name, status, out, needed, 0, solves[k].said);
         }
     }
 }
@@ -185,10 +185,10 @@ static const struct {
 
 static void converts_and_shows(void) {
     for (size_t k = 0; k < sizeof read / sizeof *read; k++) {
-        uint32_t status = dimacs_convert(read[k].kind, TEXT(read[k].text), out, sizeof out, &told);
-        check(read[k].name, status, out, told, read[k].status, read[k].converted);
-        status = dimacs_show(read[k].kind, TEXT(read[k].text), out, sizeof out, &told);
-        check(read[k].name, status, out, told, read[k].status, read[k].shown);
+        uint32_t status = dimacs_convert(read[k].kind, TEXT(read[k].text), out, sizeof out, &needed);
+        check(read[k].name, status, out, needed, read[k].status, read[k].converted);
+        status = dimacs_show(read[k].kind, TEXT(read[k].text), out, sizeof out, &needed);
+        check(read[k].name, status, out, needed, read[k].status, read[k].shown);
     }
 }
 
@@ -197,25 +197,25 @@ static void keeps_to_the_room(void) {
     for (size_t room = 0; room <= 9; room++) {
         uint8_t *exact = malloc(room ? room : 1), *other = malloc(room < 9 ? 9 - room : 1);
         memset(exact, '#', room);
-        told = shown_told = 99;
-        uint32_t status = dimacs_judge(DIMACS_MAX, TEXT(max), TEXT(flow), TEXT(cut), exact, room, &told);
+        needed = shown_needed = 99;
+        uint32_t status = dimacs_judge(DIMACS_MAX, TEXT(max), TEXT(flow), TEXT(cut), exact, room, &needed);
         size_t front = room < 8 ? room : 8;
-        check_that("the front of a verdict", status == 0 && told == 8 && !memcmp(exact, "v max 6\n", front));
+        check_that("the front of a verdict", status == 0 && needed == 8 && !memcmp(exact, "v max 6\n", front));
         check_that("nothing after it", room < 9 || exact[8] == '#');
-        status = dimacs_certify(DIMACS_MAX, TEXT(max), TEXT(flow), exact, room, &told, other, 9 - room, &shown_told);
-        check_that("two rooms", status == 0 && told == 8 && shown_told == 14 && !memcmp(other, "p cut 4 1", 9 - room));
-        status = dimacs_solve(DIMACS_MIN, TEXT(surplus), NULL, 0, 9, exact, room, &told, NULL, 0, &solved_told, other, 9 - room,
-                              &shown_told);
-        check_that("three rooms", status == 0 && told == 13 && shown_told == 18 && solved_told == 0 &&
+        status = dimacs_certify(DIMACS_MAX, TEXT(max), TEXT(flow), exact, room, &needed, other, 9 - room, &shown_needed);
+        check_that("two rooms", status == 0 && needed == 8 && shown_needed == 14 && !memcmp(other, "p cut 4 1", 9 - room));
+        status = dimacs_solve(DIMACS_MIN, TEXT(surplus), NULL, 0, 9, exact, room, &needed, NULL, 0, &solved_needed, other, 9 - room,
+                              &shown_needed);
+        check_that("three rooms", status == 0 && needed == 13 && shown_needed == 18 && solved_needed == 0 &&
                                       !memcmp(exact, "v infeasi", room) && !memcmp(other, "p cut 2 2", 9 - room));
         free(exact);
         free(other);
     }
-    uint32_t status = dimacs_show(DIMACS_TEXT_MAX, TEXT(max), NULL, 0, &told);
-    check_that("no room, and null", status == 0 && told == 14);
+    uint32_t status = dimacs_show(DIMACS_TEXT_MAX, TEXT(max), NULL, 0, &needed);
+    check_that("no room, and null", status == 0 && needed == 14);
     memset(out, '#', sizeof out);
-    status = dimacs_judge(9, TEXT(max), TEXT(flow), TEXT(cut), out, sizeof out, &told);
-    check_that("nothing is written where it is misused", status == 2 && told == 0 && out[0] == '#');
+    status = dimacs_judge(9, TEXT(max), TEXT(flow), TEXT(cut), out, sizeof out, &needed);
+    check_that("nothing is written where it is misused", status == 2 && needed == 0 && out[0] == '#');
 }
 
 /* Texts in memory that is exactly theirs, so that a read beyond would be seen; with no UTF-8 and with 0 bytes. */
@@ -235,8 +235,8 @@ static void reads_any_bytes(void) {
         if (exact) {
             memcpy(exact, texts[k].text, texts[k].length);
         }
-        uint32_t status = dimacs_show(DIMACS_TEXT_MAX, exact, texts[k].length, out, sizeof out, &told);
-        check(texts[k].name, status, out, told, 1, texts[k].said);
+        uint32_t status = dimacs_show(DIMACS_TEXT_MAX, exact, texts[k].length, out, sizeof out, &needed);
+        check(texts[k].name, status, out, needed, 1, texts[k].said);
         free(exact);
     }
 }
@@ -244,16 +244,16 @@ static void reads_any_bytes(void) {
 /* Sums are dealt out to parallel arcs, and an entry that no arc has is refused. */
 static void spreads(void) {
     static const char parallel[] = "p min 2 2\na 1 2 0 3 9\na 1 2 0 5 1\n", arcs[] = "p max 2 2\nn 1 s\nn 2 t\na 1 2 3\na 1 2 5\n";
-    uint32_t status = dimacs_spread(DIMACS_MAX, TEXT(arcs), TEXT("s 6\nf 1 2 4\nf 1 2 2\n"), out, sizeof out, &told, shown, sizeof shown, &shown_told);
-    check("a sum by the order of the arcs", status, out, told, 0, "");
-    check("its solution", status, shown, shown_told, 0, "s 6\nf 1 2 3\nf 1 2 3\n");
-    status = dimacs_spread(DIMACS_MIN, TEXT(parallel), TEXT("s 0\nf 1 2 6\n"), out, sizeof out, &told, shown, sizeof shown, &shown_told);
-    check("a sum by the costs of the arcs", status, shown, shown_told, 0, "s 0\nf 1 2 1\nf 1 2 5\n");
-    status = dimacs_spread(DIMACS_MAX, TEXT(arcs), TEXT("s 6\nf 2 1 6\n"), out, sizeof out, &told, shown, sizeof shown, &shown_told);
-    check("an entry of no arc", status, out, told, 1, "x solution 2 0 UnknownArc\n");
-    check_that("no solution", shown_told == 0);
-    status = dimacs_spread(DIMACS_INFEASIBLE, TEXT(arcs), TEXT("s 6\n"), out, sizeof out, &told, shown, sizeof shown, &shown_told);
-    check_that("no kind to spread", status == 2 && told == 0 && shown_told == 0);
+    uint32_t status = dimacs_spread(DIMACS_MAX, TEXT(arcs), TEXT("s 6\nf 1 2 4\nf 1 2 2\n"), out, sizeof out, &needed, shown, sizeof shown, &shown_needed);
+    check("a sum by the order of the arcs", status, out, needed, 0, "");
+    check("its solution", status, shown, shown_needed, 0, "s 6\nf 1 2 3\nf 1 2 3\n");
+    status = dimacs_spread(DIMACS_MIN, TEXT(parallel), TEXT("s 0\nf 1 2 6\n"), out, sizeof out, &needed, shown, sizeof shown, &shown_needed);
+    check("a sum by the costs of the arcs", status, shown, shown_needed, 0, "s 0\nf 1 2 1\nf 1 2 5\n");
+    status = dimacs_spread(DIMACS_MAX, TEXT(arcs), TEXT("s 6\nf 2 1 6\n"), out, sizeof out, &needed, shown, sizeof shown, &shown_needed);
+    check("an entry of no arc", status, out, needed, 1, "x solution 2 0 UnknownArc\n");
+    check_that("no solution", shown_needed == 0);
+    status = dimacs_spread(DIMACS_INFEASIBLE, TEXT(arcs), TEXT("s 6\n"), out, sizeof out, &needed, shown, sizeof shown, &shown_needed);
+    check_that("no kind to spread", status == 2 && needed == 0 && shown_needed == 0);
 }
 
 int main(void) {

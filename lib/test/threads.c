@@ -62,9 +62,9 @@ typedef struct {
 /* The room that is left, after a byte for the status. */
 #define ROOM said->bytes + said->length + 1, sizeof said->bytes - said->length - 1
 
-static void add(Said *said, uint32_t status, size_t told) {
+static void add(Said *said, uint32_t status, size_t needed) {
     said->bytes[said->length] = (uint8_t)status;
-    said->length += 1 + told;
+    said->length += 1 + needed;
 }
 
 /* A claim of a thread's own, and what is handed out for it. They would take too much of its stack. */
@@ -76,77 +76,77 @@ typedef struct {
 
 /* Solves the instances that all share. */
 static void solve_arrays(Said *said, Claim *claim, size_t arcs) {
-    size_t told = 0, flows = 0, shown = 0, marked = 0;
-    uint32_t status = dimacs_solve_max_arrays(&max_arrays, 9, ROOM, &told, claim->better, arcs, &flows, claim->inside, NODES,
+    size_t needed = 0, flows = 0, shown = 0, marked = 0;
+    uint32_t status = dimacs_solve_max_arrays(&max_arrays, 9, ROOM, &needed, claim->better, arcs, &flows, claim->inside, NODES,
                                               &marked);
     int are_those = !memcmp(claim->better, ones, sizeof ones) && flows == arcs && marked == NODES;
-    add(said, status + 10 * are_those, told);
-    status = dimacs_solve_min_arrays(&min_arrays, 9, ROOM, &told, claim->better, arcs, &flows, claim->potentials, NODES, &shown,
+    add(said, status + 10 * are_those, needed);
+    status = dimacs_solve_min_arrays(&min_arrays, 9, ROOM, &needed, claim->better, arcs, &flows, claim->potentials, NODES, &shown,
                                      claim->inside, NODES, &marked);
     are_those = !memcmp(claim->better, ones, sizeof ones) && flows == arcs && shown == NODES && marked == 0;
-    add(said, status + 10 * are_those, told);
-    status = dimacs_solve_paths_arrays(&graph, 1, ROOM, &told, claim->potentials, NODES, &flows, claim->predecessors, NODES,
+    add(said, status + 10 * are_those, needed);
+    status = dimacs_solve_paths_arrays(&graph, 1, ROOM, &needed, claim->potentials, NODES, &flows, claim->predecessors, NODES,
                                        &shown);
     are_those = !memcmp(claim->potentials, distances, sizeof distances) && flows == NODES && shown == NODES;
-    add(said, status + 10 * are_those, told);
+    add(said, status + 10 * are_those, needed);
 }
 
 /* Calls with a flow that carries `first` on its first arc, and with distances that make this arc as long. */
 static void call_over_arrays(Said *said, int64_t first) {
     Claim *claim = malloc(sizeof *claim);
-    size_t told = 0, shown = 0, better = 0, arcs = NODES - 1;
+    size_t needed = 0, shown = 0, better = 0, arcs = NODES - 1;
     memcpy(claim->flows, ones, sizeof ones);
     memcpy(claim->far, distances, sizeof distances);
     claim->flows[0] = claim->far[1] = first;
-    uint32_t status = dimacs_judge_max_arrays(&max_arrays, claim->flows, arcs, inside, NODES, ROOM, &told);
-    add(said, status, told);
-    status = dimacs_judge_min_arrays(&min_arrays, claim->flows, arcs, potentials, NODES, ROOM, &told);
-    add(said, status, told);
-    status = dimacs_judge_infeasible_arrays(&min_arrays, inside, NODES, ROOM, &told);
-    add(said, status, told);
-    status = dimacs_judge_paths_arrays(&graph, 1, claim->far, NODES, predecessors, NODES, ROOM, &told);
-    add(said, status, told);
+    uint32_t status = dimacs_judge_max_arrays(&max_arrays, claim->flows, arcs, inside, NODES, ROOM, &needed);
+    add(said, status, needed);
+    status = dimacs_judge_min_arrays(&min_arrays, claim->flows, arcs, potentials, NODES, ROOM, &needed);
+    add(said, status, needed);
+    status = dimacs_judge_infeasible_arrays(&min_arrays, inside, NODES, ROOM, &needed);
+    add(said, status, needed);
+    status = dimacs_judge_paths_arrays(&graph, 1, claim->far, NODES, predecessors, NODES, ROOM, &needed);
+    add(said, status, needed);
     uint8_t line[100];
-    status = dimacs_certify_max_arrays(&max_arrays, claim->flows, arcs, line, sizeof line, &told, ROOM, &shown,
+    status = dimacs_certify_max_arrays(&max_arrays, claim->flows, arcs, line, sizeof line, &needed, ROOM, &shown,
                                        claim->better, arcs, &better);
     add(said, status, shown);
-    status = dimacs_certify_min_arrays(&min_arrays, claim->flows, arcs, ROOM, &told, claim->potentials, NODES, &shown,
+    status = dimacs_certify_min_arrays(&min_arrays, claim->flows, arcs, ROOM, &needed, claim->potentials, NODES, &shown,
                                        claim->better, arcs, &better);
-    add(said, status + 10 * (shown == NODES), told);
-    status = dimacs_certify_paths_arrays(&graph, 1, claim->far, NODES, ROOM, &told, claim->predecessors, NODES, &shown);
+    add(said, status + 10 * (shown == NODES), needed);
+    status = dimacs_certify_paths_arrays(&graph, 1, claim->far, NODES, ROOM, &needed, claim->predecessors, NODES, &shown);
     int are_those = shown == NODES && !memcmp(claim->predecessors, predecessors, sizeof predecessors);
-    add(said, status + 10 * are_those, told);
+    add(said, status + 10 * are_those, needed);
     solve_arrays(said, claim, arcs);
     free(claim);
 }
 
 static void solve_texts(Said *said) {
-    size_t told = 0, solved = 0, shown = 0;
+    size_t needed = 0, solved = 0, shown = 0;
     uint8_t line[100], *solution = malloc(sizeof flow);
-    uint32_t status = dimacs_solve(DIMACS_MAX, TEXT(max), NULL, 0, 9, line, sizeof line, &told, solution, sizeof flow, &solved,
+    uint32_t status = dimacs_solve(DIMACS_MAX, TEXT(max), NULL, 0, 9, line, sizeof line, &needed, solution, sizeof flow, &solved,
                                    ROOM, &shown);
     add(said, status + 10 * (solved == strlen(flow) && !memcmp(solution, flow, solved)), shown);
-    status = dimacs_solve(DIMACS_MIN, TEXT(min), NULL, 0, 9, line, sizeof line, &told, solution, sizeof flow, &solved, ROOM,
+    status = dimacs_solve(DIMACS_MIN, TEXT(min), NULL, 0, 9, line, sizeof line, &needed, solution, sizeof flow, &solved, ROOM,
                           &shown);
     add(said, status + 10 * (solved == strlen(least) && !memcmp(solution, least, solved)), shown);
     free(solution);
 }
 
 static void call_all(Said *said, const char *claim, int64_t first) {
-    size_t told = 0, shown = 0;
+    size_t needed = 0, shown = 0;
     uint8_t line[100];
     said->length = 0;
-    uint32_t status = dimacs_judge(DIMACS_MAX, TEXT(max), TEXT(claim), TEXT(cut), ROOM, &told);
-    add(said, status, told);
-    status = dimacs_judge(DIMACS_MIN, TEXT(min), TEXT(least), TEXT(pot), ROOM, &told);
-    add(said, status, told);
-    status = dimacs_convert(DIMACS_TEXT_SOLUTION, TEXT(claim), ROOM, &told);
-    add(said, status, told);
-    status = dimacs_show(DIMACS_TEXT_MAX, TEXT(max), ROOM, &told);
-    add(said, status, told);
-    status = dimacs_certify(DIMACS_MAX, TEXT(max), TEXT(claim), line, sizeof line, &told, ROOM, &shown);
+    uint32_t status = dimacs_judge(DIMACS_MAX, TEXT(max), TEXT(claim), TEXT(cut), ROOM, &needed);
+    add(said, status, needed);
+    status = dimacs_judge(DIMACS_MIN, TEXT(min), TEXT(least), TEXT(pot), ROOM, &needed);
+    add(said, status, needed);
+    status = dimacs_convert(DIMACS_TEXT_SOLUTION, TEXT(claim), ROOM, &needed);
+    add(said, status, needed);
+    status = dimacs_show(DIMACS_TEXT_MAX, TEXT(max), ROOM, &needed);
+    add(said, status, needed);
+    status = dimacs_certify(DIMACS_MAX, TEXT(max), TEXT(claim), line, sizeof line, &needed, ROOM, &shown);
     add(said, status, shown);
-    status = dimacs_certify(DIMACS_MIN, TEXT(min), TEXT(least), line, sizeof line, &told, ROOM, &shown);
+    status = dimacs_certify(DIMACS_MIN, TEXT(min), TEXT(least), line, sizeof line, &needed, ROOM, &shown);
     add(said, status, shown);
     solve_texts(said);
     call_over_arrays(said, first);
@@ -176,7 +176,7 @@ int main(void) {
     fill_arrays();
     call_all(&good_alone, flow, 1);
     call_all(&bad_alone, bad, 2);
-    check_that("good and bad claims are told apart", !is_same(&good_alone, &bad_alone));
+    check_that("good and bad claims are needed apart", !is_same(&good_alone, &bad_alone));
     pthread_t threads[THREADS];
     pthread_attr_t attributes;
     pthread_attr_init(&attributes);

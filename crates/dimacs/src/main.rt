@@ -11,7 +11,8 @@ use crate::files::SystemFiles;
 use dimacs_explain::{FirstLine, explain_command};
 use dimacs_lines::FileSink;
 use dimacs_runs::{
-    CommandError, Failure, NO_RUN, RunError, complaint, exit_status, job, run_command,
+    CommandError, Failure, NO_RUN, RunError, command_status, complaint, exit_status, job,
+    run_command,
 };
 use std::fs::File;
 use std::io::ErrorKind;
@@ -60,17 +61,14 @@ fn run(rt: &HostRuntime, words: &[String]) -> u8 {
             run_command(rt.alloc(), words, &mut files, &mut output),
         ),
     };
-    let status = match ended {
-        Some(ended) => exit_status(&ended.map_err(|error| error.run_error())),
-        None => NO_RUN,
-    };
+    let status = command_status(&ended);
     complain(rt, status);
     if let Some(Err(CommandError::Device(failure))) = ended {
         let reason = match failure {
             Failure::File(..) => files.reason(),
             Failure::Output => output.sink().reason(),
         };
-        tell_failure(rt, failure, reason);
+        print_failure(rt, failure, reason);
     }
     if let Some(name) = job(words).and_then(|job| job.written_twice()) {
         let _ = eprintln!(rt; "dimacs: {name}: written twice");
@@ -101,12 +99,12 @@ fn complain(rt: &HostRuntime, status: u8) {
         let _ = eprintln!(rt; "{line}");
     }
     if status == NO_RUN {
-        usage::tell(rt);
+        usage::print(rt);
     }
 }
 
 /// Writes the failed operation to the standard error, and the reason, if the operating system gives one.
-fn tell_failure(rt: &HostRuntime, failure: Failure<'_>, reason: Option<io::Error>) {
+fn print_failure(rt: &HostRuntime, failure: Failure<'_>, reason: Option<io::Error>) {
     let device = failure.device();
     let call = failure.call();
     let _ = match reason {

@@ -79,7 +79,7 @@ Example:
 static VERSION: &str = "dimacs 0.1.0";
 
 /// Writes the version and the usage text to the standard error, if there is memory for it.
-pub fn tell(rt: &HostRuntime) {
+pub fn print(rt: &HostRuntime) {
     if let Ok(text) = usage_text(rt.alloc()) {
         let _ = eprintln!(rt; "{VERSION}\n{text}");
     }

@@ -12,7 +12,7 @@ use Rattle.dimacs_arrays.specs.declared.error.ArrayError.{ArrayError}
 use Rattle.dimacs_arrays.specs.declared.error.ArrayError.TheVariants as errors
 use Rattle.dimacs_arrays.specs.declared.lengths.ArrayLength.{ArrayLength}
 use Rattle.dimacs_arrays.specs.Answers.{AnswersArrays, first_misfit, of_judge}
-use Rattle.dimacs_arrays.specs.inside.Answers.{Spells, TellsLengths}
+use Rattle.dimacs_arrays.specs.inside.Answers.{Spells, TestsLengths}
 
 -- each array has the right length
 abbrev pub AllFit : List ArrayLength → Type 0
@@ -46,10 +46,10 @@ misfit_after (l ∷ lengths) more e = after_by (l.found == l.wanted) l.array (fi
 
 module _ {X : Type 0} (lengths : List ArrayLength) (limits : List Row) (lawful : Type 0) (answers : Result X JudgeError → Type 0) where
   --   an array has a wrong length
-  pub tells_misfit : (error : ArrayError) → TellsLengths lengths (Err error) → (result : Result X ArrayError) → IsErrAnd result (λ e. e ≡ error) → AnswersArrays lengths limits lawful answers result
+  pub tells_misfit : (error : ArrayError) → TestsLengths lengths (Err error) → (result : Result X ArrayError) → IsErrAnd result (λ e. e ≡ error) → AnswersArrays lengths limits lawful answers result
   tells_misfit error outcome result is = let p = err_from_is_err_and result is in rw (p.1, p.2) (by_error error outcome)
     where
-      by_error : (error : ArrayError) → TellsLengths lengths (Err error) → AnswersArrays lengths limits lawful answers (Err error)
+      by_error : (error : ArrayError) → TestsLengths lengths (Err error) → AnswersArrays lengths limits lawful answers (Err error)
       by_error (errors.Length array) outcome = outcome
       by_error (errors.Limit place reason) outcome = absurd outcome
       by_error (errors.Refused place reason) outcome = absurd outcome

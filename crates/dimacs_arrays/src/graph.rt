@@ -4,7 +4,7 @@ ghost use Rattle.std.specs.Prelude.{◌≡◌, ◌<◌, length, IfOk, OnOk};
 ghost use Rattle.dimacs_lines.specs.Limits.{IsNode};
 ghost use Rattle.dimacs_instance.specs.Graph.{IsGraph};
 ghost use Rattle.dimacs_arrays.specs.GraphArrays.{graph_lengths, graph_limits, graph_spelled, source_rows, weighted_arc};
-ghost use Rattle.dimacs_arrays.specs.inside.Answers.{Spells, TellsLengths, TellsLimits};
+ghost use Rattle.dimacs_arrays.specs.inside.Answers.{Spells, TestsLengths, TestsLimits};
 
 use crate::error::{Array, ArrayError};
 use crate::lengths::{ArrayLength, lengths_hold};
@@ -45,7 +45,7 @@ impl<'a> ArcArrays for GraphArrays<'a> {
 impl<'a> GraphArrays<'a> {
     /// Whether there are a head and a weight for each tail.
     pub(crate) fn lengths_hold(&self) -> Result<(), ArrayError>
-        ensures { TellsLengths (graph_lengths self.now) result }
+        ensures { TestsLengths (graph_lengths self.now) result }
     {
         let arcs = self.tails.len();
         lengths_hold(&[
@@ -56,7 +56,7 @@ impl<'a> GraphArrays<'a> {
 
     /// Whether the source is a node.
     fn source_holds(&self, source: u32) -> Result<(), PastLimit>
-        ensures tells { TellsLimits (source_rows self.now.nodes source) result }
+        ensures tells { TestsLimits (source_rows self.now.nodes source) result }
         ensures source { OnOk result (IsNode self.now.nodes source) }
     {
         if source == 0 || source > self.nodes {

@@ -3,7 +3,7 @@
 ghost use Rattle.std.specs.Prelude.{ℕ, ◌≡◌, ◌≤◌, ◌↔◌, None, Some, length, IfErr, IfOk, IsTrue, pos};
 ghost use Rattle.dimacs_lines.specs.Limits.{most_nodes, IsNode};
 ghost use Rattle.dimacs_nodes.specs.Tables.{value_of};
-ghost use Rattle.dimacs_optimality.specs.Tests.{FirstOfRow, Settles, TellsRow, Refuses};
+ghost use Rattle.dimacs_optimality.specs.Tests.{FirstOfRow, Settles, TestsRow, Refuses};
 ghost use Rattle.dimacs_decide.specs.Claims.{claimed_by_node};
 ghost use Rattle.dimacs_arrays.specs.Paths.{AreInOrder, AreLabelsBy, IsPred, back_row, label_rows, pred_by_node, pred_row};
 ghost use Rattle.dimacs_arrays.specs.inside.LabelTrees.{AreLed, IsLabelTree};
@@ -52,7 +52,7 @@ fn predecessors_hold(
     predecessors: &[u32],
 ) -> Result<(), (Where, Reason)>
     requires few_nodes { length distances.now ≤ most_nodes }
-    ensures { TellsRow (pred_row (length distances.now) source (claimed_by_node distances.now) (pred_by_node predecessors.now)) result }
+    ensures { TestsRow (pred_row (length distances.now) source (claimed_by_node distances.now) (pred_by_node predecessors.now)) result }
 {
     for v in 1..distances.len() as u32 + 1 {
         if !is_predecessor(source, distances, v, predecessor_of(predecessors, v)) {

@@ -2,7 +2,7 @@
 
 ghost use Rattle.std.specs.Prelude.{◌≡◌};
 ghost use Rattle.dimacs_arrays.specs.Answers.{length_of};
-ghost use Rattle.dimacs_arrays.specs.inside.Answers.{TellsLengths};
+ghost use Rattle.dimacs_arrays.specs.inside.Answers.{TestsLengths};
 
 use crate::error::{Array, ArrayError};
 
@@ -28,7 +28,7 @@ impl ArrayLength {
 
 /// Refuses the first array with a wrong length.
 pub(crate) fn lengths_hold(lengths: &[ArrayLength]) -> Result<(), ArrayError>
-    ensures { TellsLengths lengths.now result }
+    ensures { TestsLengths lengths.now result }
 {
     for length in lengths {
         if length.found != length.wanted {

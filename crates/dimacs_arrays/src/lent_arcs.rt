@@ -3,7 +3,7 @@
 ghost use Rattle.std.specs.Prelude.{◌≡◌, ◌<◌, ◌≤◌, ℕ, IfOk};
 ghost use Rattle.dimacs_lines.specs.Limits.{most_count};
 ghost use Rattle.dimacs_network.specs.declared.network.ArcView.{ArcView};
-ghost use Rattle.dimacs_arrays.specs.inside.Lent.{TellsArcs, lent_arcs};
+ghost use Rattle.dimacs_arrays.specs.inside.Lent.{TestsArcs, lent_arcs};
 
 use crate::limits::{PastLimit, arcs_hold};
 use dimacs_network::{ArcView, Network};
@@ -48,7 +48,7 @@ impl<A: ArcArrays> LentArcs<A> {
         requires each { (k : ℕ) → k < count → A.HasArc arrays k }
         requires few { count ≤ most_count }
         ensures network { IfOk result (λ network. network ≡ record { nodes = nodes; arcs = lent_arcs (A.arc_of arrays) count }) }
-        ensures arcs { TellsArcs nodes (lent_arcs (A.arc_of arrays) count) result }
+        ensures arcs { TestsArcs nodes (lent_arcs (A.arc_of arrays) count) result }
     {
         let network = LentArcs {
             nodes,

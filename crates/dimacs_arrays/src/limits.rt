@@ -3,9 +3,9 @@
 ghost use Rattle.std.specs.Prelude.{◌≤◌, IfNone, OnOk};
 ghost use Rattle.dimacs_lines.specs.Limits.{most_count, most_nodes};
 ghost use Rattle.dimacs_arrays.specs.Limits.{ArcFails, count_rows};
-ghost use Rattle.dimacs_arrays.specs.inside.Answers.{TellsLimits};
-ghost use Rattle.dimacs_arrays.specs.inside.Lent.{IsInRange, TellsArcs};
-ghost use Rattle.dimacs_optimality.specs.inside.Tests.{TellsReason};
+ghost use Rattle.dimacs_arrays.specs.inside.Answers.{TestsLimits};
+ghost use Rattle.dimacs_arrays.specs.inside.Lent.{IsInRange, TestsArcs};
+ghost use Rattle.dimacs_optimality.specs.inside.Tests.{NamesReason};
 
 use dimacs_judge::Where;
 use dimacs_network::{ArcView, MAX_ARCS, Network};
@@ -20,7 +20,7 @@ pub(crate) struct PastLimit {
 
 /// Whether the numbers of nodes and arcs are in range.
 pub(crate) fn counts_hold(nodes: u32, arcs: usize) -> Result<(), PastLimit>
-    ensures tells { TellsLimits (count_rows nodes arcs) result }
+    ensures tells { TestsLimits (count_rows nodes arcs) result }
     ensures few { OnOk result ((nodes ≤ most_nodes) × (arcs ≤ most_count)) }
 {
     if nodes > MAX_NODES {
@@ -40,7 +40,7 @@ pub(crate) fn counts_hold(nodes: u32, arcs: usize) -> Result<(), PastLimit>
 
 /// Whether all arcs are in range.
 pub(crate) fn arcs_hold<N: Network>(network: &N) -> Result<(), PastLimit>
-    ensures { TellsArcs (N.node_count network.now) (N.list network.now) result }
+    ensures { TestsArcs (N.node_count network.now) (N.list network.now) result }
 {
     let nodes = network.nodes();
     for i in 0..network.arcs() {
@@ -57,7 +57,7 @@ pub(crate) fn arcs_hold<N: Network>(network: &N) -> Result<(), PastLimit>
 /// The reason to refuse an arc in a network with this many nodes, if there is one.
 #[inline(always)]
 fn arc_fault(nodes: u32, arc: ArcView) -> Option<Reason>
-    ensures tells { TellsReason (ArcFails nodes arc) result }
+    ensures tells { NamesReason (ArcFails nodes arc) result }
     ensures in_range { IfNone result (IsInRange nodes arc) }
 {
     if arc.tail == 0 || arc.tail > nodes || arc.head == 0 || arc.head > nodes {

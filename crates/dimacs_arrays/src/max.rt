@@ -4,7 +4,7 @@ ghost use Rattle.std.specs.Prelude.{◌≡◌, ◌≢◌, ◌<◌, length, IfOk,
 ghost use Rattle.dimacs_lines.specs.Limits.{IsNode};
 ghost use Rattle.dimacs_instance.specs.MaxFlows.{IsMax};
 ghost use Rattle.dimacs_arrays.specs.MaxArrays.{end_rows, max_arc, max_lengths, max_limits, max_spelled};
-ghost use Rattle.dimacs_arrays.specs.inside.Answers.{Spells, TellsLengths, TellsLimits};
+ghost use Rattle.dimacs_arrays.specs.inside.Answers.{Spells, TestsLengths, TestsLimits};
 
 use crate::error::{Array, ArrayError};
 use crate::lengths::{ArrayLength, lengths_hold};
@@ -47,7 +47,7 @@ impl<'a> ArcArrays for MaxArrays<'a> {
 impl<'a> MaxArrays<'a> {
     /// Whether there are a head and a capacity for each tail.
     pub(crate) fn lengths_hold(&self) -> Result<(), ArrayError>
-        ensures { TellsLengths (max_lengths self.now) result }
+        ensures { TestsLengths (max_lengths self.now) result }
     {
         let arcs = self.tails.len();
         lengths_hold(&[
@@ -58,7 +58,7 @@ impl<'a> MaxArrays<'a> {
 
     /// Whether source and sink are two different nodes.
     fn ends_hold(&self) -> Result<(), PastLimit>
-        ensures tells { TellsLimits (end_rows self.now.nodes self.now.source self.now.sink) result }
+        ensures tells { TestsLimits (end_rows self.now.nodes self.now.source self.now.sink) result }
         ensures source { OnOk result (IsNode self.now.nodes self.now.source) }
         ensures sink { OnOk result (IsNode self.now.nodes self.now.sink) }
         ensures apart { OnOk result (self.now.source ≢ self.now.sink) }

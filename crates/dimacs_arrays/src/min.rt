@@ -3,7 +3,7 @@
 ghost use Rattle.std.specs.Prelude.{◌≡◌, ◌<◌, ◌≤◌, [], length, IfOk};
 ghost use Rattle.dimacs_lines.specs.Limits.{most_nodes};
 ghost use Rattle.dimacs_arrays.specs.MinArrays.{min_arc, min_lengths, min_limits, min_spelled, supplies_by_node};
-ghost use Rattle.dimacs_arrays.specs.inside.Answers.{Spells, TellsLengths};
+ghost use Rattle.dimacs_arrays.specs.inside.Answers.{Spells, TestsLengths};
 
 use crate::error::{Array, ArrayError};
 use crate::lengths::{ArrayLength, lengths_hold};
@@ -49,7 +49,7 @@ impl<'a> ArcArrays for MinArrays<'a> {
 impl<'a> MinArrays<'a> {
     /// Whether there are a head, bounds and a cost for each tail, and a supply for each node.
     pub(crate) fn lengths_hold(&self) -> Result<(), ArrayError>
-        ensures { TellsLengths (min_lengths self.now) result }
+        ensures { TestsLengths (min_lengths self.now) result }
     {
         let arcs = self.tails.len();
         lengths_hold(&[

@@ -14,11 +14,11 @@ use Rattle.dimacs_c.proofs.CallLemmas.{bytes_of}
 
 -- nothing is handed out to a buffer that stays as it was
 hands_none : {X : Type 0} (room : List X) → HandsOut [] (handed room room 0)
-hands_none [] = record { told = refl; front = refl }
-hands_none (x ∷ room) = record { told = refl; front = refl }
+hands_none [] = record { needed = refl; front = refl }
+hands_none (x ∷ room) = record { needed = refl; front = refl }
 
 none_by : {X : Type 0} (h : Handed X) → HandsNothing h → HandsOut [] h
-none_by h nothing = rw (nothing.told, nothing.unchanged) (hands_none h.room)
+none_by h nothing = rw (nothing.needed, nothing.unchanged) (hands_none h.room)
 
 -- the judge's answer was handed out, or memory ran out
 pub line_answered : (judges : Result Verdict ArrayError → Type 0) → judges (Err Memory) → (r : Result Verdict ArrayError) → judges r → (answer : ℕ) (h : Handed ℕ)

@@ -8,19 +8,19 @@ use Rattle.dimacs_runs.specs.Runs.{ReportsAlone}
 pub record Handed (X : Type 0) : Type 0 where
   pub room : List X
   pub left : List X
-  pub told : ℕ
+  pub needed : ℕ
 
 abbrev pub handed : {X : Type 0} → List X → List X → ℕ → Handed X
-handed room left told = record { room = room; left = left; told = told }
+handed room left needed = record { room = room; left = left; needed = needed }
 
 -- as many items as fit are at the front of the buffer, and the length is the number of all
 pub record HandsOut {X : Type 0} (items : List X) (h : Handed X) : Type 0 where
-  pub told : h.told ≡ length items
+  pub needed : h.needed ≡ length items
   pub front : h.left ≡ take (length h.room) items ++ drop (length items) h.room
 
 -- the buffer is as it was, and the length is 0
 pub record HandsNothing {X : Type 0} (h : Handed X) : Type 0 where
-  pub told : h.told ≡ 0
+  pub needed : h.needed ≡ 0
   pub unchanged : h.left ≡ h.room
 
 -- the only possible text is handed out, and the call returns the command's exit status; or memory ran out

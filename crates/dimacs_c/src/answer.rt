@@ -19,17 +19,17 @@ pub(crate) fn end(
     ended: Result<Status, RunError>,
     bytes: &[u8],
     out: &mut [u8],
-    told: &mut usize,
+    needed: &mut usize,
 ) -> u32
-    ensures { Ends ended bytes.now result (handed out.old out.new told.new) }
+    ensures { Ends ended bytes.now result (handed out.old out.new needed.new) }
 {
     match ended {
         Ok(_) => {
-            hand_out(bytes, out, told);
+            hand_out(bytes, out, needed);
             u32::from(exit_status(&ended))
         }
         Err(_) => {
-            *told = 0;
+            *needed = 0;
             NO_MEMORY
         }
     }
@@ -41,36 +41,36 @@ pub(crate) fn hand_said<T: Copy>(
     put: Result<u32, DeviceFault>,
     items: &[T],
     room: &mut [T],
-    told: &mut usize,
+    needed: &mut usize,
 ) -> u32
-    ensures { EndsSaid put items.now result (handed room.old room.new told.new) }
+    ensures { EndsSaid put items.now result (handed room.old room.new needed.new) }
 {
     match put {
         Ok(status) => {
-            hand_out(items, room, told);
+            hand_out(items, room, needed);
             status
         }
         Err(_) => {
-            *told = 0;
+            *needed = 0;
             NO_MEMORY
         }
     }
 }
 
 /// Ends a misused call: nothing is copied, and the length is 0.
-pub(crate) fn misuse(told: &mut usize) -> u32
-    ensures told { told.new ≡ 0 }
+pub(crate) fn misuse(needed: &mut usize) -> u32
+    ensures needed { needed.new ≡ 0 }
     ensures status { result ≡ 2 }
 {
-    *told = 0;
+    *needed = 0;
     MISUSED
 }
 
 /// Copies as much as fits into the buffer, and sets the length of the whole.
-fn hand_out<T: Copy>(items: &[T], room: &mut [T], told: &mut usize)
-    ensures { HandsOut items.now (handed room.old room.new told.new) }
+fn hand_out<T: Copy>(items: &[T], room: &mut [T], needed: &mut usize)
+    ensures { HandsOut items.now (handed room.old room.new needed.new) }
 {
     let count = items.len().min(room.len());
     room[..count].copy_from_slice(&items[..count]);
-    *told = items.len();
+    *needed = items.len();
 }

@@ -21,18 +21,27 @@ pub extern "C" fn dimacs_certify(
     instance: &[u8],
     claim: &[u8],
     out: &mut [u8],
-    told: &mut usize,
+    needed: &mut usize,
     shown: &mut [u8],
-    shown_told: &mut usize,
+    shown_needed: &mut usize,
 ) -> u32
     ensures { AnswersTextsKind (certify_kind kind) (λ k. WritesAlike (Certified k instance.now claim.now)) result
-        (handed shown.old shown.new shown_told.new ∷ handed out.old out.new told.new ∷ []) }
+        (handed shown.old shown.new shown_needed.new ∷ handed out.old out.new needed.new ∷ []) }
 {
     match certify_of(kind) {
-        Some(kind) => certify(alloc, kind, instance, claim, out, told, shown, shown_told),
+        Some(kind) => certify(
+            alloc,
+            kind,
+            instance,
+            claim,
+            out,
+            needed,
+            shown,
+            shown_needed,
+        ),
         None => {
-            misuse(shown_told);
-            misuse(told)
+            misuse(shown_needed);
+            misuse(needed)
         }
     }
 }
@@ -44,12 +53,12 @@ fn certify(
     instance: &[u8],
     claim: &[u8],
     out: &mut [u8],
-    told: &mut usize,
+    needed: &mut usize,
     shown: &mut [u8],
-    shown_told: &mut usize,
+    shown_needed: &mut usize,
 ) -> u32
     ensures { AnswersTexts (WritesAlike (Certified kind instance.now claim.now)) result
-        (handed shown.old shown.new shown_told.new ∷ handed out.old out.new told.new ∷ []) }
+        (handed shown.old shown.new shown_needed.new ∷ handed out.old out.new needed.new ∷ []) }
 {
     let mut certificate = MemorySink::new(alloc);
     let mut report = MemorySink::new(alloc);
@@ -63,6 +72,6 @@ fn certify(
         &mut certificate,
         &mut report,
     );
-    end(ended, certificate.bytes(), shown, shown_told);
-    end(ended, report.bytes(), out, told)
+    end(ended, certificate.bytes(), shown, shown_needed);
+    end(ended, report.bytes(), out, needed)
 }

@@ -22,12 +22,12 @@ pub extern "C" fn dimacs_judge_infeasible_arrays(
     instance: &MinArrays<'_>,
     inside: &[u8],
     out: &mut [u8],
-    told: &mut usize,
+    needed: &mut usize,
 ) -> u32
-    ensures { AnswersLine (JudgesInfeasibleArrays instance.now inside.now) result (handed out.old out.new told.new) }
+    ensures { AnswersLine (JudgesInfeasibleArrays instance.now inside.now) result (handed out.old out.new needed.new) }
 {
     let answer = judge_infeasible_arrays(alloc, instance, inside);
-    hand_judged(alloc, answer, out, told)
+    hand_judged(alloc, answer, out, needed)
 }
 
 /// Certifies that no flow is feasible, as `certify_infeasible_arrays`. `inside` receives the bytes of a set that shows
@@ -37,21 +37,21 @@ pub extern "C" fn dimacs_certify_infeasible_arrays(
     alloc: Global,
     instance: &MinArrays<'_>,
     out: &mut [u8],
-    told: &mut usize,
+    needed: &mut usize,
     inside: &mut [u8],
-    inside_told: &mut usize,
+    inside_needed: &mut usize,
     flows: &mut [i64],
-    flows_told: &mut usize,
+    flows_needed: &mut usize,
 ) -> u32
     ensures { AnswersItems infeasible_said (CertifiesInfeasibleArrays instance.now) result
-        (rooms (handed out.old out.new told.new) (Some (handed inside.old inside.new inside_told.new)) None (Some (handed flows.old flows.new flows_told.new))) }
+        (rooms (handed out.old out.new needed.new) (Some (handed inside.old inside.new inside_needed.new)) None (Some (handed flows.old flows.new flows_needed.new))) }
 {
     let answer = certify_infeasible_arrays(alloc, instance);
     let mut line = MemorySink::new(alloc);
     let put = put_certified(&mut line, &answer);
-    hand_said(put, inside_of(&answer), inside, inside_told);
-    hand_said(put, flow_of(&answer), flows, flows_told);
-    hand_said(put, line.bytes(), out, told)
+    hand_said(put, inside_of(&answer), inside, inside_needed);
+    hand_said(put, flow_of(&answer), flows, flows_needed);
+    hand_said(put, line.bytes(), out, needed)
 }
 
 /// Writes the line of the answer, and returns its status.

@@ -19,13 +19,13 @@ pub extern "C" fn dimacs_judge(
     claim: &[u8],
     certificate: &[u8],
     out: &mut [u8],
-    told: &mut usize,
+    needed: &mut usize,
 ) -> u32
-    ensures { AnswersKind (judge_kind kind) (λ k. Judged k instance.now claim.now certificate.now) result (handed out.old out.new told.new) }
+    ensures { AnswersKind (judge_kind kind) (λ k. Judged k instance.now claim.now certificate.now) result (handed out.old out.new needed.new) }
 {
     match judge_of(kind) {
-        Some(kind) => judge(alloc, kind, instance, claim, certificate, out, told),
-        None => misuse(told),
+        Some(kind) => judge(alloc, kind, instance, claim, certificate, out, needed),
+        None => misuse(needed),
     }
 }
 
@@ -37,14 +37,14 @@ fn judge(
     claim: &[u8],
     certificate: &[u8],
     out: &mut [u8],
-    told: &mut usize,
+    needed: &mut usize,
 ) -> u32
-    ensures { Answers (Judged kind instance.now claim.now certificate.now) result (handed out.old out.new told.new) }
+    ensures { Answers (Judged kind instance.now claim.now certificate.now) result (handed out.old out.new needed.new) }
 {
     let mut sink = MemorySink::new(alloc);
     let mut first = MemorySource::new(instance);
     let mut second = MemorySource::new(claim);
     let mut third = MemorySource::new(certificate);
     let ended = run_judge(alloc, kind, &mut first, &mut second, &mut third, &mut sink);
-    end(ended, sink.bytes(), out, told)
+    end(ended, sink.bytes(), out, needed)
 }

@@ -32,13 +32,13 @@ pub(crate) fn hand_judged(
     alloc: Global,
     answer: Result<Verdict, ArrayError>,
     out: &mut [u8],
-    told: &mut usize,
+    needed: &mut usize,
 ) -> u32
-    ensures { EndsLine (said verdict_said answer) result (handed out.old out.new told.new) }
+    ensures { EndsLine (said verdict_said answer) result (handed out.old out.new needed.new) }
 {
     let mut line = MemorySink::new(alloc);
     let put = put_judged(&mut line, answer);
-    hand_said(put, line.bytes(), out, told)
+    hand_said(put, line.bytes(), out, needed)
 }
 
 /// Writes the line of a judge's answer, and returns its status.

@@ -25,12 +25,12 @@ pub extern "C" fn dimacs_judge_max_arrays(
     flows: &[i64],
     inside: &[u8],
     out: &mut [u8],
-    told: &mut usize,
+    needed: &mut usize,
 ) -> u32
-    ensures { AnswersLine (JudgesMaxArrays instance.now flows.now inside.now) result (handed out.old out.new told.new) }
+    ensures { AnswersLine (JudgesMaxArrays instance.now flows.now inside.now) result (handed out.old out.new needed.new) }
 {
     let answer = judge_max_arrays(alloc, instance, flows, inside);
-    hand_judged(alloc, answer, out, told)
+    hand_judged(alloc, answer, out, needed)
 }
 
 /// Certifies that a flow is maximum, as `certify_max_arrays`. `inside` receives the bytes of a cut that shows it, or
@@ -41,21 +41,21 @@ pub extern "C" fn dimacs_certify_max_arrays(
     instance: &MaxArrays<'_>,
     flows: &[i64],
     out: &mut [u8],
-    told: &mut usize,
+    needed: &mut usize,
     inside: &mut [u8],
-    inside_told: &mut usize,
+    inside_needed: &mut usize,
     better: &mut [i64],
-    better_told: &mut usize,
+    better_needed: &mut usize,
 ) -> u32
     ensures { AnswersItems max_said (CertifiesMaxArrays instance.now flows.now) result
-        (rooms (handed out.old out.new told.new) (Some (handed inside.old inside.new inside_told.new)) None (Some (handed better.old better.new better_told.new))) }
+        (rooms (handed out.old out.new needed.new) (Some (handed inside.old inside.new inside_needed.new)) None (Some (handed better.old better.new better_needed.new))) }
 {
     let answer = certify_max_arrays(alloc, instance, flows);
     let mut line = MemorySink::new(alloc);
     let put = put_certified(&mut line, &answer);
-    hand_said(put, inside_of(&answer), inside, inside_told);
-    hand_said(put, better_of(&answer), better, better_told);
-    hand_said(put, line.bytes(), out, told)
+    hand_said(put, inside_of(&answer), inside, inside_needed);
+    hand_said(put, better_of(&answer), better, better_needed);
+    hand_said(put, line.bytes(), out, needed)
 }
 
 /// Writes the line of the answer, and returns its status.
@@ -101,21 +101,21 @@ pub extern "C" fn dimacs_solve_max_arrays(
     instance: &MaxArrays<'_>,
     limit: u64,
     out: &mut [u8],
-    told: &mut usize,
+    needed: &mut usize,
     flows: &mut [i64],
-    flows_told: &mut usize,
+    flows_needed: &mut usize,
     inside: &mut [u8],
-    inside_told: &mut usize,
+    inside_needed: &mut usize,
 ) -> u32
     ensures { AnswersItems max_found (SolvesMaxArrays instance.now limit) result
-        (rooms (handed out.old out.new told.new) (Some (handed inside.old inside.new inside_told.new)) None (Some (handed flows.old flows.new flows_told.new))) }
+        (rooms (handed out.old out.new needed.new) (Some (handed inside.old inside.new inside_needed.new)) None (Some (handed flows.old flows.new flows_needed.new))) }
 {
     let answer = solve_max_arrays(alloc, instance, limit);
     let mut line = MemorySink::new(alloc);
     let put = put_solved(&mut line, &answer);
-    hand_said(put, inside_by(&answer), inside, inside_told);
-    hand_said(put, flow_of(&answer), flows, flows_told);
-    hand_said(put, line.bytes(), out, told)
+    hand_said(put, inside_by(&answer), inside, inside_needed);
+    hand_said(put, flow_of(&answer), flows, flows_needed);
+    hand_said(put, line.bytes(), out, needed)
 }
 
 /// Writes the line of the answer, and returns its status.

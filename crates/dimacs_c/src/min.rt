@@ -25,12 +25,12 @@ pub extern "C" fn dimacs_judge_min_arrays(
     flows: &[i64],
     potentials: &[i64],
     out: &mut [u8],
-    told: &mut usize,
+    needed: &mut usize,
 ) -> u32
-    ensures { AnswersLine (JudgesMinArrays instance.now flows.now potentials.now) result (handed out.old out.new told.new) }
+    ensures { AnswersLine (JudgesMinArrays instance.now flows.now potentials.now) result (handed out.old out.new needed.new) }
 {
     let answer = judge_min_arrays(alloc, instance, flows, potentials);
-    hand_judged(alloc, answer, out, told)
+    hand_judged(alloc, answer, out, needed)
 }
 
 /// Certifies that a flow costs least, as `certify_min_arrays`. `potentials` receives potentials that show it, or
@@ -41,21 +41,21 @@ pub extern "C" fn dimacs_certify_min_arrays(
     instance: &MinArrays<'_>,
     flows: &[i64],
     out: &mut [u8],
-    told: &mut usize,
+    needed: &mut usize,
     potentials: &mut [i64],
-    potentials_told: &mut usize,
+    potentials_needed: &mut usize,
     better: &mut [i64],
-    better_told: &mut usize,
+    better_needed: &mut usize,
 ) -> u32
     ensures { AnswersItems min_said (CertifiesMinArrays instance.now flows.now) result
-        (rooms (handed out.old out.new told.new) None (Some (handed potentials.old potentials.new potentials_told.new)) (Some (handed better.old better.new better_told.new))) }
+        (rooms (handed out.old out.new needed.new) None (Some (handed potentials.old potentials.new potentials_needed.new)) (Some (handed better.old better.new better_needed.new))) }
 {
     let answer = certify_min_arrays(alloc, instance, flows);
     let mut line = MemorySink::new(alloc);
     let put = put_certified(&mut line, &answer);
-    hand_said(put, potentials_of(&answer), potentials, potentials_told);
-    hand_said(put, better_of(&answer), better, better_told);
-    hand_said(put, line.bytes(), out, told)
+    hand_said(put, potentials_of(&answer), potentials, potentials_needed);
+    hand_said(put, better_of(&answer), better, better_needed);
+    hand_said(put, line.bytes(), out, needed)
 }
 
 /// Writes the line of the answer, and returns its status.
@@ -102,25 +102,25 @@ pub extern "C" fn dimacs_solve_min_arrays(
     instance: &MinArrays<'_>,
     limit: u64,
     out: &mut [u8],
-    told: &mut usize,
+    needed: &mut usize,
     flows: &mut [i64],
-    flows_told: &mut usize,
+    flows_needed: &mut usize,
     potentials: &mut [i64],
-    potentials_told: &mut usize,
+    potentials_needed: &mut usize,
     inside: &mut [u8],
-    inside_told: &mut usize,
+    inside_needed: &mut usize,
 ) -> u32
     ensures { AnswersItems min_found (SolvesMinArrays instance.now limit) result
-        (rooms (handed out.old out.new told.new) (Some (handed inside.old inside.new inside_told.new))
-        (Some (handed potentials.old potentials.new potentials_told.new)) (Some (handed flows.old flows.new flows_told.new))) }
+        (rooms (handed out.old out.new needed.new) (Some (handed inside.old inside.new inside_needed.new))
+        (Some (handed potentials.old potentials.new potentials_needed.new)) (Some (handed flows.old flows.new flows_needed.new))) }
 {
     let answer = solve_min_arrays(alloc, instance, limit);
     let mut line = MemorySink::new(alloc);
     let put = put_solved(&mut line, &answer);
-    hand_said(put, inside_by(&answer), inside, inside_told);
-    hand_said(put, potentials_by(&answer), potentials, potentials_told);
-    hand_said(put, flow_of(&answer), flows, flows_told);
-    hand_said(put, line.bytes(), out, told)
+    hand_said(put, inside_by(&answer), inside, inside_needed);
+    hand_said(put, potentials_by(&answer), potentials, potentials_needed);
+    hand_said(put, flow_of(&answer), flows, flows_needed);
+    hand_said(put, line.bytes(), out, needed)
 }
 
 /// Writes the line of the answer, and returns its status.

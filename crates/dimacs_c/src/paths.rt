@@ -25,12 +25,12 @@ pub extern "C" fn dimacs_judge_paths_arrays(
     distances: &[i64],
     predecessors: &[u32],
     out: &mut [u8],
-    told: &mut usize,
+    needed: &mut usize,
 ) -> u32
-    ensures { AnswersLine (JudgesPathsArrays graph.now source distances.now predecessors.now) result (handed out.old out.new told.new) }
+    ensures { AnswersLine (JudgesPathsArrays graph.now source distances.now predecessors.now) result (handed out.old out.new needed.new) }
 {
     let answer = judge_paths_arrays(alloc, graph, source, distances, predecessors);
-    hand_judged(alloc, answer, out, told)
+    hand_judged(alloc, answer, out, needed)
 }
 
 /// Certifies distances, as `certify_paths_arrays`. `predecessors` receives the predecessors that show them.
@@ -41,12 +41,12 @@ pub extern "C" fn dimacs_certify_paths_arrays(
     source: u32,
     distances: &[i64],
     out: &mut [u8],
-    told: &mut usize,
+    needed: &mut usize,
     predecessors: &mut [u32],
-    predecessors_told: &mut usize,
+    predecessors_needed: &mut usize,
 ) -> u32
     ensures { AnswersItems paths_said (CertifiesPathsArrays graph.now source distances.now) result
-        (rooms (handed out.old out.new told.new) (Some (handed predecessors.old predecessors.new predecessors_told.new)) None None) }
+        (rooms (handed out.old out.new needed.new) (Some (handed predecessors.old predecessors.new predecessors_needed.new)) None None) }
 {
     let answer = certify_paths_arrays(alloc, graph, source, distances);
     let mut line = MemorySink::new(alloc);
@@ -55,9 +55,9 @@ pub extern "C" fn dimacs_certify_paths_arrays(
         put,
         predecessors_of(&answer),
         predecessors,
-        predecessors_told,
+        predecessors_needed,
     );
-    hand_said(put, line.bytes(), out, told)
+    hand_said(put, line.bytes(), out, needed)
 }
 
 /// Writes the line of the answer, and returns its status.
@@ -91,15 +91,15 @@ pub extern "C" fn dimacs_solve_paths_arrays(
     graph: &GraphArrays<'_>,
     source: u32,
     out: &mut [u8],
-    told: &mut usize,
+    needed: &mut usize,
     distances: &mut [i64],
-    distances_told: &mut usize,
+    distances_needed: &mut usize,
     predecessors: &mut [u32],
-    predecessors_told: &mut usize,
+    predecessors_needed: &mut usize,
 ) -> u32
     ensures { AnswersItems paths_found (SolvesPathsArrays graph.now source) result
-        (rooms (handed out.old out.new told.new) (Some (handed predecessors.old predecessors.new predecessors_told.new))
-        (Some (handed distances.old distances.new distances_told.new)) None) }
+        (rooms (handed out.old out.new needed.new) (Some (handed predecessors.old predecessors.new predecessors_needed.new))
+        (Some (handed distances.old distances.new distances_needed.new)) None) }
 {
     let answer = solve_paths_arrays(alloc, graph, source);
     let mut line = MemorySink::new(alloc);
@@ -108,10 +108,10 @@ pub extern "C" fn dimacs_solve_paths_arrays(
         put,
         predecessors_by(&answer),
         predecessors,
-        predecessors_told,
+        predecessors_needed,
     );
-    hand_said(put, distances_by(&answer), distances, distances_told);
-    hand_said(put, line.bytes(), out, told)
+    hand_said(put, distances_by(&answer), distances, distances_needed);
+    hand_said(put, line.bytes(), out, needed)
 }
 
 /// Writes the line of the answer, and returns its status.

@@ -23,15 +23,15 @@ pub extern "C" fn dimacs_solve(
     queries: &[u8],
     limit: u64,
     out: &mut [u8],
-    told: &mut usize,
+    needed: &mut usize,
     solution: &mut [u8],
-    solution_told: &mut usize,
+    solution_needed: &mut usize,
     certificate: &mut [u8],
-    certificate_told: &mut usize,
+    certificate_needed: &mut usize,
 ) -> u32
     ensures { AnswersTextsKind (solve_job kind limit) (λ job. MayWrite (Solved job instance.now queries.now)) result
-        (handed solution.old solution.new solution_told.new ∷ handed certificate.old certificate.new certificate_told.new
-        ∷ handed out.old out.new told.new ∷ []) }
+        (handed solution.old solution.new solution_needed.new ∷ handed certificate.old certificate.new certificate_needed.new
+        ∷ handed out.old out.new needed.new ∷ []) }
 {
     match solve_of(kind, limit) {
         Some(job) => solve(
@@ -40,16 +40,16 @@ pub extern "C" fn dimacs_solve(
             instance,
             queries,
             out,
-            told,
+            needed,
             solution,
-            solution_told,
+            solution_needed,
             certificate,
-            certificate_told,
+            certificate_needed,
         ),
         None => {
-            misuse(solution_told);
-            misuse(certificate_told);
-            misuse(told)
+            misuse(solution_needed);
+            misuse(certificate_needed);
+            misuse(needed)
         }
     }
 }
@@ -61,15 +61,15 @@ fn solve(
     instance: &[u8],
     queries: &[u8],
     out: &mut [u8],
-    told: &mut usize,
+    needed: &mut usize,
     solution: &mut [u8],
-    solution_told: &mut usize,
+    solution_needed: &mut usize,
     certificate: &mut [u8],
-    certificate_told: &mut usize,
+    certificate_needed: &mut usize,
 ) -> u32
     ensures { AnswersTexts (MayWrite (Solved job instance.now queries.now)) result
-        (handed solution.old solution.new solution_told.new ∷ handed certificate.old certificate.new certificate_told.new
-        ∷ handed out.old out.new told.new ∷ []) }
+        (handed solution.old solution.new solution_needed.new ∷ handed certificate.old certificate.new certificate_needed.new
+        ∷ handed out.old out.new needed.new ∷ []) }
 {
     let mut claim = MemorySink::new(alloc);
     let mut shown = MemorySink::new(alloc);
@@ -85,7 +85,7 @@ fn solve(
         &mut shown,
         &mut report,
     );
-    end(ended, claim.bytes(), solution, solution_told);
-    end(ended, shown.bytes(), certificate, certificate_told);
-    end(ended, report.bytes(), out, told)
+    end(ended, claim.bytes(), solution, solution_needed);
+    end(ended, shown.bytes(), certificate, certificate_needed);
+    end(ended, report.bytes(), out, needed)
 }

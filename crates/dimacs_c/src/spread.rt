@@ -20,18 +20,27 @@ pub extern "C" fn dimacs_spread(
     instance: &[u8],
     claim: &[u8],
     out: &mut [u8],
-    told: &mut usize,
+    needed: &mut usize,
     shown: &mut [u8],
-    shown_told: &mut usize,
+    shown_needed: &mut usize,
 ) -> u32
     ensures { AnswersTextsKind (spread_kind kind) (λ k. Spreads k instance.now claim.now) result
-        (handed shown.old shown.new shown_told.new ∷ handed out.old out.new told.new ∷ []) }
+        (handed shown.old shown.new shown_needed.new ∷ handed out.old out.new needed.new ∷ []) }
 {
     match spread_of(kind) {
-        Some(kind) => spread(alloc, kind, instance, claim, out, told, shown, shown_told),
+        Some(kind) => spread(
+            alloc,
+            kind,
+            instance,
+            claim,
+            out,
+            needed,
+            shown,
+            shown_needed,
+        ),
         None => {
-            misuse(shown_told);
-            misuse(told)
+            misuse(shown_needed);
+            misuse(needed)
         }
     }
 }
@@ -43,12 +52,12 @@ fn spread(
     instance: &[u8],
     claim: &[u8],
     out: &mut [u8],
-    told: &mut usize,
+    needed: &mut usize,
     shown: &mut [u8],
-    shown_told: &mut usize,
+    shown_needed: &mut usize,
 ) -> u32
     ensures { AnswersTexts (Spreads kind instance.now claim.now) result
-        (handed shown.old shown.new shown_told.new ∷ handed out.old out.new told.new ∷ []) }
+        (handed shown.old shown.new shown_needed.new ∷ handed out.old out.new needed.new ∷ []) }
 {
     let mut certificate = MemorySink::new(alloc);
     let mut report = MemorySink::new(alloc);
@@ -62,6 +71,6 @@ fn spread(
         &mut certificate,
         &mut report,
     );
-    end(ended, certificate.bytes(), shown, shown_told);
-    end(ended, report.bytes(), out, told)
+    end(ended, certificate.bytes(), shown, shown_needed);
+    end(ended, report.bytes(), out, needed)
 }

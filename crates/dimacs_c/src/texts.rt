@@ -19,24 +19,24 @@ pub extern "C" fn dimacs_convert(
     kind: u32,
     text: &[u8],
     out: &mut [u8],
-    told: &mut usize,
+    needed: &mut usize,
 ) -> u32
-    ensures { AnswersKind (text_kind kind) (λ k. Prints Canonical k text.now) result (handed out.old out.new told.new) }
+    ensures { AnswersKind (text_kind kind) (λ k. Prints Canonical k text.now) result (handed out.old out.new needed.new) }
 {
     match text_of(kind) {
-        Some(kind) => convert(alloc, kind, text, out, told),
-        None => misuse(told),
+        Some(kind) => convert(alloc, kind, text, out, needed),
+        None => misuse(needed),
     }
 }
 
 /// Converts a text of this kind.
-fn convert(alloc: Global, kind: TextKind, text: &[u8], out: &mut [u8], told: &mut usize) -> u32
-    ensures { Answers (Prints Canonical kind text.now) result (handed out.old out.new told.new) }
+fn convert(alloc: Global, kind: TextKind, text: &[u8], out: &mut [u8], needed: &mut usize) -> u32
+    ensures { Answers (Prints Canonical kind text.now) result (handed out.old out.new needed.new) }
 {
     let mut sink = MemorySink::new(alloc);
     let mut source = MemorySource::new(text);
     let ended = run_convert(alloc, kind, &mut source, &mut sink);
-    end(ended, sink.bytes(), out, told)
+    end(ended, sink.bytes(), out, needed)
 }
 
 /// Describes a text in one line, as `dimacs show`.
@@ -46,22 +46,22 @@ pub extern "C" fn dimacs_show(
     kind: u32,
     text: &[u8],
     out: &mut [u8],
-    told: &mut usize,
+    needed: &mut usize,
 ) -> u32
-    ensures { AnswersKind (text_kind kind) (λ k. Prints Summary k text.now) result (handed out.old out.new told.new) }
+    ensures { AnswersKind (text_kind kind) (λ k. Prints Summary k text.now) result (handed out.old out.new needed.new) }
 {
     match text_of(kind) {
-        Some(kind) => show(alloc, kind, text, out, told),
-        None => misuse(told),
+        Some(kind) => show(alloc, kind, text, out, needed),
+        None => misuse(needed),
     }
 }
 
 /// Describes a text of this kind.
-fn show(alloc: Global, kind: TextKind, text: &[u8], out: &mut [u8], told: &mut usize) -> u32
-    ensures { Answers (Prints Summary kind text.now) result (handed out.old out.new told.new) }
+fn show(alloc: Global, kind: TextKind, text: &[u8], out: &mut [u8], needed: &mut usize) -> u32
+    ensures { Answers (Prints Summary kind text.now) result (handed out.old out.new needed.new) }
 {
     let mut sink = MemorySink::new(alloc);
     let mut source = MemorySource::new(text);
     let ended = run_show(alloc, kind, &mut source, &mut sink);
-    end(ended, sink.bytes(), out, told)
+    end(ended, sink.bytes(), out, needed)
 }

@@ -9,7 +9,7 @@ use Rattle.dimacs_network.specs.Arcs.{JoinsNodes, NetworkValue}
 use Rattle.dimacs_claims.specs.Labels.{BlockValue, IsBlock, label, with_label}
 use Rattle.dimacs_records.specs.declared.reasons.Reason.{Reason}
 use Rattle.dimacs_optimality.specs.Tests.{Clear}
-use Rattle.dimacs_optimality.specs.inside.Tests.{TellsReason}
+use Rattle.dimacs_optimality.specs.inside.Tests.{NamesReason}
 use Rattle.dimacs_optimality.specs.Walks.{IsWalk}
 use Rattle.dimacs_decide.specs.Distances.{AreDistancesFrom, IsTight, IsTightlyReached, claim_row, reach_row}
 use Rattle.dimacs_decide.specs.inside.DistanceBlocks.{IsBlockOf}
@@ -22,7 +22,7 @@ use Rattle.dimacs_decide.proofs.ClaimLemmas.{made_of, true_claim}
 use Rattle.dimacs_decide.proofs.TightLemmas.{begun, few, grown}
 
 -- ---- the arcs
-pub no_fault : (fails : Reason → Type 0) (outcome : Option Reason) → is_some outcome ≡ false → TellsReason fails outcome → (reason : Reason) → ¬ fails reason
+pub no_fault : (fails : Reason → Type 0) (outcome : Option Reason) → is_some outcome ≡ false → NamesReason fails outcome → (reason : Reason) → ¬ fails reason
 no_fault fails None none tells = tells
 no_fault fails (Some reason) none tells = absurd (cc)
 

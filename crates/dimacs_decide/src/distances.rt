@@ -5,8 +5,8 @@ ghost use Rattle.dimacs_lines.specs.Limits.{most_nodes, IsNode};
 ghost use Rattle.dimacs_records.specs.Ranges.{IsWide};
 ghost use Rattle.dimacs_network.specs.AdjacencyLists.{AreAdjacencyLists};
 ghost use Rattle.dimacs_network.specs.declared.adjacency_lists.Side.TheVariants.{Tail};
-ghost use Rattle.dimacs_optimality.specs.Tests.{TellsRow};
-ghost use Rattle.dimacs_optimality.specs.inside.Tests.{TellsReason};
+ghost use Rattle.dimacs_optimality.specs.Tests.{TestsRow};
+ghost use Rattle.dimacs_optimality.specs.inside.Tests.{NamesReason};
 ghost use Rattle.dimacs_optimality.specs.CertificateTests.{RelaxFails};
 ghost use Rattle.dimacs_nodes.specs.Tables.{value_of};
 ghost use Rattle.dimacs_decide.specs.Distances.{DecidesDistances, claim_row, reach_row, source_row};
@@ -85,7 +85,7 @@ pub(crate) fn decide_block<N: Network, C: DistanceClaim>(
 
 /// Whether the claim of the source is 0.
 pub fn source_holds<C: DistanceClaim>(source: u32, claim: &C) -> Result<(), (Where, Reason)>
-    ensures { TellsRow (source_row source (C.claimed claim.now)) result }
+    ensures { TestsRow (source_row source (C.claimed claim.now)) result }
 {
     match claim.of(source) {
         Some(dist) if dist == 0 => Ok(()),
@@ -95,7 +95,7 @@ pub fn source_holds<C: DistanceClaim>(source: u32, claim: &C) -> Result<(), (Whe
 
 /// Refuses the first arc with a claim at its tail whose head has no claim or too great a one.
 fn arcs_hold<N: Network, C: DistanceClaim>(network: &N, claim: &C) -> Result<(), (Where, Reason)>
-    ensures { TellsRow (claim_row (N.list network.now) (C.claimed claim.now)) result }
+    ensures { TestsRow (claim_row (N.list network.now) (C.claimed claim.now)) result }
 {
     for i in 0..network.arcs() {
         if let Some(reason) = arc_fault(claim, network.arc(i)) {
@@ -108,7 +108,7 @@ fn arcs_hold<N: Network, C: DistanceClaim>(network: &N, claim: &C) -> Result<(),
 /// The reason to refuse an arc, if there is one. Looks at the head only if the tail has a claim.
 #[inline(always)]
 pub(crate) fn arc_fault<C: DistanceClaim>(claim: &C, arc: ArcView) -> Option<Reason>
-    ensures { TellsReason (RelaxFails None (C.claimed claim.now arc.tail) (C.claimed claim.now arc.head) arc.cost) result }
+    ensures { NamesReason (RelaxFails None (C.claimed claim.now arc.tail) (C.claimed claim.now arc.head) arc.cost) result }
 {
     let from = claim.of(arc.tail)?;
     match claim.of(arc.head) {
@@ -135,7 +135,7 @@ fn nodes_hold<N: Network, C: DistanceClaim>(
 ) -> Result<(), (Where, Reason)>
     requires few_nodes { N.node_count network.now ≤ most_nodes }
     requires tree { IsWholeTightTree (N.node_count network.now) (N.list network.now) (C.claimed claim.now) tree.now.block (value_of tree.now.reached) }
-    ensures { TellsRow (reach_row (record { nodes = N.node_count network.now; arcs = N.list network.now }) tree.now.block.source (C.claimed claim.now)) result }
+    ensures { TestsRow (reach_row (record { nodes = N.node_count network.now; arcs = N.list network.now }) tree.now.block.source (C.claimed claim.now)) result }
 {
     for v in 1..network.nodes() + 1 {
         if claim.of(v).is_some() && !tree.reaches(v) {

@@ -11,7 +11,7 @@ use Rattle.dimacs_optimality.specs.inside.Labels.{block_at}
 use Rattle.dimacs_optimality.specs.CertificateTests.{label_rows, weight_row}
 use Rattle.dimacs_judge.specs.inside.CertificateTests.{block_rows, distance_rows}
 use Rattle.dimacs_optimality.specs.Tests.{AllClear, Clear, First}
-use Rattle.dimacs_optimality.specs.inside.Tests.{TellsAll}
+use Rattle.dimacs_optimality.specs.inside.Tests.{TestsAll}
 
 blocks_more_suc : (arcs : List ArcView) (blocks : List BlockValue) (k : ℕ) → k < length blocks → AllClear (label_rows arcs (take k blocks)) → AllClear (block_rows arcs (block_at blocks k)) → AllClear (label_rows arcs (take (suc k) blocks))
 blocks_more_suc arcs [] k inside before here = absurd (omega arith)
@@ -54,10 +54,10 @@ pub block_is : (blocks : List BlockValue) (k : ℕ) (b : BlockValue) → k < len
 block_is blocks k b inside is = is ∙ the_element blocks k b _ inside
 
 -- the tests of one block after its weights have passed
-pub after_weights : (arcs : List ArcView) (b : BlockValue) (error : JudgeError) → Clear (weight_row arcs b) → TellsAll (distance_rows arcs b) (Err error) → TellsAll (block_rows arcs b) (Err error)
+pub after_weights : (arcs : List ArcView) (b : BlockValue) (error : JudgeError) → Clear (weight_row arcs b) → TestsAll (distance_rows arcs b) (Err error) → TestsAll (block_rows arcs b) (Err error)
 after_weights arcs b (Refused place reason) clear first = inr (clear, first)
 after_weights arcs b Memory clear first = tt
 
-pub blocks_told : (arcs : List ArcView) (blocks : List BlockValue) (k : ℕ) (error : JudgeError) → k < length blocks → AllClear (label_rows arcs (take k blocks)) → TellsAll (block_rows arcs (block_at blocks k)) (Err error) → TellsAll (label_rows arcs blocks) (Err error)
+pub blocks_told : (arcs : List ArcView) (blocks : List BlockValue) (k : ℕ) (error : JudgeError) → k < length blocks → AllClear (label_rows arcs (take k blocks)) → TestsAll (block_rows arcs (block_at blocks k)) (Err error) → TestsAll (label_rows arcs blocks) (Err error)
 blocks_told arcs blocks k (Refused place reason) inside clear first = blocks_first arcs blocks k place reason inside clear first
 blocks_told arcs blocks k Memory inside clear first = tt

@@ -21,7 +21,7 @@ use Rattle.dimacs_optimality.specs.LeastArcs.{WeightsFall, arcs_in}
 use Rattle.dimacs_judge.specs.inside.NodeLabels.{AreMade, IsKnown, Known, RelaxesArc}
 use Rattle.dimacs_network.specs.Arcs.{arc_at}
 use Rattle.dimacs_optimality.specs.Tests.{Clear}
-use Rattle.dimacs_optimality.specs.inside.Tests.{TellsReason}
+use Rattle.dimacs_optimality.specs.inside.Tests.{NamesReason}
 use Rattle.dimacs_optimality.proofs.Distances.{near_label}
 use Rattle.dimacs_optimality.proofs.LabelsPassing.{stays_near}
 use Rattle.dimacs_judge.proofs.NodeLabelLemmas.{labels_still, labels_this, some_makes}
@@ -86,7 +86,7 @@ passed_beyond nodes arcs b at a d is are tail beyond = record {
     below to less = omega (arith, ints, less)
 
 -- a test that reports no reason doesn't fail
-pub no_reason : {X : Type 0} (fails : Reason → Type 0) (outcome : Result X Reason) → is_err outcome ≡ false → TellsReason fails (result_err outcome) → (reason : Reason) → ¬ fails reason
+pub no_reason : {X : Type 0} (fails : Reason → Type 0) (outcome : Result X Reason) → is_err outcome ≡ false → NamesReason fails (result_err outcome) → (reason : Reason) → ¬ fails reason
 no_reason fails (Ok x) none tells = tells
 no_reason fails (Err why) none tells = absurd (cc)
 

@@ -29,8 +29,8 @@ use Rattle.dimacs_optimality.specs.Labels.{HasTightArc}
 use Rattle.dimacs_judge.specs.inside.Distances.{LeadsAside, LeadsTo}
 use Rattle.dimacs_judge.specs.inside.NodeLabels.{AreBlank, AreMade, AreMadeAlone, AreMadeBelow, AreWide, IsBlank, IsKnown, IsTight, Known, Makes, RelaxesArc, LabelsMade, SaysSame, is_made, made_count}
 use Rattle.dimacs_network.specs.Arcs.{arc_at, no_arc}
-use Rattle.dimacs_optimality.specs.Tests.{Clear, ClearBelow, FirstOfRow, TellsRow}
-use Rattle.dimacs_optimality.specs.inside.Tests.{Tells, TellsReason}
+use Rattle.dimacs_optimality.specs.Tests.{Clear, ClearBelow, FirstOfRow, TestsRow}
+use Rattle.dimacs_optimality.specs.inside.Tests.{TestsRows, NamesReason}
 use Rattle.dimacs_optimality.proofs.RowLemmas.{relax_clear_more, relax_first}
 
 pub made_from : (k : Known) → 2 ^ 31 ≤ k.pred → is_made k ≡ true
@@ -197,9 +197,9 @@ pub head_unmarked : (a : ArcView) (at : ℕ → Known) → (at a.head).dist ≡ 
 head_unmarked a at none tight = let e : None ≡ Some (tight.base +ℤ a.cost) = sym none ∙ tight.head in cc
 
 -- the result of a test, with its terms replaced by equal ones
-pub told_between : (radius tail from head to : Option ℤ) (weight cost : ℤ) (fault : Option Reason) → tail ≡ from → head ≡ to → weight ≡ cost → TellsReason (RelaxFails radius tail head weight) fault → TellsReason (RelaxFails radius from to cost) fault
+pub told_between : (radius tail from head to : Option ℤ) (weight cost : ℤ) (fault : Option Reason) → tail ≡ from → head ≡ to → weight ≡ cost → NamesReason (RelaxFails radius tail head weight) fault → NamesReason (RelaxFails radius from to cost) fault
 told_between radius tail from head to weight cost fault tail_is head_is weight_is outcome =
-    subst (λ t. TellsReason (RelaxFails radius t to cost) fault) tail_is (subst (λ h. TellsReason (RelaxFails radius tail h cost) fault) head_is (subst (λ w. TellsReason (RelaxFails radius tail head w) fault) weight_is outcome))
+    subst (λ t. NamesReason (RelaxFails radius t to cost) fault) tail_is (subst (λ h. NamesReason (RelaxFails radius tail h cost) fault) head_is (subst (λ w. NamesReason (RelaxFails radius tail head w) fault) weight_is outcome))
 
 -- the head after relaxing the arc
 module _ (a : ArcView) (old : ℕ → Known) where
@@ -398,12 +398,12 @@ made_all arcs b at alone all l has = (
 )
 
 -- ---- the tests of labels, then those of arcs
-pub both_told : (arcs : List ArcView) (b : BlockValue) (labels relaxed : Result Unit (Where × Reason)) → TellsRow (support_row arcs b) labels → TellsRow (relax_row arcs b) relaxed → Tells (distance_rows arcs b) (result_and labels relaxed)
+pub both_told : (arcs : List ArcView) (b : BlockValue) (labels relaxed : Result Unit (Where × Reason)) → TestsRow (support_row arcs b) labels → TestsRow (relax_row arcs b) relaxed → TestsRows (distance_rows arcs b) (result_and labels relaxed)
 both_told arcs b (Ok done) (Ok too) made passed = (made, (passed, tt))
 both_told arcs b (Ok done) (Err refusal) made first = inr (made, inl first)
 both_told arcs b (Err refusal) relaxed first passed = inl first
 
-pub labels_told : (arcs : List ArcView) (b : BlockValue) (labels : Result Unit (Where × Reason)) → TellsRow (support_row arcs b) labels → Clear (relax_row arcs b) → Tells (distance_rows arcs b) labels
+pub labels_told : (arcs : List ArcView) (b : BlockValue) (labels : Result Unit (Where × Reason)) → TestsRow (support_row arcs b) labels → Clear (relax_row arcs b) → TestsRows (distance_rows arcs b) labels
 labels_told arcs b (Ok done) made passed = (made, (passed, tt))
 labels_told arcs b (Err refusal) first passed = inl first
 

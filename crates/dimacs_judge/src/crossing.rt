@@ -7,7 +7,7 @@ ghost use Rattle.dimacs_optimality.specs.CertificateTests.{violated_row};
 ghost use Rattle.dimacs_optimality.specs.Cuts.{members, leaves, enters};
 ghost use Rattle.dimacs_optimality.specs.Flows.{when};
 ghost use Rattle.dimacs_optimality.specs.inside.Ranges.{IsOfSize};
-ghost use Rattle.dimacs_optimality.specs.Tests.{TellsRow};
+ghost use Rattle.dimacs_optimality.specs.Tests.{TestsRow};
 ghost use Rattle.dimacs_optimality.specs.ViolatedSets as theory;
 ghost use Rattle.dimacs_optimality.specs.ViolatedSets.{most_out, least_out};
 
@@ -29,7 +29,7 @@ pub(crate) fn set_is_violated<N: Network>(
     instance: &MinInstance<N>,
     set: &Cut,
 ) -> Result<(), (Where, Reason)>
-    ensures { TellsRow (violated_row instance.now (members set.now)) result }
+    ensures { TestsRow (violated_row instance.now (members set.now)) result }
 {
     let crossing = bounds_across(instance.network(), set);
     let supply = supply_in(instance, set);

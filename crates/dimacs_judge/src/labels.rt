@@ -8,8 +8,8 @@ ghost use Rattle.dimacs_optimality.specs.Labels.{AreDistances, HasArcOfWeight, L
 ghost use Rattle.dimacs_optimality.specs.inside.Labels.{block_at};
 ghost use Rattle.dimacs_records.specs.Ranges.{IsWide};
 ghost use Rattle.dimacs_records.specs.declared.reasons.Reason.TheVariants as reasons;
-ghost use Rattle.dimacs_optimality.specs.Tests.{Decides, TellsRow};
-ghost use Rattle.dimacs_optimality.specs.inside.Tests.{TellsReason, Tells};
+ghost use Rattle.dimacs_optimality.specs.Tests.{Decides, TestsRow};
+ghost use Rattle.dimacs_optimality.specs.inside.Tests.{NamesReason, TestsRows};
 
 use dimacs_claims::{Label, LabelList, Labels};
 use dimacs_instance::Graph;
@@ -36,7 +36,7 @@ pub fn label_tests<N: Network>(graph: &Graph<N>, labels: &Labels) -> Result<(), 
 
 /// Tests block by block; returns the first test that fails.
 fn blocks_hold<N: Network>(network: &N, labels: &Labels) -> Result<(), (Where, Reason)>
-    ensures tests { Tells (label_rows (N.list network.now) labels.now.blocks) result }
+    ensures tests { TestsRows (label_rows (N.list network.now) labels.now.blocks) result }
     ensures lawful { AreLabels labels.now }
 {
     for block in 0..labels.blocks().len() {
@@ -52,7 +52,7 @@ fn block_holds<N: Network>(
     block: usize,
 ) -> Result<(), (Where, Reason)>
     requires { block < length labels.now.blocks }
-    ensures { Tells (block_rows (N.list network.now) (block_at labels.now.blocks block)) result }
+    ensures { TestsRows (block_rows (N.list network.now) (block_at labels.now.blocks block)) result }
 {
     block_weights_hold(network, labels, block)?;
     labels_supported(network, labels, block)?;
@@ -66,7 +66,7 @@ fn block_weights_hold<N: Network>(
     block: usize,
 ) -> Result<(), (Where, Reason)>
     requires { block < length labels.now.blocks }
-    ensures { TellsRow (weight_row (N.list network.now) (block_at labels.now.blocks block)) result }
+    ensures { TestsRow (weight_row (N.list network.now) (block_at labels.now.blocks block)) result }
 {
     match radius_in(labels, block) {
         Some(_) => weights_hold(network),
@@ -84,7 +84,7 @@ fn radius_in(labels: &Labels, block: usize) -> Option<i128>
 
 /// Tests that no weight is negative; the error names the first arc whose weight is.
 pub(crate) fn weights_hold<N: Network>(network: &N) -> Result<(), (Where, Reason)>
-    ensures { TellsRow (negative_row (N.list network.now)) result }
+    ensures { TestsRow (negative_row (N.list network.now)) result }
 {
     for i in 0..network.arcs() {
         if network.arc(i).cost < 0 {
@@ -101,7 +101,7 @@ fn labels_supported<N: Network>(
     block: usize,
 ) -> Result<(), (Where, Reason)>
     requires { block < length labels.now.blocks }
-    ensures { TellsRow (support_row (N.list network.now) (block_at labels.now.blocks block)) result }
+    ensures { TestsRow (support_row (N.list network.now) (block_at labels.now.blocks block)) result }
 {
     let list = labels_in(labels, block);
     for i in 0..list.len() {
@@ -164,7 +164,7 @@ fn arcs_relaxed<N: Network>(
     block: usize,
 ) -> Result<(), (Where, Reason)>
     requires { block < length labels.now.blocks }
-    ensures { TellsRow (relax_row (N.list network.now) (block_at labels.now.blocks block)) result }
+    ensures { TestsRow (relax_row (N.list network.now) (block_at labels.now.blocks block)) result }
 {
     let radius = radius_in(labels, block);
     for i in 0..network.arcs() {
@@ -178,7 +178,7 @@ fn arcs_relaxed<N: Network>(
 /// The reason why an arc fails, if it does. It looks the head up only if the tail has a label.
 #[inline(always)]
 fn relax_fault(labels: &Labels, block: usize, radius: Option<i128>, arc: ArcView) -> Option<Reason>
-    ensures { TellsReason (RelaxFails radius (label_at labels.now.blocks block arc.tail) (label_at labels.now.blocks block arc.head) arc.cost) result }
+    ensures { NamesReason (RelaxFails radius (label_at labels.now.blocks block arc.tail) (label_at labels.now.blocks block arc.head) arc.cost) result }
 {
     let from = labels.label(block, arc.tail)?;
     relax_fault_from(from, labels.label(block, arc.head), radius, arc.cost)
@@ -193,7 +193,7 @@ pub(crate) fn relax_fault_from(
     weight: i64,
 ) -> Option<Reason>
     requires { IsWide from }
-    ensures { TellsReason (RelaxFails radius (Some from) to weight) result }
+    ensures { NamesReason (RelaxFails radius (Some from) to weight) result }
 {
     match to {
         None => escape_fault(radius, from, weight),
@@ -206,7 +206,7 @@ pub(crate) fn relax_fault_from(
 #[inline(always)]
 pub(crate) fn escape_fault(radius: Option<i128>, from: i128, weight: i64) -> Option<Reason>
     requires { IsWide from }
-    ensures { TellsReason (λ reason. (reason ≡ reasons.Escapes) × IsNear radius (from +ℤ weight)) result }
+    ensures { NamesReason (λ reason. (reason ≡ reasons.Escapes) × IsNear radius (from +ℤ weight)) result }
 {
     match radius {
         Some(radius) if from + i128::from(weight) > radius => None,

@@ -12,8 +12,8 @@ ghost use Rattle.dimacs_judge.specs.inside.CertificateTests.{distance_rows};
 ghost use Rattle.dimacs_judge.specs.inside.Distances.{Fits, LeadsAside};
 ghost use Rattle.dimacs_optimality.specs.LeastArcs.{AreLeast};
 ghost use Rattle.dimacs_judge.specs.inside.NodeLabels.{AllBlank, AreAsTested, AreBlank, AreMade, AreMadeBelow, AreWide, IsBlank, IsLabelled, IsTight, RelaxesArc, known};
-ghost use Rattle.dimacs_optimality.specs.Tests.{Clear, TellsRow};
-ghost use Rattle.dimacs_optimality.specs.inside.Tests.{Tells, TellsAll, TellsReason};
+ghost use Rattle.dimacs_optimality.specs.Tests.{Clear, TestsRow};
+ghost use Rattle.dimacs_optimality.specs.inside.Tests.{TestsRows, TestsAll, NamesReason};
 
 use crate::distance::{Distance, distance_in, leads_aside, leads_to};
 use crate::labels::{relax_fault_from, weights_hold};
@@ -62,7 +62,7 @@ pub(crate) fn labelled_blocks_hold<N: Network>(
     network: &N,
     labels: &Labels,
 ) -> Result<(), JudgeError>
-    ensures tests { TellsAll (label_rows (N.list network.now) labels.now.blocks) result }
+    ensures tests { TestsAll (label_rows (N.list network.now) labels.now.blocks) result }
     ensures lawful { AreLabels labels.now }
 {
     let mut tables = Tables::new(alloc);
@@ -85,7 +85,7 @@ fn test_weights_for<N: Network>(
     weights: &mut Weights,
 ) -> Result<(), (Where, Reason)>
     requires { AreAsTested (N.list network.now) weights.old }
-    ensures tests { TellsRow (weight_row (N.list network.now) block.now) result }
+    ensures tests { TestsRow (weight_row (N.list network.now) block.now) result }
     ensures tested { OnOk result (AreAsTested (N.list network.now) weights.new) }
 {
     if block.radius().is_none() {
@@ -128,7 +128,7 @@ fn labelled_block_holds<N: Network>(
     requires lawful { (nodes : ℕ) × (nodes ≤ most_nodes) × IsBlock nodes block.now }
     requires least { IfSome least.now (AreLeast (N.list network.now)) }
     requires blank { AllBlank tables.old }
-    ensures tests { TellsAll (distance_rows (N.list network.now) block.now) result }
+    ensures tests { TestsAll (distance_rows (N.list network.now) block.now) result }
     ensures blank { OnOk result (AllBlank tables.new) }
 {
     let labels = block.labels();
@@ -167,7 +167,7 @@ fn block_holds_by<N: Network, D: Distance>(
     requires fits { All (λ (l : Label). Fits D.low D.end l.dist) block.now.labels }
     requires least { IfSome least.now (AreLeast (N.list network.now)) }
     requires blank { AreBlank D.value node_labels.old }
-    ensures tests { TellsAll (distance_rows (N.list network.now) block.now) result }
+    ensures tests { TestsAll (distance_rows (N.list network.now) block.now) result }
     ensures blank { OnOk result (AreBlank D.value node_labels.new) }
 {
     note_labels(block, node_labels)?;
@@ -224,7 +224,7 @@ fn block_passed<N: Network, D: Distance>(
     requires least { IfSome least.now (AreLeast (N.list network.now)) }
     requires labelled { IsLabelled D.value (N.list network.now) block.now node_labels.old }
     ensures labelled { IsLabelled D.value (N.list network.now) block.now node_labels.new }
-    ensures tests { Tells (distance_rows (N.list network.now) block.now) result }
+    ensures tests { TestsRows (distance_rows (N.list network.now) block.now) result }
 {
     if few_passed(network, block, least, node_labels) {
         return labels_made(block.labels(), node_labels);
@@ -269,7 +269,7 @@ fn arcs_passed<N: Network, D: Distance>(
     requires lawful { (nodes : ℕ) × IsBlock nodes block.now }
     requires labelled { IsLabelled D.value (N.list network.now) block.now node_labels.old }
     ensures labelled { IsLabelled D.value (N.list network.now) block.now node_labels.new }
-    ensures tests { Tells (distance_rows (N.list network.now) block.now) result }
+    ensures tests { TestsRows (distance_rows (N.list network.now) block.now) result }
 {
     let labels = block.labels();
     let mut count = 0usize;
@@ -318,7 +318,7 @@ pub(crate) fn pass_arc<D: Distance>(
 ) -> Result<bool, Reason>
     requires blank { IsBlank D.value node_labels.old }
     requires wide { AreWide (known D.value node_labels.old) }
-    ensures outcome { TellsReason (RelaxFails block.now.radius (known D.value node_labels.old arc.tail).dist (known D.value node_labels.old arc.head).dist arc.cost)
+    ensures outcome { NamesReason (RelaxFails block.now.radius (known D.value node_labels.old arc.tail).dist (known D.value node_labels.old arc.head).dist arc.cost)
         (result_err result) }
     ensures relaxes { RelaxesArc arc (known D.value node_labels.old) (known D.value node_labels.new) }
     ensures made { IfOk result (λ made. IsTrue made ↔ IsTight arc (known D.value node_labels.old)) }
@@ -353,7 +353,7 @@ fn arc_fault<D: Distance>(
     node_labels: &NodeTable<NodeLabel<D>>,
 ) -> Option<Reason>
     requires { AreWide (known D.value node_labels.now) }
-    ensures { TellsReason (RelaxFails block.now.radius (known D.value node_labels.now tail).dist (known D.value node_labels.now head).dist weight) result }
+    ensures { NamesReason (RelaxFails block.now.radius (known D.value node_labels.now tail).dist (known D.value node_labels.now head).dist weight) result }
 {
     let from = distance_in(node_labels.get(tail).dist)?;
     let to = distance_in(node_labels.get(head).dist);
@@ -365,7 +365,7 @@ fn labels_made<D: Distance>(
     labels: &LabelList,
     node_labels: &NodeTable<NodeLabel<D>>,
 ) -> Result<(), (Where, Reason)>
-    ensures { (arcs : List ArcView) (b : BlockValue) → b.labels ≡ labels.now → AreMade arcs b (known D.value node_labels.now) → TellsRow (support_row arcs b) result }
+    ensures { (arcs : List ArcView) (b : BlockValue) → b.labels ≡ labels.now → AreMade arcs b (known D.value node_labels.now) → TestsRow (support_row arcs b) result }
 {
     for i in 0..labels.len() {
         let id = labels.at(i).id;

@@ -5,8 +5,8 @@ ghost use Rattle.dimacs_records.specs.declared.reasons.Reason.TheVariants as rea
 ghost use Rattle.dimacs_instance.specs.QueryTexts.{AreLawful, Pairs, asked};
 ghost use Rattle.dimacs_optimality.specs.Answers.{AnswersQueries, answer_to, distance_from, radius_from};
 ghost use Rattle.dimacs_optimality.specs.QueryTests.{HasBlock, HasFullBlock, IsServed, block_row, listed_row, nodes_asked, query_node_row, sources_asked};
-ghost use Rattle.dimacs_optimality.specs.inside.QueryTests.{AreNumbers, TellsBlocks};
-ghost use Rattle.dimacs_optimality.specs.Tests.{TellsRow};
+ghost use Rattle.dimacs_optimality.specs.inside.QueryTests.{AreNumbers, TestsBlocks};
+ghost use Rattle.dimacs_optimality.specs.Tests.{TestsRow};
 
 use dimacs_claims::Labels;
 use dimacs_instance::Queries;
@@ -18,7 +18,7 @@ use std::alloc::Global;
 
 /// Tests that the queries name nodes of the graph. The error names the first ID that is too great, FROM before TO.
 pub fn query_nodes_hold(nodes: u32, queries: &Queries) -> Result<(), (Where, Reason)>
-    ensures tests { TellsRow (query_node_row nodes (asked queries.now)) result }
+    ensures tests { TestsRow (query_node_row nodes (asked queries.now)) result }
     ensures within { OnOk result (All (λ id. id ≤ nodes) (nodes_asked (asked queries.now))) }
 {
     match queries {
@@ -29,7 +29,7 @@ pub fn query_nodes_hold(nodes: u32, queries: &Queries) -> Result<(), (Where, Rea
 
 /// The same for queries of sources.
 fn sources_are_nodes(nodes: u32, ids: &[u32]) -> Result<(), (Where, Reason)>
-    ensures { TellsRow (listed_row ids.now reasons.QueryNode (λ id. nodes < id)) result }
+    ensures { TestsRow (listed_row ids.now reasons.QueryNode (λ id. nodes < id)) result }
 {
     for id in ids {
         if *id > nodes {
@@ -41,7 +41,7 @@ fn sources_are_nodes(nodes: u32, ids: &[u32]) -> Result<(), (Where, Reason)>
 
 /// The same for queries of pairs.
 fn pairs_are_nodes(nodes: u32, pairs: &[(u32, u32)]) -> Result<(), (Where, Reason)>
-    ensures { TellsRow (query_node_row nodes (Pairs pairs.now)) result }
+    ensures { TestsRow (query_node_row nodes (Pairs pairs.now)) result }
 {
     for (from, to) in pairs {
         if *from > nodes {
@@ -61,7 +61,7 @@ pub(crate) fn blocks_exist(
     labels: &Labels,
     queries: &Queries,
 ) -> Result<NodeMap<u32>, JudgeError>
-    ensures { TellsBlocks labels.now.blocks (asked queries.now) result }
+    ensures { TestsBlocks labels.now.blocks (asked queries.now) result }
 {
     let numbers = block_numbers(alloc, labels)?;
     sources_are_served(labels, &numbers, queries)?;
@@ -86,7 +86,7 @@ fn sources_are_served(
     queries: &Queries,
 ) -> Result<(), (Where, Reason)>
     requires { AreNumbers labels.now.blocks numbers.now }
-    ensures { TellsRow (block_row labels.now.blocks (asked queries.now)) result }
+    ensures { TestsRow (block_row labels.now.blocks (asked queries.now)) result }
 {
     for i in 0..queries.len() {
         let source = source_asked(queries, i);

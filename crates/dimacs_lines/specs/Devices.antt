@@ -39,9 +39,9 @@ pub record OverFile (F : Type 0) : Type 0 where
   pub reason : Option Error
 
 -- a call that fails keeps a reason; any other leaves the one before
-abbrev pub TellsReason : {V E : Type 0} → Result V E → Option Error → Option Error → Type 0
-TellsReason (Ok value) old new = new ≡ old
-TellsReason (Err error) old new = IsSome new
+abbrev pub NamesReason : {V E : Type 0} → Result V E → Option Error → Option Error → Type 0
+NamesReason (Ok value) old new = new ≡ old
+NamesReason (Err error) old new = IsSome new
 
 -- a source or sink in memory: the bytes to give, or accepted, and its faults
 pub record InMemory : Type 0 where

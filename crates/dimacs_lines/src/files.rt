@@ -3,7 +3,7 @@
 
 ghost use Rattle.std.specs.Prelude.{◌≡◌, ◌≢◌, ◌≤◌, None, Some, length, IfOk};
 ghost use Rattle.std.specs.Io.KnownBytes.{ReadConsumes, WriteAppends};
-ghost use Rattle.dimacs_lines.specs.Devices.{CountsFault, CountsPut, TellsReason, one_more};
+ghost use Rattle.dimacs_lines.specs.Devices.{CountsFault, CountsPut, NamesReason, one_more};
 
 use crate::device::{DeviceFault, Sink, Source};
 use std::io;
@@ -74,7 +74,7 @@ impl<R: Read> Source for FileDevice<R> {
         ensures room { IfOk result (λ count. count ≤ length into.old) }
         ensures bytes { ReadConsumes (R.remaining self.old.file) (R.remaining self.new.file) result into.new }
         ensures fault { CountsFault result self.old.faults self.new.faults }
-        ensures reason { TellsReason result self.old.reason self.new.reason }
+        ensures reason { NamesReason result self.old.reason self.new.reason }
     {
         match read_some(&mut self.file, into) {
             Ok(count) => Ok(count),
@@ -105,7 +105,7 @@ impl<W: Write> Sink for FileDevice<W> {
         ensures room { IfOk result (λ count. count ≤ length bytes.now) }
         ensures bytes { WriteAppends (W.contents self.old.file) (W.contents self.new.file) result bytes.now }
         ensures fault { CountsPut result bytes.now self.old.faults self.new.faults }
-        ensures reason { TellsReason result self.old.reason self.new.reason }
+        ensures reason { NamesReason result self.old.reason self.new.reason }
     {
         match write_some(&mut self.file, bytes) {
             Ok(count) => Ok(count),

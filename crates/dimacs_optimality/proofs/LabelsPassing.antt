@@ -15,7 +15,7 @@ use Rattle.dimacs_optimality.specs.declared.verdict.Where.TheVariants as places
 use Rattle.dimacs_claims.specs.Labels.{BlockValue, LabelsValue, AreLabels, IsBlock, IsNear, label, no_label}
 use Rattle.dimacs_optimality.specs.Labels.{HasArcOfWeight, HasTightArc, HasWeights, IsReached, IsRelaxed, LabelsOk, AreDistances, StaysNear}
 use Rattle.dimacs_optimality.specs.Tests.{Clear, AllClear}
-use Rattle.dimacs_optimality.specs.inside.Tests.{Tells}
+use Rattle.dimacs_optimality.specs.inside.Tests.{TestsRows}
 use Rattle.dimacs_network.specs.Arcs.{no_arc, arc_at}
 use Rattle.dimacs_optimality.specs.CertificateTests.{support_row, RelaxFails, relax_row, label_rows, weight_row}
 use Rattle.dimacs_optimality.proofs.Distances.{labels_are_distances}
@@ -141,6 +141,6 @@ stays_near nodes b is = record { source = go b.radius is.radius_within; labels =
 pub passing_are_distances : (arcs : List ArcView) (l : LabelsValue) → AreLabels l → All (LabelsOk arcs) l.blocks → AreDistances arcs l.blocks
 passing_are_distances arcs l are all k d inside = labels_are_distances arcs (get_or l.blocks k d) (are.blocks k d inside).preds (stays_near l.nodes (get_or l.blocks k d) (are.blocks k d inside)) (all k d inside)
 
-pub told_distances : (arcs : List ArcView) (l : LabelsValue) → AreLabels l → (outcome : Result Unit (Where × Reason)) → Tells (label_rows arcs l.blocks) outcome → OnOk outcome (AreDistances arcs l.blocks)
+pub told_distances : (arcs : List ArcView) (l : LabelsValue) → AreLabels l → (outcome : Result Unit (Where × Reason)) → TestsRows (label_rows arcs l.blocks) outcome → OnOk outcome (AreDistances arcs l.blocks)
 told_distances arcs l are (Ok done) clear = passing_are_distances arcs l are (labels_hold arcs l.blocks clear)
 told_distances arcs l are (Err refusal) first = tt

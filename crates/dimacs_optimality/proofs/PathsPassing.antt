@@ -19,7 +19,7 @@ use Rattle.dimacs_optimality.specs.Labels.{AreDistances}
 use Rattle.dimacs_optimality.specs.PathsJudge.{paths_rows, PassesPaths, AnswersAreDistances, ShowsDistances}
 use Rattle.dimacs_optimality.specs.QueryTests.{HasBlock, IsServed, sources_asked, query_node_row, block_row}
 use Rattle.dimacs_optimality.specs.Tests.{Clear, AllClear, FirstOfRow, First, Judges, Refuses}
-use Rattle.dimacs_optimality.specs.inside.Tests.{TellsAll}
+use Rattle.dimacs_optimality.specs.inside.Tests.{TestsAll}
 use Rattle.dimacs_optimality.specs.Walks.{IsDistance}
 use Rattle.dimacs_optimality.proofs.BlockNumbers.{block_found}
 use Rattle.dimacs_optimality.proofs.Firsts.{AllOneWay, one_test_one_way}
@@ -89,6 +89,6 @@ pub blocks_refused : (g : NetworkValue) (q : QueriesValue) (l : LabelsValue) →
 blocks_refused g q l nodes named (Refused place reason) first = inr (nodes, inr (named, inl first))
 blocks_refused g q l nodes named Memory first = tt
 
-pub labels_refused : (g : NetworkValue) (q : QueriesValue) (l : LabelsValue) → Clear (nodes_row g.nodes l.nodes) → Clear (query_node_row g.nodes q) → Clear (block_row l.blocks q) → (error : JudgeError) → TellsAll (label_rows g.arcs l.blocks) (Err error) → Refuses (First (paths_rows g q l)) error
+pub labels_refused : (g : NetworkValue) (q : QueriesValue) (l : LabelsValue) → Clear (nodes_row g.nodes l.nodes) → Clear (query_node_row g.nodes q) → Clear (block_row l.blocks q) → (error : JudgeError) → TestsAll (label_rows g.arcs l.blocks) (Err error) → Refuses (First (paths_rows g q l)) error
 labels_refused g q l nodes named found (Refused place reason) first = inr (nodes, inr (named, inr (found, first)))
 labels_refused g q l nodes named found Memory first = tt

@@ -9,7 +9,7 @@ use Rattle.dimacs_records.specs.declared.reasons.Reason.TheVariants.{NoTightArc}
 use Rattle.dimacs_claims.specs.Labels.{BlockValue, label, no_label}
 use Rattle.dimacs_optimality.specs.Labels.{HasTightArc}
 use Rattle.dimacs_optimality.specs.CertificateTests.{negative_row, support_row, RelaxFails, relax_row, weight_row}
-use Rattle.dimacs_optimality.specs.Tests.{Row, ClearBelow, Clear, FirstOfRow, TellsRow}
+use Rattle.dimacs_optimality.specs.Tests.{Row, ClearBelow, Clear, FirstOfRow, TestsRow}
 use Rattle.dimacs_optimality.specs.Rows.{amount_at, arc_row, flow_row, node_row}
 use Rattle.dimacs_network.specs.Arcs.{no_arc, arc_at}
 
@@ -61,7 +61,7 @@ weights_free arcs b none k place reason f = let some : false ≡ true = subst Is
 pub weights_all : (arcs : List ArcView) (b : BlockValue) → Clear (negative_row arcs) → Clear (weight_row arcs b)
 weights_all arcs b clear k place reason f = clear k place reason f.1
 
-pub weights_told : (arcs : List ArcView) (b : BlockValue) → IsSome b.radius → (outcome : Result Unit (Where × Reason)) → TellsRow (negative_row arcs) outcome → TellsRow (weight_row arcs b) outcome
+pub weights_told : (arcs : List ArcView) (b : BlockValue) → IsSome b.radius → (outcome : Result Unit (Where × Reason)) → TestsRow (negative_row arcs) outcome → TestsRow (weight_row arcs b) outcome
 weights_told arcs b some (Ok done) clear = weights_all arcs b clear
 weights_told arcs b some (Err refusal) first = record { number = first.number; fails = (some, first.fails); earlier = λ k less place reason f. first.earlier k less place reason f.1 }
 

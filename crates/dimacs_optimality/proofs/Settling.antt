@@ -7,12 +7,12 @@ use Rattle.dimacs_optimality.specs.declared.verdict.Where.{Where}
 use Rattle.dimacs_optimality.specs.declared.verdict.JudgeError.{JudgeError}
 use Rattle.dimacs_optimality.specs.declared.verdict.JudgeError.TheVariants.{Refused, Memory}
 use Rattle.dimacs_optimality.specs.declared.verdict.Verdict.{Verdict}
-use Rattle.dimacs_optimality.specs.Tests.{Row, AllClear, First, TellsRow, Decides, Refutes, Settles, Judges, Refuses}
-use Rattle.dimacs_optimality.specs.inside.Tests.{Tells}
+use Rattle.dimacs_optimality.specs.Tests.{Row, AllClear, First, TestsRow, Decides, Refutes, Settles, Judges, Refuses}
+use Rattle.dimacs_optimality.specs.inside.Tests.{TestsRows}
 use Rattle.dimacs_optimality.proofs.Firsts.{AllOneWay, one_first, none_first}
 use Rattle.dimacs_optimality.proofs.RowLists.{first_in_front, first_after}
 
-pub decided : (holds : Type 0) (rows : List Row) → (AllClear rows → holds) → (holds → AllClear rows) → (outcome : Result Unit (Where × Reason)) → Tells rows outcome → Decides holds rows outcome
+pub decided : (holds : Type 0) (rows : List Row) → (AllClear rows → holds) → (holds → AllClear rows) → (outcome : Result Unit (Where × Reason)) → TestsRows rows outcome → Decides holds rows outcome
 decided holds rows passing needed (Ok done) clear = passing clear
 decided holds rows passing needed (Err refusal) first = (first, λ h. none_first rows refusal.0 refusal.1 (needed h) first)
 
@@ -40,7 +40,7 @@ pub refuted_settles : {X Y : Type 0} (holds : X → Type 0) (other : Y → Type 
 refuted_settles holds other rows needs error outcome result is = let p = err_from_is_err_and result is in rw (p.1, p.2) (refuted_also holds other rows needs error outcome)
 
 -- a single row
-pub last_row : (row : Row) (outcome : Result Unit (Where × Reason)) → TellsRow row outcome → Tells (row ∷ []) outcome
+pub last_row : (row : Row) (outcome : Result Unit (Where × Reason)) → TestsRow row outcome → TestsRows (row ∷ []) outcome
 last_row row (Ok done) clear = (clear, tt)
 last_row row (Err refusal) first = inl first
 

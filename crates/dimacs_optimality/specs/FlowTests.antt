@@ -37,9 +37,9 @@ abbrev pub feasible_rows : ℕ → List ArcView → (ℕ → Option ℤ) → Lis
 feasible_rows nodes arcs demand x = bound_row arcs x ∷ balance_row nodes arcs demand x ∷ []
 
 -- the balances of a feasible flow, or the first test that fails
-abbrev pub TellsFeasible : ℕ → List ArcView → (ℕ → Option ℤ) → List ℤ → Result Balances JudgeError → Type 0
-TellsFeasible nodes arcs demand x (Ok balances) = AreBalances arcs x balances × AllClear (feasible_rows nodes arcs demand x)
-TellsFeasible nodes arcs demand x (Err error) = Refuses (First (feasible_rows nodes arcs demand x)) error
+abbrev pub TestsFeasible : ℕ → List ArcView → (ℕ → Option ℤ) → List ℤ → Result Balances JudgeError → Type 0
+TestsFeasible nodes arcs demand x (Ok balances) = AreBalances arcs x balances × AllClear (feasible_rows nodes arcs demand x)
+TestsFeasible nodes arcs demand x (Err error) = Refuses (First (feasible_rows nodes arcs demand x)) error
 
 -- source and sink may have any balance, every other node has to have 0
 abbrev pub max_demand : MaxValue → ℕ → Option ℤ
@@ -63,9 +63,9 @@ abbrev pub cost_row : List ArcView → List ℤ → Row
 cost_row arcs x = arc_row arcs (λ k reason. (reason ≡ CostRange) × (¬ IsWide (cost_through arcs x k)))
 
 -- the cost if the sums stay in range; otherwise the first arc at which they leave it
-abbrev pub TellsCost : List ArcView → List ℤ → Result ℤ (Where × Reason) → Type 0
-TellsCost arcs x (Ok sum) = (sum ≡ cost arcs x) × Clear (cost_row arcs x)
-TellsCost arcs x (Err refusal) = FirstOfRow (cost_row arcs x) refusal.0 refusal.1
+abbrev pub SumsCost : List ArcView → List ℤ → Result ℤ (Where × Reason) → Type 0
+SumsCost arcs x (Ok sum) = (sum ≡ cost arcs x) × Clear (cost_row arcs x)
+SumsCost arcs x (Err refusal) = FirstOfRow (cost_row arcs x) refusal.0 refusal.1
 
 -- the sum of the costs up to some arc is out of range
 abbrev pub LeavesCostRange : List ArcView → List ℤ → Type 0

@@ -40,9 +40,9 @@ Refuses first (Refused place reason) = first place reason
 Refuses first Memory = Unit
 
 -- the result of a row of tests: all pass, or the first that fails
-abbrev pub TellsRow : Row → Result Unit (Where × Reason) → Type 0
-TellsRow row (Ok done) = Clear row
-TellsRow row (Err refusal) = FirstOfRow row refusal.0 refusal.1
+abbrev pub TestsRow : Row → Result Unit (Where × Reason) → Type 0
+TestsRow row (Ok done) = Clear row
+TestsRow row (Err refusal) = FirstOfRow row refusal.0 refusal.1
 
 -- yes exactly if this holds; otherwise the first test that fails
 abbrev pub Decides : Type 0 → List Row → Result Unit (Where × Reason) → Type 0

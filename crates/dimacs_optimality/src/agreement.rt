@@ -1,7 +1,7 @@
 //! Tests of a claim's own numbers against the instance.
 
 ghost use Rattle.dimacs_optimality.specs.Agreement.{value_row, nodes_row};
-ghost use Rattle.dimacs_optimality.specs.Tests.{TellsRow};
+ghost use Rattle.dimacs_optimality.specs.Tests.{TestsRow};
 
 use crate::verdict::Where;
 use dimacs_claims::{Place, Placed};
@@ -9,7 +9,7 @@ use dimacs_records::Reason;
 
 /// Tests that the claimed value or cost is this one.
 pub(crate) fn value_agrees<P: Place>(value: i128, placed: &Placed<P>) -> Result<(), (Where, Reason)>
-    ensures { TellsRow (value_row value placed.now.value placed.now.value_line) result }
+    ensures { TestsRow (value_row value placed.now.value placed.now.value_line) result }
 {
     if placed.value == value {
         return Ok(());
@@ -23,7 +23,7 @@ pub(crate) fn value_agrees<P: Place>(value: i128, placed: &Placed<P>) -> Result<
 
 /// Tests that the certificate has as many nodes as the instance.
 pub fn nodes_agree(nodes: u32, claimed: u32) -> Result<(), (Where, Reason)>
-    ensures { TellsRow (nodes_row nodes claimed) result }
+    ensures { TestsRow (nodes_row nodes claimed) result }
 {
     if claimed == nodes {
         Ok(())

@@ -4,8 +4,8 @@ ghost use Rattle.std.specs.Prelude.{◌≡◌, ℤ, length};
 ghost use Rattle.dimacs_network.specs.declared.network.ArcView.{ArcView};
 ghost use Rattle.dimacs_records.specs.declared.reasons.Reason.{Reason};
 ghost use Rattle.dimacs_optimality.specs.Rows.{flow_row};
-ghost use Rattle.dimacs_optimality.specs.Tests.{TellsRow};
-ghost use Rattle.dimacs_optimality.specs.inside.Tests.{TellsReason};
+ghost use Rattle.dimacs_optimality.specs.Tests.{TestsRow};
+ghost use Rattle.dimacs_optimality.specs.inside.Tests.{NamesReason};
 
 use crate::flow::Flow;
 use crate::verdict::Where;
@@ -18,7 +18,7 @@ pub(crate) trait ArcTest {
 
     /// The reason why an arc fails, if it does.
     fn fault(&self, arc: ArcView, amount: i64) -> Option<Reason>
-        ensures { TellsReason (fails self.now arc amount) result };
+        ensures { NamesReason (fails self.now arc amount) result };
 }
 
 /// Tests each arc; the error names the first that fails.
@@ -28,7 +28,7 @@ pub(crate) fn arcs_hold<N: Network, T: ArcTest>(
     test: &T,
 ) -> Result<(), (Where, Reason)>
     requires one_each { length flow.now ≡ length (N.list network.now) }
-    ensures { TellsRow (flow_row (T.fails test.now) (N.list network.now) flow.now) result }
+    ensures { TestsRow (flow_row (T.fails test.now) (N.list network.now) flow.now) result }
 {
     for i in 0..network.arcs() {
         if let Some(reason) = test.fault(network.arc(i), flow.amount(i)) {

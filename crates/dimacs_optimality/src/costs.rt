@@ -1,7 +1,7 @@
 //! The cost of a flow.
 
 ghost use Rattle.std.specs.Prelude.{◌≡◌, ◌^◌, ◌+ℤ◌, ◌*ℤ◌, length, IsTrue, ◌↔◌, MatchOption};
-ghost use Rattle.dimacs_optimality.specs.FlowTests.{TellsCost};
+ghost use Rattle.dimacs_optimality.specs.FlowTests.{SumsCost};
 ghost use Rattle.dimacs_optimality.specs.inside.Ranges.{IsOfSize};
 ghost use Rattle.dimacs_records.specs.Ranges.{IsWide};
 
@@ -15,7 +15,7 @@ use dimacs_records::Reason;
 /// range from -10^30 to 10^30.
 pub fn cost_within<N: Network>(network: &N, flow: &Flow) -> Result<i128, (Where, Reason)>
     requires one_each { length flow.now ≡ length (N.list network.now) }
-    ensures { TellsCost (N.list network.now) flow.now result }
+    ensures { SumsCost (N.list network.now) flow.now result }
 {
     let mut sum: i128 = 0;
     for i in 0..network.arcs() {

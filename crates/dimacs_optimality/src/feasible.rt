@@ -4,9 +4,9 @@ ghost use Rattle.std.specs.Prelude.{◌≡◌, ◌≤◌, ℕ, ℤ, List, Option
 ghost use Rattle.dimacs_lines.specs.Limits.{most_count, most_nodes};
 ghost use Rattle.dimacs_optimality.specs.Feasible.{FeasibleMax, FeasibleMin};
 ghost use Rattle.dimacs_optimality.specs.Flows.{net};
-ghost use Rattle.dimacs_optimality.specs.FlowTests.{BoundFails, BalanceFails, bound_row, balance_row, feasible_max_rows, feasible_min_rows, max_demand, min_demand, TellsFeasible};
-ghost use Rattle.dimacs_optimality.specs.Tests.{Settles, TellsRow};
-ghost use Rattle.dimacs_optimality.specs.inside.Tests.{TellsReason};
+ghost use Rattle.dimacs_optimality.specs.FlowTests.{BoundFails, BalanceFails, bound_row, balance_row, feasible_max_rows, feasible_min_rows, max_demand, min_demand, TestsFeasible};
+ghost use Rattle.dimacs_optimality.specs.Tests.{Settles, TestsRow};
+ghost use Rattle.dimacs_optimality.specs.inside.Tests.{NamesReason};
 
 use crate::arc_test::{ArcTest, arcs_hold};
 use crate::balances::{Balances, NodeBalances};
@@ -60,7 +60,7 @@ pub fn balances_if_feasible<N: Network, D: Demands>(
     requires few_nodes { N.node_count network.now ≤ most_nodes }
     requires few_arcs { length (N.list network.now) ≤ most_count }
     requires one_each { length flow.now ≡ length (N.list network.now) }
-    ensures { TellsFeasible (N.node_count network.now) (N.list network.now) (D.demand demands.now) flow.now result }
+    ensures { TestsFeasible (N.node_count network.now) (N.list network.now) (D.demand demands.now) flow.now result }
 {
     bounds_hold(network, flow)?;
     let balances = Balances::new(alloc, network, flow)?;
@@ -71,7 +71,7 @@ pub fn balances_if_feasible<N: Network, D: Demands>(
 /// Tests the bounds; the error names the first arc that carries less than its lower bound or more than its capacity.
 pub fn bounds_hold<N: Network>(network: &N, flow: &Flow) -> Result<(), (Where, Reason)>
     requires one_each { length flow.now ≡ length (N.list network.now) }
-    ensures { TellsRow (bound_row (N.list network.now) flow.now) result }
+    ensures { TestsRow (bound_row (N.list network.now) flow.now) result }
 {
     arcs_hold(network, flow, &Bounds)
 }
@@ -131,7 +131,7 @@ pub(crate) fn balances_hold<N: Network, B: NodeBalances, D: Demands>(
 ) -> Result<(), (Where, Reason)>
     requires { N.node_count network.now ≤ most_nodes }
     ensures { (x : List ℤ) → ((v : ℕ) → B.balance balances.now v ≡ net (N.list network.now) x v)
-        → TellsRow (balance_row (N.node_count network.now) (N.list network.now) (D.demand demands.now) x) result }
+        → TestsRow (balance_row (N.node_count network.now) (N.list network.now) (D.demand demands.now) x) result }
 {
     for v in 1..network.nodes() + 1 {
         if let Some(reason) = balance_fault(demands.demand_at(v), balances.balance_of(v)) {
@@ -143,7 +143,7 @@ pub(crate) fn balances_hold<N: Network, B: NodeBalances, D: Demands>(
 
 /// The reason why a node fails, if it does.
 fn balance_fault(demand: Option<i64>, balance: i128) -> Option<Reason>
-    ensures { TellsReason (BalanceFails demand balance) result }
+    ensures { NamesReason (BalanceFails demand balance) result }
 {
     match demand {
         Some(amount) if i128::from(amount) != balance => Some(Reason::Balance),

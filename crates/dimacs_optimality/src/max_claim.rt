@@ -9,7 +9,7 @@ ghost use Rattle.dimacs_optimality.specs.Feasible.{FeasibleMax, value};
 ghost use Rattle.dimacs_optimality.specs.FlowTests.{AreBalances};
 ghost use Rattle.dimacs_optimality.specs.MaxJudge.{IsMaxClaim, ShowsMaximum, max_claim_rows, max_rows};
 ghost use Rattle.dimacs_optimality.specs.Places.{ArePlaced};
-ghost use Rattle.dimacs_optimality.specs.Tests.{Judges, Refutes, TellsRow};
+ghost use Rattle.dimacs_optimality.specs.Tests.{Judges, Refutes, TestsRow};
 
 use crate::agreement::{nodes_agree, value_agrees};
 use crate::balances::{Balances, NodeBalances};
@@ -52,7 +52,7 @@ fn value_holds<N: Network, P: Place>(
     placed: &Placed<P>,
 ) -> Result<(), (Where, Reason)>
     ensures { (x : List ℤ) → AreBalances instance.now.arcs x balances.now
-        → TellsRow (value_row (value instance.now x) placed.now.value placed.now.value_line) result }
+        → TestsRow (value_row (value instance.now x) placed.now.value placed.now.value_line) result }
 {
     value_agrees(balances.of(instance.source()), placed)
 }

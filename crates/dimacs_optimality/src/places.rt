@@ -7,7 +7,7 @@ ghost use Rattle.dimacs_network.specs.Arcs.{joins, IsKthBetween, arc_at};
 ghost use Rattle.dimacs_optimality.specs.Claims.{Carries, entry_row};
 ghost use Rattle.dimacs_optimality.specs.Places.{ArePlaced, HavePlaced, IsIndexFor, came_between};
 ghost use Rattle.dimacs_optimality.specs.inside.Passed.{IsFirstBetween};
-ghost use Rattle.dimacs_optimality.specs.inside.Places.{PutsEntry, TellsFlow};
+ghost use Rattle.dimacs_optimality.specs.inside.Places.{PutsEntry, FindsFlow};
 ghost use Rattle.dimacs_optimality.specs.Tests.{FirstOfRow};
 
 use crate::flow::Flow;
@@ -116,7 +116,7 @@ impl<'a, N: Network> FlowPlaces<'a, N> {
 
     /// The same, by value.
     pub(crate) fn into_flow(self) -> Result<Flow, (Where, Reason)>
-        ensures { (entries : List Entry) → ArePlaced self.entry entries → TellsFlow self.entry.arcs entries result }
+        ensures { (entries : List Entry) → ArePlaced self.entry entries → FindsFlow self.entry.arcs entries result }
     {
         match self.refusal {
             None => Ok(self.flow),

@@ -7,7 +7,7 @@ ghost use Rattle.dimacs_optimality.specs.Potentials.{Slack};
 ghost use Rattle.dimacs_optimality.specs.CertificateTests.{SlackFails, slack_row};
 ghost use Rattle.dimacs_optimality.specs.inside.Ranges.{IsOfSize};
 ghost use Rattle.dimacs_optimality.specs.Tests.{Decides};
-ghost use Rattle.dimacs_optimality.specs.inside.Tests.{TellsReason};
+ghost use Rattle.dimacs_optimality.specs.inside.Tests.{NamesReason};
 
 use crate::arc_test::{ArcTest, arcs_hold};
 use crate::flow::Flow;
@@ -45,7 +45,7 @@ impl ArcTest for Potentials {
 /// The reason why an arc fails, if it does. Makes both tests without a branch between them, which would be
 /// mispredicted.
 pub(crate) fn slack_fault(reduced: i128, arc: ArcView, amount: i64) -> Option<Reason>
-    ensures { TellsReason (SlackFails reduced arc amount) result }
+    ensures { NamesReason (SlackFails reduced arc amount) result }
 {
     let above_low = (reduced > 0) & (amount != arc.low);
     let below_cap = (reduced < 0) & (amount != arc.cap);

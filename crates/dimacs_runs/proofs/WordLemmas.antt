@@ -11,7 +11,7 @@ use Rattle.dimacs_runs.specs.declared.jobs.JudgeKind.{JudgeKind}
 use Rattle.dimacs_runs.specs.declared.jobs.SolveJob.{SolveJob}
 use Rattle.dimacs_runs.specs.declared.jobs.SpreadKind.{SpreadKind}
 use Rattle.dimacs_runs.specs.declared.jobs.SolveJob.TheVariants.{Max, Min, Paths}
-use Rattle.dimacs_runs.specs.Jobs.{AreCertifyFiles, AreOptions, Asks, AsksProducer, IsLimit, TellLimit, certify_reads, certify_word, file_count, judge_word, solve_word, spread_word}
+use Rattle.dimacs_runs.specs.Jobs.{AreCertifyFiles, AreOptions, Asks, AsksProducer, IsLimit, GiveLimit, certify_reads, certify_word, file_count, judge_word, solve_word, spread_word}
 
 pub one_word : {A : Type 0} (f : A → List ℕ) (words : List A) (a : A) (x : List ℕ) → 1 ≤ length words → length words < 2 → a ≡ get_or words 0 a → x ≡ f a → map f words ≡ x ∷ []
 one_word f (p ∷ []) a x least most first is_x = sym (rw (is_x, first) refl)
@@ -33,11 +33,11 @@ reads_two certifies.Infeasible other = absurd (other refl)
 reads_two kind other = refl
 
 -- ---- the arguments after the files of a solver
-pub limited : (told : Option ℕ) (words : List (List ℕ)) (number : List ℕ) → words ≡ codes "--limit" ∷ number ∷ [] → IfSome told (IsLimit number) → IfSome told (TellLimit words)
+pub limited : (told : Option ℕ) (words : List (List ℕ)) (number : List ℕ) → words ≡ codes "--limit" ∷ number ∷ [] → IfSome told (IsLimit number) → IfSome told (GiveLimit words)
 limited (Some limit) words number is read = rw is (refl, read)
 limited None words number is read = tt
 
-module _ (word : List ℕ) (options : List (List ℕ)) (none : (limit : ℕ) → ¬ TellLimit options limit) where
+module _ (word : List ℕ) (options : List (List ℕ)) (none : (limit : ℕ) → ¬ GiveLimit options limit) where
   pub no_max : word ≡ codes "solve-max" → (job : SolveJob) → word ≡ solve_word job → ¬ AreOptions job options
   no_max is (Max limit) same = none limit
   no_max is (Min limit) same = let letter : 97 ≡ 105 = ap (λ (w : List ℕ). get_or w 7 0) (sym is ∙ same) in absurd (omega (arith, letter))

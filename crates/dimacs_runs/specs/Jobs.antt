@@ -66,15 +66,15 @@ abbrev pub IsLimit : List ℕ → ℕ → Type 0
 IsLimit word limit = Spells word (pos limit) × (limit ≤ 1000000000)
 
 -- the limit that these arguments give: 10^6 if there are none, otherwise a number after `--limit`
-abbrev pub TellLimit : List (List ℕ) → ℕ → Type 0
-TellLimit [] limit = limit ≡ 1000000
-TellLimit (word ∷ number ∷ []) limit = (word ≡ codes "--limit") × IsLimit number limit
-TellLimit other limit = ⊥
+abbrev pub GiveLimit : List (List ℕ) → ℕ → Type 0
+GiveLimit [] limit = limit ≡ 1000000
+GiveLimit (word ∷ number ∷ []) limit = (word ≡ codes "--limit") × IsLimit number limit
+GiveLimit other limit = ⊥
 
 -- the arguments after the files: perhaps a limit if a flow is solved, otherwise none
 abbrev pub AreOptions : SolveJob → List (List ℕ) → Type 0
-AreOptions (solves.Max limit) options = TellLimit options limit
-AreOptions (solves.Min limit) options = TellLimit options limit
+AreOptions (solves.Max limit) options = GiveLimit options limit
+AreOptions (solves.Min limit) options = GiveLimit options limit
 AreOptions solves.Paths options = options ≡ []
 
 -- three files, then options

@@ -17,10 +17,12 @@ status_number (Ok GaveUp) = 5
 status_number (Err Device) = 3
 status_number (Err Memory) = 4
 
--- the error of a command without the operation that failed
-abbrev pub run_error_of : CommandError → RunError
-run_error_of (errors.Device failure) = Device
-run_error_of errors.Memory = Memory
+-- none if the arguments asked for no run
+abbrev pub command_number : Option (Result Status CommandError) → ℕ
+command_number None = 2
+command_number (Some (Ok status)) = status_number (Ok status)
+command_number (Some (Err (errors.Device failure))) = status_number (Err Device)
+command_number (Some (Err errors.Memory)) = status_number (Err Memory)
 
 -- the lines for wrong usage, an I/O error and out of memory
 abbrev pub complaint_of : ℕ → Option (List ℕ)

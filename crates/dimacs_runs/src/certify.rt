@@ -101,7 +101,8 @@ fn certify_maximum<P: Source, Q: Source>(
     instance: &mut P,
     solution: &mut Q,
 ) -> Result<Outcome, Stop>
-    ensures certifies { (a b : List ℕ) → P.coming instance.old ≡ Some a → Q.coming solution.old ≡ Some b → MayCertify (Certified certifies.Max a b) (settled result) }
+    ensures certifies { (a b : List ℕ) → P.coming instance.old ≡ Some a → Q.coming solution.old ≡ Some b →
+        MayCertify (Certified certifies.Max a b) (settled result) }
     ensures faults { CountsDevices (settled result) (P.faults instance.old ∷ Q.faults solution.old ∷ []) (P.faults instance.new ∷ Q.faults solution.new ∷ []) }
     ensures stops_at_instance { HasFault kinds.Max (P.coming instance.old) → solution.new ≡ solution.old }
 {
@@ -117,7 +118,8 @@ fn certify_least<P: Source, Q: Source>(
     instance: &mut P,
     solution: &mut Q,
 ) -> Result<Outcome, Stop>
-    ensures certifies { (a b : List ℕ) → P.coming instance.old ≡ Some a → Q.coming solution.old ≡ Some b → MayCertify (Certified certifies.Min a b) (settled result) }
+    ensures certifies { (a b : List ℕ) → P.coming instance.old ≡ Some a → Q.coming solution.old ≡ Some b →
+        MayCertify (Certified certifies.Min a b) (settled result) }
     ensures faults { CountsDevices (settled result) (P.faults instance.old ∷ Q.faults solution.old ∷ []) (P.faults instance.new ∷ Q.faults solution.new ∷ []) }
     ensures stops_at_instance { HasFault kinds.Min (P.coming instance.old) → solution.new ≡ solution.old }
 {

@@ -27,7 +27,8 @@ pub(crate) fn certify_distances<P: Source, Q: Source>(
     graph: &mut P,
     distances: &mut Q,
 ) -> Result<Outcome, Stop>
-    ensures certifies { (a b : List ℕ) → P.coming graph.old ≡ Some a → Q.coming distances.old ≡ Some b → MayCertify (Certified certifies.Paths a b) (settled result) }
+    ensures certifies { (a b : List ℕ) → P.coming graph.old ≡ Some a → Q.coming distances.old ≡ Some b →
+        MayCertify (Certified certifies.Paths a b) (settled result) }
     ensures faults { CountsDevices (settled result) (P.faults graph.old ∷ Q.faults distances.old ∷ []) (P.faults graph.new ∷ Q.faults distances.new ∷ []) }
     ensures stops_at_graph { HasFault kinds.Graph (P.coming graph.old) → distances.new ≡ distances.old }
 {

@@ -1,14 +1,15 @@
 //! The command, from its arguments to the end of its run.
 
-ghost use Rattle.std.specs.Prelude.{map};
+ghost use Rattle.std.specs.Prelude.{◌≡◌, map};
 ghost use Rattle.std.specs.String.{string_bytes};
 ghost use Rattle.dimacs_runs.specs.Commands.{Commands, RunsJob, seen_by};
+ghost use Rattle.dimacs_runs.specs.Outcomes.{command_number};
 ghost use Rattle.dimacs_runs.specs.inside.Commands.{HasFiles};
 
 use crate::failure::CommandError;
 use crate::files::Files;
 use crate::jobs::Job;
-use crate::outcome::Status;
+use crate::outcome::{NO_RUN, RunError, Status, exit_status};
 use crate::runs_that_certify::certify_files;
 use crate::runs_that_read::{judge_files, print_file};
 use crate::runs_that_spread::spread_files;
@@ -36,6 +37,18 @@ pub fn run_command<'a, F: Files, K: Sink>(
 {
     let wanted = job(words)?;
     Some(run_job(alloc, wanted, files, output))
+}
+
+/// The exit status for the result of a command: that of its run, or 2 if the arguments asked for none.
+pub fn command_status(ended: &Option<Result<Status, CommandError<'_>>>) -> u8
+    ensures { result ≡ command_number ended.now }
+{
+    match ended {
+        Some(Ok(status)) => exit_status(&Ok(*status)),
+        Some(Err(CommandError::Device(_))) => exit_status(&Err(RunError::Device)),
+        Some(Err(CommandError::Memory)) => exit_status(&Err(RunError::Memory)),
+        None => NO_RUN,
+    }
 }
 
 /// Runs a job over its files.

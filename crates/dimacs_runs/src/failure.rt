@@ -1,7 +1,7 @@
 //! Which call failed, and why a command ended early.
 
 ghost use Rattle.std.specs.Prelude.{◌≡◌};
-ghost use Rattle.dimacs_runs.specs.Outcomes.{failed_call, failed_device, run_error_of};
+ghost use Rattle.dimacs_runs.specs.Outcomes.{failed_call, failed_device};
 ghost use Rattle.dimacs_runs.specs.inside.Commands.{named};
 
 use crate::outcome::RunError;
@@ -55,18 +55,6 @@ pub enum CommandError<'a> {
     Device(Failure<'a>),
     /// Out of memory.
     Memory,
-}
-
-impl CommandError<'_> {
-    /// The error without the operation.
-    pub fn run_error(&self) -> RunError
-        ensures { result ≡ run_error_of self.now }
-    {
-        match self {
-            CommandError::Device(_) => RunError::Device,
-            CommandError::Memory => RunError::Memory,
-        }
-    }
 }
 
 impl RunError {

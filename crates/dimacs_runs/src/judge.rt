@@ -122,8 +122,10 @@ fn report_infeasible<P: Source, R: Source>(
     instance: &mut P,
     certificate: &mut R,
 ) -> Result<Outcome, Stop>
-    ensures reports { (a c : List ℕ) → P.coming instance.old ≡ Some a → R.coming certificate.old ≡ Some c → MayReport (Judged judges.Infeasible a [] c) (settled result) }
-    ensures faults { CountsDevices (settled result) (P.faults instance.old ∷ R.faults certificate.old ∷ []) (P.faults instance.new ∷ R.faults certificate.new ∷ []) }
+    ensures reports { (a c : List ℕ) → P.coming instance.old ≡ Some a → R.coming certificate.old ≡ Some c →
+        MayReport (Judged judges.Infeasible a [] c) (settled result) }
+    ensures faults { CountsDevices (settled result) (P.faults instance.old ∷ R.faults certificate.old ∷ [])
+        (P.faults instance.new ∷ R.faults certificate.new ∷ []) }
     ensures stops_at_instance { HasFault kinds.Min (P.coming instance.old) → certificate.new ≡ certificate.old }
 {
     let (instance, set): (MinInstance<PlainArcs<ArcView>>, _) = read_two(

@@ -30,7 +30,7 @@ mod verdict;
 mod words;
 
 pub use certify::run_certify;
-pub use command::run_command;
+pub use command::{command_status, run_command};
 pub use counted::Counted;
 pub use failure::{CommandError, Failure, FileCall};
 pub use files::Files;

@@ -64,8 +64,8 @@ pub const NO_RUN: u8 = 2;
 
 /// The line on the standard error for an exit status; none for 0, 1 and 5.
 pub fn complaint(status: u8) -> Option<&'static str>
-    ensures told { IfSome result (λ line. complaint_of status ≡ Some line.now) }
-    ensures untold { IfNone result (complaint_of status ≡ None) }
+    ensures line { IfSome result (λ line. complaint_of status ≡ Some line.now) }
+    ensures no_line { IfNone result (complaint_of status ≡ None) }
 {
     match status {
         NO_RUN => Some("dimacs: usage"),

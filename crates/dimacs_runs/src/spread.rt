@@ -77,7 +77,8 @@ fn spread_maximum<P: Source, Q: Source>(
     instance: &mut P,
     claim: &mut Q,
 ) -> Result<Outcome, Stop>
-    ensures spreads { (a b : List ℕ) → P.coming instance.old ≡ Some a → Q.coming claim.old ≡ Some b → IfEnds unclaimed_texts (Spreads spreads.Max a b) (settled result) }
+    ensures spreads { (a b : List ℕ) → P.coming instance.old ≡ Some a → Q.coming claim.old ≡ Some b →
+        IfEnds unclaimed_texts (Spreads spreads.Max a b) (settled result) }
     ensures faults { CountsDevices (settled result) (P.faults instance.old ∷ Q.faults claim.old ∷ []) (P.faults instance.new ∷ Q.faults claim.new ∷ []) }
 {
     let (instance, claim): (MaxInstance<PlainArcs<CapacityArc>>, _) = read_two(
@@ -93,7 +94,8 @@ fn spread_least<P: Source, Q: Source>(
     instance: &mut P,
     claim: &mut Q,
 ) -> Result<Outcome, Stop>
-    ensures spreads { (a b : List ℕ) → P.coming instance.old ≡ Some a → Q.coming claim.old ≡ Some b → IfEnds unclaimed_texts (Spreads spreads.Min a b) (settled result) }
+    ensures spreads { (a b : List ℕ) → P.coming instance.old ≡ Some a → Q.coming claim.old ≡ Some b →
+        IfEnds unclaimed_texts (Spreads spreads.Min a b) (settled result) }
     ensures faults { CountsDevices (settled result) (P.faults instance.old ∷ Q.faults claim.old ∷ []) (P.faults instance.new ∷ Q.faults claim.new ∷ []) }
 {
     let (instance, claim): (MinInstance<PlainArcs<ArcView>>, _) = read_two(alloc, instance, claim)?;

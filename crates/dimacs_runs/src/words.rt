@@ -8,7 +8,7 @@ ghost use Rattle.dimacs_runs.specs.declared.jobs.JudgeKind.{JudgeKind};
 ghost use Rattle.dimacs_runs.specs.declared.jobs.SolveJob.{SolveJob};
 ghost use Rattle.dimacs_runs.specs.declared.jobs.SpreadKind.{SpreadKind};
 ghost use Rattle.std.specs.String.{string_bytes};
-ghost use Rattle.dimacs_runs.specs.Jobs.{AreCertifyFiles, AreOptions, Asks, AsksProducer, IsLimit, TellLimit, certify_word, file_count, judge_word, kind_word, solve_word, spread_word};
+ghost use Rattle.dimacs_runs.specs.Jobs.{AreCertifyFiles, AreOptions, Asks, AsksProducer, IsLimit, GiveLimit, certify_word, file_count, judge_word, kind_word, solve_word, spread_word};
 
 use crate::jobs::{CertifyKind, Job, JudgeKind, SolveJob, SpreadKind};
 use dimacs_lines::number;
@@ -130,8 +130,8 @@ fn solve_job(word: &str, options: &[String]) -> Option<SolveJob>
 
 /// The limit that these arguments give.
 fn limit(options: &[String]) -> Option<u64>
-    ensures told { IfSome result (TellLimit (map string_bytes options.now)) }
-    ensures not_told { IfNone result ((limit : ℕ) → ¬ TellLimit (map string_bytes options.now) limit) }
+    ensures limit { IfSome result (GiveLimit (map string_bytes options.now)) }
+    ensures no_limit { IfNone result ((limit : ℕ) → ¬ GiveLimit (map string_bytes options.now) limit) }
 {
     match options {
         [] => Some(LIMIT),

@@ -4,7 +4,7 @@ ghost use Rattle.std.specs.Prelude.{◌≡◌, ◌<◌, ◌+◌, ◌^◌, ◌+�
 ghost use Rattle.std.specs.List.{All};
 ghost use Rattle.dimacs_instance.specs.MinFlows.{HasBounds};
 ghost use Rattle.dimacs_optimality.specs.Rows.{amount_at};
-ghost use Rattle.dimacs_optimality.specs.Tests.{TellsRow};
+ghost use Rattle.dimacs_optimality.specs.Tests.{TestsRow};
 ghost use Rattle.dimacs_spread.specs.Spread.{unknown_row};
 ghost use Rattle.dimacs_spread.specs.inside.Rests.{AddUp, AreLows, AreRests, IsOfRest, RestFails};
 
@@ -59,7 +59,7 @@ pub(crate) fn add_entries<N: Network>(
     requires rests { AreRests arcs.now (length arcs.now) rests.old }
     requires few_arcs { length arcs.now < 2 ^ 32 }
     requires few { length entries.now < 2 ^ 63 }
-    ensures unknown { TellsRow (unknown_row arcs.now entries.now) result }
+    ensures unknown { TestsRow (unknown_row arcs.now entries.now) result }
     ensures rests { OnOk result (AreRests arcs.now (length arcs.now + length entries.now) rests.new) }
     ensures sums { OnOk result ((x : List ℤ) → AddUp arcs.now [] rests.old x → AddUp arcs.now entries.now rests.new x) }
 {

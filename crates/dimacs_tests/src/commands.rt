@@ -11,7 +11,7 @@ use crate::tables::{case, cell, rows};
 use crate::words::words;
 use dimacs_lines::{FlakySink, FlakySource, MemorySink};
 use dimacs_runs::{
-    CommandError, Counted, Files, NO_RUN, RunError, Status, exit_status, run_command,
+    CommandError, Counted, Files, RunError, Status, command_status, run_command,
 };
 use std::alloc::{AllocError, Global};
 use std::process::Abort;
@@ -213,12 +213,6 @@ fn add(lines: &mut String, sign: &str, name: &str) -> Result<(), AllocError> {
     lines.push('\n')
 }
 
-/// The exit status of a command that ended so.
-fn status_of(ended: Option<Result<Status, CommandError>>) -> u8 {
-    match ended {
-        Some(ended) => exit_status(&ended.map_err(|error| error.run_error())),
-        None => NO_RUN,
-    }
 }
 
 /// Command lines, each with what is done with files, what it prints, the device that fails and what could not be done
@@ -302,7 +296,7 @@ fn ends(rt: &impl Abort, alloc: Global, line: &str) -> Result<(), Fail> {
     let given = words(alloc, command)?;
     let ended = run_command(alloc, &given, &mut files, &mut printed);
     let wanted = status.parse::<u8>().expect(rt, command);
-    same(rt, command, status_of(ended), wanted);
+    same(rt, command, command_status(&ended), wanted);
     holds(rt, command, printed.bytes() == output.as_bytes());
     same(rt, command, shown(alloc, &files.done)?.as_str(), done);
     let failure = match ended {

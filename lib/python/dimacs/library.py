@@ -88,13 +88,13 @@ def call(function: Callable[..., int], *words: Any) -> tuple[int, bytes]:
     """Makes a call that hands out a text, twice if it is longer than a line; its status, and the text."""
     line, room = _Line(), LINE
     while True:
-        told = _size()
-        status = function(*words, line, room, ctypes.byref(told))
-        if told.value <= room:
+        needed = _size()
+        status = function(*words, line, room, ctypes.byref(needed))
+        if needed.value <= room:
             break
-        room = told.value
+        room = needed.value
         line = ctypes.create_string_buffer(room)
-    said = line[: told.value]
+    said = line[: needed.value]
     if status != DONE and status != REFUSED:
         _raise_for(status, said)
     return status, said
@@ -103,11 +103,11 @@ def call(function: Callable[..., int], *words: Any) -> tuple[int, bytes]:
 def call_for_texts(function: Callable[..., int], *words: Any, rooms: Sequence[int]) -> tuple[int, list[bytes]]:
     """Makes a call that hands out texts, again if one of them is longer than its room; its status, and the texts."""
     while True:
-        told = [_size() for _ in rooms]
+        needed = [_size() for _ in rooms]
         texts = [ctypes.create_string_buffer(room) for room in rooms]
-        handed = [word for it in zip(texts, rooms, map(ctypes.byref, told)) for word in it]
+        handed = [word for it in zip(texts, rooms, map(ctypes.byref, needed)) for word in it]
         status = function(*words, *handed)
-        lengths = [it.value for it in told]
+        lengths = [it.value for it in needed]
         if all(length <= room for length, room in zip(lengths, rooms)):
             break
         rooms = [max(it) for it in zip(lengths, rooms)]
@@ -118,10 +118,10 @@ def call_for_texts(function: Callable[..., int], *words: Any, rooms: Sequence[in
 
 def call_with_rooms(function: Callable[..., int], words: list[Any], rooms: list[Room]) -> tuple[int, bytes]:
     """Makes a call that hands out items to rooms that are large enough; its status, and the line."""
-    line, told = _Line(), _size()
+    line, needed = _Line(), _size()
     handed = [word for room in rooms for word in room.words()]
-    status = function(*words, line, LINE, ctypes.byref(told), *handed)
-    said = line[: told.value]
+    status = function(*words, line, LINE, ctypes.byref(needed), *handed)
+    said = line[: needed.value]
     _raise_for(status, said)
     return status, said
 

@@ -196,7 +196,7 @@ pub fn judge_max(instance: &MaxInstance, flows: &[i64], inside: &[bool]) -> Resu
             inside.len(),
             line.at(),
             line.room(),
-            line.told(),
+            line.needed(),
         )
     };
     Ok(value(&line_of(status, line)?))
@@ -224,7 +224,7 @@ pub fn judge_min(instance: &MinInstance, flows: &[i64], potentials: &[i64]) -> R
             potentials.len(),
             line.at(),
             line.room(),
-            line.told(),
+            line.needed(),
         )
     };
     Ok(value(&line_of(status, line)?))
@@ -249,7 +249,7 @@ pub fn judge_infeasible(instance: &MinInstance, inside: &[bool]) -> Result<(), E
             inside.len(),
             line.at(),
             line.room(),
-            line.told(),
+            line.needed(),
         )
     };
     line_of(status, line).map(drop)
@@ -276,7 +276,7 @@ pub fn judge_paths(graph: &Graph, source: u32, distances: &[i64], predecessors: 
             predecessors.len(),
             line.at(),
             line.room(),
-            line.told(),
+            line.needed(),
         )
     };
     line_of(status, line).map(drop)
@@ -303,13 +303,13 @@ pub fn certify_max(instance: &MaxInstance, flows: &[i64]) -> Result<CertifiedMax
             flows.len(),
             line.at(),
             line.room(),
-            line.told(),
+            line.needed(),
             inside.at(),
             inside.room(),
-            inside.told(),
+            inside.needed(),
             better.at(),
             better.room(),
-            better.told(),
+            better.needed(),
         )
     };
     let line = line_or_better(status, line, better)?;
@@ -339,13 +339,13 @@ pub fn certify_min(instance: &MinInstance, flows: &[i64]) -> Result<CertifiedMin
             flows.len(),
             line.at(),
             line.room(),
-            line.told(),
+            line.needed(),
             potentials.at(),
             potentials.room(),
-            potentials.told(),
+            potentials.needed(),
             better.at(),
             better.room(),
-            better.told(),
+            better.needed(),
         )
     };
     let line = line_or_better(status, line, better)?;
@@ -372,13 +372,13 @@ pub fn certify_infeasible(instance: &MinInstance) -> Result<Vec<bool>, Error> {
             &instance,
             line.at(),
             line.room(),
-            line.told(),
+            line.needed(),
             inside.at(),
             inside.room(),
-            inside.told(),
+            inside.needed(),
             flows.at(),
             flows.room(),
-            flows.told(),
+            flows.needed(),
         )
     };
     match line_of(status, line) {
@@ -408,10 +408,10 @@ pub fn certify_paths(graph: &Graph, source: u32, distances: &[i64]) -> Result<Ve
             distances.len(),
             line.at(),
             line.room(),
-            line.told(),
+            line.needed(),
             predecessors.at(),
             predecessors.room(),
-            predecessors.told(),
+            predecessors.needed(),
         )
     };
     line_of(status, line)?;
@@ -435,13 +435,13 @@ pub fn solve_max(instance: &MaxInstance, limit: u64) -> Result<SolvedMax, Error>
             limit,
             line.at(),
             line.room(),
-            line.told(),
+            line.needed(),
             flows.at(),
             flows.room(),
-            flows.told(),
+            flows.needed(),
             inside.at(),
             inside.room(),
-            inside.told(),
+            inside.needed(),
         )
     };
     let line = line_of(status, line)?;
@@ -472,16 +472,16 @@ pub fn solve_min(instance: &MinInstance, limit: u64) -> Result<SolvedMin, Error>
             limit,
             line.at(),
             line.room(),
-            line.told(),
+            line.needed(),
             flows.at(),
             flows.room(),
-            flows.told(),
+            flows.needed(),
             potentials.at(),
             potentials.room(),
-            potentials.told(),
+            potentials.needed(),
             inside.at(),
             inside.room(),
-            inside.told(),
+            inside.needed(),
         )
     };
     let line = line_of(status, line)?;
@@ -508,13 +508,13 @@ pub fn solve_paths(graph: &Graph, source: u32) -> Result<SolvedPaths, Error> {
             source,
             line.at(),
             line.room(),
-            line.told(),
+            line.needed(),
             distances.at(),
             distances.room(),
-            distances.told(),
+            distances.needed(),
             predecessors.at(),
             predecessors.room(),
-            predecessors.told(),
+            predecessors.needed(),
         )
     };
     line_of(status, line)?;

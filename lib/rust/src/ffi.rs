@@ -61,7 +61,7 @@ extern "C" {
         certificate_length: usize,
         out: *mut u8,
         room: usize,
-        told: *mut usize,
+        needed: *mut usize,
     ) -> u32;
 
     pub fn dimacs_certify(
@@ -72,10 +72,10 @@ extern "C" {
         claim_length: usize,
         out: *mut u8,
         room: usize,
-        told: *mut usize,
+        needed: *mut usize,
         shown: *mut u8,
         shown_room: usize,
-        shown_told: *mut usize,
+        shown_needed: *mut usize,
     ) -> u32;
 
     pub fn dimacs_spread(
@@ -86,10 +86,10 @@ extern "C" {
         claim_length: usize,
         out: *mut u8,
         room: usize,
-        told: *mut usize,
+        needed: *mut usize,
         shown: *mut u8,
         shown_room: usize,
-        shown_told: *mut usize,
+        shown_needed: *mut usize,
     ) -> u32;
 
     pub fn dimacs_solve(
@@ -101,13 +101,13 @@ extern "C" {
         limit: u64,
         out: *mut u8,
         room: usize,
-        told: *mut usize,
+        needed: *mut usize,
         solution: *mut u8,
         solution_room: usize,
-        solution_told: *mut usize,
+        solution_needed: *mut usize,
         certificate: *mut u8,
         certificate_room: usize,
-        certificate_told: *mut usize,
+        certificate_needed: *mut usize,
     ) -> u32;
 
     pub fn dimacs_convert(
@@ -116,10 +116,11 @@ extern "C" {
         length: usize,
         out: *mut u8,
         room: usize,
-        told: *mut usize,
+        needed: *mut usize,
     ) -> u32;
 
-    pub fn dimacs_show(kind: u32, text: *const u8, length: usize, out: *mut u8, room: usize, told: *mut usize) -> u32;
+    pub fn dimacs_show(kind: u32, text: *const u8, length: usize, out: *mut u8, room: usize, needed: *mut usize)
+        -> u32;
 
     pub fn dimacs_judge_max_arrays(
         instance: *const Max,
@@ -129,7 +130,7 @@ extern "C" {
         inside_length: usize,
         out: *mut u8,
         room: usize,
-        told: *mut usize,
+        needed: *mut usize,
     ) -> u32;
 
     pub fn dimacs_judge_min_arrays(
@@ -140,7 +141,7 @@ extern "C" {
         potentials_length: usize,
         out: *mut u8,
         room: usize,
-        told: *mut usize,
+        needed: *mut usize,
     ) -> u32;
 
     pub fn dimacs_judge_infeasible_arrays(
@@ -149,7 +150,7 @@ extern "C" {
         inside_length: usize,
         out: *mut u8,
         room: usize,
-        told: *mut usize,
+        needed: *mut usize,
     ) -> u32;
 
     pub fn dimacs_judge_paths_arrays(
@@ -161,7 +162,7 @@ extern "C" {
         predecessors_length: usize,
         out: *mut u8,
         room: usize,
-        told: *mut usize,
+        needed: *mut usize,
     ) -> u32;
 
     pub fn dimacs_certify_max_arrays(
@@ -170,13 +171,13 @@ extern "C" {
         flows_length: usize,
         out: *mut u8,
         room: usize,
-        told: *mut usize,
+        needed: *mut usize,
         inside: *mut u8,
         inside_room: usize,
-        inside_told: *mut usize,
+        inside_needed: *mut usize,
         better: *mut i64,
         better_room: usize,
-        better_told: *mut usize,
+        better_needed: *mut usize,
     ) -> u32;
 
     pub fn dimacs_certify_min_arrays(
@@ -185,26 +186,26 @@ extern "C" {
         flows_length: usize,
         out: *mut u8,
         room: usize,
-        told: *mut usize,
+        needed: *mut usize,
         potentials: *mut i64,
         potentials_room: usize,
-        potentials_told: *mut usize,
+        potentials_needed: *mut usize,
         better: *mut i64,
         better_room: usize,
-        better_told: *mut usize,
+        better_needed: *mut usize,
     ) -> u32;
 
     pub fn dimacs_certify_infeasible_arrays(
         instance: *const Min,
         out: *mut u8,
         room: usize,
-        told: *mut usize,
+        needed: *mut usize,
         inside: *mut u8,
         inside_room: usize,
-        inside_told: *mut usize,
+        inside_needed: *mut usize,
         flows: *mut i64,
         flows_room: usize,
-        flows_told: *mut usize,
+        flows_needed: *mut usize,
     ) -> u32;
 
     pub fn dimacs_certify_paths_arrays(
@@ -214,10 +215,10 @@ extern "C" {
         distances_length: usize,
         out: *mut u8,
         room: usize,
-        told: *mut usize,
+        needed: *mut usize,
         predecessors: *mut u32,
         predecessors_room: usize,
-        predecessors_told: *mut usize,
+        predecessors_needed: *mut usize,
     ) -> u32;
 
     pub fn dimacs_solve_max_arrays(
@@ -225,13 +226,13 @@ extern "C" {
         limit: u64,
         out: *mut u8,
         room: usize,
-        told: *mut usize,
+        needed: *mut usize,
         flows: *mut i64,
         flows_room: usize,
-        flows_told: *mut usize,
+        flows_needed: *mut usize,
         inside: *mut u8,
         inside_room: usize,
-        inside_told: *mut usize,
+        inside_needed: *mut usize,
     ) -> u32;
 
     pub fn dimacs_solve_min_arrays(
@@ -239,16 +240,16 @@ extern "C" {
         limit: u64,
         out: *mut u8,
         room: usize,
-        told: *mut usize,
+        needed: *mut usize,
         flows: *mut i64,
         flows_room: usize,
-        flows_told: *mut usize,
+        flows_needed: *mut usize,
         potentials: *mut i64,
         potentials_room: usize,
-        potentials_told: *mut usize,
+        potentials_needed: *mut usize,
         inside: *mut u8,
         inside_room: usize,
-        inside_told: *mut usize,
+        inside_needed: *mut usize,
     ) -> u32;
 
     pub fn dimacs_solve_paths_arrays(
@@ -256,12 +257,12 @@ extern "C" {
         source: u32,
         out: *mut u8,
         room: usize,
-        told: *mut usize,
+        needed: *mut usize,
         distances: *mut i64,
         distances_room: usize,
-        distances_told: *mut usize,
+        distances_needed: *mut usize,
         predecessors: *mut u32,
         predecessors_room: usize,
-        predecessors_told: *mut usize,
+        predecessors_needed: *mut usize,
     ) -> u32;
 }

@@ -17,7 +17,7 @@ pub fn room_for(nodes: u32) -> usize {
 /// Room for so many items, and how many there are to hand out.
 pub struct Room<T> {
     items: Vec<T>,
-    told: usize,
+    needed: usize,
 }
 
 impl<T: Copy + Default> Room<T> {
@@ -25,7 +25,7 @@ impl<T: Copy + Default> Room<T> {
         let mut items = Vec::new();
         items.try_reserve_exact(room).map_err(|_| NoMemory)?;
         items.resize(room, T::default());
-        Ok(Room { items, told: 0 })
+        Ok(Room { items, needed: 0 })
     }
 
     pub fn at(&mut self) -> *mut T {
@@ -36,25 +36,25 @@ impl<T: Copy + Default> Room<T> {
         self.items.len()
     }
 
-    pub fn told(&mut self) -> *mut usize {
-        &mut self.told
+    pub fn needed(&mut self) -> *mut usize {
+        &mut self.needed
     }
 
     pub fn fits(&self) -> bool {
-        self.told <= self.items.len()
+        self.needed <= self.items.len()
     }
 
     /// Room for what there is to hand out.
     pub fn grow(&mut self) -> Result<(), NoMemory> {
         if !self.fits() {
-            *self = Room::new(self.told)?;
+            *self = Room::new(self.needed)?;
         }
         Ok(())
     }
 
     /// What was handed out.
     pub fn take(mut self) -> Vec<T> {
-        self.items.truncate(self.told);
+        self.items.truncate(self.needed);
         self.items
     }
 }

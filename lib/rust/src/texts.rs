@@ -129,7 +129,7 @@ fn judge(kind: u32, texts: [&[u8]; 3], room: usize) -> Result<String, Error> {
                 certificate.len(),
                 lines.at(),
                 lines.room(),
-                lines.told(),
+                lines.needed(),
             )
         };
         if grow([&mut lines])? {
@@ -171,10 +171,10 @@ fn call_of_two(
                 claim.len(),
                 line.at(),
                 line.room(),
-                line.told(),
+                line.needed(),
                 shown.at(),
                 shown.room(),
-                shown.told(),
+                shown.needed(),
             )
         };
         if grow([&mut line, &mut shown])? {
@@ -218,13 +218,13 @@ fn solve(kind: u32, instance: &[u8], queries: &[u8], limit: u64) -> Result<(Stri
                 limit,
                 lines.at(),
                 lines.room(),
-                lines.told(),
+                lines.needed(),
                 solution.at(),
                 solution.room(),
-                solution.told(),
+                solution.needed(),
                 shown.at(),
                 shown.room(),
-                shown.told(),
+                shown.needed(),
             )
         };
         if grow([&mut lines, &mut solution, &mut shown])? {
@@ -436,7 +436,7 @@ pub fn convert(kind: Kind, text: impl AsRef<[u8]>) -> Result<String, Error> {
     let mut out = Room::new(LINE + text.len())?;
     loop {
         let status =
-            unsafe { ffi::dimacs_convert(kind as u32, text.as_ptr(), text.len(), out.at(), out.room(), out.told()) };
+            unsafe { ffi::dimacs_convert(kind as u32, text.as_ptr(), text.len(), out.at(), out.room(), out.needed()) };
         if grow([&mut out])? {
             return lines_of(status, out);
         }
@@ -454,7 +454,7 @@ pub fn show(kind: Kind, text: impl AsRef<[u8]>) -> Result<String, Error> {
     let mut out = Room::new(LINE)?;
     loop {
         let status =
-            unsafe { ffi::dimacs_show(kind as u32, text.as_ptr(), text.len(), out.at(), out.room(), out.told()) };
+            unsafe { ffi::dimacs_show(kind as u32, text.as_ptr(), text.len(), out.at(), out.room(), out.needed()) };
         if grow([&mut out])? {
             return lines_of(status, out);
         }

@@ -8,15 +8,15 @@ use Rattle.dimacs_arrays.specs.declared.limits.PastLimit.{PastLimit}
 use Rattle.dimacs_optimality.specs.Tests.{Row, AllClear, First}
 
 -- all lengths are right, or the first array with a wrong length
-abbrev pub TellsLengths : List ArrayLength → Result Unit ArrayError → Type 0
-TellsLengths lengths (Ok done) = first_misfit lengths ≡ None
-TellsLengths lengths (Err (Length array)) = first_misfit lengths ≡ Some array
-TellsLengths lengths (Err error) = ⊥
+abbrev pub TestsLengths : List ArrayLength → Result Unit ArrayError → Type 0
+TestsLengths lengths (Ok done) = first_misfit lengths ≡ None
+TestsLengths lengths (Err (Length array)) = first_misfit lengths ≡ Some array
+TestsLengths lengths (Err error) = ⊥
 
 -- all these numbers are in range, or the first that isn't
-abbrev pub TellsLimits : List Row → Result Unit PastLimit → Type 0
-TellsLimits limits (Ok done) = AllClear limits
-TellsLimits limits (Err limit) = First limits limit.place limit.reason
+abbrev pub TestsLimits : List Row → Result Unit PastLimit → Type 0
+TestsLimits limits (Ok done) = AllClear limits
+TestsLimits limits (Err limit) = First limits limit.place limit.reason
 
 -- the instance that is spelled, or the first number out of range, or out of memory
 abbrev pub Spells : {X : Type 0} → List Row → X → Result X ArrayError → Type 0

@@ -17,6 +17,6 @@ abbrev pub IsInRange : ℕ → ArcView → Type 0
 IsInRange nodes a = JoinsNodes nodes a × HasBounds a
 
 -- all arcs are in range, or the first that isn't
-abbrev pub TellsArcs : {X : Type 0} → ℕ → List ArcView → Result X PastLimit → Type 0
-TellsArcs nodes arcs (Ok done) = All (IsInRange nodes) arcs
-TellsArcs nodes arcs (Err limit) = FirstOfRow (limit_row nodes arcs) limit.place limit.reason
+abbrev pub TestsArcs : {X : Type 0} → ℕ → List ArcView → Result X PastLimit → Type 0
+TestsArcs nodes arcs (Ok done) = All (IsInRange nodes) arcs
+TestsArcs nodes arcs (Err limit) = FirstOfRow (limit_row nodes arcs) limit.place limit.reason

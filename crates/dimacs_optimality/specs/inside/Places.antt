@@ -14,6 +14,6 @@ PutsEntry arcs before e (Ok done) p = HavePlaced p (before ++ e ∷ [])
 PutsEntry arcs before e (Err reason) p = Clear (entry_row arcs before) × EntryFails arcs before e reason
 
 -- the flow of the entries, or the first that fails
-abbrev pub TellsFlow : List ArcView → List Entry → Result (List ℤ) (Where × Reason) → Type 0
-TellsFlow arcs entries (Ok x) = Carries arcs entries x
-TellsFlow arcs entries (Err refusal) = FirstOfRow (entry_row arcs entries) refusal.0 refusal.1
+abbrev pub FindsFlow : List ArcView → List Entry → Result (List ℤ) (Where × Reason) → Type 0
+FindsFlow arcs entries (Ok x) = Carries arcs entries x
+FindsFlow arcs entries (Err refusal) = FirstOfRow (entry_row arcs entries) refusal.0 refusal.1

@@ -14,6 +14,6 @@ abbrev pub AreNumbers : List BlockValue → FinMap nat_cmp ℕ → Type 0
 AreNumbers blocks numbers = (source : ℕ) → get numbers source ≡ position (has_source source) blocks
 
 -- the numbers of the blocks if each query has a block that answers it; otherwise the first that has none
-abbrev pub TellsBlocks : List BlockValue → QueriesValue → Result (FinMap nat_cmp ℕ) JudgeError → Type 0
-TellsBlocks blocks queries (Ok numbers) = AreNumbers blocks numbers × Clear (block_row blocks queries)
-TellsBlocks blocks queries (Err error) = Refuses (FirstOfRow (block_row blocks queries)) error
+abbrev pub TestsBlocks : List BlockValue → QueriesValue → Result (FinMap nat_cmp ℕ) JudgeError → Type 0
+TestsBlocks blocks queries (Ok numbers) = AreNumbers blocks numbers × Clear (block_row blocks queries)
+TestsBlocks blocks queries (Err error) = Refuses (FirstOfRow (block_row blocks queries)) error

@@ -7,17 +7,17 @@ use Rattle.dimacs_optimality.specs.declared.verdict.JudgeError.TheVariants.{Refu
 use Rattle.dimacs_optimality.specs.Tests.{Row, AllClear, First}
 
 -- the result of rows of tests: all pass, or the first that fails
-abbrev pub Tells : List Row → Result Unit (Where × Reason) → Type 0
-Tells rows (Ok done) = AllClear rows
-Tells rows (Err refusal) = First rows refusal.0 refusal.1
+abbrev pub TestsRows : List Row → Result Unit (Where × Reason) → Type 0
+TestsRows rows (Ok done) = AllClear rows
+TestsRows rows (Err refusal) = First rows refusal.0 refusal.1
 
 -- the same for tests that allocate; out of memory leaves them open
-abbrev pub TellsAll : List Row → Result Unit JudgeError → Type 0
-TellsAll rows (Ok done) = AllClear rows
-TellsAll rows (Err (Refused place reason)) = First rows place reason
-TellsAll rows (Err Memory) = Unit
+abbrev pub TestsAll : List Row → Result Unit JudgeError → Type 0
+TestsAll rows (Ok done) = AllClear rows
+TestsAll rows (Err (Refused place reason)) = First rows place reason
+TestsAll rows (Err Memory) = Unit
 
 -- the reason why a single test fails, if it does
-abbrev pub TellsReason : (Reason → Type 0) → Option Reason → Type 0
-TellsReason fails None = (reason : Reason) → ¬ fails reason
-TellsReason fails (Some reason) = fails reason
+abbrev pub NamesReason : (Reason → Type 0) → Option Reason → Type 0
+NamesReason fails None = (reason : Reason) → ¬ fails reason
+NamesReason fails (Some reason) = fails reason

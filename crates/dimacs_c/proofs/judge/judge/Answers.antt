@@ -9,5 +9,5 @@ pub returns : goal.returns
 returns c =
     let claimed = is_claim c.args.kind (Some c.new-second.result) c.args.claim.now (ap Some c.new-second.ensures) in
     let reports = c.run_judge-ended.ensures.reports c.args.instance.now c.args.claim.now c.args.certificate.now (ap Some c.new-first.ensures) claimed (ap Some c.new-third.ensures) in
-    answered (Judged c.args.kind c.args.instance.now c.args.claim.now c.args.certificate.now) c.run_judge-ended.result c.new-sink.result.bytes c.run_judge-ended.new.sink.bytes c.end.result (handed c.args.out.now c.end.new.out c.end.new.told)
+    answered (Judged c.args.kind c.args.instance.now c.args.claim.now c.args.certificate.now) c.run_judge-ended.result c.new-sink.result.bytes c.run_judge-ended.new.sink.bytes c.end.result (handed c.args.out.now c.end.new.out c.end.new.needed)
     (ap (λ (m : InMemory). m.bytes) c.new-sink.ensures) reports (rw c.bytes.ensures at c.end.ensures)

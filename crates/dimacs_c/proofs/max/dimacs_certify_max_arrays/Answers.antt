@@ -10,5 +10,5 @@ pub returns : goal.returns
 returns c =
     items_answered max_said (CertifiesMaxArrays c.args.instance.now c.args.flows.now) tt c.certify_max_arrays-answer.result c.certify_max_arrays-answer.ensures
     c.put_certified-put.result c.put_certified-put.ensures.status c.new-line.result.bytes c.put_certified-put.new.sink.bytes (ap (λ (m : InMemory). m.bytes) c.new-line.ensures) c.put_certified-put.ensures.line.accepted
-    (rooms (handed c.args.out.now c.hand_said-3.new.room c.hand_said-3.new.told) (Some (handed c.args.inside.now c.hand_said.new.room c.hand_said.new.told)) None (Some (handed c.args.better.now c.hand_said-2.new.room c.hand_said-2.new.told))) c.hand_said-3.result (rw c.bytes.ensures at c.hand_said-3.ensures)
+    (rooms (handed c.args.out.now c.hand_said-3.new.room c.hand_said-3.new.needed) (Some (handed c.args.inside.now c.hand_said.new.room c.hand_said.new.needed)) None (Some (handed c.args.better.now c.hand_said-2.new.room c.hand_said-2.new.needed))) c.hand_said-3.result (rw c.bytes.ensures at c.hand_said-3.ensures)
     (c.hand_said.result, rw c.inside_of.ensures at c.hand_said.ensures) tt (c.hand_said-2.result, rw c.better_of.ensures at c.hand_said-2.ensures)

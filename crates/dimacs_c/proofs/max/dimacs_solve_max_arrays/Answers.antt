@@ -10,5 +10,5 @@ pub returns : goal.returns
 returns c =
     items_answered max_found (SolvesMaxArrays c.args.instance.now c.args.limit) tt c.solve_max_arrays-answer.result c.solve_max_arrays-answer.ensures
     c.put_solved-put.result c.put_solved-put.ensures.status c.new-line.result.bytes c.put_solved-put.new.sink.bytes (ap (λ (m : InMemory). m.bytes) c.new-line.ensures) c.put_solved-put.ensures.line.accepted
-    (rooms (handed c.args.out.now c.hand_said-3.new.room c.hand_said-3.new.told) (Some (handed c.args.inside.now c.hand_said.new.room c.hand_said.new.told)) None (Some (handed c.args.flows.now c.hand_said-2.new.room c.hand_said-2.new.told))) c.hand_said-3.result (rw c.bytes.ensures at c.hand_said-3.ensures)
+    (rooms (handed c.args.out.now c.hand_said-3.new.room c.hand_said-3.new.needed) (Some (handed c.args.inside.now c.hand_said.new.room c.hand_said.new.needed)) None (Some (handed c.args.flows.now c.hand_said-2.new.room c.hand_said-2.new.needed))) c.hand_said-3.result (rw c.bytes.ensures at c.hand_said-3.ensures)
     (c.hand_said.result, rw c.inside_by.ensures at c.hand_said.ensures) tt (c.hand_said-2.result, rw c.flow_of.ensures at c.hand_said-2.ensures)

@@ -10,5 +10,5 @@ pub returns : goal.returns
 returns c =
     items_answered min_found (SolvesMinArrays c.args.instance.now c.args.limit) tt c.solve_min_arrays-answer.result c.solve_min_arrays-answer.ensures
     c.put_solved-put.result c.put_solved-put.ensures.status c.new-line.result.bytes c.put_solved-put.new.sink.bytes (ap (λ (m : InMemory). m.bytes) c.new-line.ensures) c.put_solved-put.ensures.line.accepted
-    (rooms (handed c.args.out.now c.hand_said-4.new.room c.hand_said-4.new.told) (Some (handed c.args.inside.now c.hand_said.new.room c.hand_said.new.told)) (Some (handed c.args.potentials.now c.hand_said-2.new.room c.hand_said-2.new.told)) (Some (handed c.args.flows.now c.hand_said-3.new.room c.hand_said-3.new.told))) c.hand_said-4.result (rw c.bytes.ensures at c.hand_said-4.ensures)
+    (rooms (handed c.args.out.now c.hand_said-4.new.room c.hand_said-4.new.needed) (Some (handed c.args.inside.now c.hand_said.new.room c.hand_said.new.needed)) (Some (handed c.args.potentials.now c.hand_said-2.new.room c.hand_said-2.new.needed)) (Some (handed c.args.flows.now c.hand_said-3.new.room c.hand_said-3.new.needed))) c.hand_said-4.result (rw c.bytes.ensures at c.hand_said-4.ensures)
     (c.hand_said.result, rw c.inside_by.ensures at c.hand_said.ensures) (c.hand_said-2.result, rw c.potentials_by.ensures at c.hand_said-2.ensures) (c.hand_said-3.result, rw c.flow_of.ensures at c.hand_said-3.ensures)

@@ -10,5 +10,5 @@ pub returns : goal.returns
 returns c =
     items_answered paths_said (CertifiesPathsArrays c.args.graph.now c.args.source c.args.distances.now) tt c.certify_paths_arrays-answer.result c.certify_paths_arrays-answer.ensures
     c.put_certified-put.result c.put_certified-put.ensures.status c.new-line.result.bytes c.put_certified-put.new.sink.bytes (ap (λ (m : InMemory). m.bytes) c.new-line.ensures) c.put_certified-put.ensures.line.accepted
-    (rooms (handed c.args.out.now c.hand_said-2.new.room c.hand_said-2.new.told) (Some (handed c.args.predecessors.now c.hand_said.new.room c.hand_said.new.told)) None None) c.hand_said-2.result (rw c.bytes.ensures at c.hand_said-2.ensures)
+    (rooms (handed c.args.out.now c.hand_said-2.new.room c.hand_said-2.new.needed) (Some (handed c.args.predecessors.now c.hand_said.new.room c.hand_said.new.needed)) None None) c.hand_said-2.result (rw c.bytes.ensures at c.hand_said-2.ensures)
     (c.hand_said.result, rw c.predecessors_of.ensures at c.hand_said.ensures) tt tt

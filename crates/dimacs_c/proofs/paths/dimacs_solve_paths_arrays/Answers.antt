@@ -10,5 +10,5 @@ pub returns : goal.returns
 returns c =
     items_answered paths_found (SolvesPathsArrays c.args.graph.now c.args.source) tt c.solve_paths_arrays-answer.result c.solve_paths_arrays-answer.ensures
     c.put_solved-put.result c.put_solved-put.ensures.status c.new-line.result.bytes c.put_solved-put.new.sink.bytes (ap (λ (m : InMemory). m.bytes) c.new-line.ensures) c.put_solved-put.ensures.line.accepted
-    (rooms (handed c.args.out.now c.hand_said-3.new.room c.hand_said-3.new.told) (Some (handed c.args.predecessors.now c.hand_said.new.room c.hand_said.new.told)) (Some (handed c.args.distances.now c.hand_said-2.new.room c.hand_said-2.new.told)) None) c.hand_said-3.result (rw c.bytes.ensures at c.hand_said-3.ensures)
+    (rooms (handed c.args.out.now c.hand_said-3.new.room c.hand_said-3.new.needed) (Some (handed c.args.predecessors.now c.hand_said.new.room c.hand_said.new.needed)) (Some (handed c.args.distances.now c.hand_said-2.new.room c.hand_said-2.new.needed)) None) c.hand_said-3.result (rw c.bytes.ensures at c.hand_said-3.ensures)
     (c.hand_said.result, rw c.predecessors_by.ensures at c.hand_said.ensures) (c.hand_said-2.result, rw c.distances_by.ensures at c.hand_said-2.ensures) tt

@@ -9,5 +9,5 @@ use Rattle.dimacs_c.proofs.texts.convert.Goals as goal
 pub returns : goal.returns
 returns c =
     let reports = c.run_convert-ended.ensures.reports c.args.text.now (ap Some c.new-source.ensures) in
-    answered (Prints Canonical c.args.kind c.args.text.now) c.run_convert-ended.result c.new-sink.result.bytes c.run_convert-ended.new.sink.bytes c.end.result (handed c.args.out.now c.end.new.out c.end.new.told)
+    answered (Prints Canonical c.args.kind c.args.text.now) c.run_convert-ended.result c.new-sink.result.bytes c.run_convert-ended.new.sink.bytes c.end.result (handed c.args.out.now c.end.new.out c.end.new.needed)
     (ap (λ (m : InMemory). m.bytes) c.new-sink.ensures) reports (rw c.bytes.ensures at c.end.ensures)

@@ -5,7 +5,7 @@ use Rattle.dimacs_optimality.specs.CertificateTests.{weight_row}
 use Rattle.dimacs_judge.specs.inside.CertificateTests.{distance_rows}
 use Rattle.dimacs_optimality.specs.inside.Labels.{block_at}
 use Rattle.dimacs_optimality.specs.Tests.{AllClear, Clear, FirstOfRow}
-use Rattle.dimacs_optimality.specs.inside.Tests.{TellsAll}
+use Rattle.dimacs_optimality.specs.inside.Tests.{TestsAll}
 use Rattle.dimacs_judge.proofs.BlockLemmas.{after_weights, block_is, blocks_first, blocks_more, blocks_told}
 use Rattle.dimacs_judge.proofs.node_labels.labelled_blocks_hold.Goals as goal
 
@@ -28,7 +28,7 @@ returns-in_err-labelled_block_holds-clause-tests g c =
     let inside : c.loop-i.i < length blocks = rw c.blocks-blocks.ensures.blocks at c.loop-i-test.true in
     let b : c.index-blocks-i.result ≡ block_at blocks c.loop-i.i = block_is blocks c.loop-i.i c.index-blocks-i.result inside (rw c.blocks-blocks.ensures.blocks at c.index-blocks-i.is) in
     let weights = subst (λ (d : BlockValue). Clear (weight_row arcs d)) b c.in_ok-test_weights_for.ensures.tests in
-    let distances = subst (λ (d : BlockValue). TellsAll (distance_rows arcs d) (Err error)) b c.in_err-labelled_block_holds.ensures.tests in
+    let distances = subst (λ (d : BlockValue). TestsAll (distance_rows arcs d) (Err error)) b c.in_err-labelled_block_holds.ensures.tests in
     let outcome = after_weights arcs (block_at blocks c.loop-i.i) error weights distances in
     let p = err_from_is_err_and c.from_residual-in_err-labelled_block_holds.result c.from_residual-in_err-labelled_block_holds.ensures.1 in
     rw (p.1, p.2) (blocks_told arcs blocks c.loop-i.i error inside c.loop-i.invariant.clear outcome)

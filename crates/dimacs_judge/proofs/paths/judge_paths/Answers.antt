@@ -4,7 +4,7 @@ use Rattle.dimacs_instance.specs.QueryTexts.{asked}
 use Rattle.dimacs_optimality.specs.CertificateTests.{label_rows}
 use Rattle.dimacs_optimality.specs.PathsJudge.{paths_rows}
 use Rattle.dimacs_optimality.specs.Tests.{AllClear}
-use Rattle.dimacs_optimality.specs.inside.Tests.{TellsAll}
+use Rattle.dimacs_optimality.specs.inside.Tests.{TestsAll}
 use Rattle.dimacs_optimality.proofs.PathsPassing.{paths_shown, paths_judged, blocks_refused, labels_refused}
 use Rattle.dimacs_judge.proofs.paths.judge_paths.Goals as goal
 
@@ -26,7 +26,7 @@ returns-in_err-labelled_blocks_hold g c =
     let nodes = rw (c.nodes.ensures, c.nodes-nodes.ensures, c.network-network.ensures.nodes) at c.in_ok-nodes_agree.ensures in
     let named = rw (c.nodes-nodes.ensures, c.network-network.ensures.nodes) at c.in_ok-query_nodes_hold.ensures.tests in
     let error = c.in_err-labelled_blocks_hold.field-0.0 in
-    let outcome = subst (λ (arcs : List ArcView). TellsAll (label_rows arcs c.args.labels.now.blocks) (Err error)) c.network-network.ensures.arcs c.in_err-labelled_blocks_hold.ensures.tests in
+    let outcome = subst (λ (arcs : List ArcView). TestsAll (label_rows arcs c.args.labels.now.blocks) (Err error)) c.network-network.ensures.arcs c.in_err-labelled_blocks_hold.ensures.tests in
     let refused = labels_refused c.args.graph.now (asked c.args.queries.now) c.args.labels.now nodes named c.in_ok-numbers.ensures.1 error outcome in
     paths_judged c.args.graph.now (asked c.args.queries.now) c.args.labels.now _ refused _ c.from_residual-in_err-labelled_blocks_hold.ensures.1
 
