@@ -86,7 +86,7 @@ uint32_t dimacs_judge(uint32_t kind, const uint8_t *instance, size_t instance_le
 
 /* Certifies a claim that has no certificate: a solution (DIMACS_MAX or DIMACS_MIN), distances (DIMACS_PATHS), or
  * that no flow is feasible (DIMACS_INFEASIBLE, whose claim isn't read). Hands out the line of the verdict or of the
- * refusal to `out` (for distances `v sp distances COUNT`), and a text to `shown`:
+ * refusal to `out` (for distances `v sp distances COUNT`), and a text to `certificate`:
  *   - with a yes the cut, potentials, set or labels that show it;
  *   - with `x solution LINE 2 NotMaximum` or `NotLeast` a better solution: the claimed one has a feasible flow and
  *     its value;
@@ -94,18 +94,18 @@ uint32_t dimacs_judge(uint32_t kind, const uint8_t *instance, size_t instance_le
  *   - otherwise nothing, nor if the cost of that solution is out of range.
  * The length of the texts doesn't bound the time, except for paths. */
 uint32_t dimacs_certify(uint32_t kind, const uint8_t *instance, size_t instance_length, const uint8_t *claim,
-                        size_t claim_length, uint8_t *out, size_t room, size_t *needed, uint8_t *shown,
-                        size_t shown_room, size_t *shown_needed);
+                        size_t claim_length, uint8_t *out, size_t room, size_t *needed, uint8_t *certificate,
+                        size_t certificate_room, size_t *certificate_needed);
 
 /* Deals a claimed flow out to parallel arcs: DIMACS_MAX or DIMACS_MIN. Adds up the entries with the same tail and
- * head, in any order, and hands out to `shown` a solution with the claimed value and an entry for every arc, in the
+ * head, in any order, and hands out to `solution` a solution with the claimed value and an entry for every arc, in the
  * order of the instance. Each sum goes to the arcs with these ends: within their bounds if possible, and for
  * DIMACS_MIN at the least cost. Then the line is empty. Otherwise it is the line of a text's fault,
  * `x solution LINE 0 UnknownArc`, or, if no 64-bit numbers on the arcs add up to a sum, `x arc K AboveCap` or
  * `BelowLow`, and no solution is handed out. */
 uint32_t dimacs_spread(uint32_t kind, const uint8_t *instance, size_t instance_length, const uint8_t *claim,
-                       size_t claim_length, uint8_t *out, size_t room, size_t *needed, uint8_t *shown,
-                       size_t shown_room, size_t *shown_needed);
+                       size_t claim_length, uint8_t *out, size_t room, size_t *needed, uint8_t *solution,
+                       size_t solution_room, size_t *solution_needed);
 
 /* Solves an instance: DIMACS_MAX, DIMACS_MIN or DIMACS_PATHS. Hands out the line of the verdict to `out`, and to
  * `solution` and `certificate` texts by which dimacs_judge answers yes: a solution, and a cut or potentials. If no

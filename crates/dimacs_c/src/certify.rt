@@ -12,7 +12,7 @@ use dimacs_lines::{MemorySink, MemorySource};
 use dimacs_runs::{CertifyKind, run_certify};
 use std::alloc::Global;
 
-/// Certifies a claim, as `dimacs certify-max` and the like. `shown` receives the text of the certificate, or of a
+/// Certifies a claim, as `dimacs certify-max` and the like. `certificate` receives the text of the certificate, or of a
 /// better or a feasible solution. For kind 2 (no feasible flow) the claim isn't read.
 #[unsafe(no_mangle)]
 pub extern "C" fn dimacs_certify(
@@ -22,11 +22,11 @@ pub extern "C" fn dimacs_certify(
     claim: &[u8],
     out: &mut [u8],
     needed: &mut usize,
-    shown: &mut [u8],
-    shown_needed: &mut usize,
+    certificate: &mut [u8],
+    certificate_needed: &mut usize,
 ) -> u32
     ensures { AnswersTextsKind (certify_kind kind) (λ k. WritesAlike (Certified k instance.now claim.now)) result
-        (handed shown.old shown.new shown_needed.new ∷ handed out.old out.new needed.new ∷ []) }
+        (handed certificate.old certificate.new certificate_needed.new ∷ handed out.old out.new needed.new ∷ []) }
 {
     match certify_of(kind) {
         Some(kind) => certify(
@@ -36,11 +36,11 @@ pub extern "C" fn dimacs_certify(
             claim,
             out,
             needed,
-            shown,
-            shown_needed,
+            certificate,
+            certificate_needed,
         ),
         None => {
-            misuse(shown_needed);
+            misuse(certificate_needed);
             misuse(needed)
         }
     }
@@ -54,24 +54,17 @@ fn certify(
     claim: &[u8],
     out: &mut [u8],
     needed: &mut usize,
-    shown: &mut [u8],
-    shown_needed: &mut usize,
+    certificate: &mut [u8],
+    certificate_needed: &mut usize,
 ) -> u32
     ensures { AnswersTexts (WritesAlike (Certified kind instance.now claim.now)) result
-        (handed shown.old shown.new shown_needed.new ∷ handed out.old out.new needed.new ∷ []) }
+        (handed certificate.old certificate.new certificate_needed.new ∷ handed out.old out.new needed.new ∷ []) }
 {
-    let mut certificate = MemorySink::new(alloc);
+    let mut text = MemorySink::new(alloc);
     let mut report = MemorySink::new(alloc);
     let mut first = MemorySource::new(instance);
     let mut second = MemorySource::new(claim);
-    let ended = run_certify(
-        alloc,
-        kind,
-        &mut first,
-        &mut second,
-        &mut certificate,
-        &mut report,
-    );
-    end(ended, certificate.bytes(), shown, shown_needed);
+    let ended = run_certify(alloc, kind, &mut first, &mut second, &mut text, &mut report);
+    end(ended, text.bytes(), certificate, certificate_needed);
     end(ended, report.bytes(), out, needed)
 }

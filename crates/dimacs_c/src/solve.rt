@@ -72,7 +72,7 @@ fn solve(
         ∷ handed out.old out.new needed.new ∷ []) }
 {
     let mut claim = MemorySink::new(alloc);
-    let mut shown = MemorySink::new(alloc);
+    let mut text = MemorySink::new(alloc);
     let mut report = MemorySink::new(alloc);
     let mut first = MemorySource::new(instance);
     let mut second = MemorySource::new(queries);
@@ -82,10 +82,10 @@ fn solve(
         &mut first,
         &mut second,
         &mut claim,
-        &mut shown,
+        &mut text,
         &mut report,
     );
     end(ended, claim.bytes(), solution, solution_needed);
-    end(ended, shown.bytes(), certificate, certificate_needed);
+    end(ended, text.bytes(), certificate, certificate_needed);
     end(ended, report.bytes(), out, needed)
 }

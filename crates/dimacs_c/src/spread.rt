@@ -11,7 +11,7 @@ use dimacs_lines::{MemorySink, MemorySource};
 use dimacs_runs::{SpreadKind, run_spread};
 use std::alloc::Global;
 
-/// Deals out a claimed flow to parallel arcs, as `dimacs spread-max` and the like. `shown` receives the text of the
+/// Deals out a claimed flow to parallel arcs, as `dimacs spread-max` and the like. `solution` receives the text of the
 /// solution.
 #[unsafe(no_mangle)]
 pub extern "C" fn dimacs_spread(
@@ -21,11 +21,11 @@ pub extern "C" fn dimacs_spread(
     claim: &[u8],
     out: &mut [u8],
     needed: &mut usize,
-    shown: &mut [u8],
-    shown_needed: &mut usize,
+    solution: &mut [u8],
+    solution_needed: &mut usize,
 ) -> u32
     ensures { AnswersTextsKind (spread_kind kind) (λ k. Spreads k instance.now claim.now) result
-        (handed shown.old shown.new shown_needed.new ∷ handed out.old out.new needed.new ∷ []) }
+        (handed solution.old solution.new solution_needed.new ∷ handed out.old out.new needed.new ∷ []) }
 {
     match spread_of(kind) {
         Some(kind) => spread(
@@ -35,11 +35,11 @@ pub extern "C" fn dimacs_spread(
             claim,
             out,
             needed,
-            shown,
-            shown_needed,
+            solution,
+            solution_needed,
         ),
         None => {
-            misuse(shown_needed);
+            misuse(solution_needed);
             misuse(needed)
         }
     }
@@ -53,24 +53,17 @@ fn spread(
     claim: &[u8],
     out: &mut [u8],
     needed: &mut usize,
-    shown: &mut [u8],
-    shown_needed: &mut usize,
+    solution: &mut [u8],
+    solution_needed: &mut usize,
 ) -> u32
     ensures { AnswersTexts (Spreads kind instance.now claim.now) result
-        (handed shown.old shown.new shown_needed.new ∷ handed out.old out.new needed.new ∷ []) }
+        (handed solution.old solution.new solution_needed.new ∷ handed out.old out.new needed.new ∷ []) }
 {
-    let mut certificate = MemorySink::new(alloc);
+    let mut text = MemorySink::new(alloc);
     let mut report = MemorySink::new(alloc);
     let mut first = MemorySource::new(instance);
     let mut second = MemorySource::new(claim);
-    let ended = run_spread(
-        alloc,
-        kind,
-        &mut first,
-        &mut second,
-        &mut certificate,
-        &mut report,
-    );
-    end(ended, certificate.bytes(), shown, shown_needed);
+    let ended = run_spread(alloc, kind, &mut first, &mut second, &mut text, &mut report);
+    end(ended, text.bytes(), solution, solution_needed);
     end(ended, report.bytes(), out, needed)
 }

@@ -35,7 +35,7 @@ fn least_residual_capacity<N: Network>(network: &N, cycle: &[ResidualArc], flow:
         let residual_capacity = residual_capacity_from(
             residual.side,
             arc,
-            flow.amount(residual.arc),
+            flow.amount(residual.arc as usize),
         );
         least = lesser(least, residual_capacity);
     }

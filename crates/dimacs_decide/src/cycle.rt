@@ -66,7 +66,7 @@ fn leads_from<N: Network>(network: &N, flow: &Flow, from: u32, residual: Residua
     }
     let arc = network.arc(residual.arc);
     residual.side.near(arc) == from
-        && residual_capacity_from(residual.side, arc, flow.amount(residual.arc)) > 0
+        && residual_capacity_from(residual.side, arc, flow.amount(residual.arc as usize)) > 0
 }
 
 /// The node to which a residual arc leads; 0 if its arc doesn't exist.

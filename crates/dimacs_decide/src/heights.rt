@@ -82,7 +82,7 @@ fn lift<N: Network>(
     ensures { IfOk result (λ lifted. Lifts (N.list network.now) flow.now side parent_arc (value_of labels.old) lifted (value_of labels.new)) }
 {
     let arc = network.arc(parent_arc);
-    if residual_capacity_from(side, arc, flow.amount(parent_arc)) <= 0 {
+    if residual_capacity_from(side, arc, flow.amount(parent_arc as usize)) <= 0 {
         return Ok(false);
     }
     let to = side.far(arc);

@@ -29,10 +29,10 @@ pub(crate) fn send_from(side: Side, arc_index: u32, amount: i64, flow: &mut Flow
     requires whole { IsWhole (carried_after side amount (amount_at flow.old arc_index)) }
     ensures { flow.new ≡ set flow.old arc_index (carried_after side amount (amount_at flow.old arc_index)) }
 {
-    let carried = flow.amount(arc_index);
+    let carried = flow.amount(arc_index as usize);
     let carries = match side {
         Side::Tail => carried + amount,
         Side::Head => carried - amount,
     };
-    flow.set(arc_index, carries);
+    flow.set(arc_index as usize, carries);
 }

@@ -17,7 +17,7 @@ use Rattle.dimacs_claims.proofs.BlockLemmas.{has_pred}
 use Rattle.dimacs_optimality.specs.CertificateTests.{RelaxFails, relax_row}
 use Rattle.dimacs_optimality.specs.LightestArcs.{AreCovering, Covers}
 use Rattle.dimacs_judge.specs.inside.Leaving.{ArePassedFrom, IsPassed}
-use Rattle.dimacs_optimality.specs.LeastArcs.{WeightsFall, arcs_in}
+use Rattle.dimacs_optimality.specs.LightestArcs.{WeightsFall, arcs_in}
 use Rattle.dimacs_judge.specs.inside.NodeLabels.{AreMade, IsKnown, Known, RelaxesArc}
 use Rattle.dimacs_network.specs.Arcs.{arc_at}
 use Rattle.dimacs_optimality.specs.Tests.{Clear}

@@ -6,7 +6,7 @@ ghost use Rattle.dimacs_claims.specs.Labels.{IsBlock, IsNear, label};
 ghost use Rattle.dimacs_records.specs.Ranges.{IsWide};
 ghost use Rattle.dimacs_optimality.specs.CertificateTests.{relax_row};
 ghost use Rattle.dimacs_judge.specs.inside.Leaving.{ArePassedFrom, IsPassed};
-ghost use Rattle.dimacs_optimality.specs.LeastArcs.{AreLeast};
+ghost use Rattle.dimacs_optimality.specs.LightestArcs.{AreLightest};
 ghost use Rattle.dimacs_judge.specs.inside.NodeLabels.{AreMade, IsLabelled, known};
 ghost use Rattle.dimacs_optimality.specs.Tests.{Clear};
 
@@ -17,7 +17,7 @@ use crate::node_labels::pass_arc;
 use dimacs_claims::Block;
 use dimacs_network::Network;
 use dimacs_nodes::NodeTable;
-use dimacs_optimality::LeastArcs;
+use dimacs_optimality::LightestArcs;
 
 /// A block has few labels if there are more than this many arcs for each.
 const ARCS_A_LABEL: usize = 8;
@@ -32,11 +32,11 @@ pub(crate) fn labels_few<N: Network>(block: &Block, network: &N) -> bool {
 pub(crate) fn leaving_passed<N: Network, D: Distance>(
     network: &N,
     block: &Block,
-    least: &LeastArcs,
+    least: &LightestArcs,
     node_labels: &mut NodeTable<NodeLabel<D>>,
 ) -> bool
     requires lawful { (nodes : ℕ) × IsBlock nodes block.now }
-    requires least { AreLeast (N.list network.now) least.now }
+    requires least { AreLightest (N.list network.now) least.now }
     requires labelled { IsLabelled D.value (N.list network.now) block.now node_labels.old }
     ensures labelled { IsLabelled D.value (N.list network.now) block.now node_labels.new }
     ensures made { IsTrue result → AreMade (N.list network.now) block.now (known D.value node_labels.new) }
@@ -62,11 +62,11 @@ fn node_passed<N: Network, D: Distance>(
     block: &Block,
     node: u32,
     from: i128,
-    least: &LeastArcs,
+    least: &LightestArcs,
     node_labels: &mut NodeTable<NodeLabel<D>>,
 ) -> bool
     requires lawful { (nodes : ℕ) × IsBlock nodes block.now }
-    requires least { AreLeast (N.list network.now) least.now }
+    requires least { AreLightest (N.list network.now) least.now }
     requires label { label block.now node ≡ Some from }
     requires labelled { IsLabelled D.value (N.list network.now) block.now node_labels.old }
     ensures labelled { IsLabelled D.value (N.list network.now) block.now node_labels.new }

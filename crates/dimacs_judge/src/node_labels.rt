@@ -10,7 +10,7 @@ ghost use Rattle.dimacs_nodes.specs.Tables.{blank_of};
 ghost use Rattle.dimacs_optimality.specs.CertificateTests.{RelaxFails, label_rows, relax_row, support_row, weight_row};
 ghost use Rattle.dimacs_judge.specs.inside.CertificateTests.{distance_rows};
 ghost use Rattle.dimacs_judge.specs.inside.Distances.{Fits, LeadsAside};
-ghost use Rattle.dimacs_optimality.specs.LeastArcs.{AreLeast};
+ghost use Rattle.dimacs_optimality.specs.LightestArcs.{AreLightest};
 ghost use Rattle.dimacs_judge.specs.inside.NodeLabels.{AllBlank, AreAsTested, AreBlank, AreMade, AreMadeBelow, AreWide, IsBlank, IsLabelled, IsTight, RelaxesArc, known};
 ghost use Rattle.dimacs_optimality.specs.Tests.{Clear, TestsRow};
 ghost use Rattle.dimacs_optimality.specs.inside.Tests.{TestsRows, TestsAll, NamesReason};
@@ -23,7 +23,7 @@ use dimacs_claims::{Block, LabelList, Labels};
 use dimacs_lines::Memory;
 use dimacs_network::{ArcView, Network};
 use dimacs_nodes::{NodeTable, Slot};
-use dimacs_optimality::{JudgeError, LeastArcs, Where};
+use dimacs_optimality::{JudgeError, LightestArcs, Where};
 use dimacs_records::Reason;
 use std::alloc::Global;
 
@@ -107,13 +107,13 @@ fn link_for<N: Network>(
     network: &N,
     labels: &Labels,
     block: &Block,
-    least: &mut Option<LeastArcs>,
+    least: &mut Option<LightestArcs>,
 ) -> Result<(), Memory>
-    requires { IfSome least.old (AreLeast (N.list network.now)) }
-    ensures { IfSome least.new (AreLeast (N.list network.now)) }
+    requires { IfSome least.old (AreLightest (N.list network.now)) }
+    ensures { IfSome least.new (AreLightest (N.list network.now)) }
 {
     if least.is_none() && labels_few(block, network) {
-        *least = Some(LeastArcs::new(alloc, network, labels.blocks())?);
+        *least = Some(LightestArcs::new(alloc, network, labels.blocks())?);
     }
     Ok(())
 }
@@ -122,11 +122,11 @@ fn link_for<N: Network>(
 fn labelled_block_holds<N: Network>(
     network: &N,
     block: &Block,
-    least: &Option<LeastArcs>,
+    least: &Option<LightestArcs>,
     tables: &mut Tables,
 ) -> Result<(), JudgeError>
     requires lawful { (nodes : ℕ) × (nodes ≤ most_nodes) × IsBlock nodes block.now }
-    requires least { IfSome least.now (AreLeast (N.list network.now)) }
+    requires least { IfSome least.now (AreLightest (N.list network.now)) }
     requires blank { AllBlank tables.old }
     ensures tests { TestsAll (distance_rows (N.list network.now) block.now) result }
     ensures blank { OnOk result (AllBlank tables.new) }
@@ -160,12 +160,12 @@ fn lie_within(labels: &LabelList, low: i64, end: i64) -> bool
 fn block_holds_by<N: Network, D: Distance>(
     network: &N,
     block: &Block,
-    least: &Option<LeastArcs>,
+    least: &Option<LightestArcs>,
     node_labels: &mut NodeTable<NodeLabel<D>>,
 ) -> Result<(), JudgeError>
     requires lawful { (nodes : ℕ) × (nodes ≤ most_nodes) × IsBlock nodes block.now }
     requires fits { All (λ (l : Label). Fits D.low D.end l.dist) block.now.labels }
-    requires least { IfSome least.now (AreLeast (N.list network.now)) }
+    requires least { IfSome least.now (AreLightest (N.list network.now)) }
     requires blank { AreBlank D.value node_labels.old }
     ensures tests { TestsAll (distance_rows (N.list network.now) block.now) result }
     ensures blank { OnOk result (AreBlank D.value node_labels.new) }
@@ -217,11 +217,11 @@ fn blank_labels<D: Distance>(
 fn block_passed<N: Network, D: Distance>(
     network: &N,
     block: &Block,
-    least: &Option<LeastArcs>,
+    least: &Option<LightestArcs>,
     node_labels: &mut NodeTable<NodeLabel<D>>,
 ) -> Result<(), (Where, Reason)>
     requires lawful { (nodes : ℕ) × IsBlock nodes block.now }
-    requires least { IfSome least.now (AreLeast (N.list network.now)) }
+    requires least { IfSome least.now (AreLightest (N.list network.now)) }
     requires labelled { IsLabelled D.value (N.list network.now) block.now node_labels.old }
     ensures labelled { IsLabelled D.value (N.list network.now) block.now node_labels.new }
     ensures tests { TestsRows (distance_rows (N.list network.now) block.now) result }
@@ -236,11 +236,11 @@ fn block_passed<N: Network, D: Distance>(
 fn few_passed<N: Network, D: Distance>(
     network: &N,
     block: &Block,
-    least: &Option<LeastArcs>,
+    least: &Option<LightestArcs>,
     node_labels: &mut NodeTable<NodeLabel<D>>,
 ) -> bool
     requires lawful { (nodes : ℕ) × IsBlock nodes block.now }
-    requires least { IfSome least.now (AreLeast (N.list network.now)) }
+    requires least { IfSome least.now (AreLightest (N.list network.now)) }
     requires labelled { IsLabelled D.value (N.list network.now) block.now node_labels.old }
     ensures labelled { IsLabelled D.value (N.list network.now) block.now node_labels.new }
     ensures made { IsTrue result → AreMade (N.list network.now) block.now (known D.value node_labels.new) }

@@ -130,7 +130,7 @@ fn settle<N: Network, V: Number>(
     let groups = places.groups;
     let links = Listing::new(alloc, &links, groups)?;
     let mut tree = Tree::new(alloc, groups)?;
-    let budget = (u64::from(claim.arcs()) + u64::from(claim.numbering.count())) * BUDGET;
+    let budget = (u64::from(claim.arc_count()) + u64::from(claim.numbering.count())) * BUDGET;
     let end = lower_all(alloc, &links, &mut tree, budget)?;
     guess_after(alloc, claim, places, &end, &tree.distances)
 }

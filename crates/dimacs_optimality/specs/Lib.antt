@@ -8,7 +8,6 @@ pub mod ViolatedSets
 pub mod Walks
 pub mod Labels
 pub mod LightestArcs
-pub mod LeastArcs
 pub mod Laws
 pub mod Tests
 pub mod Rows

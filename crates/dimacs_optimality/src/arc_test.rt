@@ -31,7 +31,7 @@ pub(crate) fn arcs_hold<N: Network, T: ArcTest>(
     ensures { TestsRow (flow_row (T.fails test.now) (N.list network.now) flow.now) result }
 {
     for i in 0..network.arcs() {
-        if let Some(reason) = test.fault(network.arc(i), flow.amount(i)) {
+        if let Some(reason) = test.fault(network.arc(i), flow.amount(i as usize)) {
             return Err((Where::Arc(i + 1), reason));
         }
     }

@@ -47,7 +47,7 @@ impl Balances {
     {
         let mut sums = NodeTable::new(alloc, 0i128);
         for i in 0..network.arcs() {
-            transfer(&mut sums, network.arc(i), flow.amount(i))?;
+            transfer(&mut sums, network.arc(i), flow.amount(i as usize))?;
         }
         Ok(Balances { sums })
     }

@@ -19,7 +19,7 @@ pub fn cost_within<N: Network>(network: &N, flow: &Flow) -> Result<i128, (Where,
 {
     let mut sum: i128 = 0;
     for i in 0..network.arcs() {
-        let Some(next) = add_cost(sum, network.arc(i).cost, flow.amount(i)) else {
+        let Some(next) = add_cost(sum, network.arc(i).cost, flow.amount(i as usize)) else {
             return Err((Where::Arc(i + 1), Reason::CostRange));
         };
         sum = next;

@@ -30,11 +30,11 @@ impl Flow {
 
     /// The amount on the arc with this index, from 0.
     #[inline(always)]
-    pub fn amount(&self, arc: u32) -> i64
+    pub fn amount(&self, arc: usize) -> i64
         requires { arc < length self.now }
         ensures { slice_get self.now arc ≡ Some result }
     {
-        self.amounts[arc as usize]
+        self.amounts[arc]
     }
 
     /// The amounts in the order of the arcs.
@@ -70,11 +70,11 @@ impl Flow {
     }
 
     /// Sets the amount on one arc.
-    pub fn set(&mut self, arc: u32, amount: i64)
+    pub fn set(&mut self, arc: usize, amount: i64)
         requires { arc < length self.old }
         ensures { self.new ≡ slice_set self.old arc amount }
     {
-        self.amounts[arc as usize] = amount;
+        self.amounts[arc] = amount;
     }
 
     /// A copy of the flow.

@@ -3,7 +3,7 @@
 //!
 //! The theory is in `laws`: a tight cut shows that a flow is maximum, slack potentials show that it costs least, a
 //! violated set shows that no flow is feasible, and labels show distances. All other code makes tests, over any
-//! `Network`. The judges of `dimacs_judge` make all tests of a claim; it offers what is here too.
+//! `Network`. The judges of `dimacs_judge` make all tests of a claim; it offers most of what is here too.
 #![tactic(auto)]
 
 mod agreement;
@@ -15,7 +15,7 @@ mod entries;
 mod feasible;
 mod flow;
 mod laws;
-mod least_arcs;
+mod lightest_arcs;
 mod max_claim;
 mod min_claim;
 mod one_pass;
@@ -37,7 +37,7 @@ pub use laws::{
     exchange, labels_give_distances, passing_shows, slack_is_least, tight_cut_is_maximum,
     violated_has_no_flow,
 };
-pub use least_arcs::{LeastArcs, lightest_arcs};
+pub use lightest_arcs::{LightestArcs, lightest_arcs};
 pub use max_claim::{max_claim_tests, max_in_one_pass};
 pub use min_claim::{min_claim_tests, min_in_one_pass};
 pub use places::FlowPlaces;

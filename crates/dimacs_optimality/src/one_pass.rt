@@ -206,7 +206,7 @@ pub(crate) fn sums_if_passed<N: Network, D: Demands, P: HasPotentials>(
 {
     let mut sums = Sums::new(alloc, network.nodes(), potentials)?;
     for i in 0..network.arcs() {
-        sums.take(network.arc(i), flow.amount(i))?;
+        sums.take(network.arc(i), flow.amount(i as usize))?;
     }
     match balances_hold(network, &sums, demands) {
         Ok(()) => Some(sums),

@@ -133,7 +133,7 @@ impl<'a, N: Network> FlowPlaces<'a, N> {
         ensures puts { (before : List Entry) → HavePlaced self.old before → PutsEntry self.old.arcs before entry result self.new }
     {
         if self.is_next(entry) {
-            self.flow.set(self.in_order, entry.flow);
+            self.flow.set(self.in_order as usize, entry.flow);
             self.in_order += 1;
             return Ok(());
         }
@@ -150,7 +150,7 @@ impl<'a, N: Network> FlowPlaces<'a, N> {
     {
         self.leave_order(entry);
         if let Some(first) = self.next_first(entry) {
-            self.flow.set(first, entry.flow);
+            self.flow.set(first as usize, entry.flow);
             self.counts[first as usize] = 1;
             return Ok(());
         }
@@ -245,7 +245,7 @@ impl<'a, N: Network> FlowPlaces<'a, N> {
         let Some(arc) = self.kth(entry, first, came) else {
             return Err(Reason::ArcTwice);
         };
-        self.flow.set(arc, entry.flow);
+        self.flow.set(arc as usize, entry.flow);
         self.counts[first as usize] = came + 1;
         Ok(())
     }

@@ -88,7 +88,7 @@ pub fn entries_for<N: Network>(
     let mut entries = Vec::with_capacity(alloc, network.arcs() as usize)?;
     for i in 0..network.arcs() {
         let arc = network.arc(i);
-        entries.push(entry_of(arc, i, flow.amount(i)))?;
+        entries.push(entry_of(arc, i, flow.amount(i as usize)))?;
     }
     Ok(entries)
 }

@@ -25,7 +25,7 @@ fn balance_at<N: Network>(network: &N, flow: &Flow, node: u32) -> i128
 {
     let mut sum = 0i128;
     for i in 0..network.arcs() {
-        sum += share(network.arc(i), flow.amount(i), node);
+        sum += share(network.arc(i), flow.amount(i as usize), node);
     }
     sum
 }

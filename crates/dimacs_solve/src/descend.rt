@@ -73,7 +73,7 @@ fn started<N: Network>(alloc: Global, network: &N) -> Result<Flow, Memory>
 {
     let mut flow = Flow::zero(alloc, network.arcs())?;
     for i in 0..network.arcs() {
-        flow.set(i, started_at(network.arc(i)));
+        flow.set(i as usize, started_at(network.arc(i)));
     }
     Ok(flow)
 }

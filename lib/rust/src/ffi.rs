@@ -73,9 +73,9 @@ extern "C" {
         out: *mut u8,
         room: usize,
         needed: *mut usize,
-        shown: *mut u8,
-        shown_room: usize,
-        shown_needed: *mut usize,
+        certificate: *mut u8,
+        certificate_room: usize,
+        certificate_needed: *mut usize,
     ) -> u32;
 
     pub fn dimacs_spread(
@@ -87,9 +87,9 @@ extern "C" {
         out: *mut u8,
         room: usize,
         needed: *mut usize,
-        shown: *mut u8,
-        shown_room: usize,
-        shown_needed: *mut usize,
+        solution: *mut u8,
+        solution_room: usize,
+        solution_needed: *mut usize,
     ) -> u32;
 
     pub fn dimacs_solve(

@@ -48,7 +48,7 @@ impl<'a, N: Network> Claim<'a, N> {
 
     /// The number of arcs.
     #[inline(always)]
-    pub(crate) fn arcs(&self) -> u32 {
+    pub(crate) fn arc_count(&self) -> u32 {
         self.instance.network().arcs()
     }
 
@@ -81,7 +81,7 @@ impl<'a, N: Network> Claim<'a, N> {
     /// The sum of all costs, without their signs.
     pub(crate) fn cost_sum(&self) -> u128 {
         let mut sum: u128 = 0;
-        for i in 0..self.arcs() {
+        for i in 0..self.arc_count() {
             if let Some(arc) = self.arc(i) {
                 sum = sum.wrapping_add(u128::from(arc.cost.unsigned_abs()));
             }

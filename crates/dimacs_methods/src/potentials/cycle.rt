@@ -39,7 +39,7 @@ pub(crate) fn cycle_over<N: Network, V: Number>(
     };
     let mut cheapest = vec![in alloc; none; places.groups as usize]?;
     set_next(&mut cheapest, groups, none);
-    for i in 0..claim.arcs() {
+    for i in 0..claim.arc_count() {
         compare(claim, places, i, Side::Tail, &mut cheapest);
         compare(claim, places, i, Side::Head, &mut cheapest);
     }
@@ -66,7 +66,7 @@ fn first_too_cheap<N: Network, V: Number>(
     claim: &Claim<'_, N>,
     places: &Places<V>,
 ) -> Option<Step<V>> {
-    for i in 0..claim.arcs() {
+    for i in 0..claim.arc_count() {
         let forth = too_cheap(claim, places, i, Side::Tail);
         let either = forth.or(too_cheap(claim, places, i, Side::Head));
         if either.is_some() {

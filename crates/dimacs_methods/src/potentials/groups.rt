@@ -114,7 +114,7 @@ impl<V: Number> Groups<V> {
     /// Ties the ends of all arcs that can carry both more and less. Stops with false at an arc that contradicts earlier
     /// ones.
     pub(crate) fn tie_all<N: Network>(&mut self, claim: &Claim<'_, N>) -> bool {
-        for i in 0..claim.arcs() {
+        for i in 0..claim.arc_count() {
             let Some(arc) = claim.arc(i) else {
                 continue;
             };

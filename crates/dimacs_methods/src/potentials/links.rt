@@ -94,8 +94,8 @@ pub(crate) fn all_links<N: Network, V: Number>(
     claim: &Claim<'_, N>,
     places: &Places<V>,
 ) -> Result<Option<Vec<Link<V>>>, Memory> {
-    let mut links = Vec::with_capacity(alloc, claim.arcs() as usize)?;
-    for i in 0..claim.arcs() {
+    let mut links = Vec::with_capacity(alloc, claim.arc_count() as usize)?;
+    for i in 0..claim.arc_count() {
         let Some(link) = Link::of(claim, places, i) else {
             continue;
         };

@@ -105,7 +105,7 @@ fn tight_steps<N: Network, V: Number>(
     places: &Places<V>,
 ) -> Result<Vec<Step<V>>, Memory> {
     let mut steps = Vec::new(alloc);
-    for i in 0..claim.arcs() {
+    for i in 0..claim.arc_count() {
         add_tight(claim, places, i, Side::Tail, &mut steps)?;
         add_tight(claim, places, i, Side::Head, &mut steps)?;
     }

@@ -8,7 +8,7 @@ use Rattle.dimacs_network.specs.declared.adjacency_lists.Side.TheVariants.{Tail}
 use Rattle.dimacs_network.specs.AdjacencyLists.{IsLast}
 use Rattle.dimacs_claims.specs.Labels.{IsNear}
 use Rattle.dimacs_judge.specs.inside.Leaving.{IsPassed}
-use Rattle.dimacs_optimality.specs.LeastArcs.{WeightsFall, arcs_in}
+use Rattle.dimacs_optimality.specs.LightestArcs.{WeightsFall, arcs_in}
 use Rattle.dimacs_judge.specs.inside.NodeLabels.{known}
 use Rattle.dimacs_network.specs.Arcs.{arc_at, no_arc}
 use Rattle.dimacs_judge.proofs.LeavingLemmas.{ArePassedOn, no_reason, node_beyond, node_done, node_more, passed_still, passed_this}

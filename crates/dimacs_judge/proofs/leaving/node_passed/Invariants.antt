@@ -1,7 +1,7 @@
 use Rattle.std.proofs.Common.{◌≡◌, ◌<◌, ◌≤◌, ◌-◌, length}
 use Rattle.dimacs_network.specs.declared.network.ArcView.{ArcView}
 use Rattle.dimacs_judge.specs.inside.Leaving.{IsPassed}
-use Rattle.dimacs_optimality.specs.LeastArcs.{arcs_in}
+use Rattle.dimacs_optimality.specs.LightestArcs.{arcs_in}
 use Rattle.dimacs_judge.specs.inside.NodeLabels.{IsLabelled, known}
 use Rattle.dimacs_network.specs.Arcs.{arc_at}
 use Rattle.dimacs_judge.proofs.LeavingLemmas.{ArePassedOn}

@@ -1,6 +1,6 @@
 use Rattle.std.proofs.Common.{IfSome, take}
 use Rattle.dimacs_optimality.specs.CertificateTests.{label_rows}
-use Rattle.dimacs_optimality.specs.LeastArcs.{AreLeast}
+use Rattle.dimacs_optimality.specs.LightestArcs.{AreLightest}
 use Rattle.dimacs_judge.specs.inside.NodeLabels.{AllBlank, AreAsTested}
 use Rattle.dimacs_optimality.specs.Tests.{AllClear}
 use Rattle.dimacs_judge.proofs.node_labels.labelled_blocks_hold.Given as goal
@@ -11,5 +11,5 @@ invariant-loop-i g l = record {
   clear : AllClear (label_rows (g.N.Network.list l.network) (take l.i l.labels.blocks));
   blank : AllBlank l.tables;
   tested : AreAsTested (g.N.Network.list l.network) l.weights;
-  least : IfSome l.least (AreLeast (g.N.Network.list l.network));
+  least : IfSome l.least (AreLightest (g.N.Network.list l.network));
 }
