@@ -15,7 +15,7 @@ mod entries;
 mod feasible;
 mod flow;
 mod laws;
-mod lightest_arcs;
+mod lightest;
 mod max_claim;
 mod min_claim;
 mod one_pass;
@@ -37,7 +37,7 @@ pub use laws::{
     exchange, labels_give_distances, passing_shows, slack_is_least, tight_cut_is_maximum,
     violated_has_no_flow,
 };
-pub use lightest_arcs::{LightestArcs, lightest_arcs};
+pub use lightest::{LightestArcs, lightest_arcs};
 pub use max_claim::{max_claim_tests, max_in_one_pass};
 pub use min_claim::{min_claim_tests, min_in_one_pass};
 pub use places::FlowPlaces;
