@@ -4,7 +4,7 @@
 A stand-in for the program answers by what the file after the word holds: the seconds that it takes, its status, and
 what it prints. Tested are the rows and their order, the commands that are chosen, and that an interrupted table is
 taken up again. The reasons that JUDGING.md and TEXTS.md name have to be of the claim and of the texts. BINARY is the
-built program, with which the examples are judged; crates/dimacs/out/dimacs where none is given and that is there.
+built program, with which the examples are judged; crates/dimacs/out/dimacs by default and that is there.
 """
 import csv
 import functools

@@ -1,13 +1,13 @@
 #!/usr/bin/env python3
 """Tries the commands that certify on small instances: tests/certify_trials.py [COUNT] [SEED] [BINARY]
 
-Makes COUNT instances of each kind at random (1000 where it isn't given), with loops, arcs with the same ends, lower bounds
+Makes COUNT instances of each kind at random (1000 if it isn't given), with loops, arcs with the same ends, lower bounds
 and costs of both signs, and finds all feasible flows of each. Some of these are claimed, with entries in any order. The
-program has to say yes where no feasible flow is better, and then its judge has to say yes by the certificate that was
+program has to say yes if no feasible flow is better, and then its judge has to say yes by the certificate that was
 written; else it has to refuse the value, and what was written is claimed in its turn, until that is the best. Of instances
-with any supplies it has to say that no flow is feasible where none is, and else to write one that is. Of graphs distances
+with any supplies it has to say that no flow is feasible if none is, and else to write one that is. Of graphs distances
 are claimed, some of them wrong, and what is said is what Bellman and Ford's algorithm says. BINARY is the built program;
-crates/dimacs/out/dimacs where none is given.
+crates/dimacs/out/dimacs by default.
 """
 import random
 import sys
@@ -156,7 +156,7 @@ class Trials(Program):
         arcs = [(rng.randint(1, nodes), rng.randint(1, nodes), rng.randint(-2, 5)) for _ in range(rng.randint(0, 8))]
         sources = rng.sample(range(1, nodes + 1), rng.randint(0, min(3, nodes)))
         blocks = [(source, claimed(rng, nodes, arcs, source)) for source in sources]
-        declared = rng.choice([nodes, 300])  # where few of the nodes are labelled, other code decides
+        declared = rng.choice([nodes, 300])  # if few of the nodes are labelled, other code decides
         self.claims += 1
         self.write("instance", graph_text(declared, arcs))
         self.write("claim", distances_text(rng, declared, blocks))

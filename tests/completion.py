@@ -63,7 +63,7 @@ def offered(shell, words, folder):
 
 
 def is_right(found, place, kinds, files):
-    """Whether what is offered can stand at a place, and all of it is offered where it isn't a file."""
+    """Whether what is offered can stand at a place, and all of it is offered if it isn't a file."""
     if place in ("N", None):
         return not found
     if place == "KIND":

@@ -10,8 +10,8 @@ fail() {
     failed=$((failed + 1))
 }
 
-# count LEAST COMMAND..: runs a command whose last line is 'N passed, M failed', and adds these up. It has failed too where
-# it has no such line, where fewer than LEAST passed, or where its status isn't that of its line: 0 where M is 0.
+# count LEAST COMMAND..: runs a command whose last line is 'N passed, M failed', and adds these up. It has failed too if
+# it has no such line, if fewer than LEAST passed, or if its status isn't that of its line: 0 if M is 0.
 count() {
     least=$1
     shift

@@ -3,7 +3,7 @@
 
 `dimacs explain WORDS ..` has to print first what `dimacs WORDS ..` prints, and to end with its status. After a refusal
 lines follow, of which the case names parts. No clause says what these lines say. BINARY is the built program;
-crates/dimacs/out/dimacs where none is given.
+crates/dimacs/out/dimacs by default.
 """
 import os
 import re

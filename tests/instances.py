@@ -76,7 +76,7 @@ class Program:
         self.folder = folder
 
     def run(self, *words):
-        """What it prints; or its status, where it is none of an answer."""
+        """What it prints; or its status, if it is none of an answer."""
         words = [self.binary, *words]
         ran = subprocess.run(words, capture_output=True, text=True, check=False, cwd=self.folder)
         return ran.stdout.strip() if ran.returncode in (0, 1, 5) else f"status {ran.returncode}"

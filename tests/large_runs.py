@@ -7,7 +7,7 @@ outcomes: a yes, a flow that is feasible and not best, a run that gives up, and 
 write is judged in its turn. lib/test/large_arrays.c does the same with the calls over arrays.
 
 The texts and what is wanted of them are made here: parallel chains of arcs for flows, pairs of nodes with a supply each,
-a cycle for distances, and nodes apart for many sources. BINARY is the built program; crates/dimacs/out/dimacs where none
+a cycle for distances, and nodes apart for many sources. BINARY is the built program; crates/dimacs/out/dimacs if none
 is given.
 """
 import collections

@@ -2,7 +2,7 @@
 """Tests the library for C, C++, Python and Rust: tests/library.py [--build FOLDER] [--instances N] [--runs M]
 
 FOLDER is where `make` built the library and the program: build, or build/quick for those that aren't proved. It runs
-what stands in lib/test: in C, under sanitizers where they fit and by valgrind, the calls over texts and arrays with
+what stands in lib/test: in C, under sanitizers if they fit and by valgrind, the calls over texts and arrays with
 room and without, in eight threads, with each growth of memory refused in turn, over texts of 100 MB, and over arrays of
 a million arcs; in C++, by each of `c++` and `clang++` under sanitizers, dimacs.hpp, and over it what LEMON and Boost
 answer; the crate for Cargo; and in Python, by each of `python3` and /usr/bin/python3, also networkx' own tests of what

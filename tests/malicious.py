@@ -3,12 +3,12 @@
 
 Each text is made so that what looks nodes, arcs or labels up meets its worst keys: IDs far apart or falling, all arcs
 at one tail, many arcs between two nodes, blocks of labels with a node far off in each. It is run beside a kind text of
-as many lines (100,000 where LINES isn't given) with the same declared nodes, in which neighbours have near numbers and
+as many lines (100,000 if LINES isn't given) with the same declared nodes, in which neighbours have near numbers and
 everything stands in order. Shown are the processor time and the most memory of both, and their quotients. The script
-fails where a text takes more than LIMIT times what the kind one takes; more is allowed where each ID has a page to
+fails if a text takes more than LIMIT times what the kind one takes; more is allowed if each ID has a page to
 itself.
 
-BINARY is the built program; crates/dimacs/out/dimacs where none is given. With WORD only the cases run that have it in
+BINARY is the built program; crates/dimacs/out/dimacs by default. With WORD only the cases run that have it in
 their name. refusals.c, which tells the most memory, is compiled with cc.
 """
 import os
@@ -25,7 +25,7 @@ HERE = os.path.dirname(os.path.abspath(__file__))
 # How much more a malicious text may take than a kind one: of time, and of memory.
 LIMIT = (5, 5)
 
-# The same where each ID that it names has a page of 64 to itself.
+# The same if each ID that it names has a page of 64 to itself.
 PAGES_LIMIT = (10, 50)
 
 # What is added to both times before they are compared, in seconds: shorter times aren't told apart.

@@ -2,7 +2,7 @@
 """Tests the man pages that tools/man_pages.py writes: tests/man_pages.py
 
 dimacs(1) has each command of the usage text and each exit status, dimacs(5) each kind and each reason of TEXTS.md and
-each of its headings, dimacs-batch(1) each option and column. Neither man nor mandoc warns of a page, where they are
+each of its headings, dimacs-batch(1) each option and column. Neither man nor mandoc warns of a page, if they are
 there.
 """
 import os

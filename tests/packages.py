@@ -2,7 +2,7 @@
 """Tests the packages without the kit on the path: tests/packages.py DIST [--root]
 
 DIST is the folder that `make dist` makes. With --root they are installed in an empty Debian, made for it, which takes some
-minutes: by `dpkg -i`, and by pip in a new environment beside numpy. Without it, or where debootstrap isn't there or root
+minutes: by `dpkg -i`, and by pip in a new environment beside numpy. Without it, or if debootstrap isn't there or root
 doesn't run this, they are unpacked into an empty folder. Then the program is asked for a verdict, and so is the library: by a program in C that
 is built by pkg-config, by one that is built by CMake, and from Python. The man pages are shown and words are completed.
 
@@ -203,7 +203,7 @@ def test_wheel(its):
 
 
 def test_man(its):
-    """The pages, where there are some."""
+    """The pages, if there are some."""
     if not os.path.isdir(f"{its.usr}/share/man") or not its.has("man pages", "man"):
         print("left out: man pages")
         return
@@ -213,7 +213,7 @@ def test_man(its):
 
 
 def test_completion(its):
-    """Words and kinds that bash offers, where there is completion."""
+    """Words and kinds that bash offers, if there is completion."""
     script = f"{its.usr}/share/bash-completion/completions/dimacs"
     if not os.path.exists(script) or not its.has("completion", "bash"):
         print("left out: completion")

@@ -195,7 +195,7 @@ def wrong_names(repository, piece):
 
 
 def wrong_counts(page):
-    """Yields where the lines of definitions aren't those that the page counts."""
+    """Yields if the lines of definitions aren't those that the page counts."""
     defined = believed.all_definitions()
     circles = [believed.named_by_all(), *(believed.named_by(*it) for it in believed.CIRCLES.values())]
     for roots in circles:

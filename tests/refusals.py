@@ -4,18 +4,19 @@
 Each run below is made again with its Nth growth of memory refused, N counting up until a run meets no refusal; the same
 with the Nth read, write and opening, and with reads and writes of one byte. Each run has to give its own answer, or
 the status and the complaint of its error, with the file, the call and the system's own reason: then nothing was written
-where a growth, a read or an opening failed, and a beginning of what was to be written where a write did. A call that a
+if a growth, a read or an opening failed, and a beginning of what was to be written if a write did. A call that a
 signal interrupts is made again. Each run has to meet the calls that it can't do without: it opens each of its files,
 reads each byte, writes each byte, and takes memory for its words and files. Before each run the files that it writes
 hold an old text, longer than the new one.
 
-Runs are made too with the standard devices closed: what is meant for these never lands in a file. Then texts are read that declare the greatest counts, which has to take as many growths, and of as many bytes, as the
-least ones do, and tiny texts with the greatest counts and IDs are judged and solved in little memory.
+Runs are made too with the standard devices closed: what is meant for these never lands in a file. Then texts are read
+that declare the greatest counts, which has to take as many growths, and of as many bytes, as the least ones do. Tiny
+texts with the greatest counts and IDs are judged and solved in little memory.
 
-BINARY is the built program; crates/dimacs/out/dimacs where none is given. TESTS is crates/dimacs_tests as
-`rt test` builds it: its tests of refused growths run with each growth refused. Where neither is given and TESTS isn't
-there, these are left out. refusals.c, which refuses the calls, is compiled with cc; and again so that it doesn't see one
-of the calls, where the runs have to fail.
+BINARY is the built program, crates/dimacs/out/dimacs by default. TESTS is crates/dimacs_tests as `rt test` builds it:
+its tests of refused growths run with each growth refused. They are left out if neither is given and TESTS isn't there.
+refusals.c, which refuses the calls, is compiled with cc; and again so that it doesn't see one of the calls: then the
+runs have to fail.
 """
 import collections
 import errno
@@ -188,7 +189,7 @@ Counts = collections.namedtuple("Counts", "growth read write opening peak bytes"
 Call = collections.namedtuple("Call", "done name")
 Ran = collections.namedtuple("Ran", "status complaint outputs counts refused")
 
-# What is refused: its name, the call that is counted, its variables, and the status of the error; none where the call
+# What is refused: its name, the call that is counted, its variables, and the status of the error; none if the call
 # is made again.
 Kind = collections.namedtuple("Kind", "name call variables status")
 
@@ -212,7 +213,7 @@ OTHER_OPENINGS = 3
 # How many growths a text takes at least, whatever it declares.
 TEXT_GROWTHS = 5
 
-# The calls that this script has to miss where refusals.c doesn't see them, and the run that shows it.
+# The calls that this script has to miss if refusals.c doesn't see them, and the run that shows it.
 UNSEEN = ["malloc", "open", "read", "write"]
 SHOWING = ("solve-max max CLAIM SHOWN --limit 10", 0, "v max 6\n")
 
@@ -381,7 +382,7 @@ class Runs:
             return it.read()
 
     def made(self, name):
-        """What a run wrote to a file; None where it left the old text."""
+        """What a run wrote to a file; None if it left the old text."""
         text = self.read(name)
         return None if text == OLD else text
 
@@ -424,7 +425,7 @@ class Cases:
         self.passed = self.failed = 0
 
     def count(self, faults):
-        """Counts a case, which fails where it has a fault, and prints these."""
+        """Counts a case, which fails if it has a fault, and prints these."""
         found = list(faults)
         for fault in found:
             print(fault, flush=True)
@@ -452,7 +453,7 @@ def complaint_of(call, error=None):
 
 
 def twice(words):
-    """What the standard error has at its end where two of the files of a run that solves have one name."""
+    """What the standard error has at its end if two of the files of a run that solves have one name."""
     names = names_of(words)[1:] if words.startswith("solve-") else []
     return "".join(f"dimacs: {name}: written twice\n" for name in {it for it in names if names.count(it) > 1})
 
@@ -631,10 +632,10 @@ def run_closed(runs, words, closed, status, error):
 
 
 def miss(runs, call):
-    """Refuses calls by a library that doesn't see this one, and yields where nothing is wrong with that."""
+    """Refuses calls by a library that doesn't see this one. Yields a fault if no run fails by that."""
     blind = Runs(runs.binary, build(runs.folder, call), runs.folder)
     if not list(refuse_all(blind, *SHOWING, KINDS)):
-        yield f"where {call} is never refused nothing is missed"
+        yield f"nothing is missed if {call} is never refused"
     runs.runs += blind.runs
 
 

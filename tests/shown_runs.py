@@ -5,7 +5,7 @@ Each line '$ dimacs WORDS' in a page's block of code is run beside a copy of the
 what it prints is compared with the lines under it, up to a line '...' and without remarks, which begin with '  # '. Its
 exit status is compared with what these lines mean; the standard error has to stay empty. A page that shows no run has
 failed, and so has one that does and isn't read here.
-BINARY is the built program; crates/dimacs/out/dimacs where none is given.
+BINARY is the built program; crates/dimacs/out/dimacs by default.
 """
 import glob
 import os

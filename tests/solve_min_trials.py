@@ -1,12 +1,12 @@
 #!/usr/bin/env python3
 """Tries solve-min on small instances: tests/solve_min_trials.py [COUNT] [SEED] [BINARY]
 
-Makes COUNT instances of small numbers at random (1000 where it isn't given), with lower bounds, costs of both signs,
+Makes COUNT instances of small numbers at random (1000 if it isn't given), with lower bounds, costs of both signs,
 loops and supplies at any nodes, and as many with numbers up to the ends of 64 bits. Each is solved by the program and by
 a slow search, and both have to say the same: the least cost, or that there is no feasible flow. The search goes through
-all feasible flows where numbers are small, and by shortest paths where they aren't. What the program writes is judged by
-the program, and it may take a second of processor time at most. It has to give up where the least cost is out of range,
-and may do so where the cost on some of the arcs is, and with the limit 0, with which every tenth instance is solved
+all feasible flows if numbers are small, and by shortest paths if they aren't. What the program writes is judged by
+the program, and it may take a second of processor time at most. It has to give up if the least cost is out of range,
+and may do so if the cost on some of the arcs is, and with the limit 0, with which every tenth instance is solved
 again. BINARY is the built program; crates/dimacs/out/dimacs
 where none is given.
 """
@@ -94,7 +94,7 @@ class Residual:
         return reached
 
     def augment(self):
-        """Moves some excess to the nearest deficit. False where it reaches none."""
+        """Moves some excess to the nearest deficit. False if it reaches none."""
         reached = self.shortest()
         deficits = [node for node in reached if self.excess[node] < 0]
         if not deficits:

@@ -1,11 +1,11 @@
 #!/usr/bin/env python3
 """Tries spread-max and spread-min on small instances: tests/spread_trials.py [COUNT] [SEED] [BINARY]
 
-Makes COUNT instances of each kind at random (1000 where it isn't given) with parallel arcs, and claims sums between their
+Makes COUNT instances of each kind at random (1000 if it isn't given) with parallel arcs, and claims sums between their
 ends, in one entry or in several, in any order. What is written has to have an entry for every arc, in the order of the
 instance, the claimed value and the claimed sums; it has to keep the bounds exactly if one of all dealings of these sums
 does, and for spread-min none of those may cost less. An entry that no arc has is refused, and nothing is written. BINARY
-is the built program; crates/dimacs/out/dimacs where none is given.
+is the built program; crates/dimacs/out/dimacs by default.
 """
 import collections
 import random
@@ -61,12 +61,12 @@ class Trials(Program):
             return
         within = [other for other in flows(arcs) if sums(arcs, other) == sums(arcs, flow)]
         if (flow in within) != bool(within):
-            yield f"writes {flow}, where {len(within)} dealings keep the bounds"
+            yield f"writes {flow}, if {len(within)} dealings keep the bounds"
         elif kind == "min" and within and cost(arcs, flow) > min(cost(arcs, other) for other in within):
-            yield f"writes {flow}, where another dealing costs less"
+            yield f"writes {flow}, if another dealing costs less"
 
     def astray(self, rng, kind, arcs, nodes, lines):
-        """What is wrong where an entry is of no arc."""
+        """What is wrong if an entry is of no arc."""
         ends = rng.randint(1, nodes + 1), rng.randint(1, nodes)
         if ends in [arc[:2] for arc in arcs]:
             return

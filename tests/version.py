@@ -1,7 +1,7 @@
 #!/usr/bin/env python3
 """Tests that the version is the same everywhere as in the file VERSION: tests/version.py [BUILD]
 
-BUILD is the folder of the program and the library that are asked; build where none is given. The last line counts what
+BUILD is the folder of the program and the library that are asked; build if none is given. The last line counts what
 agreed and what didn't.
 """
 import ctypes

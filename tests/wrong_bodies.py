@@ -7,7 +7,7 @@ file. No clause refuses it, so a run has to: the edit's line `run` names the scr
 the repository, and the script runs over it. An edit that is no longer proved is refused too. With NAME only the edits
 of these names are tried.
 
-It isn't part of the gate, since each edit takes minutes, and more where it is proved. With --quick nothing is: what
+It isn't part of the gate, since each edit takes minutes, and more if it is proved. With --quick nothing is: what
 runs is built as by `make quick`. With --apply nothing is tried: each old text has to stand once in its file.
 """
 import argparse
@@ -63,7 +63,7 @@ def copy(top):
 
 
 def build(top, edit, is_quick):
-    """Builds what the edit's run needs, and answers its path; none where it isn't proved."""
+    """Builds what the edit's run needs, and answers its path; none if it isn't proved."""
     made = f"build/{'quick/' * is_quick}{'libdimacs.a' if edit.is_of_library() else 'dimacs'}"
     built = subprocess.run(["make", "-C", top, made], check=is_quick)
     return os.path.join(top, made) if built.returncode == 0 else None

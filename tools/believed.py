@@ -9,7 +9,7 @@ What one has to believe of the judge is what the clauses of `run_judge` rest on,
 traits that it is generic over, as a source's, since they say what its sources do. --print gives the definitions of the judge, or of
 the command, as one text, each file of them after those that it cites.
 
-A definition counts where a clause of a public function or trait, or what a public type stands for, names it, or where
+A definition counts if a clause of a public function or trait, or what a public type stands for, names it, or if
 another that counts does. Blank lines and lines of imports don't. The others describe inner states: nobody has to believe
 them, and they stand in specs/inside. --others names them, by their files. Where one of them stands elsewhere, or one
 that counts stands there, the script says so and ends with 1. It reads the texts by their words alone, so it is no proof.

@@ -25,7 +25,7 @@ WORKS = ["proof", "bodies", "tests"]
 
 
 def read(path):
-    """The bytes of a file of /proc; none where the process has ended."""
+    """The bytes of a file of /proc; none if the process has ended."""
     try:
         with open(path, "rb") as it:
             return it.read()
@@ -43,7 +43,7 @@ def processes():
 
 
 def work_of(pid):
-    """The crate and the work of a check; None where a process is none."""
+    """The crate and the work of a check; None if a process is none."""
     words = read(f"/proc/{pid}/cmdline").decode(errors="replace").split("\0")
     if "--crate-name" not in words or os.path.basename(words[0]) != "rattle":
         return None

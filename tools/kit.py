@@ -36,7 +36,7 @@ def folder(*needed):
 
 
 def note_other_logic():
-    """Says so where README.md names another logic than the kit's."""
+    """Says so if README.md names another logic than the kit's."""
     version = subprocess.run(["rt", "version"], capture_output=True, text=True, check=False).stdout
     with open(f"{TOP}/README.md", encoding="utf-8") as it:
         named = re.findall(r"logic ([0-9a-f]{16})", it.read())

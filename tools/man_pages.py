@@ -84,7 +84,7 @@ def plain(text):
     """A text without what only a reader of the sources needs, and with links as words."""
     antt = r"\[`\w+\.antt`\]\([^)]*\)"
     text = re.sub(rf"\s*\((?:`\w+`(?:[ ,\w]*)\sin\s)?{antt}(?:,\s*{antt})*\)", "", text)
-    text = re.sub(r"(^|(?<=\s))Definitions?: .*", "", text, flags=re.DOTALL)
+    text = re.sub(r"(^|(?<=\s))Definitions?:\s.*", "", text, flags=re.DOTALL)
     return re.sub(r"\[([^\]]*)\]\([^)]*\)", lambda it: MAN_PAGES.get(it[1], it[1]), text).strip()
 
 
@@ -130,7 +130,7 @@ def bare(cell):
 
 
 def widths(rows):
-    """The widths of the columns, 0 where all are short: else the long ones share what the short ones leave."""
+    """The widths of the columns, 0 if all are short: else the long ones share what the short ones leave."""
     needed = [max(len(bare(cell)) for cell in column) for column in zip(*rows)]
     least = [max(len(word) for cell in column for word in bare(cell).split() or [""]) for column in zip(*rows)]
     room = WIDTH - 3 * (len(needed) - 1)

@@ -8,7 +8,7 @@ contract, its proof files and the edited body. So one check of a copy of the cra
 twin whether it is proved. A method of a trait can have no twin: it is edited in place, each method once in a check. An
 edit of which such a check doesn't tell is tried alone, as is one that doesn't lie in the body of one function.
 
-An edit is refused where the proof of the function that it changes fails. It fails this script where it is proved, and
+An edit is refused if the proof of the function that it changes fails. It fails this script if it is proved, and
 where it is bad: it can't be applied or compiled, or the proof fails only since a proof file names what the edit took
 away.
 

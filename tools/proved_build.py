@@ -1,7 +1,7 @@
 #!/usr/bin/env python3
 """Proves and builds the program and the calls of the library: tools/proved_build.py [--by-ci] FOLDER
 
-Proves the crates one by one, lowest first, where they aren't proved yet, with a line each minute that says which is at
+Proves the crates one by one, lowest first, if they aren't proved yet, with a line each minute that says which is at
 work and how many are left; and puts the program `dimacs` and the archive `dimacs_c.a`, which the Makefile links, into
 the folder. With --by-ci it takes what rt ci proved: its program, and for the library the crates below, over which
 dimacs_c is proved again. rt lib takes none of these, since they hold statements alone, and would prove them all again.

@@ -119,5 +119,5 @@ def prepare_metadata_for_build_wheel(metadata_directory, config_settings=None):
 
 
 def build_sdist(sdist_directory, config_settings=None):
-    """pip asks for it where it makes no wheel; there is none, since what is in the wheel has to be proved first."""
+    """pip asks for it if it makes no wheel; there is none, since what is in the wheel has to be proved first."""
     raise NotImplementedError("build the wheel: the library is proved and built by `make`")

@@ -12,7 +12,7 @@ import sys
 
 os.environ.update(NETWORKX_TEST_BACKEND="dimacs", NETWORKX_FALLBACK_TO_NX="True")
 
-# The tests that compare a flow itself, where several cost least.
+# The tests that compare a flow itself, if several cost least.
 KNOWN = {
     "flow/tests/test_mincost.py::TestMinCostFlow::test_digraph1",
     "flow/tests/test_networksimplex.py::test_digraph1",

@@ -196,7 +196,7 @@ static int is_nothing(const Handed *it) {
 }
 
 /* Calls with nothing refused, and then with each growth refused in turn until a call meets no refusal. Spreading says
-   nothing where it has a solution to show. */
+   nothing if it has a solution to show. */
 static void refuse_each(const char *name, uint32_t (*call)(void), uint32_t wanted) {
     refused = 0;
     clear(&to);

@@ -77,7 +77,7 @@ def length_of(graph, path, weight):
 @unittest.skipIf(LACKS, LACKS)
 class Backend(unittest.TestCase):
     def compared(self, function, *words):
-        """What networkx and the backend answer; None where both raise the same."""
+        """What networkx and the backend answer; None if both raise the same."""
         theirs, ours = (answer_of(function, words, backend) for backend in ("networkx", "dimacs"))
         if theirs[0] != "answer":
             self.assertEqual(ours, theirs)

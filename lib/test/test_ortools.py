@@ -1,4 +1,4 @@
-"""dimacs.ortools, with OR-Tools where it is there, and with solvers that have its methods."""
+"""dimacs.ortools, with OR-Tools if it is there, and with solvers that have its methods."""
 
 import unittest
 

@@ -215,7 +215,7 @@ static void keeps_to_the_room(void) {
     check_that("no room, and null", status == 0 && needed == 14);
     memset(out, '#', sizeof out);
     status = dimacs_judge(9, TEXT(max), TEXT(flow), TEXT(cut), out, sizeof out, &needed);
-    check_that("nothing is written where it is misused", status == 2 && needed == 0 && out[0] == '#');
+    check_that("nothing is written if it is misused", status == 2 && needed == 0 && out[0] == '#');
 }
 
 /* Texts in memory that is exactly theirs, so that a read beyond would be seen; with no UTF-8 and with 0 bytes. */

@@ -82,7 +82,7 @@ MARKS = Items("B", 1, 0, 2**8 - 1)
 DISTANCES = NUMBERS._replace(infinity=UNREACHED)
 LIMITS = Items("Q", 8, 0, 2**64 - 1)
 
-#: The limit where none is given.
+#: The limit if none is given.
 LIMIT = 1_000_000
 
 #: The codes of buffers that have such items already, by their code here.
@@ -202,7 +202,7 @@ def _items_of(numbers: Any, view: memoryview, name: str) -> list[Any]:
 
 
 def unlabelled(given: Any) -> Any:
-    """The items by their places of what may have labels too, as in pandas, where a DataFrame is gone through by these."""
+    """The items by their places of what may have labels too, as in pandas, if a DataFrame is gone through by these."""
     return given.to_numpy() if hasattr(given, "to_numpy") else given
 
 
@@ -263,7 +263,7 @@ class Room:
 
     def in_form_of(self, came: Any) -> Any:
         """All items: a numpy array or an array.array if the argument is one, else a list. Marks are bools, and
-        in array.array bytes that aren't 0 where they are true."""
+        in array.array bytes that aren't 0 if they are true."""
         if self._told.value != len(self._kept):
             raise RuntimeError(f"the library handed out {self._told.value} items, and there is room for {len(self._kept)}")
         numpy = sys.modules.get("numpy")

@@ -95,7 +95,7 @@ class _Graph:
         marks = side if is_dict else dict.fromkeys(unlabelled(side), True)
         if not all(is_bool(it) for it in marks.values()):
             raise TypeError(f"side is a {type(side).__name__} that doesn't map nodes to bools, and has to be a set of nodes")
-        # True is 1 to a dict: where nodes are numbers, a bool for each node would name the nodes 0 and 1.
+        # True is 1 to a dict: if nodes are numbers, a bool for each node would name the nodes 0 and 1.
         if any(is_bool(it) and not is_bool(self.nodes[self.number(it) - 1]) for it in marks):
             raise TypeError(f"side is a {type(side).__name__} of bools, and has to be a set of nodes")
         return self.by_node(marks, False, "side")

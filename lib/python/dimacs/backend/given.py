@@ -107,7 +107,7 @@ class Numbers(NamedTuple):
 
 
 def of_edges(graph: Any, attribute: Any, missing: Any, name: str, infinite: bool = False) -> Numbers:
-    """The number that each arc has. Raises Unable if one isn't whole, nor infinite where that is allowed."""
+    """The number that each arc has. Raises Unable if one isn't whole, nor infinite if that is allowed."""
     if graph.is_multigraph():
         every = (keyed.values() for _, heads in graph.adjacency() for keyed in heads.values())
     else:
