@@ -50,11 +50,11 @@ int main(int count, char **words) {
     }
     vector<uint32_t> found(nodes);
     auto certify = [&] {
-        size_t arcs = tails.size(), told, found_told;
+        size_t arcs = tails.size(), needed, found_needed;
         dimacs_graph it = {nodes, {tails.data(), arcs}, {heads.data(), arcs}, {weights.data(), arcs}};
         uint8_t out[100];
-        if (source && dimacs_certify_paths_arrays(&it, source, distances.data(), nodes, out, sizeof out, &told,
-                                                  found.data(), nodes, &found_told))
+        if (source && dimacs_certify_paths_arrays(&it, source, distances.data(), nodes, out, sizeof out, &needed,
+                                                  found.data(), nodes, &found_needed))
             exit(1);
     };
     int64_t reached = 0, sum = 0;

@@ -241,31 +241,31 @@ def number_of(number: Any, items: Items, name: str) -> int:
 class Room:
     """Memory for items that a call hands out."""
 
-    __slots__ = ("_items", "_kept", "_told")
+    __slots__ = ("_items", "_kept", "_needed")
 
     def __init__(self, items: Items, length: int) -> None:
         self._items = items
         self._kept = array.array(items.code, (0,)) * length
-        self._told = ctypes.c_size_t()
+        self._needed = ctypes.c_size_t()
 
     @classmethod
     def of(cls, items: Items, numbers: Sequence[int]) -> Room:
         """Items that were handed out otherwise."""
         room = cls(items, 0)
         room._kept.extend(numbers)
-        room._told.value = len(room._kept)
+        room._needed.value = len(room._kept)
         return room
 
     def words(self) -> tuple[int, int, Any]:
         """The address of the memory, for how many items it has room, and the address of their number."""
         address, length = self._kept.buffer_info()
-        return address, length, ctypes.byref(self._told)
+        return address, length, ctypes.byref(self._needed)
 
     def in_form_of(self, came: Any) -> Any:
         """All items: a numpy array or an array.array if the argument is one, else a list. Marks are bools, and
         in array.array bytes that aren't 0 if they are true."""
-        if self._told.value != len(self._kept):
-            raise RuntimeError(f"the library handed out {self._told.value} items, and there is room for {len(self._kept)}")
+        if self._needed.value != len(self._kept):
+            raise RuntimeError(f"the library handed out {self._needed.value} items, and there is room for {len(self._kept)}")
         numpy = sys.modules.get("numpy")
         if numpy is not None and isinstance(came, numpy.ndarray):
             found = numpy.frombuffer(self._kept, self._items.code)

@@ -175,7 +175,7 @@ def solve_paths(graph: Text, queries: Text) -> Solved:
     return _solve("paths", graph, queries, LIMIT)
 
 
-def _told(function: Any, kind: str, text: Text) -> Any:
+def _printed(function: Any, kind: str, text: Text) -> Any:
     if kind not in _TEXTS:
         raise ValueError(f"{kind!r} is no kind of text: these are {', '.join(_TEXTS)}")
     given = bytes_of(text)
@@ -191,9 +191,9 @@ def convert(kind: str, text: Text) -> Any:
 
     kind is "max", "min", "gr", "query", "solution", "cut", "pot", "dist" or "distances".
     """
-    return _told(library.convert, kind, text)
+    return _printed(library.convert, kind, text)
 
 
 def show(kind: str, text: Text) -> Any:
     """A line that describes a text, as `i max 4 5 1 4`. The kinds and what is raised are those of convert."""
-    return _told(library.show, kind, text)
+    return _printed(library.show, kind, text)
