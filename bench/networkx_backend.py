@@ -3,8 +3,8 @@
 
 It needs networkx 3.2 or later, and the package `dimacs` installed, so that networkx finds the backend. Each call is
 made by a process of its own, which is stopped after --stop seconds. The seconds are those of the call alone, the least
-of five rounds, or of fewer where they take 10 seconds together. What both answer has to have the same value. The table
-that is printed is for docs/LIBRARY.md.
+of five rounds, or of fewer if they take 10 seconds together. What both answer has to have the same value.
+docs/LIBRARY.md has the ratios.
 """
 import argparse
 import multiprocessing
