@@ -1,8 +1,20 @@
-use Rattle.std.proofs.Common.{◌+◌, ◌<◌, ◌∙◌, arith, length, take, drop, length-drop}
-use Rattle.std.proofs.lemmas.List.{length-take}
+use Rattle.std.proofs.Common.{◌≡◌, ◌+◌, ◌<◌, ◌∙◌, ◌∷◌, ℕ, List, ap, arith, length, take, drop, get_or, length-drop}
+use Rattle.std.specs.List.{position_or_len}
+use Rattle.std.proofs.lemmas.List.{length-take, drop_more}
+use Rattle.dimacs_lines.specs.Fields.{is_blank}
 use Rattle.dimacs_lines.specs.Number.{place_sum}
 use Rattle.dimacs_lines.proofs.DigitLemmas.{spells_digits, spells_minus, minus_in_front, read_back, read_minus}
 use Rattle.dimacs_lines.proofs.scan.plain_number.Goals as goal
+
+-- a minus makes the run one byte longer
+minus_run : (line : List ℕ) (start n : ℕ) → start < length line → get_or line start 0 ≡ 45 → n ≡ position_or_len is_blank (drop (start + 1) line) → n + 1 ≡ position_or_len is_blank (drop start line)
+minus_run line start n inside minus run =
+    let cut : drop start line ≡ 45 ∷ drop (start + 1) line = drop_more line start 0 inside ∙ ap (λ b. b ∷ drop (start + 1) line) minus in
+    let one : n + 1 ≡ 1 + n = omega arith in
+    rw cut (one ∙ ap (λ m. 1 + m) run)
+
+pub returns-in_ok-count-clause-length : goal.returns-in_ok-count-clause-length
+returns-in_ok-count-clause-length c = minus_run c.args.line.now c.args.start c.in_ok-count.count c.requires c.if-line-start-eq45.true c.in_ok-count.ensures.run
 
 pub returns-in_ok-count-clause-number : goal.returns-in_ok-count-clause-number
 returns-in_ok-count-clause-number c =

@@ -1,7 +1,18 @@
-use Rattle.std.proofs.Common.{◌≡◌, drop, ap, ◌∙◌, arith}
+use Rattle.std.proofs.Common.{◌≡◌, take, drop, ap, ◌∙◌, arith}
+use Rattle.dimacs_lines.specs.Number.{place_sum}
 use Rattle.dimacs_lines.specs.Plain.{NumbersLeft}
-use Rattle.dimacs_lines.proofs.PlainLemmas.{few_below}
+use Rattle.dimacs_lines.proofs.PlainLemmas.{digits_stand, few_below}
 use Rattle.dimacs_lines.proofs.plain.PlainNumbers.digits.Goals as goal
+
+pub returns-clause-digits : goal.returns-clause-digits
+returns-clause-digits c =
+    let found = c.in_ok-count.ensures in
+    let count = c.in_ok-count.count in
+    let left = c.args.self.now in
+    let same : c.self.inside.bytes.now ≡ left.bytes = ap (λ (l : NumbersLeft). l.bytes) c.self.view_is ∙ found.bytes in
+    let says : c.few_digits.result ≡ place_sum (take count (drop left.at left.bytes)) = rw (same, c.at-at.ensures) at c.few_digits.ensures in
+    let stand = digits_stand left.bytes left.at c.args.stop count c.few_digits.result (omega (arith, found.run.passed, found.run.within)) (omega (arith, found.length)) (omega (arith, found.length)) found.run.each says found.run.stops in
+    rw found.run.passed stand
 
 pub returns-clause-range : goal.returns-clause-range
 returns-clause-range c =

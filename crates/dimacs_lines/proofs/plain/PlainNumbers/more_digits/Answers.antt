@@ -7,6 +7,14 @@ use Rattle.dimacs_lines.specs.Plain.{NumbersLeft}
 use Rattle.dimacs_lines.proofs.PlainLemmas.{last_eight, few_below, place_sum-split, digits_stand}
 use Rattle.dimacs_lines.proofs.plain.PlainNumbers.more_digits.Goals as goal
 
+pub few_digits-high-requires-clause-digits : goal.few_digits-high-requires-clause-digits
+few_digits-high-requires-clause-digits c =
+    let found = c.in_ok-count.ensures in
+    let count = c.in_ok-count.count in
+    let left = c.digits.new.self in
+    let same : c.self.inside.bytes.now ≡ left.bytes = ap (λ (l : NumbersLeft). l.bytes) c.self.view_is ∙ found.bytes in
+    rw (same, c.at-at.ensures) (subst (All IsAsciiDigit) (take-take (count - 8) count (drop left.at left.bytes) (omega arith)) (All-take IsAsciiDigit (count - 8) (take count (drop left.at left.bytes)) found.run.each))
+
 pub few_digits-low-requires-clause-digits : goal.few_digits-low-requires-clause-digits
 few_digits-low-requires-clause-digits c =
     let found = c.in_ok-count.ensures in

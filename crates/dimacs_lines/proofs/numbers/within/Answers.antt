@@ -1,0 +1,8 @@
+use Rattle.std.proofs.Common.{rules}
+use Rattle.dimacs_lines.proofs.numbers.within.Goals as goal
+
+pub returns-then-n-low : goal.returns-then-n-low
+returns-then-n-low c = search rules
+
+pub returns : goal.returns
+returns c = search rules
