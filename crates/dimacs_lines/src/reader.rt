@@ -41,7 +41,7 @@ pub enum LinesError {
 }
 
 /// Whether a reader of lines can give more.
-#[derive(Clone, Copy, Debug, PartialEq, Eq)]
+#[derive(Clone, Copy)]
 pub enum Progress {
     /// There may be more lines.
     Open,
