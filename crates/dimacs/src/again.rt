@@ -4,7 +4,7 @@ ghost use Rattle.std.specs.Prelude.{None};
 
 use crate::files::SystemFiles;
 use dimacs_lines::{FileSink, FileSource};
-use dimacs_runs::{Counted, Files, RunError};
+use dimacs_runs::{Files, RunError};
 use std::fs::File;
 use std::io::ErrorKind;
 use std::{fs, io};
@@ -28,9 +28,9 @@ impl<'a> FilesAgain<'a> {
 }
 
 impl<'a> Files for FilesAgain<'a> {
-    type Input = Counted<FileSource<File>>;
+    type Input = FileSource<File>;
 
-    type Output = Counted<FileSink<File>>;
+    type Output = FileSink<File>;
 
     ghost holds = { λ s name. None };
 
@@ -38,7 +38,7 @@ impl<'a> Files for FilesAgain<'a> {
 
     ghost seen = { λ s. record { done = None; faults = s.files.faults } };
 
-    fn open(&mut self, name: &str) -> Result<Counted<FileSource<File>>, RunError> {
+    fn open(&mut self, name: &str) -> Result<FileSource<File>, RunError> {
         match fs::metadata(self.rt, name) {
             Ok(found) if found.is_file() => self.files.open(name),
             Ok(_) => Err(self.files.refuse(io::Error::from(ErrorKind::Unsupported))),
@@ -46,15 +46,15 @@ impl<'a> Files for FilesAgain<'a> {
         }
     }
 
-    fn create(&mut self, name: &str) -> Result<Counted<FileSink<File>>, RunError> {
+    fn create(&mut self, name: &str) -> Result<FileSink<File>, RunError> {
         self.files.create(name)
     }
 
-    fn close_input(&mut self, name: &str, file: Counted<FileSource<File>>) -> bool {
+    fn close_input(&mut self, name: &str, file: FileSource<File>) -> bool {
         self.files.close_input(name, file)
     }
 
-    fn close_output(&mut self, name: &str, file: Counted<FileSink<File>>) -> bool {
+    fn close_output(&mut self, name: &str, file: FileSink<File>) -> bool {
         self.files.close_output(name, file)
     }
 }

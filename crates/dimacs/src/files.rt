@@ -6,7 +6,7 @@ ghost use Rattle.dimacs_lines.specs.Devices.{one_more};
 ghost use Rattle.dimacs_runs.specs.Judgings.{CountsDevices};
 
 use dimacs_lines::{FileSink, FileSource};
-use dimacs_runs::{Counted, Files, RunError};
+use dimacs_runs::{Files, RunError};
 use std::fs::File;
 use std::io;
 use std::io::ErrorKind;
@@ -65,9 +65,9 @@ impl<'a> SystemFiles<'a> {
 }
 
 impl<'a> Files for SystemFiles<'a> {
-    type Input = Counted<FileSource<File>>;
+    type Input = FileSource<File>;
 
-    type Output = Counted<FileSink<File>>;
+    type Output = FileSink<File>;
 
     ghost holds = { λ s name. None };
 
@@ -75,25 +75,25 @@ impl<'a> Files for SystemFiles<'a> {
 
     ghost seen = { λ s. record { done = None; faults = s.faults } };
 
-    fn open(&mut self, name: &str) -> Result<Counted<FileSource<File>>, RunError> {
+    fn open(&mut self, name: &str) -> Result<FileSource<File>, RunError> {
         match File::open(self.rt, name) {
-            Ok(file) => Ok(Counted::new(FileSource::new(file))),
+            Ok(file) => Ok(FileSource::new(file)),
             Err(error) => Err(self.refuse(error)),
         }
     }
 
-    fn create(&mut self, name: &str) -> Result<Counted<FileSink<File>>, RunError> {
+    fn create(&mut self, name: &str) -> Result<FileSink<File>, RunError> {
         match File::create(self.rt, name) {
-            Ok(file) => Ok(Counted::new(FileSink::new(file))),
+            Ok(file) => Ok(FileSink::new(file)),
             Err(error) => Err(self.refuse(error)),
         }
     }
 
-    fn close_input(&mut self, _name: &str, file: Counted<FileSource<File>>) -> bool {
-        self.count(file.faults(), file.device().reason())
+    fn close_input(&mut self, _name: &str, file: FileSource<File>) -> bool {
+        self.count(file.faults(), file.reason())
     }
 
-    fn close_output(&mut self, _name: &str, file: Counted<FileSink<File>>) -> bool {
-        self.count(file.faults(), file.device().reason())
+    fn close_output(&mut self, _name: &str, file: FileSink<File>) -> bool {
+        self.count(file.faults(), file.reason())
     }
 }

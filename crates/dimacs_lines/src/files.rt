@@ -55,6 +55,13 @@ impl<F> FileDevice<F> {
         self.reason
     }
 
+    /// How many calls failed so far, modulo 2^64.
+    pub fn faults(&self) -> u64
+        ensures { result ≡ self.now.faults }
+    {
+        self.faults
+    }
+
     /// Keeps the error of a call, and counts it.
     fn fail(&mut self, error: io::Error) -> DeviceFault
         ensures { self.new ≡ record { file = self.old.file; faults = one_more self.old.faults; reason = Some error } }

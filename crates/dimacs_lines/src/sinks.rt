@@ -97,6 +97,13 @@ impl<'a> FlakySink<'a> {
     {
         self.kept.bytes()
     }
+
+    /// How many puts failed so far, modulo 2^64.
+    pub fn faults(&self) -> u64
+        ensures { result ≡ self.now.faults }
+    {
+        self.kept.faults
+    }
 }
 
 impl<'a> Sink for FlakySink<'a> {

@@ -137,6 +137,13 @@ impl<'a> FlakySource<'a> {
             faults: 0,
         }
     }
+
+    /// How many pulls failed so far, modulo 2^64.
+    pub fn faults(&self) -> u64
+        ensures { result ≡ self.now.faults }
+    {
+        self.faults
+    }
 }
 
 impl<'a> Source for FlakySource<'a> {

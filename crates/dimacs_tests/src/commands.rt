@@ -11,7 +11,7 @@ use crate::tables::{case, cell, rows};
 use crate::words::words;
 use dimacs_lines::{FlakySink, FlakySource, MemorySink};
 use dimacs_runs::{
-    CommandError, Counted, Files, RunError, Status, command_status, run_command,
+    CommandError, Files, RunError, Status, command_status, run_command,
 };
 use std::alloc::{AllocError, Global};
 use std::process::Abort;
@@ -126,9 +126,9 @@ impl<'a, A: Abort> MemoryFiles<'a, A> {
 }
 
 impl<'a, A: Abort> Files for MemoryFiles<'a, A> {
-    type Input = Counted<FlakySource<'a>>;
+    type Input = FlakySource<'a>;
 
-    type Output = Counted<FlakySink<'static>>;
+    type Output = FlakySink<'static>;
 
     ghost holds = { λ s name. text_of (map (λ f. (f.0.now, f.1.now)) s.held.now) name };
 
@@ -136,7 +136,7 @@ impl<'a, A: Abort> Files for MemoryFiles<'a, A> {
 
     ghost seen = { λ s. record { done = Some (map event_of s.done.items); faults = s.faults } };
 
-    fn open(&mut self, name: &str) -> Result<Counted<FlakySource<'a>>, RunError> {
+    fn open(&mut self, name: &str) -> Result<FlakySource<'a>, RunError> {
         let text = match held(self.held, name) {
             Some(text) if name != "greedy" => text,
             known => {
@@ -153,10 +153,10 @@ impl<'a, A: Abort> Files for MemoryFiles<'a, A> {
         let named = self.named(name);
         self.note(Done::Opened(named));
         let fails: &'static [u64] = if name == "broken" { &[2] } else { &[] };
-        Ok(Counted::new(FlakySource::new(text.as_bytes(), &[4], fails)))
+        Ok(FlakySource::new(text.as_bytes(), &[4], fails))
     }
 
-    fn create(&mut self, name: &str) -> Result<Counted<FlakySink<'static>>, RunError> {
+    fn create(&mut self, name: &str) -> Result<FlakySink<'static>, RunError> {
         if name == "denied" {
             let named = self.named(name);
             self.note(Done::NotCreated(named, RunError::Device));
@@ -165,18 +165,18 @@ impl<'a, A: Abort> Files for MemoryFiles<'a, A> {
         let named = self.named(name);
         self.note(Done::Created(named));
         let fails: &'static [u64] = if name == "full" { &[2] } else { &[] };
-        Ok(Counted::new(FlakySink::new(self.alloc, &[4], fails)))
+        Ok(FlakySink::new(self.alloc, &[4], fails))
     }
 
-    fn close_input(&mut self, name: &str, file: Counted<FlakySource<'a>>) -> bool {
+    fn close_input(&mut self, name: &str, file: FlakySource<'a>) -> bool {
         let named = self.named(name);
         self.note(Done::Read(named, file.faults()));
         self.count(file.faults())
     }
 
-    fn close_output(&mut self, name: &str, file: Counted<FlakySink<'static>>) -> bool {
+    fn close_output(&mut self, name: &str, file: FlakySink<'static>) -> bool {
         let named = self.named(name);
-        let text = match file.device().bytes().to_vec(self.alloc) {
+        let text = match file.bytes().to_vec(self.alloc) {
             Ok(text) => text,
             Err(_) => self.rt.abort(),
         };
