@@ -1,7 +1,6 @@
 -- The records of maximum flow instances, with the arcs only counted.
-use Rattle.std.proofs.Common.{◌≡◌, ◌≢◌, ◌⊎◌, ℕ, ◌+◌, ◌<◌, ◌≤◌, ◌∷◌, ◌++◌, [], List, false, length, map, refl, ap, ap₂, sym, ◌∙◌, subst, arith, inl, inr, append_assoc, append-nil}
+use Rattle.std.proofs.Common.{◌≡◌, ℕ, ◌+◌, ◌<◌, ◌≤◌, ◌∷◌, ◌++◌, [], List, length, map, refl, ap, sym, ◌∙◌, arith, inl, inr, append_assoc, append-nil}
 use Rattle.std.specs.Prelude.{ℤ, pos, ◌≤ℤ◌}
-use Rattle.std.specs.List.{list_any}
 use Rattle.std.proofs.lemmas.Bool.Decides.{nat_tests}
 use Rattle.std.proofs.lemmas.Int.{ints}
 use Rattle.std.proofs.lemmas.List.{length-append, map-append, nil_from_length}
@@ -9,27 +8,22 @@ use Rattle.std.proofs.lemmas.List.Elements.{All-nil, All-push}
 use Rattle.dimacs_lines.specs.Limits.{most_count, most_nodes}
 use Rattle.dimacs_records.specs.declared.kinds.TextKind.TheVariants.{Max}
 use Rattle.dimacs_records.specs.declared.records.End.{End}
-use Rattle.dimacs_records.specs.declared.records.End.TheVariants.{Source, Sink}
 use Rattle.dimacs_records.specs.declared.records.Record.{Record}
 use Rattle.dimacs_records.specs.declared.records.Record.TheVariants.{MaxArc, MaxNode, MaxProblem}
-use Rattle.dimacs_records.specs.Conditions.{lacks_end}
 use Rattle.dimacs_records.specs.Ranges.{IsWhole}
 use Rattle.dimacs_records.specs.Readings.{LineRecord, records_of}
 use Rattle.dimacs_records.specs.Spelling.{kind_of}
 use Rattle.dimacs_records.specs.Tests.{Passes, PassesEnd, noted_at_end, noted_before}
-use Rattle.dimacs_records.specs.Texts.{AreFaultless}
 use Rattle.dimacs_network.specs.declared.network.ArcView.{ArcView}
 use Rattle.dimacs_network.specs.Arcs.{JoinsNodes}
 use Rattle.dimacs_network.specs.KeptArcs.{capacity_arc}
-use Rattle.dimacs_instance.specs.MaxFlows.{HasCapacityAlone, IsMax, MaxValue}
+use Rattle.dimacs_instance.specs.MaxFlows.{HasCapacityAlone, MaxValue}
 use Rattle.dimacs_instance.specs.MaxTexts.{GivesMax, max_arc}
 use Rattle.dimacs_instance.specs.MaxReading.{AreEnds, AreNodes, EndsAreApart, IsMaxBegun, IsMaxCountedBy, MaxBegun, MaxCount, before, before_end, count_of, end_records, max_begun_records}
-use Rattle.dimacs_instance.specs.Summaries.{GivesMaxSummary}
+use Rattle.dimacs_instance.specs.Summaries.{GivesSummary, SumsUpMax}
 use Rattle.dimacs_instance.specs.declared.max.EndLines.{EndLines}
 use Rattle.dimacs_instance.specs.declared.max.EndLines.TheVariants.{Neither, One, Both}
-use Rattle.dimacs_instance.specs.declared.summaries.max.MaxSummary.{MaxSummary}
 use Rattle.dimacs_instance.proofs.MaxLemmas.{end_tells, tells}
-use Rattle.dimacs_instance.proofs.MaxTextLemmas.{max_faultless, one_max}
 
 pub counted_none : (nodes declared : ℕ) → nodes ≤ most_nodes → declared ≤ most_count → IsMaxCountedBy (record { nodes = nodes; declared = declared; ends = Neither; arcs = 0 }) (MaxProblem nodes declared ∷ [])
 counted_none nodes declared nodes_few arcs_few = record {
@@ -174,7 +168,7 @@ module _ (b : MaxBegun) (is : IsMaxBegun b) (full : b.declared ≡ length b.arcs
       )
 
 pub gives_max_summary : (c : MaxCount) → PassesEnd Max (before_end c) → (source sink : ℕ) → AreEnds c.ends source sink → (rs : List LineRecord) → IsMaxCountedBy c (records_of rs)
-    → GivesMaxSummary rs (record { nodes = c.nodes; arcs = c.arcs; source = source; sink = sink })
+    → GivesSummary GivesMax SumsUpMax rs (record { nodes = c.nodes; arcs = c.arcs; source = source; sink = sink })
 gives_max_summary c p source sink ends rs counted =
     let b = counted.begun in
     let short : c.declared ≤ c.arcs = grind (arith, nat_tests, p.finished) in
@@ -183,18 +177,5 @@ gives_max_summary c p source sink ends rs counted =
     let its_ends : AreEnds b.ends source sink = rw (ap (λ (m : MaxCount). m.ends) counted.counts) at ends in (
       record { nodes = b.nodes; source = source; sink = sink; arcs = b.arcs },
       gives_of b counted.is_begun full source sink rs counted.records its_ends,
-      record { nodes = ap (λ (m : MaxCount). m.nodes) counted.counts; arcs = ap (λ (m : MaxCount). m.arcs) counted.counts; source = refl; sink = refl },
+      ap (λ (m : MaxCount). record { nodes = m.nodes; arcs = m.arcs; source = source; sink = sink }) counted.counts,
     )
-
-pub summary_faultless : (rs : List LineRecord) (s : MaxSummary) → GivesMaxSummary rs s → AreFaultless Max (records_of rs)
-summary_faultless rs s gives = max_faultless rs gives.0 gives.1
-
-pub one_summary : (rs : List LineRecord) (s other : MaxSummary) → GivesMaxSummary rs s → GivesMaxSummary rs other → s ≡ other
-one_summary rs s other gives also =
-    let same = one_max rs gives.0 also.0 gives.1 also.1 in
-    let nodes : s.nodes ≡ other.nodes = gives.2.nodes ∙ ap (λ (m : MaxValue). m.nodes) same ∙ sym also.2.nodes in
-    let arcs : s.arcs ≡ other.arcs = gives.2.arcs ∙ ap (λ (m : MaxValue). length m.arcs) same ∙ sym also.2.arcs in
-    let source : s.source ≡ other.source = gives.2.source ∙ ap (λ (m : MaxValue). m.source) same ∙ sym also.2.source in
-    let sink : s.sink ≡ other.sink = gives.2.sink ∙ ap (λ (m : MaxValue). m.sink) same ∙ sym also.2.sink in
-    let whole : s ≡ record { nodes = other.nodes; arcs = other.arcs; source = other.source; sink = other.sink } = rw (sym nodes, sym arcs, sym source, sym sink) refl in
-    whole

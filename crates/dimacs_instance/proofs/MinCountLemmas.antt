@@ -1,5 +1,5 @@
 -- The records of minimum cost flow instances, with the arcs only counted.
-use Rattle.std.proofs.Common.{◌≡◌, ℕ, ◌+◌, ◌<◌, ◌≤◌, ◌∷◌, ◌++◌, [], List, length, map, refl, ap, sym, ◌∙◌, arith, append_assoc}
+use Rattle.std.proofs.Common.{◌≡◌, ℕ, ◌+◌, ◌≤◌, ◌∷◌, ◌++◌, [], List, map, refl, ap, sym, ◌∙◌, arith, append_assoc}
 use Rattle.std.specs.Prelude.{ℤ, pos}
 use Rattle.std.specs.FinMap.{empty, insert}
 use Rattle.std.proofs.lemmas.Bool.Decides.{nat_tests}
@@ -13,15 +13,12 @@ use Rattle.dimacs_records.specs.Ranges.{IsWhole}
 use Rattle.dimacs_records.specs.Readings.{LineRecord, records_of}
 use Rattle.dimacs_records.specs.Spelling.{kind_of}
 use Rattle.dimacs_records.specs.Tests.{Passes, PassesEnd, after_records, noted_before}
-use Rattle.dimacs_records.specs.Texts.{AreFaultless}
 use Rattle.dimacs_network.specs.declared.network.ArcView.{ArcView}
-use Rattle.dimacs_instance.specs.MinFlows.{IsMin, MinValue, demand_sum, supply_sum}
+use Rattle.dimacs_instance.specs.MinFlows.{IsMin, demand_sum, supply_sum}
 use Rattle.dimacs_instance.specs.MinTexts.{GivesMin, min_arc, min_node, min_records}
-use Rattle.dimacs_instance.specs.MinReading.{IsMinBegun, IsMinBegunBy, IsMinCountedBy, MinBegun, MinCount, after_lines, before, count_of, without_arcs}
-use Rattle.dimacs_instance.specs.Summaries.{GivesMinSummary}
-use Rattle.dimacs_instance.specs.declared.summaries.min.MinSummary.{MinSummary}
+use Rattle.dimacs_instance.specs.MinReading.{IsMinBegun, IsMinCountedBy, MinCount, after_lines, before, count_of, without_arcs}
+use Rattle.dimacs_instance.specs.Summaries.{GivesSummary, SumsUpMin}
 use Rattle.dimacs_instance.proofs.MinLemmas.{arc_bounds, arc_joins, arc_room, begins, gives_min, law_with_arc, law_with_supply, lines_noted, min_law, names_one, new_law, node, tells, with_arc}
-use Rattle.dimacs_instance.proofs.MinTextLemmas.{min_faultless, one_min}
 
 pub counted_none : (nodes declared : ℕ) → nodes ≤ most_nodes → declared ≤ most_count → IsMinCountedBy (record { nodes = nodes; declared = declared; supplies = empty; arcs = 0 }) (MinProblem nodes declared ∷ [])
 counted_none nodes declared nodes_few arcs_few = record {
@@ -84,28 +81,10 @@ supplies_law c law = min_law (without_arcs c) law
 pub gives_min_summary : (c : MinCount) → PassesEnd Min (after_lines c) → (rs : List LineRecord) → IsMinCountedBy c (records_of rs) → (supplied demanded : ℤ)
     → supplied ≡ pos (supply_sum (record { nodes = c.nodes; supplies = without_zeros c.supplies; arcs = [] }))
     → demanded ≡ pos (demand_sum (record { nodes = c.nodes; supplies = without_zeros c.supplies; arcs = [] }))
-    → GivesMinSummary rs (record { nodes = c.nodes; arcs = c.arcs; supplied = supplied; demanded = demanded })
+    → GivesSummary GivesMin SumsUpMin rs (record { nodes = c.nodes; arcs = c.arcs; supplied = supplied; demanded = demanded })
 gives_min_summary c p rs counted supplied demanded supplied_is demanded_is =
     let b = counted.begun in (
       record { nodes = b.nodes; supplies = without_zeros b.supplies; arcs = b.arcs },
       gives_min b counted.is_begun (rw counted.counts at p) rs counted.begun_by,
-      record {
-        nodes = ap (λ (m : MinCount). m.nodes) counted.counts;
-        arcs = ap (λ (m : MinCount). m.arcs) counted.counts;
-        supplied = rw counted.counts at supplied_is;
-        demanded = rw counted.counts at demanded_is;
-      },
+      rw (supplied_is, demanded_is, counted.counts) refl,
     )
-
-pub summary_faultless : (rs : List LineRecord) (s : MinSummary) → GivesMinSummary rs s → AreFaultless Min (records_of rs)
-summary_faultless rs s gives = min_faultless rs gives.0 gives.1
-
-pub one_summary : (rs : List LineRecord) (s other : MinSummary) → GivesMinSummary rs s → GivesMinSummary rs other → s ≡ other
-one_summary rs s other gives also =
-    let same = one_min rs gives.0 also.0 gives.1 also.1 in
-    let nodes : s.nodes ≡ other.nodes = gives.2.nodes ∙ ap (λ (m : MinValue). m.nodes) same ∙ sym also.2.nodes in
-    let arcs : s.arcs ≡ other.arcs = gives.2.arcs ∙ ap (λ (m : MinValue). length m.arcs) same ∙ sym also.2.arcs in
-    let supplied : s.supplied ≡ other.supplied = gives.2.supplied ∙ ap (λ (m : MinValue). pos (supply_sum m)) same ∙ sym also.2.supplied in
-    let demanded : s.demanded ≡ other.demanded = gives.2.demanded ∙ ap (λ (m : MinValue). pos (demand_sum m)) same ∙ sym also.2.demanded in
-    let whole : s ≡ record { nodes = other.nodes; arcs = other.arcs; supplied = other.supplied; demanded = other.demanded } = rw (sym nodes, sym arcs, sym supplied, sym demanded) refl in
-    whole

@@ -1,9 +1,7 @@
 -- The records of instances, with the arcs only counted.
-use Rattle.std.proofs.Common.{◌≡◌, ℕ, ◌+◌, ◌<◌, ◌≤◌, ◌∷◌, ◌++◌, [], List, false, Some, length, map, refl, ap, ap₂, sym, ◌∙◌, subst, arith}
+use Rattle.std.proofs.Common.{◌≡◌, ℕ, ◌+◌, ◌<◌, ◌≤◌, ◌∷◌, ◌++◌, [], List, length, map, refl, ap, ap₂, sym, ◌∙◌, arith}
 use Rattle.std.specs.Prelude.{ℤ, Result, Ok, Err}
-use Rattle.std.specs.List.{All}
 use Rattle.std.proofs.lemmas.Bool.Decides.{nat_tests}
-use Rattle.std.proofs.lemmas.Int.{ints}
 use Rattle.std.proofs.lemmas.List.{length-append, map-append}
 use Rattle.std.proofs.lemmas.List.Elements.{All-nil, All-push}
 use Rattle.dimacs_lines.specs.Limits.{most_count, most_nodes}
@@ -20,14 +18,12 @@ use Rattle.dimacs_records.specs.Texts.{AreFaultless, Reads, SpellsValue}
 use Rattle.dimacs_records.proofs.ReadLaws.{spells_one_value}
 use Rattle.dimacs_records.specs.declared.kinds.TextKind.{TextKind}
 use Rattle.dimacs_network.specs.declared.network.ArcView.{ArcView}
-use Rattle.dimacs_network.specs.Arcs.{JoinsNodes, NetworkValue}
+use Rattle.dimacs_network.specs.Arcs.{JoinsNodes}
 use Rattle.dimacs_network.specs.KeptArcs.{weight_arc}
-use Rattle.dimacs_instance.specs.Graph.{GivesGraph, HasWeightAlone, IsGraph, graph_arc}
-use Rattle.dimacs_instance.specs.GraphReading.{GraphBegun, IsGraphBegun, graph_begun_records, after_lines}
-use Rattle.dimacs_instance.specs.Summaries.{GivesGraphSummary, IsGraphCountedBy, ReadsSummary, SumsUpGraph, counted_lines}
+use Rattle.dimacs_instance.specs.Graph.{GivesGraph, HasWeightAlone, graph_arc}
+use Rattle.dimacs_instance.specs.Summaries.{GivesSummary, IsGraphCountedBy, ReadsSummary, SumsUpGraph, counted_lines}
 use Rattle.dimacs_instance.specs.declared.summaries.graph.CountedGraph.{CountedGraph}
-use Rattle.dimacs_instance.specs.declared.summaries.graph.GraphSummary.{GraphSummary}
-use Rattle.dimacs_instance.proofs.GraphLemmas.{graph_faultless, lines_noted, one_graph}
+use Rattle.dimacs_instance.proofs.GraphLemmas.{lines_noted}
 
 -- ---- a graph
 pub counted_none : (nodes declared : ℕ) → nodes ≤ most_nodes → declared ≤ most_count → IsGraphCountedBy (record { nodes = nodes; declared = declared; arcs = 0 }) (GraphProblem nodes declared ∷ [])
@@ -70,7 +66,7 @@ module _ (c : CountedGraph) (tail head : ℕ) (weight : ℤ) (passes : Passes (c
 pub counted_noted : (c : CountedGraph) (rs : List Record) → IsGraphCountedBy c rs → counted_lines c ≡ after_records rs
 counted_noted c rs counted = rw (counted.nodes, counted.declared, counted.arcs, counted.records) (lines_noted counted.begun)
 
-pub gives_graph_summary : (c : CountedGraph) → PassesEnd Graph (counted_lines c) → (rs : List LineRecord) → IsGraphCountedBy c (records_of rs) → GivesGraphSummary rs (record { nodes = c.nodes; arcs = c.arcs })
+pub gives_graph_summary : (c : CountedGraph) → PassesEnd Graph (counted_lines c) → (rs : List LineRecord) → IsGraphCountedBy c (records_of rs) → GivesSummary GivesGraph SumsUpGraph rs (record { nodes = c.nodes; arcs = c.arcs })
 gives_graph_summary c p rs counted =
     let b = counted.begun in
     let short : c.declared ≤ c.arcs = grind (arith, nat_tests, p.finished) in
@@ -80,30 +76,28 @@ gives_graph_summary c p rs counted =
         counted.records ∙ ap (λ (n : ℕ). GraphProblem b.nodes n ∷ map graph_arc b.arcs) full,
         record { nodes_few = counted.is_begun.nodes_few; arcs_few = omega (arith, counted.is_begun.no_more, counted.is_begun.arcs_few); joined = counted.is_begun.joined; weights = counted.is_begun.weights },
       ),
-      record { nodes = counted.nodes; arcs = counted.arcs },
+      ap₂ (λ (n a : ℕ). record { nodes = n; arcs = a }) counted.nodes counted.arcs,
     )
 
-pub summary_faultless : (rs : List LineRecord) (s : GraphSummary) → GivesGraphSummary rs s → AreFaultless Graph (records_of rs)
-summary_faultless rs s gives = graph_faultless rs gives.0 gives.1
+-- ---- any kind
+module _ {T V : Type 0} (kind : TextKind) (gives : List LineRecord → V → Type 0) (summary_of : V → T) where
+  abbrev sum_given : List LineRecord → T → Type 0
+  sum_given rs s = GivesSummary gives (λ (s : T) (v : V). s ≡ summary_of v) rs s
 
-pub one_summary : (rs : List LineRecord) (s other : GraphSummary) → GivesGraphSummary rs s → GivesGraphSummary rs other → s ≡ other
-one_summary rs s other gives also =
-    let same = one_graph rs gives.0 also.0 gives.1 also.1 in
-    ap₂ (λ (n a : ℕ). record { nodes = n; arcs = a }) (gives.2.nodes ∙ ap (λ (g : NetworkValue). g.nodes) same ∙ sym also.2.nodes) (gives.2.arcs ∙ ap (λ (g : NetworkValue). length g.arcs) same ∙ sym also.2.arcs)
+  pub summary_faultless : ((rs : List LineRecord) (v : V) → gives rs v → AreFaultless kind (records_of rs)) → (rs : List LineRecord) (s : T) → sum_given rs s → AreFaultless kind (records_of rs)
+  summary_faultless faultless rs s given = faultless rs given.0 given.1
 
--- ---- any instance
-module _ {T V : Type 0} (kind : TextKind) (gives : List LineRecord → V → Type 0) (sums_up : T → V → Type 0) (all : List (List ℕ)) (fault : ℕ → ℕ → Reason → Type 0) (one : (rs : List LineRecord) (v w : V) → gives rs v → gives rs w → v ≡ w)
-    (value_of : (v : V) → (s : T) × sums_up s v) where
-  --   the records give this summary
-  abbrev pub sum_given : List LineRecord → T → Type 0
-  sum_given rs s = (v : V) × gives rs v × sums_up s v
+  module _ (one : (rs : List LineRecord) (v w : V) → gives rs v → gives rs w → v ≡ w) where
+    pub one_summary : (rs : List LineRecord) (s other : T) → sum_given rs s → sum_given rs other → s ≡ other
+    one_summary rs s other given also = given.2 ∙ ap summary_of (one rs given.0 also.0 given.1 also.1) ∙ sym also.2
 
-  pub reads_summary : (result : Result T ReadError) → Reads (SpellsValue kind sum_given all) fault result → ReadsSummary sums_up (SpellsValue kind gives all) fault result
-  reads_summary (Ok s) reads =
-      let given = reads.0.given in
-      let spelled : SpellsValue kind gives all given.0 = record { said = reads.0.said; spelled = reads.0.spelled; given = given.1 } in
-      (given.0, given.2, (spelled, (λ other other_spelled. spells_one_value kind gives all other given.0 one other_spelled spelled), reads.2))
-  reads_summary (Err (read_errors.Refused place reason)) reads =
-      (reads.0, reads.1, λ v spelled. let s = value_of v in reads.2 s.0 (record { said = spelled.said; spelled = spelled.spelled; given = (v, spelled.given, s.1) }))
-  reads_summary (Err read_errors.Device) reads = tt
-  reads_summary (Err read_errors.Memory) reads = tt
+    pub reads_summary : (all : List (List ℕ)) (fault : ℕ → ℕ → Reason → Type 0) (result : Result T ReadError) → Reads (SpellsValue kind sum_given all) fault result
+        → ReadsSummary (λ (s : T) (v : V). s ≡ summary_of v) (SpellsValue kind gives all) fault result
+    reads_summary all fault (Ok s) reads =
+        let given = reads.0.given in
+        let spelled : SpellsValue kind gives all given.0 = record { said = reads.0.said; spelled = reads.0.spelled; given = given.1 } in
+        (given.0, given.2, (spelled, (λ other other_spelled. spells_one_value kind gives all other given.0 one other_spelled spelled), reads.2))
+    reads_summary all fault (Err (read_errors.Refused place reason)) reads =
+        (reads.0, reads.1, λ v spelled. reads.2 (summary_of v) (record { said = spelled.said; spelled = spelled.spelled; given = (v, spelled.given, refl) }))
+    reads_summary all fault (Err read_errors.Device) reads = tt
+    reads_summary all fault (Err read_errors.Memory) reads = tt

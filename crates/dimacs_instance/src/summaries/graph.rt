@@ -3,8 +3,8 @@
 ghost use Rattle.std.specs.Prelude.{◌≡◌, refl};
 ghost use Rattle.dimacs_records.specs.declared.kinds.TextKind.TheVariants as kinds;
 ghost use Rattle.dimacs_network.specs.Arcs.{NetworkValue};
-ghost use Rattle.dimacs_instance.specs.Graph.{SpellsGraph, shown_graph};
-ghost use Rattle.dimacs_instance.specs.Summaries.{GivesGraphSummary, IsGraphCountedBy, SumsUpGraph, counted_lines, graph_summary_line};
+ghost use Rattle.dimacs_instance.specs.Graph.{GivesGraph, SpellsGraph, shown_graph};
+ghost use Rattle.dimacs_instance.specs.Summaries.{GivesSummary, IsGraphCountedBy, SumsUpGraph, counted_lines, graph_summary_line};
 
 use crate::summaries::Summary;
 use dimacs_lines::{DeviceFault, Memory, Sink, Source};
@@ -73,7 +73,7 @@ impl Begun for CountedGraph {
 
     ghost noted_end = { λ counted. counted_lines counted };
 
-    ghost gives = { λ rs summary. GivesGraphSummary rs summary };
+    ghost gives = { λ rs summary. GivesSummary GivesGraph SumsUpGraph rs summary };
 
     fn kind() -> TextKind {
         TextKind::Graph

@@ -4,8 +4,8 @@ ghost use Rattle.std.specs.Prelude.{◌≡◌, refl};
 ghost use Rattle.dimacs_records.specs.declared.kinds.TextKind.TheVariants as kinds;
 ghost use Rattle.dimacs_instance.specs.MaxFlows.{MaxValue};
 ghost use Rattle.dimacs_instance.specs.MaxReading.{IsMaxCountedBy, after_lines, before, before_end};
-ghost use Rattle.dimacs_instance.specs.MaxTexts.{SpellsMax, shown_max};
-ghost use Rattle.dimacs_instance.specs.Summaries.{GivesMaxSummary, SumsUpMax, max_summary_line};
+ghost use Rattle.dimacs_instance.specs.MaxTexts.{GivesMax, SpellsMax, shown_max};
+ghost use Rattle.dimacs_instance.specs.Summaries.{GivesSummary, SumsUpMax, max_summary_line};
 
 use crate::max::{EndLine, EndLines};
 use crate::summaries::Summary;
@@ -103,7 +103,7 @@ impl Begun for CountedMax {
 
     ghost noted_end = { λ counted. before_end counted };
 
-    ghost gives = { λ rs summary. GivesMaxSummary rs summary };
+    ghost gives = { λ rs summary. GivesSummary GivesMax SumsUpMax rs summary };
 
     fn kind() -> TextKind {
         TextKind::Max

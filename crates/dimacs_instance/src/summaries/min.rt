@@ -4,8 +4,8 @@ ghost use Rattle.std.specs.Prelude.{◌≡◌, refl};
 ghost use Rattle.dimacs_records.specs.declared.kinds.TextKind.TheVariants as kinds;
 ghost use Rattle.dimacs_instance.specs.MinFlows.{MinValue};
 ghost use Rattle.dimacs_instance.specs.MinReading.{IsMinCountedBy, after_lines, before};
-ghost use Rattle.dimacs_instance.specs.MinTexts.{SpellsMin, shown_min};
-ghost use Rattle.dimacs_instance.specs.Summaries.{GivesMinSummary, SumsUpMin, min_summary_line};
+ghost use Rattle.dimacs_instance.specs.MinTexts.{GivesMin, SpellsMin, shown_min};
+ghost use Rattle.dimacs_instance.specs.Summaries.{GivesSummary, SumsUpMin, min_summary_line};
 
 use crate::min::MinInstance;
 use crate::summaries::Summary;
@@ -97,7 +97,7 @@ impl Begun for CountedMin {
 
     ghost noted_end = { λ counted. after_lines counted };
 
-    ghost gives = { λ rs summary. GivesMinSummary rs summary };
+    ghost gives = { λ rs summary. GivesSummary GivesMin SumsUpMin rs summary };
 
     fn kind() -> TextKind {
         TextKind::Min

@@ -1,14 +1,12 @@
-use Rattle.std.proofs.Common.{length, refl}
 use Rattle.dimacs_lines.specs.Lines.{lines}
 use Rattle.dimacs_records.specs.declared.kinds.TextKind.TheVariants.{Graph}
 use Rattle.dimacs_records.specs.Faults.{Fault}
 use Rattle.dimacs_instance.specs.Graph.{GivesGraph}
-use Rattle.dimacs_instance.specs.Summaries.{SumsUpGraph}
+use Rattle.dimacs_instance.specs.Summaries.{graph_summary}
 use Rattle.dimacs_instance.proofs.GraphLemmas.{one_graph}
 use Rattle.dimacs_instance.proofs.SummaryLemmas.{reads_summary}
 use Rattle.dimacs_instance.proofs.summaries.graph.GraphSummarySummary.read.Goals as goal
 
 pub returns-clause-reads : goal.returns-clause-reads
 returns-clause-reads g c = λ text coming.
-    reads_summary Graph GivesGraph SumsUpGraph (lines text) (Fault Graph (lines text)) one_graph (λ v. (record { nodes = v.nodes; arcs = length v.arcs }, record { nodes = refl; arcs = refl }))
-    c.read_counted.result (c.read_counted.ensures.reads text coming)
+    reads_summary Graph GivesGraph graph_summary one_graph (lines text) (Fault Graph (lines text)) c.read_counted.result (c.read_counted.ensures.reads text coming)
