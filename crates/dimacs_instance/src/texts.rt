@@ -51,7 +51,14 @@ impl<N: OfCapacityArcs + Drop> Text for MaxInstance<N> {
     }
 
     fn show<K: Sink>(&self, sink: &mut K) -> Result<(), DeviceFault> {
-        show_max(self, sink)
+        let network = self.network();
+        let summary = MaxSummary {
+            nodes: network.nodes(),
+            arcs: network.arcs(),
+            source: self.source(),
+            sink: self.sink(),
+        };
+        summary.show(sink)
     }
 }
 
@@ -83,7 +90,15 @@ impl<N: OfCostArcs + Drop> Text for MinInstance<N> {
     }
 
     fn show<K: Sink>(&self, sink: &mut K) -> Result<(), DeviceFault> {
-        show_min(self, sink)
+        let network = self.network();
+        let sums = self.supply_sums();
+        let summary = MinSummary {
+            nodes: network.nodes(),
+            arcs: network.arcs(),
+            supplied: sums.supplied,
+            demanded: sums.demanded,
+        };
+        summary.show(sink)
     }
 }
 
@@ -115,7 +130,12 @@ impl<N: OfWeightArcs + Drop> Text for Graph<N> {
     }
 
     fn show<K: Sink>(&self, sink: &mut K) -> Result<(), DeviceFault> {
-        show_graph(self, sink)
+        let network = self.network();
+        let summary = GraphSummary {
+            nodes: network.nodes(),
+            arcs: network.arcs(),
+        };
+        summary.show(sink)
     }
 }
 
@@ -152,47 +172,6 @@ impl Text for Queries {
             Queries::Pairs(pairs) => show_queries(sink, b"p2p", pairs.len()),
         }
     }
-}
-
-/// Writes the line about a maximum flow instance.
-fn show_max<N: Network, K: Sink>(max: &MaxInstance<N>, sink: &mut K) -> Result<(), DeviceFault>
-    ensures { Puts result (K.seen sink.old) (shown_max max.now) (K.seen sink.new) }
-{
-    let network = max.network();
-    let summary = MaxSummary {
-        nodes: network.nodes(),
-        arcs: network.arcs(),
-        source: max.source(),
-        sink: max.sink(),
-    };
-    summary.show(sink)
-}
-
-/// Writes the line about a minimum cost flow instance.
-fn show_min<N: Network, K: Sink>(min: &MinInstance<N>, sink: &mut K) -> Result<(), DeviceFault>
-    ensures { Puts result (K.seen sink.old) (shown_min min.now) (K.seen sink.new) }
-{
-    let network = min.network();
-    let sums = min.supply_sums();
-    let summary = MinSummary {
-        nodes: network.nodes(),
-        arcs: network.arcs(),
-        supplied: sums.supplied,
-        demanded: sums.demanded,
-    };
-    summary.show(sink)
-}
-
-/// Writes the line about a graph.
-fn show_graph<N: Network, K: Sink>(graph: &Graph<N>, sink: &mut K) -> Result<(), DeviceFault>
-    ensures { Puts result (K.seen sink.old) (shown_graph graph.now) (K.seen sink.new) }
-{
-    let network = graph.network();
-    let summary = GraphSummary {
-        nodes: network.nodes(),
-        arcs: network.arcs(),
-    };
-    summary.show(sink)
 }
 
 /// Writes the line about queries of the kind with this word.
