@@ -1,6 +1,7 @@
 //! Graphs for shortest paths.
 
-ghost use Rattle.std.specs.Prelude.{◌≡◌, ◌<◌, ◌^◌, ℕ, List, IfOk, Some, length, option_map, refl, slice_get};
+ghost use Rattle.std.specs.Prelude.{◌≡◌, ◌≤◌, ◌<◌, ◌^◌, ◌++◌, ◌∷◌, [], ℕ, List, IfOk, OnOk, OnErr, Some, length, option_map, refl, slice_get};
+ghost use Rattle.dimacs_lines.specs.Limits.{most_count, most_nodes, IsNode};
 ghost use Rattle.dimacs_lines.specs.Puts.{Puts};
 ghost use Rattle.dimacs_records.specs.declared.kinds.TextKind.TheVariants as kinds;
 ghost use Rattle.dimacs_records.specs.Readings.{CountsRead};
@@ -9,9 +10,8 @@ ghost use Rattle.dimacs_records.specs.Texts.{Reads};
 ghost use Rattle.dimacs_lines.specs.Lines.{lines};
 ghost use Rattle.dimacs_instance.specs.Graph.{IsGraph, GivesGraph, SpellsGraph, canonical_graph, graph_arc};
 ghost use Rattle.dimacs_network.specs.Arcs.{NetworkValue};
+ghost use Rattle.dimacs_network.specs.KeptArcs.{weight_arc};
 ghost use Rattle.dimacs_instance.specs.GraphReading.{graph_begun_records, after_lines};
-
-mod build;
 
 use dimacs_lines::{DeviceFault, Memory, Sink, Source};
 use dimacs_network::{ArcView, ForwardStar, KeptArc, Network, OfWeightArcs, PlainArcs, WeightArc};
@@ -38,7 +38,39 @@ impl<N: Network> Model for Graph<N> {
     ghost invariant = { λ g. IsGraph (record { nodes = N.node_count g.network; arcs = N.list g.network }) };
 }
 
+impl Graph<PlainArcs<WeightArc>> {
+    /// A graph with this many nodes, without arcs. Allocates nothing.
+    pub fn new(alloc: Global, nodes: u32) -> Graph<PlainArcs<WeightArc>>
+        requires nodes { nodes ≤ most_nodes }
+        ensures { result ≡ record { nodes = nodes; arcs = [] } }
+    {
+        Graph {
+            network: PlainArcs::new(alloc, nodes),
+        }
+    }
+
+    /// Adds an arc. `Memory` leaves the graph unchanged.
+    #[inline(always)]
+    pub fn push(&mut self, arc: WeightArc) -> Result<(), Memory>
+        requires tail { IsNode self.old.nodes arc.tail }
+        requires head { IsNode self.old.nodes arc.head }
+        requires room { length self.old.arcs < most_count }
+        ensures pushed { OnOk result (self.new ≡ record self.old { arcs = self.old.arcs ++ weight_arc arc.tail arc.head arc.weight ∷ [] }) }
+        ensures unchanged { OnErr result (self.new ≡ self.old) }
+    {
+        self.network.push(arc)
+    }
+}
+
 impl<N: Network> Graph<N> {
+    /// The graph over a network that has its arcs already. Allocates nothing.
+    pub fn over(network: N) -> Graph<N>
+        requires { IsGraph (record { nodes = N.node_count network; arcs = N.list network }) }
+        ensures { result ≡ record { nodes = N.node_count network; arcs = N.list network } }
+    {
+        Graph { network }
+    }
+
     /// The nodes and arcs.
     pub fn network(&self) -> &N
         ensures nodes { N.node_count result.now ≡ self.now.nodes }
