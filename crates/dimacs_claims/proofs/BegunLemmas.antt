@@ -1,12 +1,13 @@
 -- One more record of labels while their text is read.
-use Rattle.std.proofs.Common.{◌≡◌, ◌≢◌, ℕ, zero, suc, ◌<◌, ◌≤◌, ◌+◌, ◌-◌, ◌∷◌, ◌++◌, [], List, Bool, true, false, inl, inr, Option, Some, None, length, map, refl, ap, ap₂, sym, ◌∙◌, subst, arith, append_assoc}
+use Rattle.std.proofs.Common.{◌≡◌, ◌≢◌, ℕ, zero, suc, ◌<◌, ◌≤◌, ◌+◌, ◌-◌, ◌∷◌, ◌++◌, [], List, true, false, inl, inr, Option, Some, None, length, map, refl, ap, ap₂, sym, ◌∙◌, subst, arith, append_assoc}
 use Rattle.std.specs.Prelude.{ℤ, IfSome, ◌||◌, not, pos, is_some, is_none, nat_le, slice_get, slice_index_or, slice_set, ◌==◌}
 use Rattle.std.specs.List.{All, list_any}
 use Rattle.std.specs.Ordering.{nat_cmp}
 use Rattle.std.specs.FinSet as set
-use Rattle.std.proofs.Math.Seq.{get_or-append_seam}
+use Rattle.std.proofs.Math.Bool.{or-false, or-true}
+use Rattle.std.proofs.Math.Seq.{get_or-append_seam, set-append_seam}
 use Rattle.std.proofs.lemmas.Bool.{cases_eq, eq-eqb, le-leb, leb-false, lt-leb, ltb-false, ne_eqb, not-false, or_parts}
-use Rattle.std.proofs.lemmas.Bool.Decides.{eqb_tells, nat_tests}
+use Rattle.std.proofs.lemmas.Bool.Decides.{nat_tests}
 use Rattle.std.proofs.lemmas.List.{length-append, length-map}
 use Rattle.std.proofs.lemmas.List.Elements.{All-pop, All-push, All-nil}
 use Rattle.std.proofs.lemmas.List.Folds.{list_any-append}
@@ -189,19 +190,13 @@ nothing_begun nodes declared nodes_few blocks_few = record {
   sources = each_after_nil IsNewSource;
 }
 
-set_at : (front : List BlockValue) (x y : BlockValue) (k : ℕ) → k ≡ length front → slice_set (front ++ x ∷ []) k y ≡ front ++ y ∷ []
-set_at [] x y zero e = refl
-set_at [] x y (suc k) e = absurd (omega (arith, e))
-set_at (f ∷ front) x y zero e = absurd (omega (arith, e))
-set_at (f ∷ front) x y (suc k) e = ap (λ t. f ∷ t) (set_at front x y k (omega (arith, e)))
-
 -- the last block was replaced by itself with one more label
 pub added_last : (items : List BlockValue) (new now : BlockValue) (n : ℕ) (l : Label) → n ≡ length items → now ≡ slice_index_or items (n - 1) now → new ≡ with_label now l
     → (front : List BlockValue) (b : BlockValue) → items ≡ front ++ b ∷ [] → slice_set items (n - 1) new ≡ front ++ with_label b l ∷ []
 added_last items new now n l len got is front b e =
     let at : n - 1 ≡ length front = omega (arith, len, ap length e, length-append front (b ∷ [])) in
     let same : now ≡ b = got ∙ (ap₂ (λ xs k. slice_index_or xs k now) e at ∙ get_or-append_seam front b [] now) in
-    ap (λ xs. slice_set xs (n - 1) new) e ∙ (set_at front b new (n - 1) at ∙ ap (λ x. front ++ x ∷ []) (is ∙ ap (λ x. with_label x l) same))
+    ap₂ (λ xs k. slice_set xs k new) e at ∙ (set-append_seam front b [] new ∙ ap (λ x. front ++ x ∷ []) (is ∙ ap (λ x. with_label x l) same))
 
 -- ---- the number of the last block with a label of a node
 pub labelled_none : (labelled : NodeTable ℕ) → ((id : ℕ) → value_of labelled id ≡ 0) → AreLabelled labelled []
@@ -224,17 +219,6 @@ labelled_opened labelled blocks source radius are =
     unequal : (m n : ℕ) → m < n → (m == n) ≡ false
     unequal m n less = grind (arith, nat_tests, less)
 
-or_true : (x : Bool) → (x || true) ≡ true
-or_true true = refl
-or_true false = refl
-
-or_false : (x : Bool) → (x || false) ≡ x
-or_false true = refl
-or_false false = refl
-
-apart_ids : (a b : ℕ) → a ≢ b → (b == a) ≡ false
-apart_ids a b off = elim (eqb_tells b a) [ inl same ↦ absurd (off (sym same.1)) | inr noted ↦ noted.0 ]
-
 -- the last block has one more label
 pub labelled_more : (old new : NodeTable ℕ) (blocks front : List BlockValue) (b : BlockValue) (l : Label) → blocks ≡ front ++ b ∷ [] → AreLabelled old blocks → value_of new l.id ≡ length blocks → ((id : ℕ) → id ≢ l.id → value_of new id ≡ value_of old id) → AreLabelled new (front ++ with_label b l ∷ [])
 labelled_more old new blocks front b l is are here others =
@@ -249,10 +233,10 @@ labelled_more old new blocks front b l is are here others =
           rw (size, ← with_is) (elim (cases_eq id l.id) [
             | inl same ↦
                 eq-eqb (value_of new id) (length blocks) (ap (value_of new) same ∙ here)
-                ∙ sym (is_some-push b.labels l id ∙ (ap (λ t. is_some (distance_in b.labels id) || t) (eq-eqb l.id id (sym same)) ∙ or_true (is_some (distance_in b.labels id))))
+                ∙ sym (is_some-push b.labels l id ∙ (ap (λ t. is_some (distance_in b.labels id) || t) (eq-eqb l.id id (sym same)) ∙ or-true (is_some (distance_in b.labels id))))
             | inr off ↦
                 ap (λ n. n == length blocks) (others id off)
-                ∙ (are.last front b is id ∙ sym (is_some-push b.labels l id ∙ (ap (λ t. is_some (distance_in b.labels id) || t) (apart_ids id l.id off) ∙ or_false (is_some (distance_in b.labels id)))))
+                ∙ (are.last front b is id ∙ sym (is_some-push b.labels l id ∙ (ap (λ t. is_some (distance_in b.labels id) || t) (ne_eqb l.id id (λ e. off (sym e))) ∙ or-false (is_some (distance_in b.labels id)))))
           ]);
     }
 

@@ -6,8 +6,9 @@ use Rattle.std.specs.Ordering.{nat_cmp}
 use Rattle.std.specs.Cmp.{nat_cmp_total}
 use Rattle.std.specs.FinSet.{FinSet, contains, from_list, from_list_push, same_set, contains-from_list_nat, nat_cmp-IsAntisymmetric}
 use Rattle.std.specs.FinSet as set
-use Rattle.std.proofs.lemmas.List.{map-append, length-append, length-map}
-use Rattle.std.proofs.lemmas.List.Elements.{All-nil, All-cons, All-head, All-tail, All-push}
+use Rattle.std.proofs.lemmas.List.{map-append, map-id, length-append, length-map}
+use Rattle.std.proofs.lemmas.List.Elements.{All-nil, All-cons, All-map, All-push}
+use Rattle.std.proofs.lemmas.Simd.{map-map}
 use Rattle.std.proofs.lemmas.Bool.{le-ltb, eqb-true}
 use Rattle.std.proofs.lemmas.Bool.Decides.{nat_tests}
 use Rattle.std.proofs.lemmas.Int.{ints}
@@ -153,14 +154,9 @@ cut_of : List Record → CutValue
 cut_of (CutProblem nodes count ∷ rs) = record { nodes = nodes; ids = from_list (map id_of rs) }
 cut_of rs = empty_cut 0
 
-ids_of-lines : (named : List ℕ) → map id_of (map CutNode named) ≡ named
-unfolding id_of
-ids_of-lines [] = refl
-ids_of-lines (id ∷ named) = ap (λ xs. id ∷ xs) (ids_of-lines named)
-
 cut_of-records : (nodes count : ℕ) (named : List ℕ) → cut_of (cut_records nodes count named) ≡ record { nodes = nodes; ids = from_list named }
-unfolding cut_of
-cut_of-records nodes count named = ap (λ (xs : List ℕ). record { nodes = nodes; ids = from_list xs }) (ids_of-lines named)
+unfolding cut_of id_of
+cut_of-records nodes count named = ap (λ (xs : List ℕ). record { nodes = nodes; ids = from_list xs }) (map-map id_of CutNode named ∙ map-id named)
 
 cut_given : (rs : List LineRecord) (c : CutValue) → GivesCut rs c → cut_of (records_of rs) ≡ c
 cut_given rs c h = ap cut_of h.records ∙ cut_of-records c.nodes (length h.named) h.named ∙ ap (λ (s : FinSet nat_cmp). record { nodes = c.nodes; ids = s }) (sym h.ids)
@@ -207,19 +203,14 @@ line_fits id least most = record {
   fit = ((omega (arith, ints, least), omega (arith, ints, most)), tt);
 }
 
-lines_fit : (nodes : ℕ) (named : List ℕ) → nodes ≤ most_nodes → All (IsNode nodes) named → All (CanBeSpelled kinds.Cut) (map CutNode named)
-lines_fit nodes [] few are = All-nil (CanBeSpelled kinds.Cut)
-lines_fit nodes (id ∷ named) few are =
-    let node : IsNode nodes id = All-head (IsNode nodes) id named are in
-    All-cons (CanBeSpelled kinds.Cut) (CutNode id) (map CutNode named) (line_fits id node.0 (omega (arith, node.1, few))) (lines_fit nodes named few (All-tail (IsNode nodes) id named are))
-
 -- the canonical text of a set spells it
 pub cut_round_trip : (c : CutValue) → IsCut c → SpellsCut (canonical_cut c) c
 cut_round_trip c law =
     let all = cut_records c.nodes (length (ids_in c)) (ids_in c) in
     let few = few_ids c law in
     let problem : CanBeSpelled kinds.Cut (CutProblem c.nodes (length (ids_in c))) = problem_fits c.nodes (length (ids_in c)) law.nodes_few (omega (arith, few)) in
-    let lines : All (CanBeSpelled kinds.Cut) (map CutNode (ids_in c)) = lines_fit c.nodes (ids_in c) law.nodes_few (ids_named c law).within in
+    let named = (ids_named c law).within in
+    let lines = All-map (CanBeSpelled kinds.Cut) CutNode (ids_in c) (λ k d below. line_fits _ (named k d below).0 (omega (arith, (named k d below).1, law.nodes_few))) in
     let fit : All (CanBeSpelled kinds.Cut) all = All-cons (CanBeSpelled kinds.Cut) (CutProblem c.nodes (length (ids_in c))) (map CutNode (ids_in c)) problem lines in
     record {
       said = map (λ (r : Record). Some r) all;

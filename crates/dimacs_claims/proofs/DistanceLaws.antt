@@ -83,33 +83,25 @@ bare_block_from (r ∷ rs) b = ap (λ c. fold block_after c (map bare rs)) (bare
 bare_block_in : (rs : List Record) → block_in (map bare rs) ≡ whole_block (block_in rs)
 bare_block_in rs = bare_block_from rs None
 
-pub bare_misplaced : (rs : List Record) → is_none (block_in (map bare rs)) ≡ is_none (block_in rs)
-bare_misplaced rs = ap is_none (bare_block_in rs) ∙ same (block_in rs)
+-- what doesn't depend on the radius is the same
+of_bare : {A : Type 0} (f : Option Block → A) → f (whole_block None) ≡ f None → ((b : Block) → f (whole_block (Some b)) ≡ f (Some b)) → (rs : List Record) → f (block_in (map bare rs)) ≡ f (block_in rs)
+of_bare f none some rs = ap f (bare_block_in rs) ∙ same (block_in rs)
   where
-    same : (b : Option Block) → is_none (whole_block b) ≡ is_none b
-    same None = refl
-    same (Some b) = refl
+    same : (b : Option Block) → f (whole_block b) ≡ f b
+    same None = none
+    same (Some b) = some b
+
+pub bare_misplaced : (rs : List Record) → is_none (block_in (map bare rs)) ≡ is_none (block_in rs)
+bare_misplaced = of_bare is_none refl (λ b. refl)
 
 pub bare_labelled : (id : ℕ) (rs : List Record) → is_labelled (block_in (map bare rs)) id ≡ is_labelled (block_in rs) id
-bare_labelled id rs = ap (λ b. is_labelled b id) (bare_block_in rs) ∙ same (block_in rs)
-  where
-    same : (b : Option Block) → is_labelled (whole_block b) id ≡ is_labelled b id
-    same None = refl
-    same (Some b) = refl
+bare_labelled id = of_bare (λ b. is_labelled b id) refl (λ b. refl)
 
 pub bare_full : (rs : List Record) → is_full_block (block_in (map bare rs)) ≡ is_full_block (block_in rs)
-bare_full rs = ap is_full_block (bare_block_in rs) ∙ same (block_in rs)
-  where
-    same : (b : Option Block) → is_full_block (whole_block b) ≡ is_full_block b
-    same None = refl
-    same (Some b) = refl
+bare_full = of_bare is_full_block refl (λ b. refl)
 
 pub bare_short : (rs : List Record) → is_short_block (block_in (map bare rs)) ≡ is_short_block (block_in rs)
-bare_short rs = ap is_short_block (bare_block_in rs) ∙ same (block_in rs)
-  where
-    same : (b : Option Block) → is_short_block (whole_block b) ≡ is_short_block b
-    same None = refl
-    same (Some b) = refl
+bare_short = of_bare is_short_block refl (λ b. refl)
 
 -- ---- if a line of distances is refused, so is the line of labels
 above_second : (p : Option Declared) (id pred f : ℕ) (second : Bool) → (f == 2) ≡ second → IsTrue (if second then is_above p id else false) → IsTrue (if second then is_above p id else (if f == 4 then is_above p pred else false))

@@ -6,7 +6,7 @@ use Rattle.std.proofs.lemmas.Bool.{le-ltb, ne_eqb}
 use Rattle.std.proofs.lemmas.Bool.Decides.{nat_tests}
 use Rattle.std.proofs.lemmas.Int.{ints}
 use Rattle.std.proofs.lemmas.List.{length-append, length-map, append-nil, map-append}
-use Rattle.std.proofs.lemmas.List.Elements.{All-nil, All-cons, All-head, All-tail, All-append}
+use Rattle.std.proofs.lemmas.List.Elements.{All-nil, All-cons, All-head, All-map, All-tail, All-append}
 use Rattle.dimacs_lines.specs.Limits.{most_nodes}
 use Rattle.dimacs_records.specs.declared.kinds.TextKind.{TextKind}
 use Rattle.dimacs_records.specs.declared.kinds.TextKind.TheVariants.{Labels}
@@ -209,15 +209,12 @@ label_fits nodes l few is = record {
   fit = ((omega (arith, ints, is.id.0), omega (arith, ints, is.id.1, few)), (is.dist, ((omega (arith, ints, is.pred.0), omega (arith, ints, is.pred.1, few)), tt)));
 }
 
-labels_fit : (nodes : ℕ) (ls : List Label) → nodes ≤ most_nodes → All (IsLabel nodes) ls → All (CanBeSpelled Labels) (map label_line ls)
-labels_fit nodes [] few are = All-nil (CanBeSpelled Labels)
-labels_fit nodes (l ∷ ls) few are = All-cons (CanBeSpelled Labels) (label_line l) (map label_line ls) (label_fits nodes l few (All-head (IsLabel nodes) l ls are)) (labels_fit nodes ls few (All-tail (IsLabel nodes) l ls are))
-
 blocks_spelled : (nodes : ℕ) (bs : List BlockValue) → nodes ≤ most_nodes → All (IsBlock nodes) bs → All (CanBeSpelled Labels) (flat_map block_lines bs)
 blocks_spelled nodes [] few are = All-nil (CanBeSpelled Labels)
 blocks_spelled nodes (b ∷ bs) few are =
     let is = All-head (IsBlock nodes) b bs are in
-    All-append (CanBeSpelled Labels) (block_lines b) (flat_map block_lines bs) (All-cons (CanBeSpelled Labels) (LabelsBlock b.source (length b.labels) b.radius) (map label_line b.labels) (block_fits nodes b b.radius few is is.radius_within) (labels_fit nodes b.labels few is.within))
+    let labels = All-map (CanBeSpelled Labels) label_line b.labels (λ k d below. label_fits nodes _ few (is.within k d below)) in
+    All-append (CanBeSpelled Labels) (block_lines b) (flat_map block_lines bs) (All-cons (CanBeSpelled Labels) (LabelsBlock b.source (length b.labels) b.radius) (map label_line b.labels) (block_fits nodes b b.radius few is is.radius_within) labels)
     (blocks_spelled nodes bs few (All-tail (IsBlock nodes) b bs are))
 
 pub records_fit : (labels : LabelsValue) → AreLabels labels → All (CanBeSpelled Labels) (label_records labels)

@@ -5,7 +5,7 @@ use Rattle.std.specs.List.{list_any, flat_map}
 use Rattle.std.specs.Ordering.{nat_cmp, eq_by_cmp}
 use Rattle.std.specs.Cmp.{nat_cmp_total, nat_eq_equiv, unsigned_tied}
 use Rattle.std.specs.FinSet as set
-use Rattle.std.proofs.lemmas.Bool.{lt-ltb, le-ltb, eq-eqb}
+use Rattle.std.proofs.lemmas.Bool.{lt-ltb, le-ltb, eq-eqb, or_parts, true≢false}
 use Rattle.std.proofs.lemmas.List.Folds.{list_any-append}
 use Rattle.std.proofs.lemmas.List.{length-append, length-map, append-nil, map-append}
 use Rattle.dimacs_records.specs.declared.records.Record.{Record}
@@ -139,16 +139,10 @@ are_sources_more sources blocks b are id =
 -- a source that no block has
 pub new_source : (blocks : List BlockValue) (b : BlockValue) → list_any (has_source b.source) blocks ≡ false → IsNewSource blocks b
 new_source [] b none other among same = absurd (omega (arith, among.1))
-new_source (d ∷ blocks) b none other (zero, below, is) same = let first = eq-eqb other.source b.source same in absurd (first_not (d.source == b.source) _ (ap (λ (o : BlockValue). o.source == b.source) is ∙ first) none)
-  where
-    first_not : (x y : Bool) → x ≡ true → (x || y) ≡ false → ⊥
-    first_not true y e h = absurd (cc)
-    first_not false y e h = absurd (cc)
-new_source (d ∷ blocks) b none other (suc k, below, is) same = new_source blocks b (rest_not (d.source == b.source) _ none) other (k, omega (arith, below), is) same
-  where
-    rest_not : (x y : Bool) → (x || y) ≡ false → y ≡ false
-    rest_not true y h = absurd (cc)
-    rest_not false y h = h
+new_source (d ∷ blocks) b none other (zero, below, is) same =
+    let first = ap (λ (o : BlockValue). o.source == b.source) is ∙ eq-eqb other.source b.source same in
+    absurd (true≢false (sym first ∙ (or_parts (d.source == b.source) _ none).0))
+new_source (d ∷ blocks) b none other (suc k, below, is) same = new_source blocks b (or_parts (d.source == b.source) _ none).1 other (k, omega (arith, below), is) same
 
 pub push_same : {X : Type 0} (xs ys : List X) (x y : X) → xs ++ x ∷ [] ≡ ys ++ y ∷ [] → x ≡ y
 push_same [] [] x y e = cc

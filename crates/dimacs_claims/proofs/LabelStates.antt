@@ -2,6 +2,7 @@
 use Rattle.std.proofs.Common.{◌≡◌, ℕ, ◌<◌, ◌≤◌, ◌+◌, ◌∷◌, ◌++◌, [], List, Bool, true, false, Option, Some, None, length, refl, ap, sym, ◌∙◌, arith}
 use Rattle.std.specs.Prelude.{ℤ, is_none, nat_le, ◌==◌, ◌||◌}
 use Rattle.std.specs.List.{list_any}
+use Rattle.std.proofs.Math.Bool.{or-false}
 use Rattle.std.proofs.lemmas.Bool.{le-ltb}
 use Rattle.std.proofs.lemmas.Bool.Decides.{nat_tests}
 use Rattle.std.proofs.lemmas.List.{length-append}
@@ -76,13 +77,9 @@ pub say_label : (earlier : List Record) (nodes declared : ℕ) (sources : List �
 say_label earlier nodes declared sources source count radius ids say id dist pred = record {
   problem = problem_in-append earlier (LabelsNode id dist pred ∷ []) _ say.problem;
   counted = counted_in-append earlier (LabelsNode id dist pred ∷ []) ∙ omega (arith, say.counted);
-  named = λ v. list_any-append (names v) earlier (LabelsNode id dist pred ∷ []) ∙ (or_false _ ∙ say.named v);
+  named = λ v. list_any-append (names v) earlier (LabelsNode id dist pred ∷ []) ∙ (or-false _ ∙ say.named v);
   block = block_in-push earlier (LabelsNode id dist pred) ∙ ap (λ b. block_after b (LabelsNode id dist pred)) say.block;
 }
-  where
-    or_false : (b : Bool) → (b || false) ≡ b
-    or_false true = refl
-    or_false false = refl
 
 -- before the first record
 pub first_problem : (nodes blocks : ℕ) → IsAllowed [] (LabelsProblem nodes blocks)

@@ -6,8 +6,8 @@ use Rattle.std.specs.Ordering.{nat_cmp}
 use Rattle.std.specs.Cmp.{nat_cmp_total, unsigned_tied}
 use Rattle.std.specs.FinMap.{FinMap, empty, get, insert, from_entries, same_map, get-from_entries, nat_cmp-IsAntisymmetric}
 use Rattle.std.specs.FinMap.Entries.{find}
-use Rattle.std.proofs.lemmas.List.{map-append, length-append, length-map}
-use Rattle.std.proofs.lemmas.List.Elements.{All-nil, All-cons, All-head, All-tail}
+use Rattle.std.proofs.lemmas.List.{map-append, map-id, length-append, length-map}
+use Rattle.std.proofs.lemmas.List.Elements.{All-nil, All-cons, All-map}
 use Rattle.std.proofs.lemmas.Simd.{map-map}
 use Rattle.std.proofs.lemmas.Bool.{le-ltb, eqb-true}
 use Rattle.std.proofs.lemmas.Bool.Decides.{nat_tests}
@@ -141,14 +141,9 @@ potentials_in : List Record → PotentialsValue
 potentials_in (PotentialsProblem nodes count ∷ rs) = record { nodes = nodes; values = from_entries (filter has_value (map value_of rs)) }
 potentials_in rs = zero_potentials 0
 
-values_of-lines : (named : List (ℕ × ℤ)) → map value_of (map node_line named) ≡ named
-unfolding value_of
-values_of-lines [] = refl
-values_of-lines (n ∷ named) = ap (λ xs. n ∷ xs) (values_of-lines named)
-
 potentials_in-records : (nodes count : ℕ) (named : List (ℕ × ℤ)) → potentials_in (potentials_records nodes count named) ≡ record { nodes = nodes; values = from_entries (filter has_value named) }
-unfolding potentials_in
-potentials_in-records nodes count named = ap (λ (xs : List (ℕ × ℤ)). record { nodes = nodes; values = from_entries (filter has_value xs) }) (values_of-lines named)
+unfolding potentials_in value_of
+potentials_in-records nodes count named = ap (λ (xs : List (ℕ × ℤ)). record { nodes = nodes; values = from_entries (filter has_value xs) }) (map-map value_of node_line named ∙ map-id named)
 
 potentials_given : (rs : List LineRecord) (p : PotentialsValue) → GivesPotentials rs p → potentials_in (records_of rs) ≡ p
 potentials_given rs p h =
@@ -171,13 +166,9 @@ nonzero_node p law id e = by_case (get p.values id) refl e
 count_named : (p : PotentialsValue) (id : ℕ) (ids : List ℕ) → count_by (is_of id) (with_values p ids) ≡ count_by (is_id id) ids
 count_named p id ids = count_map (is_of id) (λ n. (n, potential_of p n)) ids
 
-All-values : (P : ℕ × ℤ → Type 0) (p : PotentialsValue) (ids : List ℕ) → All (λ id. P (id, potential_of p id)) ids → All P (with_values p ids)
-All-values P p [] all = All-nil P
-All-values P p (id ∷ ids) all = All-cons P (id, potential_of p id) (with_values p ids) (All-head (λ id. P (id, potential_of p id)) id ids all) (All-values P p ids (All-tail (λ id. P (id, potential_of p id)) id ids all))
-
 nonzero_named : (p : PotentialsValue) → ArePotentials p → NameNodes p.nodes (with_values p (nonzero_ids p))
 nonzero_named p law = record {
-  within = All-values (λ (n : ℕ × ℤ). IsNode p.nodes n.0) p (nonzero_ids p) (All-passing (λ id. IsNode p.nodes id) (nonzero_at p) (range_with_len 1 p.nodes) (λ id e. (nonzero_node p law id e).0));
+  within = All-map (λ (n : ℕ × ℤ). IsNode p.nodes n.0) (λ id. (id, potential_of p id)) (nonzero_ids p) (All-passing (λ id. IsNode p.nodes id) (nonzero_at p) (range_with_len 1 p.nodes) (λ id e. (nonzero_node p law id e).0));
   once = λ id. omega (arith, count_named p id (nonzero_ids p), passing_once (nonzero_at p) p.nodes id);
 }
 
@@ -240,12 +231,6 @@ line_fits id v least most wide = record {
   fit = ((omega (arith, ints, least), omega (arith, ints, most)), (wide, tt));
 }
 
-lines_fit : (nodes : ℕ) (named : List (ℕ × ℤ)) → nodes ≤ most_nodes → All (λ (n : ℕ × ℤ). IsNode nodes n.0 × IsWide n.1) named → All (CanBeSpelled kinds.Potentials) (map node_line named)
-lines_fit nodes [] few are = All-nil (CanBeSpelled kinds.Potentials)
-lines_fit nodes (n ∷ named) few are =
-    let here = All-head (λ (n : ℕ × ℤ). IsNode nodes n.0 × IsWide n.1) n named are in
-    All-cons (CanBeSpelled kinds.Potentials) (node_line n) (map node_line named) (line_fits n.0 n.1 here.0.0 (omega (arith, here.0.1, few)) here.1) (lines_fit nodes named few (All-tail (λ (n : ℕ × ℤ). IsNode nodes n.0 × IsWide n.1) n named are))
-
 -- the canonical text of potentials spells them
 pub potentials_round_trip : (p : PotentialsValue) → ArePotentials p → SpellsPotentials (canonical_potentials p) p
 potentials_round_trip p law =
@@ -254,8 +239,8 @@ potentials_round_trip p law =
     let few = few_nonzero p law in
     let same_length : length (with_values p ids) ≡ length ids = length-map ids (λ id. (id, potential_of p id)) in
     let problem : CanBeSpelled kinds.Potentials (PotentialsProblem p.nodes (length ids)) = problem_fits p.nodes (length ids) law.nodes_few (omega (arith, few)) in
-    let can = All-values (λ (n : ℕ × ℤ). IsNode p.nodes n.0 × IsWide n.1) p ids (All-passing (λ id. IsNode p.nodes id × IsWide (potential_of p id)) (nonzero_at p) (range_with_len 1 p.nodes) (nonzero_node p law)) in
-    let lines : All (CanBeSpelled kinds.Potentials) (map node_line (with_values p ids)) = lines_fit p.nodes (with_values p ids) law.nodes_few can in
+    let can = All-map (λ (n : ℕ × ℤ). IsNode p.nodes n.0 × IsWide n.1) (λ id. (id, potential_of p id)) ids (All-passing (λ id. IsNode p.nodes id × IsWide (potential_of p id)) (nonzero_at p) (range_with_len 1 p.nodes) (nonzero_node p law)) in
+    let lines = All-map (CanBeSpelled kinds.Potentials) node_line (with_values p ids) (λ k d below. line_fits _ _ (can k d below).0.0 (omega (arith, (can k d below).0.1, law.nodes_few)) (can k d below).1) in
     let fit : All (CanBeSpelled kinds.Potentials) all = All-cons (CanBeSpelled kinds.Potentials) (PotentialsProblem p.nodes (length ids)) (map node_line (with_values p ids)) problem lines in
     record {
       said = map (λ (r : Record). Some r) all;

@@ -5,7 +5,7 @@ use Rattle.std.specs.List.{All, list_any}
 use Rattle.std.specs.Result.{result_map_both}
 use Rattle.std.proofs.lemmas.Int.{ints}
 use Rattle.std.proofs.lemmas.List.{append-nil, length-append, length-map, map-append}
-use Rattle.std.proofs.lemmas.List.Elements.{All-nil, All-cons, All-head, All-tail}
+use Rattle.std.proofs.lemmas.List.Elements.{All-nil, All-cons, All-head, All-map, All-tail}
 use Rattle.dimacs_lines.specs.Lines.{lines}
 use Rattle.dimacs_lines.specs.Limits.{most_lines}
 use Rattle.dimacs_lines.specs.Number.{IsWithin}
@@ -159,11 +159,6 @@ entry_fits e is = record {
   fit = ((omega (arith, ints, is.tail.0), omega (arith, ints, is.tail.1)), ((omega (arith, ints, is.head.0), omega (arith, ints, is.head.1)), (is.flow, tt)));
 }
 
-entries_fit : (es : List Entry) → All IsLawfulEntry es → All (CanBeSpelled kinds.Solution) (map entry_record es)
-entries_fit [] are = All-nil (CanBeSpelled kinds.Solution)
-entries_fit (e ∷ es) are =
-    All-cons (CanBeSpelled kinds.Solution) (entry_record e) (map entry_record es) (entry_fits e (All-head IsLawfulEntry e es are)) (entries_fit es (All-tail IsLawfulEntry e es are))
-
 numbered-entries : (line : ℕ) (es : List Entry) → numbered line (map (λ (r : Record). Some r) (map entry_record es)) ≡ map entry_line (on_lines_from line es)
 numbered-entries line [] = refl
 numbered-entries line (e ∷ es) = ap (λ rs. on_line line (entry_record e) ∷ rs) (numbered-entries (suc line) es)
@@ -171,7 +166,8 @@ numbered-entries line (e ∷ es) = ap (λ rs. on_line line (entry_record e) ∷ 
 -- the canonical text of a lawful solution spells it, with new line numbers
 pub solution_round_trip : (s : SolutionValue) → IsLawful s → SpellsSolution (canonical_solution s) (renumbered s)
 solution_round_trip s is =
-    let fit : All (CanBeSpelled kinds.Solution) (solution_records s) = All-cons (CanBeSpelled kinds.Solution) (value_record s.value) (map entry_record s.entries) (value_fits s is) (entries_fit s.entries is.entries) in
+    let entries = All-map (CanBeSpelled kinds.Solution) entry_record s.entries (λ k d below. entry_fits _ (is.entries k d below)) in
+    let fit = All-cons (CanBeSpelled kinds.Solution) (value_record s.value) (map entry_record s.entries) (value_fits s is) entries in
     record {
       said = map (λ (r : Record). Some r) (solution_records s);
       spelled = canonical_spelled kinds.Solution (solution_records s) fit (omega (arith, length-map s.entries entry_record, is.few));

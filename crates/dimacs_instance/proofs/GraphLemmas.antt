@@ -5,7 +5,7 @@ use Rattle.std.specs.List.{All}
 use Rattle.std.proofs.lemmas.Bool.{le-ltb}
 use Rattle.std.proofs.lemmas.Int.{ints}
 use Rattle.std.proofs.lemmas.List.{length-append, length-map}
-use Rattle.std.proofs.lemmas.List.Elements.{All-nil, All-cons, All-head, All-tail}
+use Rattle.std.proofs.lemmas.List.Elements.{All-cons, All-head, All-map, All-tail}
 use Rattle.std.proofs.lemmas.Bool.Decides.{nat_tests}
 use Rattle.dimacs_lines.specs.Limits.{most_nodes}
 use Rattle.dimacs_records.specs.declared.kinds.TextKind.TheVariants.{Graph}
@@ -119,16 +119,11 @@ arc_fits nodes a few joins alone = record {
   fit = ((omega (arith, ints, joins.0.0), omega (arith, ints, joins.0.1, few)), ((omega (arith, ints, joins.1.0), omega (arith, ints, joins.1.1, few)), (alone.2, tt)));
 }
 
-arcs_fit : (nodes : ℕ) (arcs : List ArcView) → nodes ≤ most_nodes → All (JoinsNodes nodes) arcs → All HasWeightAlone arcs → All (CanBeSpelled Graph) (map graph_arc arcs)
-arcs_fit nodes [] few joined alone = All-nil (CanBeSpelled Graph)
-arcs_fit nodes (a ∷ arcs) few joined alone =
-    All-cons (CanBeSpelled Graph) (graph_arc a) (map graph_arc arcs) (arc_fits nodes a few (All-head (JoinsNodes nodes) a arcs joined) (All-head HasWeightAlone a arcs alone))
-    (arcs_fit nodes arcs few (All-tail (JoinsNodes nodes) a arcs joined) (All-tail HasWeightAlone a arcs alone))
-
 -- the canonical text of a graph spells it
 pub graph_round_trip : (g : NetworkValue) → IsGraph g → SpellsGraph (canonical_graph g) g
 graph_round_trip g is =
-    let fit : All (CanBeSpelled Graph) (graph_records g) = All-cons (CanBeSpelled Graph) (GraphProblem g.nodes (length g.arcs)) (map graph_arc g.arcs) (problem_fits g is) (arcs_fit g.nodes g.arcs is.nodes_few is.joined is.weights) in
+    let arcs = All-map (CanBeSpelled Graph) graph_arc g.arcs (λ k d below. arc_fits g.nodes _ is.nodes_few (is.joined k d below) (is.weights k d below)) in
+    let fit = All-cons (CanBeSpelled Graph) (GraphProblem g.nodes (length g.arcs)) (map graph_arc g.arcs) (problem_fits g is) arcs in
     record {
       said = map (λ (r : Record). Some r) (graph_records g);
       spelled = canonical_spelled Graph (graph_records g) fit (omega (arith, length-map g.arcs graph_arc, is.arcs_few));

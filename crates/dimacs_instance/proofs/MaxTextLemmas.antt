@@ -5,7 +5,7 @@ use Rattle.std.specs.List.{All, list_any}
 use Rattle.std.proofs.lemmas.Bool.{ne_eqb}
 use Rattle.std.proofs.lemmas.Int.{ints}
 use Rattle.std.proofs.lemmas.List.{length-map}
-use Rattle.std.proofs.lemmas.List.Elements.{All-nil, All-cons, All-head, All-tail}
+use Rattle.std.proofs.lemmas.List.Elements.{All-cons, All-head, All-map, All-tail}
 use Rattle.dimacs_lines.specs.Lines.{lines}
 use Rattle.dimacs_records.specs.declared.kinds.TextKind.TheVariants.{Max}
 use Rattle.dimacs_records.specs.declared.records.End.{End}
@@ -142,17 +142,12 @@ module _ (nodes : ℕ) (first second : EndLine) (arcs : List ArcView) (is : IsMa
     fit = ((omega (arith, ints, joins.0.0), omega (arith, ints, joins.0.1, is.nodes_few)), ((omega (arith, ints, joins.1.0), omega (arith, ints, joins.1.1, is.nodes_few)), (alone.3, tt)));
   }
 
-  arcs_fit : (some : List ArcView) → All (JoinsNodes nodes) some → All HasCapacityAlone some → All (CanBeSpelled Max) (map max_arc some)
-  arcs_fit [] joined alone = All-nil (CanBeSpelled Max)
-  arcs_fit (a ∷ some) joined alone =
-      All-cons (CanBeSpelled Max) (max_arc a) (map max_arc some) (arc_fits a (All-head (JoinsNodes nodes) a some joined) (All-head HasCapacityAlone a some alone))
-      (arcs_fit some (All-tail (JoinsNodes nodes) a some joined) (All-tail HasCapacityAlone a some alone))
-
   -- its canonical text spells its records
   all_spelled : AreSpelled Max (lines (canonical_text (max_begun_records (read_whole nodes first second arcs)))) (map (λ (r : Record). Some r) (max_begun_records (read_whole nodes first second arcs)))
   all_spelled =
+      let arcs_fit = All-map (CanBeSpelled Max) max_arc arcs (λ k d below. arc_fits _ (is.joined k d below) (is.capacities k d below)) in
       let ends_fit = All-cons (CanBeSpelled Max) (max_node first) (max_node second ∷ map max_arc arcs) (node_fits first.node first.end is.ends_within.0)
-      (All-cons (CanBeSpelled Max) (max_node second) (map max_arc arcs) (node_fits second.node second.end is.ends_within.1) (arcs_fit arcs is.joined is.capacities)) in
+      (All-cons (CanBeSpelled Max) (max_node second) (map max_arc arcs) (node_fits second.node second.end is.ends_within.1) arcs_fit) in
       canonical_spelled Max (max_begun_records (read_whole nodes first second arcs)) (All-cons (CanBeSpelled Max) (MaxProblem nodes (length arcs)) (max_node first ∷ max_node second ∷ map max_arc arcs) problem_fits ends_fit)
       (omega (arith, length-map arcs max_arc, is.arcs_few))
 

@@ -7,7 +7,7 @@ use Rattle.std.specs.FinMap.{from_entries, entries, get}
 use Rattle.std.proofs.lemmas.Bool.{eq-eqb, false_from_ne_true}
 use Rattle.std.proofs.lemmas.Int.{ints}
 use Rattle.std.proofs.lemmas.List.{append-nil, length-append, length-map}
-use Rattle.std.proofs.lemmas.List.Elements.{All-nil, All-cons, All-head, All-tail, All-append, All-map, All-weaker}
+use Rattle.std.proofs.lemmas.List.Elements.{All-cons, All-head, All-tail, All-append, All-map, All-weaker}
 use Rattle.dimacs_lines.specs.Limits.{most_nodes, IsNode}
 use Rattle.dimacs_nodes.proofs.Entries.{from_entries-entries, entries_once, length-entries, All-get}
 use Rattle.dimacs_records.specs.declared.kinds.TextKind.TheVariants.{Min}
@@ -169,18 +169,12 @@ arc_fits nodes a few joined bounds = record {
   );
 }
 
-arcs_fit : (nodes : ℕ) (arcs : List ArcView) → nodes ≤ most_nodes → All (JoinsNodes nodes) arcs → All HasBounds arcs → All (CanBeSpelled Min) (map min_arc arcs)
-arcs_fit nodes [] few joined bounds = All-nil (CanBeSpelled Min)
-arcs_fit nodes (a ∷ arcs) few joined bounds =
-    All-cons (CanBeSpelled Min) (min_arc a) (map min_arc arcs) (arc_fits nodes a few (All-head (JoinsNodes nodes) a arcs joined) (All-head HasBounds a arcs bounds))
-    (arcs_fit nodes arcs few (All-tail (JoinsNodes nodes) a arcs joined) (All-tail HasBounds a arcs bounds))
-
 records_fit : (m : MinValue) → IsMin m → All (CanBeSpelled Min) (canonical_min_records m)
 records_fit m law =
     All-cons (CanBeSpelled Min) (MinProblem m.nodes (length m.arcs)) (map min_node (entries m.supplies) ++ map min_arc m.arcs) (problem_fits m law)
     (All-append (CanBeSpelled Min) (map min_node (entries m.supplies)) (map min_arc m.arcs)
-    (All-map (CanBeSpelled Min) min_node (entries m.supplies) (All-weaker (IsSupply m.nodes) (λ (s : ℕ × ℤ). CanBeSpelled Min (min_node s)) (node_fits m.nodes law.nodes_few) (entries m.supplies) law.supplied))
-    (arcs_fit m.nodes m.arcs law.nodes_few law.joined law.bounds))
+    (All-map (CanBeSpelled Min) min_node (entries m.supplies) (λ k d below. node_fits m.nodes law.nodes_few _ (law.supplied k d below)))
+    (All-map (CanBeSpelled Min) min_arc m.arcs (λ k d below. arc_fits m.nodes _ law.nodes_few (law.joined k d below) (law.bounds k d below))))
 
 -- only nodes have supplies
 pub no_supply : (m : MinValue) → IsMin m → (id : ℕ) → ¬ IsNode m.nodes id → get m.supplies id ≡ None

@@ -3,8 +3,9 @@ use Rattle.std.proofs.Common.{◌≡◌, ℕ, suc, ◌<◌, ◌≤◌, ◌∷◌
 use Rattle.std.specs.Prelude.{codes, nat_lt, nat_le}
 use Rattle.std.specs.List.{All, list_any}
 use Rattle.std.proofs.lemmas.Int.{ints}
-use Rattle.std.proofs.lemmas.List.{length-append, length-map}
-use Rattle.std.proofs.lemmas.List.Elements.{All-cons, All-map, All-weaker}
+use Rattle.std.proofs.lemmas.List.{map-id, length-append, length-map}
+use Rattle.std.proofs.lemmas.List.Elements.{All-cons, All-map}
+use Rattle.std.proofs.lemmas.Simd.{map-map}
 use Rattle.std.proofs.lemmas.Bool.Decides.{nat_tests}
 use Rattle.dimacs_lines.specs.Limits.{most_count}
 use Rattle.dimacs_records.specs.declared.kinds.TextKind.TheVariants as kinds
@@ -114,20 +115,10 @@ queries_of (QueriesProblem asks.Pairs count ∷ rs) = Pairs (map pair_of rs)
 queries_of (r ∷ rs) = Sources (map id_of rs)
 queries_of [] = Sources []
 
-ids_of-sources : (ids : List ℕ) → map id_of (map SourceQuery ids) ≡ ids
-unfolding id_of
-ids_of-sources [] = refl
-ids_of-sources (id ∷ ids) = ap (λ xs. id ∷ xs) (ids_of-sources ids)
-
-pairs_of-pairs : (pairs : List (ℕ × ℕ)) → map pair_of (map pair_query pairs) ≡ pairs
-unfolding pair_of
-pairs_of-pairs [] = refl
-pairs_of-pairs (pair ∷ pairs) = ap (λ xs. pair ∷ xs) (pairs_of-pairs pairs)
-
 queries_of-query_records : (queries : QueriesValue) → queries_of (query_records queries) ≡ queries
-unfolding queries_of
-queries_of-query_records (Sources ids) = ap Sources (ids_of-sources ids)
-queries_of-query_records (Pairs pairs) = ap Pairs (pairs_of-pairs pairs)
+unfolding queries_of id_of pair_of
+queries_of-query_records (Sources ids) = ap Sources (map-map id_of SourceQuery ids ∙ map-id ids)
+queries_of-query_records (Pairs pairs) = ap Pairs (map-map pair_of pair_query pairs ∙ map-id pairs)
 
 -- records give only one value
 pub one_queries : (rs : List LineRecord) (queries others : QueriesValue) → GivesQueries rs queries → GivesQueries rs others → queries ≡ others
@@ -165,8 +156,8 @@ pair_fits pair are = record {
 }
 
 query_lines_fit : (queries : QueriesValue) → HaveIds queries → All (CanBeSpelled kinds.Queries) (query_lines queries)
-query_lines_fit (Sources ids) are = All-map (CanBeSpelled kinds.Queries) SourceQuery ids (All-weaker IsId (λ id. CanBeSpelled kinds.Queries (SourceQuery id)) source_fits ids are)
-query_lines_fit (Pairs pairs) are = All-map (CanBeSpelled kinds.Queries) pair_query pairs (All-weaker AreIds (λ pair. CanBeSpelled kinds.Queries (pair_query pair)) pair_fits pairs are)
+query_lines_fit (Sources ids) are = All-map (CanBeSpelled kinds.Queries) SourceQuery ids (λ k d below. source_fits _ (are k d below))
+query_lines_fit (Pairs pairs) are = All-map (CanBeSpelled kinds.Queries) pair_query pairs (λ k d below. pair_fits _ (are k d below))
 
 -- the canonical text of lawful queries spells them
 pub queries_round_trip : (queries : QueriesValue) → AreLawful queries → SpellsQueries (canonical_queries queries) queries

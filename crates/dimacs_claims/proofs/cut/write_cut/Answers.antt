@@ -1,10 +1,8 @@
 use Rattle.std.proofs.Common.{ap, map, arith}
 use Rattle.std.specs.FinSet as set
-use Rattle.dimacs_lines.specs.Lines.{lines}
-use Rattle.dimacs_records.specs.declared.kinds.TextKind.TheVariants as kinds
 use Rattle.dimacs_records.specs.declared.records.Record.TheVariants.{CutNode}
 use Rattle.dimacs_records.proofs.ReadLaws.{spells_one_value}
-use Rattle.dimacs_claims.specs.Cuts.{GivesCut, canonical_cut}
+use Rattle.dimacs_claims.specs.Cuts.{canonical_cut}
 use Rattle.dimacs_claims.proofs.CutLemmas.{cut_round_trip, one_cut}
 use Rattle.dimacs_claims.proofs.NodeLists.{lines_of_passing, passing}
 use Rattle.dimacs_claims.proofs.cut.write_cut.Goals as goal
@@ -21,6 +19,4 @@ pub returns-clause-round_trip : goal.returns-clause-round_trip
 returns-clause-round_trip g c = cut_round_trip c.args.cut.now c.len-count.ensures.lawful
 
 pub returns-clause-same_text : goal.returns-clause-same_text
-returns-clause-same_text g c = λ read spelled.
-    let cut = c.args.cut.now in
-    ap canonical_cut (spells_one_value kinds.Cut GivesCut (lines (canonical_cut cut)) read cut one_cut spelled (cut_round_trip cut c.len-count.ensures.lawful))
+returns-clause-same_text g c = λ read spelled. ap canonical_cut (spells_one_value _ _ _ read _ one_cut spelled (cut_round_trip _ c.len-count.ensures.lawful))

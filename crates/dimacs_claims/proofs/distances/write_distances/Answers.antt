@@ -1,8 +1,6 @@
 use Rattle.std.proofs.Common.{ap, subst}
-use Rattle.dimacs_lines.specs.Lines.{lines}
-use Rattle.dimacs_records.specs.declared.kinds.TextKind.TheVariants.{Distances}
 use Rattle.dimacs_records.proofs.ReadLaws.{spells_one_value}
-use Rattle.dimacs_claims.specs.DistanceTexts.{GivesDistances, canonical_distances}
+use Rattle.dimacs_claims.specs.DistanceTexts.{canonical_distances}
 use Rattle.dimacs_claims.specs.Labels.{AreLabels}
 use Rattle.dimacs_claims.proofs.DistanceLaws.{distances_round_trip, one_distances}
 use Rattle.dimacs_claims.proofs.distances.write_distances.Goals as goal
@@ -14,6 +12,5 @@ returns-clause-round_trip g c =
 
 pub returns-clause-same_text : goal.returns-clause-same_text
 returns-clause-same_text g c = λ few read spelled.
-    let d = c.args.distances.now in
-    let are : AreLabels d = subst AreLabels c.labels.ensures.labels c.write_in_kind.ensures.lawful in
-    ap canonical_distances (spells_one_value Distances GivesDistances (lines (canonical_distances d)) read d one_distances spelled (distances_round_trip d are c.labels.ensures.bare few))
+    let are : AreLabels c.args.distances.now = subst AreLabels c.labels.ensures.labels c.write_in_kind.ensures.lawful in
+    ap canonical_distances (spells_one_value _ _ _ read _ one_distances spelled (distances_round_trip _ are c.labels.ensures.bare few))

@@ -1,15 +1,10 @@
-use Rattle.std.proofs.Common.{◌≡◌, ◌∷◌, [], List, length, map, take, arith, ap, refl}
-use Rattle.dimacs_records.specs.declared.kinds.TextKind.{TextKind}
+use Rattle.std.proofs.Common.{◌∷◌, [], length, map, take, arith, refl}
+use Rattle.std.proofs.lemmas.Simd.{map-map}
 use Rattle.dimacs_records.specs.declared.records.Record.TheVariants.{LabelsBlock}
 use Rattle.dimacs_records.proofs.WrittenLemmas.{all_items, line_after, lines_after, lines_of_items}
-use Rattle.dimacs_claims.specs.declared.block.Label.{Label}
 use Rattle.dimacs_claims.specs.LabelTexts.{label_line, block_lines}
 use Rattle.dimacs_claims.specs.inside.Lines.{in_kind, line_in_kind}
 use Rattle.dimacs_claims.proofs.labels.write_block.Goals as goal
-
-both_maps : (kind : TextKind) (ls : List Label) → map (line_in_kind kind) ls ≡ map (in_kind kind) (map label_line ls)
-both_maps kind [] = refl
-both_maps kind (l ∷ ls) = ap (λ more. in_kind kind (label_line l) ∷ more) (both_maps kind ls)
 
 pub returns : goal.returns
 returns g c = λ start text h.
@@ -18,6 +13,6 @@ returns g c = λ start text h.
     let labels = c.labels-labels.result.now in
     let first = in_kind kind (LabelsBlock block.source (length block.labels) block.radius) in
     let n = c.len.result in
-    lines_after start _ _ text (first ∷ []) (take n (map (line_in_kind kind) labels)) (map (in_kind kind) (block_lines block)) (rw (all_items (line_in_kind kind) n labels c.len.ensures, c.labels-labels.ensures, both_maps kind block.labels) refl)
+    lines_after start _ _ text (first ∷ []) (take n (map (line_in_kind kind) labels)) (map (in_kind kind) (block_lines block)) (rw (all_items (line_in_kind kind) n labels c.len.ensures, c.labels-labels.ensures, ← map-map (in_kind kind) label_line block.labels) refl)
     (c.write_lines.ensures (λ i. take i (map (line_in_kind kind) labels)) (lines_of_items (line_in_kind kind) _ n labels (omega (arith, c.len.ensures)) (λ i said within e. e)) start _
     (line_after start _ _ text first (rw (c.in_kind.ensures, c.source-source.ensures, c.radius-radius.ensures, c.len-count.ensures, c.labels-labels.ensures) at (c.write_record.ensures start text h))))

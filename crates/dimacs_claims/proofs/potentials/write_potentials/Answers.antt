@@ -1,8 +1,6 @@
 use Rattle.std.proofs.Common.{ap, map, arith}
-use Rattle.dimacs_lines.specs.Lines.{lines}
-use Rattle.dimacs_records.specs.declared.kinds.TextKind.TheVariants as kinds
 use Rattle.dimacs_records.proofs.ReadLaws.{spells_one_value}
-use Rattle.dimacs_claims.specs.Potentials.{GivesPotentials, canonical_potentials, node_line, with_values}
+use Rattle.dimacs_claims.specs.Potentials.{canonical_potentials, node_line, with_values}
 use Rattle.dimacs_claims.proofs.NodeLists.{passing}
 use Rattle.dimacs_claims.proofs.PotentialsLemmas.{nonzero_at, one_potentials, potential_lines, potentials_round_trip}
 use Rattle.dimacs_claims.proofs.potentials.write_potentials.Goals as goal
@@ -19,6 +17,4 @@ pub returns-clause-round_trip : goal.returns-clause-round_trip
 returns-clause-round_trip g c = potentials_round_trip c.args.potentials.now c.nodes-nodes.ensures.lawful
 
 pub returns-clause-same_text : goal.returns-clause-same_text
-returns-clause-same_text g c = λ read spelled.
-    let potentials = c.args.potentials.now in
-    ap canonical_potentials (spells_one_value kinds.Potentials GivesPotentials (lines (canonical_potentials potentials)) read potentials one_potentials spelled (potentials_round_trip potentials c.nodes-nodes.ensures.lawful))
+returns-clause-same_text g c = λ read spelled. ap canonical_potentials (spells_one_value _ _ _ read _ one_potentials spelled (potentials_round_trip _ c.nodes-nodes.ensures.lawful))

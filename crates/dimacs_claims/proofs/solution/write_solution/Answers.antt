@@ -1,11 +1,9 @@
 use Rattle.std.proofs.Common.{◌≡◌, SFits, ap, refl, rules, ◌∙◌, length, map, take, arith}
 use Rattle.std.specs.Int.{w128}
 use Rattle.std.proofs.lemmas.Int.{to_z-of_z}
-use Rattle.dimacs_lines.specs.Lines.{lines}
-use Rattle.dimacs_records.specs.declared.kinds.TextKind.TheVariants.{Solution}
 use Rattle.dimacs_records.proofs.ReadLaws.{spells_one_value}
 use Rattle.dimacs_records.proofs.WrittenLemmas.{all_items, lines_of_items}
-use Rattle.dimacs_claims.specs.SolutionTexts.{GivesSolution, canonical_solution, claimed, renumbered, entry_record}
+use Rattle.dimacs_claims.specs.SolutionTexts.{canonical_solution, claimed, entry_record}
 use Rattle.dimacs_claims.proofs.SolutionLemmas.{canonical-renumbered, one_solution, solution_round_trip}
 use Rattle.dimacs_claims.proofs.solution.write_solution.Goals as goal
 
@@ -24,5 +22,4 @@ returns-clause-round_trip g c = solution_round_trip (claimed c.args.solution.now
 pub returns-clause-same_text : goal.returns-clause-same_text
 returns-clause-same_text g c = λ lawful read spelled.
     let solution = claimed c.args.solution.now in
-    let same = spells_one_value Solution GivesSolution (lines (canonical_solution solution)) read (renumbered solution) one_solution spelled (solution_round_trip solution lawful) in
-    ap canonical_solution same ∙ canonical-renumbered solution
+    ap canonical_solution (spells_one_value _ _ _ read _ one_solution spelled (solution_round_trip solution lawful)) ∙ canonical-renumbered solution

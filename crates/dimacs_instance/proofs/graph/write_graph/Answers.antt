@@ -1,9 +1,7 @@
 use Rattle.std.proofs.Common.{◌≡◌, ap, length, map, take, arith, rules}
-use Rattle.dimacs_lines.specs.Lines.{lines}
-use Rattle.dimacs_records.specs.declared.kinds.TextKind.TheVariants.{Graph}
 use Rattle.dimacs_records.proofs.ReadLaws.{spells_one_value}
 use Rattle.dimacs_records.proofs.WrittenLemmas.{all_items, lines_of_items}
-use Rattle.dimacs_instance.specs.Graph.{graph_arc, canonical_graph, GivesGraph}
+use Rattle.dimacs_instance.specs.Graph.{graph_arc, canonical_graph}
 use Rattle.dimacs_instance.proofs.GraphLemmas.{graph_round_trip, one_graph}
 use Rattle.dimacs_instance.proofs.graph.write_graph.Goals as goal
 
@@ -22,6 +20,4 @@ pub returns-clause-round_trip : goal.returns-clause-round_trip
 returns-clause-round_trip g c = graph_round_trip c.args.graph.now c.network-network.ensures.lawful
 
 pub returns-clause-same_text : goal.returns-clause-same_text
-returns-clause-same_text g c = λ read spelled.
-    let graph = c.args.graph.now in
-    ap canonical_graph (spells_one_value Graph GivesGraph (lines (canonical_graph graph)) read graph one_graph spelled (graph_round_trip graph c.network-network.ensures.lawful))
+returns-clause-same_text g c = λ read spelled. ap canonical_graph (spells_one_value _ _ _ read _ one_graph spelled (graph_round_trip _ c.network-network.ensures.lawful))

@@ -1,9 +1,7 @@
 use Rattle.std.proofs.Common.{◌≡◌, ap, length, map, take, arith, rules}
-use Rattle.dimacs_lines.specs.Lines.{lines}
-use Rattle.dimacs_records.specs.declared.kinds.TextKind.TheVariants.{Max}
 use Rattle.dimacs_records.proofs.ReadLaws.{spells_one_value}
 use Rattle.dimacs_records.proofs.WrittenLemmas.{all_items, lines_of_items}
-use Rattle.dimacs_instance.specs.MaxTexts.{max_arc, canonical_max, GivesMax}
+use Rattle.dimacs_instance.specs.MaxTexts.{max_arc, canonical_max}
 use Rattle.dimacs_instance.proofs.MaxTextLemmas.{max_round_trip, one_max}
 use Rattle.dimacs_instance.proofs.max.write_max.Goals as goal
 
@@ -22,6 +20,4 @@ pub returns-clause-round_trip : goal.returns-clause-round_trip
 returns-clause-round_trip g c = max_round_trip c.args.max.now c.network-network.ensures.lawful
 
 pub returns-clause-same_text : goal.returns-clause-same_text
-returns-clause-same_text g c = λ read spelled.
-    let max = c.args.max.now in
-    ap canonical_max (spells_one_value Max GivesMax (lines (canonical_max max)) read max one_max spelled (max_round_trip max c.network-network.ensures.lawful))
+returns-clause-same_text g c = λ read spelled. ap canonical_max (spells_one_value _ _ _ read _ one_max spelled (max_round_trip _ c.network-network.ensures.lawful))

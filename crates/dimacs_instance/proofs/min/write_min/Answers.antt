@@ -1,10 +1,8 @@
 use Rattle.std.proofs.Common.{ap, ◌≡◌, ◌∷◌, ◌+◌, [], refl, length, map, take, arith, rules}
-use Rattle.dimacs_lines.specs.Lines.{lines}
-use Rattle.dimacs_records.specs.declared.kinds.TextKind.TheVariants.{Min}
 use Rattle.dimacs_records.specs.declared.records.Record.TheVariants.{MinProblem}
 use Rattle.dimacs_records.proofs.ReadLaws.{spells_one_value}
 use Rattle.dimacs_records.proofs.WrittenLemmas.{all_items, line_after, lines_after, lines_of_items}
-use Rattle.dimacs_instance.specs.MinTexts.{canonical_min, GivesMin, min_arc, min_node}
+use Rattle.dimacs_instance.specs.MinTexts.{canonical_min, min_arc, min_node}
 use Rattle.dimacs_instance.proofs.MinTextLemmas.{min_round_trip, one_min}
 use Rattle.dimacs_instance.proofs.MinSupplies.{all_supplies, supplies_below, supply_lines}
 use Rattle.dimacs_instance.proofs.min.write_min.Goals as goal
@@ -36,6 +34,4 @@ pub returns-clause-round_trip : goal.returns-clause-round_trip
 returns-clause-round_trip g c = min_round_trip c.args.instance.now c.network-network.ensures.lawful
 
 pub returns-clause-same_text : goal.returns-clause-same_text
-returns-clause-same_text g c = λ read spelled.
-    let m = c.args.instance.now in
-    ap canonical_min (spells_one_value Min GivesMin (lines (canonical_min m)) read m one_min spelled (min_round_trip m c.network-network.ensures.lawful))
+returns-clause-same_text g c = λ read spelled. ap canonical_min (spells_one_value _ _ _ read _ one_min spelled (min_round_trip _ c.network-network.ensures.lawful))

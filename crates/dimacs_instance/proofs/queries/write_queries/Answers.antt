@@ -1,11 +1,9 @@
 use Rattle.std.proofs.Common.{ap, ◌∷◌, [], refl, take, arith}
 use Rattle.std.proofs.lemmas.List.{take_all}
-use Rattle.dimacs_lines.specs.Lines.{lines}
-use Rattle.dimacs_records.specs.declared.kinds.TextKind.TheVariants.{Queries}
 use Rattle.dimacs_records.specs.declared.records.Record.TheVariants.{QueriesProblem}
 use Rattle.dimacs_records.proofs.ReadLaws.{spells_one_value}
 use Rattle.dimacs_records.proofs.WrittenLemmas.{line_after, lines_after, lines_of_list}
-use Rattle.dimacs_instance.specs.QueryTexts.{GivesQueries, asked, canonical_queries, query_lines}
+use Rattle.dimacs_instance.specs.QueryTexts.{asked, canonical_queries, query_lines}
 use Rattle.dimacs_instance.proofs.QueriesLemmas.{queries_round_trip, one_queries}
 use Rattle.dimacs_instance.proofs.queries.write_queries.Goals as goal
 
@@ -23,6 +21,4 @@ pub returns-clause-round_trip : goal.returns-clause-round_trip
 returns-clause-round_trip g c = queries_round_trip (asked c.args.queries.now)
 
 pub returns-clause-same_text : goal.returns-clause-same_text
-returns-clause-same_text g c = λ lawful read spelled.
-    let queries = asked c.args.queries.now in
-    ap canonical_queries (spells_one_value Queries GivesQueries (lines (canonical_queries queries)) read queries one_queries spelled (queries_round_trip queries lawful))
+returns-clause-same_text g c = λ lawful read spelled. ap canonical_queries (spells_one_value _ _ _ read _ one_queries spelled (queries_round_trip _ lawful))
