@@ -79,18 +79,4 @@ impl<A: ArcArrays> Network for LentArcs<A> {
     fn arc(&self, i: u32) -> ArcView {
         self.arrays.arc(i as usize)
     }
-
-    fn find(&self, tail: u32, head: u32, k: u32) -> Option<u32> {
-        let mut left = k;
-        for i in 0..self.arcs() {
-            let arc = self.arc(i);
-            if arc.tail == tail && arc.head == head {
-                if left == 0 {
-                    return Some(i);
-                }
-                left -= 1;
-            }
-        }
-        None
-    }
 }

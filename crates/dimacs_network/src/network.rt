@@ -41,5 +41,18 @@ pub trait Network {
 
     /// The index of the arc from `tail` to `head` that comes after `k` such arcs; none if there are no more than `k`.
     fn find(&self, tail: u32, head: u32, k: u32) -> Option<u32>
-        ensures { IsKthBetween (list self.now) tail head k result };
+        ensures { IsKthBetween (list self.now) tail head k result }
+    {
+        let mut left = k;
+        for i in 0..self.arcs() {
+            let arc = self.arc(i);
+            if arc.tail == tail && arc.head == head {
+                if left == 0 {
+                    return Some(i);
+                }
+                left -= 1;
+            }
+        }
+        None
+    }
 }

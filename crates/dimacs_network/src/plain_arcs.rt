@@ -79,18 +79,4 @@ impl<A: KeptArc> Network for PlainArcs<A> {
     fn arc(&self, i: u32) -> ArcView {
         A::whole(self.ends[i as usize], self.numbers.at(i as usize))
     }
-
-    fn find(&self, tail: u32, head: u32, k: u32) -> Option<u32> {
-        let mut left = k;
-        for i in 0..self.arcs() {
-            let arc = self.arc(i);
-            if arc.tail == tail && arc.head == head {
-                if left == 0 {
-                    return Some(i);
-                }
-                left -= 1;
-            }
-        }
-        None
-    }
 }

@@ -1,11 +1,11 @@
 use Rattle.std.proofs.Common.{arith}
 use Rattle.dimacs_network.proofs.ArcLemmas.{counts_joined, counts_other}
-use Rattle.dimacs_network.proofs.plain_arcs.PlainArcsNetwork.find.Goals.{then-arc-tail+then-arc-head+else-left-eq0, else-arc-tail, else-arc-tail-via-then-arc-tail+else-arc-head, else-arc-tail-via-else-arc-tail}
-use Rattle.dimacs_network.proofs.plain_arcs.PlainArcsNetwork.find.Goals as goal
+use Rattle.dimacs_network.proofs.network.Network.find.Goals.{then-arc-tail+then-arc-head+else-left-eq0, else-arc-tail, else-arc-tail-via-then-arc-tail+else-arc-head, else-arc-tail-via-else-arc-tail}
+use Rattle.dimacs_network.proofs.network.Network.find.Goals as goal
 
 pub loop-i-preserved : goal.loop-i-preserved
 loop-i-preserved g c =
-    let arcs = c.args.self.now.arcs in
+    let arcs = g.Self.Network.list c.args.self.now in
     let i = c.loop-i.i in
     let got = c.arc-arc.ensures in
     elim c.if-arc-tail.branch [
