@@ -1,10 +1,26 @@
-use Rattle.std.proofs.Common.{◌≡◌, ◌∙◌, ap, true, []}
+use Rattle.std.proofs.Common.{◌≡◌, ◌++◌, ◌∷◌, [], ◌∙◌, ℕ, List, ap, subst, sym, true}
+use Rattle.std.proofs.lemmas.List.{map-append}
 use Rattle.std.proofs.lemmas.Result.{err_from_is_err_and}
 use Rattle.dimacs_records.specs.Conditions.{needs_problem}
-use Rattle.dimacs_records.specs.Readings.{records_of}
+use Rattle.dimacs_records.specs.Readings.{LineRecord, on_line, records_of}
+use Rattle.dimacs_records.specs.declared.records.Record.{Record}
 use Rattle.dimacs_records.specs.Spelling.{kind_of}
 use Rattle.dimacs_records.proofs.OrderLemmas.{allowed_told, refused_noted}
 use Rattle.dimacs_records.proofs.counted.CountedReadingReading.take.Goals as goal
+
+-- one more record after those that were taken
+one_more : (rs : List LineRecord) (line : ℕ) (said : Record) → records_of (rs ++ on_line line said ∷ []) ≡ records_of rs ++ said ∷ []
+one_more rs line said = map-append (λ (r : LineRecord). r.says) rs (on_line line said ∷ [])
+
+pub returns-in_ok-keep-in-Some-clause-taken : goal.returns-in_ok-keep-in-Some-clause-taken
+returns-in_ok-keep-in-Some-clause-taken g c = λ rs h before.
+    let kept = c.in_ok-keep-in-Some.ensures.kept (records_of rs) (rw c.in-Some.is at h) in
+    subst (g.B.Begun.begun_by c.keep.new.self) (sym (one_more rs c.args._line c.args.said)) kept
+
+pub returns-in_ok-test_first-in-None-clause-taken : goal.returns-in_ok-test_first-in-None-clause-taken
+returns-in_ok-test_first-in-None-clause-taken g c = λ rs h before.
+    let none : records_of rs ≡ [] = rw c.in-None.is at h in
+    subst (g.B.Begun.begun_by c.begin.result) (sym (one_more rs c.args._line c.args.said ∙ ap (λ xs. xs ++ c.args.said ∷ []) none)) c.begin.ensures
 
 pub returns-in_err-test_first-in-None-clause-refused : goal.returns-in_err-test_first-in-None-clause-refused
 returns-in_err-test_first-in-None-clause-refused g c =
