@@ -133,6 +133,7 @@ impl Begun for BegunCut {
         TextKind::Cut
     }
 
+    #[tactic(auto, using(crate::proofs::CutLemmas::begins))]
     fn begin(alloc: Global, problem: Record) -> BegunCut {
         let Record::CutProblem { nodes, count } = problem else {
             unreachable!()

@@ -139,6 +139,7 @@ impl Begun for BegunDistances {
 
     ghost gives = { λ rs distances. GivesDistances rs distances };
 
+    #[tactic(auto, using(crate::proofs::DistanceLaws::distances_faultless, crate::proofs::DistanceLaws::one_distances))]
     fn kind() -> TextKind {
         TextKind::Distances
     }

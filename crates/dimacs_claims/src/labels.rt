@@ -337,6 +337,7 @@ impl Begun for BegunLabels {
 
     ghost gives = { λ rs labels. GivesLabels rs labels };
 
+    #[tactic(auto, using(crate::proofs::LabelLaws::labels_faultless, crate::proofs::LabelLaws::one_labels))]
     fn kind() -> TextKind {
         TextKind::Labels
     }

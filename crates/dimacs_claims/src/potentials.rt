@@ -187,6 +187,7 @@ impl Begun for BegunPotentials {
         Earlier::of(Some(Declared { nodes, count }), self.taken)
     }
 
+    #[tactic(auto, using(crate::proofs::PotentialsLemmas::gives_potentials))]
     fn value(self, _alloc: Global) -> Result<Potentials, Memory> {
         Ok(Potentials {
             nodes: self.nodes,

@@ -140,6 +140,7 @@ impl<N: OfWeightArcs> Begun for BegunGraph<N> {
 
     ghost gives = { λ rs g. GivesGraph rs g };
 
+    #[tactic(auto, using(crate::proofs::GraphLemmas::graph_faultless, crate::proofs::GraphLemmas::one_graph))]
     fn kind() -> TextKind {
         TextKind::Graph
     }
@@ -155,6 +156,7 @@ impl<N: OfWeightArcs> Begun for BegunGraph<N> {
         }
     }
 
+    #[tactic(auto, using(crate::proofs::GraphLemmas::tells))]
     #[inline(always)]
     fn before(&self, _said: Record) -> Earlier {
         self.before_end()
@@ -168,6 +170,7 @@ impl<N: OfWeightArcs> Begun for BegunGraph<N> {
         self.arcs.push(WeightArc { tail, head, weight })
     }
 
+    #[tactic(auto, using(crate::proofs::GraphLemmas::lines_noted))]
     #[inline(always)]
     fn before_end(&self) -> Earlier {
         let nodes = Some(self.arcs.nodes());

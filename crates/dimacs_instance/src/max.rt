@@ -229,6 +229,7 @@ impl<N: OfCapacityArcs> Begun for BegunMax<N> {
 
     ghost gives = { λ rs m. GivesMax rs m };
 
+    #[tactic(auto, using(crate::proofs::MaxTextLemmas::max_faultless, crate::proofs::MaxTextLemmas::one_max))]
     fn kind() -> TextKind {
         TextKind::Max
     }
@@ -245,6 +246,7 @@ impl<N: OfCapacityArcs> Begun for BegunMax<N> {
         }
     }
 
+    #[tactic(auto, using(crate::proofs::MaxLemmas::tells))]
     #[inline(always)]
     fn before(&self, said: Record) -> Earlier {
         self.counted().before(said)
@@ -265,6 +267,7 @@ impl<N: OfCapacityArcs> Begun for BegunMax<N> {
         }
     }
 
+    #[tactic(auto, using(crate::proofs::MaxLemmas::end_tells))]
     #[inline(always)]
     fn before_end(&self) -> Earlier {
         self.counted().before_end()

@@ -243,6 +243,7 @@ impl<N: OfCostArcs> Begun for BegunMin<N> {
         Earlier::of(Some(Declared { nodes, count }), self.arcs.arcs())
     }
 
+    #[tactic(auto, using(crate::proofs::MinLemmas::gives_min, crate::proofs::MinLemmas::min_law))]
     fn value(self, alloc: Global) -> Result<MinInstance<N>, Memory> {
         Ok(MinInstance {
             supplies: self.supplies,

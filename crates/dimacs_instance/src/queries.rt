@@ -140,6 +140,7 @@ impl Begun for BegunQueries {
 
     ghost gives = { λ rs queries. GivesQueries rs queries };
 
+    #[tactic(auto, using(crate::proofs::QueriesLemmas::queries_faultless, crate::proofs::QueriesLemmas::one_queries))]
     fn kind() -> TextKind {
         TextKind::Queries
     }
@@ -158,6 +159,7 @@ impl Begun for BegunQueries {
         }
     }
 
+    #[tactic(auto, using(crate::proofs::QueriesLemmas::tells))]
     #[inline(always)]
     fn before(&self, said: Record) -> Earlier {
         Earlier {
@@ -186,6 +188,7 @@ impl Begun for BegunQueries {
         Ok(())
     }
 
+    #[tactic(auto, using(crate::proofs::QueriesLemmas::lines_noted))]
     #[inline(always)]
     fn before_end(&self) -> Earlier {
         let count = self.declared;

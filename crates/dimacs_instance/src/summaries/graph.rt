@@ -75,10 +75,12 @@ impl Begun for CountedGraph {
 
     ghost gives = { λ rs summary. GivesSummary GivesGraph SumsUpGraph rs summary };
 
+    #[tactic(auto, using(crate::proofs::GraphLemmas::graph_faultless, crate::proofs::GraphLemmas::one_graph))]
     fn kind() -> TextKind {
         TextKind::Graph
     }
 
+    #[tactic(auto, using(crate::proofs::SummaryLemmas::counted_none))]
     fn begin(_alloc: Global, problem: Record) -> CountedGraph {
         let Record::GraphProblem { nodes, arcs } = problem else {
             unreachable!()
@@ -116,6 +118,7 @@ impl Begun for CountedGraph {
         Earlier::of(Some(Declared { nodes, count }), self.arcs)
     }
 
+    #[tactic(auto, using(crate::proofs::SummaryLemmas::gives_graph_summary))]
     fn value(self, _alloc: Global) -> Result<GraphSummary, Memory> {
         Ok(GraphSummary {
             nodes: self.nodes,

@@ -105,10 +105,12 @@ impl Begun for CountedMax {
 
     ghost gives = { λ rs summary. GivesSummary GivesMax SumsUpMax rs summary };
 
+    #[tactic(auto, using(crate::proofs::MaxTextLemmas::max_faultless, crate::proofs::MaxTextLemmas::one_max))]
     fn kind() -> TextKind {
         TextKind::Max
     }
 
+    #[tactic(auto, using(crate::proofs::MaxCountLemmas::counted_none))]
     fn begin(_alloc: Global, problem: Record) -> CountedMax {
         let Record::MaxProblem { nodes, arcs } = problem else {
             unreachable!()
