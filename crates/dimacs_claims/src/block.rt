@@ -39,6 +39,7 @@ impl Model for Block {
 
 impl Block {
     /// The block of a source, without labels and radius. Allocates nothing.
+    #[tactic(auto, using(crate::proofs::BlockLemmas::block_empty))]
     pub fn new(alloc: Global, source: u32) -> Block
         ensures made { result ≡ record { source = source; radius = None; labels = [] } }
         ensures lawful { (nodes : ℕ) → IsNode nodes source → IsBlock nodes result }

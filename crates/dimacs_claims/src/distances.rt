@@ -179,6 +179,7 @@ impl Begun for BegunDistances {
         }
     }
 
+    #[tactic(auto, using(crate::proofs::DistanceStates::end_tells_bare))]
     #[inline(always)]
     fn before_end(&self) -> Earlier {
         self.labels.before_end()

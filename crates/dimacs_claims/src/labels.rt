@@ -183,6 +183,7 @@ impl BegunLabels {
     }
 
     /// The labels, after the end of the text has passed its tests.
+    #[tactic(auto, using(crate::proofs::BegunLemmas::gives_labels))]
     pub(crate) fn labels(self, alloc: Global) -> Labels
         requires { PassesEnd kinds.Labels (before_end self) }
         ensures labels { result ≡ record { nodes = self.nodes; blocks = self.blocks } }
