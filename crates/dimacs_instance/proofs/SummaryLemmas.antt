@@ -14,7 +14,7 @@ use Rattle.dimacs_records.specs.declared.records.Record.TheVariants.{GraphArc, G
 use Rattle.dimacs_records.specs.Ranges.{IsWhole}
 use Rattle.dimacs_records.specs.Readings.{LineRecord, records_of}
 use Rattle.dimacs_records.specs.Tests.{Passes, PassesEnd, after_records}
-use Rattle.dimacs_records.specs.Texts.{AreFaultless, Reads, SpellsValue}
+use Rattle.dimacs_records.specs.Texts.{Reads, SpellsValue}
 use Rattle.dimacs_records.proofs.ReadLaws.{spells_one_value}
 use Rattle.dimacs_records.specs.declared.kinds.TextKind.{TextKind}
 use Rattle.dimacs_network.specs.declared.network.ArcView.{ArcView}
@@ -80,24 +80,16 @@ gives_graph_summary c p rs counted =
     )
 
 -- ---- any kind
-module _ {T V : Type 0} (kind : TextKind) (gives : List LineRecord → V → Type 0) (summary_of : V → T) where
-  abbrev sum_given : List LineRecord → T → Type 0
-  sum_given rs s = GivesSummary gives (λ (s : T) (v : V). s ≡ summary_of v) rs s
+module _ {T V : Type 0} (kind : TextKind) (gives : List LineRecord → V → Type 0) (summary_of : V → T) (one : (rs : List LineRecord) (v w : V) → gives rs v → gives rs w → v ≡ w) (all : List (List ℕ)) (fault : ℕ → ℕ → Reason → Type 0) where
+  abbrev sums : T → V → Type 0
+  sums s v = s ≡ summary_of v
 
-  pub summary_faultless : ((rs : List LineRecord) (v : V) → gives rs v → AreFaultless kind (records_of rs)) → (rs : List LineRecord) (s : T) → sum_given rs s → AreFaultless kind (records_of rs)
-  summary_faultless faultless rs s given = faultless rs given.0 given.1
-
-  module _ (one : (rs : List LineRecord) (v w : V) → gives rs v → gives rs w → v ≡ w) where
-    pub one_summary : (rs : List LineRecord) (s other : T) → sum_given rs s → sum_given rs other → s ≡ other
-    one_summary rs s other given also = given.2 ∙ ap summary_of (one rs given.0 also.0 given.1 also.1) ∙ sym also.2
-
-    pub reads_summary : (all : List (List ℕ)) (fault : ℕ → ℕ → Reason → Type 0) (result : Result T ReadError) → Reads (SpellsValue kind sum_given all) fault result
-        → ReadsSummary (λ (s : T) (v : V). s ≡ summary_of v) (SpellsValue kind gives all) fault result
-    reads_summary all fault (Ok s) reads =
-        let given = reads.0.given in
-        let spelled : SpellsValue kind gives all given.0 = record { said = reads.0.said; spelled = reads.0.spelled; given = given.1 } in
-        (given.0, given.2, (spelled, (λ other other_spelled. spells_one_value kind gives all other given.0 one other_spelled spelled), reads.2))
-    reads_summary all fault (Err (read_errors.Refused place reason)) reads =
-        (reads.0, reads.1, λ v spelled. reads.2 (summary_of v) (record { said = spelled.said; spelled = spelled.spelled; given = (v, spelled.given, refl) }))
-    reads_summary all fault (Err read_errors.Device) reads = tt
-    reads_summary all fault (Err read_errors.Memory) reads = tt
+  pub reads_summary : (result : Result T ReadError) → Reads (SpellsValue kind (λ rs s. GivesSummary gives sums rs s) all) fault result → ReadsSummary sums (SpellsValue kind gives all) fault result
+  reads_summary (Ok s) reads =
+      let given = reads.0.given in
+      let spelled : SpellsValue kind gives all given.0 = record { said = reads.0.said; spelled = reads.0.spelled; given = given.1 } in
+      (given.0, given.2, (spelled, (λ other other_spelled. spells_one_value kind gives all other given.0 one other_spelled spelled), reads.2))
+  reads_summary (Err (read_errors.Refused place reason)) reads =
+      (reads.0, reads.1, λ v spelled. reads.2 (summary_of v) (record { said = spelled.said; spelled = spelled.spelled; given = (v, spelled.given, refl) }))
+  reads_summary (Err read_errors.Device) reads = tt
+  reads_summary (Err read_errors.Memory) reads = tt

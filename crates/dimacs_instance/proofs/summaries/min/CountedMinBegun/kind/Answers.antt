@@ -1,12 +1,10 @@
-use Rattle.dimacs_records.specs.declared.kinds.TextKind.TheVariants.{Min}
-use Rattle.dimacs_instance.specs.MinTexts.{GivesMin}
+use Rattle.std.proofs.Common.{ap, sym, ◌∙◌}
 use Rattle.dimacs_instance.specs.Summaries.{min_summary}
 use Rattle.dimacs_instance.proofs.MinTextLemmas.{min_faultless, one_min}
-use Rattle.dimacs_instance.proofs.SummaryLemmas.{one_summary, summary_faultless}
 use Rattle.dimacs_instance.proofs.summaries.min.CountedMinBegun.kind.Goals as goal
 
 pub returns-clause-faultless : goal.returns-clause-faultless
-returns-clause-faultless c = summary_faultless Min GivesMin min_summary min_faultless
+returns-clause-faultless c = λ rs s given. min_faultless rs given.0 given.1
 
 pub returns-clause-one : goal.returns-clause-one
-returns-clause-one c = one_summary Min GivesMin min_summary one_min
+returns-clause-one c = λ rs s other given also. given.2 ∙ ap min_summary (one_min rs given.0 also.0 given.1 also.1) ∙ sym also.2
