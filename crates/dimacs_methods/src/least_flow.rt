@@ -32,9 +32,21 @@ pub fn make_least_flow<N: Network>(
     if let Some(flow) = by_paths(alloc, &problem)? {
         return Ok(flow);
     }
-    match quickly(alloc, &problem)? {
-        Some(flow) => Ok(flow),
-        None => surely(alloc, &problem),
+    let by_simplex = if problem.is_narrow() {
+        by_simplex::<N, i64>(alloc, &problem)?
+    } else {
+        by_simplex::<N, i128>(alloc, &problem)?
+    };
+    if let Some(flow) = by_simplex {
+        return Ok(flow);
+    }
+    let price_bits = problem
+        .cost_bits()
+        .wrapping_add(problem.node_bits().wrapping_mul(2));
+    if price_bits <= PRICE_BITS && problem.greatest_excess() < MOST_MOVED {
+        by_scaling::<N, i64>(alloc, &problem)
+    } else {
+        by_scaling::<N, i128>(alloc, &problem)
     }
 }
 
@@ -67,29 +79,6 @@ const PRICE_BITS: u32 = 60;
 const WORK_FOR_EACH: u64 = 500;
 
 const WORK_FOR_ALL: u64 = 1073741824;
-
-/// The simplex; none if it takes too much work.
-fn quickly<N: Network>(
-    alloc: Global,
-    problem: &Problem<'_, N>,
-) -> Result<Option<LeastFlow>, Memory> {
-    if problem.is_narrow() {
-        by_simplex::<N, i64>(alloc, problem)
-    } else {
-        by_simplex::<N, i128>(alloc, problem)
-    }
-}
-
-/// Cost scaling.
-fn surely<N: Network>(alloc: Global, problem: &Problem<'_, N>) -> Result<LeastFlow, Memory> {
-    let bits = problem.bits();
-    let price_bits = bits.nodes.wrapping_mul(2).wrapping_add(bits.cost);
-    if price_bits <= PRICE_BITS && problem.greatest_excess() < MOST_MOVED {
-        by_scaling::<N, i64>(alloc, problem)
-    } else {
-        by_scaling::<N, i128>(alloc, problem)
-    }
-}
 
 /// Runs the simplex with numbers of this width; none if it takes too much work.
 fn by_simplex<N: Network, V: Number>(
@@ -131,32 +120,19 @@ fn of_residual<N: Network, V: Number>(
     least_flow(alloc, problem, &values, amounts)
 }
 
-/// These amounts, with potentials by node number.
+/// These amounts, with potentials by node number, which get the judge's sign. Potentials out of range become 0.
 fn least_flow<N: Network>(
     alloc: Global,
     problem: &Problem<'_, N>,
     values: &[i128],
     amounts: Vec<i64>,
 ) -> Result<LeastFlow, Memory> {
-    let potentials = by_id(alloc, problem, values)?;
+    let mut potentials = Potentials::new(alloc, problem.instance.network().nodes());
+    for (id, value) in problem.numbers.ids().iter().zip(values) {
+        set_potential(&mut potentials, *id, value.wrapping_neg())?;
+    }
     Ok(LeastFlow {
         amounts,
         potentials,
     })
-}
-
-/// The potentials by ID, with the judge's sign. Potentials out of range become 0.
-fn by_id<N: Network>(
-    alloc: Global,
-    problem: &Problem<'_, N>,
-    values: &[i128],
-) -> Result<Potentials, Memory> {
-    let mut potentials = Potentials::new(alloc, problem.instance.network().nodes());
-    let mut number: usize = 0;
-    for id in problem.numbers.ids() {
-        let value = values.get(number).copied().unwrap_or(0);
-        set_potential(&mut potentials, *id, value.wrapping_neg())?;
-        number = number.wrapping_add(1);
-    }
-    Ok(potentials)
 }

@@ -100,11 +100,8 @@ impl Levels {
         Some(node)
     }
 
-    /// Removes all nodes above a level.
+    /// Forgets the levels above this one, which have no nodes left.
     pub(crate) fn forget_above(&mut self, level: u32) {
-        for above in level..self.highest {
-            set_member(&mut self.first, above.wrapping_add(1), NONE);
-        }
         self.highest = self.highest.min(level);
     }
 }

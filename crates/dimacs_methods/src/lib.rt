@@ -15,6 +15,7 @@ mod problem;
 mod residual;
 mod scaling;
 mod simplex;
+mod starts;
 mod tables;
 
 pub use least_flow::{LeastFlow, make_least_flow};

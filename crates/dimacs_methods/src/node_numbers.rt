@@ -1,5 +1,6 @@
 //! Numbers for the nodes that occur.
 
+use crate::tables::{count_of, member};
 use dimacs_instance::MinInstance;
 use dimacs_lines::Memory;
 use dimacs_network::Network;
@@ -10,13 +11,15 @@ use std::alloc::Global;
 /// declared number of nodes.
 #[derive(Drop)]
 pub(crate) struct NodeNumbers {
-    numbers: NodeMap<u32>,
+    /// The numbers by ID, in the order in which the nodes occur. None if each ID is its own number, and 0 that of no
+    /// node: that is quicker, and there are at most so many IDs as arcs have ends, and a few.
+    numbers: Option<NodeMap<u32>>,
     /// The ID of each number.
     ids: Vec<u32>,
 }
 
 impl NodeNumbers {
-    /// Numbers the nodes in the order in which they occur.
+    /// Numbers the nodes with an arc or a supply.
     pub(crate) fn new<N: Network>(
         alloc: Global,
         instance: &MinInstance<N>,
@@ -30,10 +33,17 @@ impl NodeNumbers {
         Ok(numbers)
     }
 
-    /// Numbers only the nodes with an arc, in the order in which they occur.
+    /// Numbers the nodes with an arc.
     pub(crate) fn of_ends<N: Network>(alloc: Global, network: &N) -> Result<NodeNumbers, Memory> {
+        let nodes = network.nodes();
+        if u64::from(nodes) <= u64::from(network.arcs()) * 2 + 1024 {
+            return Ok(NodeNumbers {
+                numbers: None,
+                ids: (0..=nodes).collect(alloc)?,
+            });
+        }
         let mut numbers = NodeNumbers {
-            numbers: NodeMap::new(alloc),
+            numbers: Some(NodeMap::new(alloc)),
             ids: Vec::new(alloc),
         };
         for i in 0..network.arcs() {
@@ -46,18 +56,33 @@ impl NodeNumbers {
 
     /// Numbers a node, if it has no number yet.
     fn add(&mut self, id: u32) -> Result<(), Memory> {
-        if self.numbers.get(id).is_some() {
-            return Ok(());
+        let number = self.count();
+        if let Some(numbers) = &mut self.numbers
+            && numbers.get(id).is_none()
+        {
+            self.ids.push(id)?;
+            numbers.set(id, number)?;
         }
-        let number = u32::try_from(self.ids.len()).unwrap_or(u32::MAX);
-        self.ids.push(id)?;
-        self.numbers.set(id, number)
+        Ok(())
     }
 
-    /// The number of a node; 0 if it doesn't occur.
-    #[inline]
+    /// How many nodes have a number.
+    pub(crate) fn count(&self) -> u32 {
+        count_of(&self.ids)
+    }
+
+    /// The number of a node that occurs.
+    #[inline(always)]
     pub(crate) fn of(&self, id: u32) -> u32 {
-        self.numbers.get(id).unwrap_or(0)
+        match &self.numbers {
+            Some(numbers) => numbers.get(id).unwrap_or(0),
+            None => id,
+        }
+    }
+
+    /// The ID of the node with this number; 0 if there is none.
+    pub(crate) fn id(&self, number: u32) -> u32 {
+        member(&self.ids, number, 0)
     }
 
     /// The IDs by node number.

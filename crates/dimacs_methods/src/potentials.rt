@@ -8,9 +8,9 @@
 //!    form a group: within it each node has a shift, and the group has a distance.
 //! 2. What remains are links, residual arcs between groups. Rounds over all links, forth and back, lower the distances.
 //! 3. If that would take many rounds, a group with only one link in, or out, is joined to the other end of the link.
-//! 4. Groups that were lowered wait in a queue, and the links out of each are relaxed in turn. The tree of the links
-//!    that lowered last is kept: if a group is lowered, its subtree is lowered with it, or leaves the tree until it is
-//!    reached again. A link that would lower a group from within its own subtree closes a cycle.
+//! 4. All groups wait in a queue, later those that were lowered, and the links out of each are relaxed in turn. The
+//!    tree of the links that lowered last is kept: if a group is lowered, its subtree is lowered with it, or leaves the
+//!    tree until it is reached again. A link that would lower a group from within its own subtree closes a cycle.
 //!
 //! Nothing about the result is proved: callers test the potentials, or the cycle.
 
@@ -20,7 +20,6 @@ mod groups;
 mod join;
 mod links;
 mod listing;
-mod numbering;
 mod rounds;
 mod search;
 mod step;
@@ -84,14 +83,14 @@ fn tie_and_link<N: Network, V: Number>(
     alloc: Global,
     claim: &Claim<'_, N>,
 ) -> Result<Guess, Memory> {
-    let mut groups: Groups<V> = Groups::apart(alloc, claim.numbering.count())?;
+    let mut groups: Groups<V> = Groups::apart(alloc, claim.numbers.count())?;
     let tied = groups.tie_all(claim);
     let places = groups.places(alloc)?;
     if !tied {
-        return torn(alloc, claim, &places);
+        return cycle_within(alloc, claim, &places);
     }
     let Some(links) = all_links(alloc, claim, &places)? else {
-        return torn(alloc, claim, &places);
+        return cycle_within(alloc, claim, &places);
     };
     let mut distances = vec![in alloc; V::of(0); places.groups as usize]?;
     if settled_by_rounds(&links, &mut distances) {
@@ -116,7 +115,7 @@ fn join_and_settle<N: Network, V: Number>(
     places.join(&joints);
     match joined_links(links, &joints) {
         Some(links) => settle(alloc, claim, &places, links),
-        None => torn(alloc, claim, &places),
+        None => cycle_within(alloc, claim, &places),
     }
 }
 
@@ -127,41 +126,23 @@ fn settle<N: Network, V: Number>(
     places: &Places<V>,
     links: Vec<Link<V>>,
 ) -> Result<Guess, Memory> {
-    let groups = places.groups;
-    let links = Listing::new(alloc, &links, groups)?;
-    let mut tree = Tree::new(alloc, groups)?;
-    let budget = (u64::from(claim.arc_count()) + u64::from(claim.numbering.count())) * BUDGET;
-    let end = lower_all(alloc, &links, &mut tree, budget)?;
-    guess_after(alloc, claim, places, &end, &tree.distances)
-}
-
-/// The answer, by the end of stage 4.
-fn guess_after<N: Network, V: Number>(
-    alloc: Global,
-    claim: &Claim<'_, N>,
-    places: &Places<V>,
-    end: &End,
-    distances: &[V],
-) -> Result<Guess, Memory> {
-    if let End::Cycle(way) = end {
-        let cycle = cycle_over(alloc, claim, places, way)?;
-        return Ok(Guess::Cycle(cycle));
-    }
-    let potentials = potentials(alloc, claim, places, distances)?;
+    let listing = Listing::new(alloc, &links, places.groups)?;
+    drop(links);
+    let mut tree = Tree::new(alloc, places.groups)?;
+    let size = u64::from(claim.network().arcs()) + u64::from(claim.numbers.count());
+    let end = lower_all(alloc, &listing, &mut tree, size * BUDGET)?;
+    drop(listing);
     match end {
-        End::Settled => Ok(Guess::Least(potentials)),
-        End::TooLong | End::Cycle(_) => Ok(Guess::GaveUp(potentials)),
+        End::Settled => {
+            let potentials = potentials(alloc, claim, places, &tree.distances)?;
+            Ok(Guess::Least(potentials))
+        }
+        End::Cycle(groups) => cycle_over(alloc, claim, places, &groups),
+        End::TooLong => {
+            let potentials = potentials(alloc, claim, places, &tree.distances)?;
+            Ok(Guess::GaveUp(potentials))
+        }
     }
-}
-
-/// The cycle, if a residual arc within a group costs too little.
-fn torn<N: Network, V: Number>(
-    alloc: Global,
-    claim: &Claim<'_, N>,
-    places: &Places<V>,
-) -> Result<Guess, Memory> {
-    let cycle = cycle_within(alloc, claim, places)?;
-    Ok(Guess::Cycle(cycle))
 }
 
 /// The potentials of the nodes: their distances, negated.
@@ -172,11 +153,11 @@ fn potentials<N: Network, V: Number>(
     distances: &[V],
 ) -> Result<Potentials, Memory> {
     let mut potentials = Potentials::new(alloc, claim.instance.network().nodes());
-    for number in 0..claim.numbering.count() {
+    for number in 0..claim.numbers.count() {
         let place = places.of(number);
         let distance = member(distances, place.group, V::of(0)).plus(place.shift);
         let value = distance.negated().wide();
-        set_potential(&mut potentials, claim.numbering.id(number), value)?;
+        set_potential(&mut potentials, claim.numbers.id(number), value)?;
     }
     Ok(potentials)
 }

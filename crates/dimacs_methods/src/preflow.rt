@@ -39,7 +39,7 @@ struct Preflow {
 }
 
 /// Finds a maximum flow from a feasible one. `amounts` has the amounts in the order of the arcs. Takes some 60 bytes
-/// for each node that has an arc, and 40 for each arc.
+/// for each node, of at most two for each arc, and 44 for each arc.
 pub fn raise_value<N: Network>(
     alloc: Global,
     instance: &MaxInstance<N>,
@@ -47,15 +47,11 @@ pub fn raise_value<N: Network>(
 ) -> Result<Vec<i64>, Memory> {
     let network = instance.network();
     let mut preflow = Preflow::new(alloc, network, amounts)?;
-    let source = preflow.residual.number(instance.source());
-    let sink = preflow.residual.number(instance.sink());
+    let source = preflow.residual.numbers.of(instance.source());
+    let sink = preflow.residual.numbers.of(instance.sink());
     preflow.flood(source);
-    preflow.set_imbalance(source, 0);
-    preflow.set_imbalance(sink, ENDLESS_DEFICIT);
-    preflow.drain();
-    preflow.set_imbalance(source, ENDLESS_DEFICIT);
-    preflow.set_imbalance(sink, 0);
-    preflow.drain();
+    preflow.drain_to(sink, source);
+    preflow.drain_to(source, sink);
     preflow.residual.amounts(alloc, network)
 }
 
@@ -77,25 +73,24 @@ impl Preflow {
     /// The residual network of these amounts, with excess 0 everywhere.
     fn new<N: Network>(alloc: Global, network: &N, amounts: &[i64]) -> Result<Preflow, Memory> {
         let residual = Residual::new(alloc, network, amounts)?;
-        let nodes = residual.nodes();
-        let size = nodes as usize + 1;
+        let count = residual.numbers.count();
+        let nodes = count as usize;
         Ok(Preflow {
             residual,
-            imbalance: vec![in alloc; 0i128; size]?,
-            height: vec![in alloc; 0u32; size]?,
-            cursor: vec![in alloc; 0u32; size]?,
-            levels: Levels::new(alloc, size, size)?,
+            imbalance: vec![in alloc; 0i128; nodes]?,
+            height: vec![in alloc; 0u32; nodes]?,
+            cursor: vec![in alloc; 0u32; nodes]?,
+            levels: Levels::new(alloc, nodes + 1, nodes)?,
             waiting: Waiting::new(alloc, nodes)?,
             work: 0,
-            enough: 24 * u64::from(nodes) + u64::from(network.arcs()),
+            enough: 24 * u64::from(count) + u64::from(network.arcs()),
         })
     }
 
-    /// Adds the supplies to the excesses.
+    /// Sets the excesses to the supplies.
     fn supply<N: Network>(&mut self, instance: &MinInstance<N>) {
-        for node in 1..=self.residual.nodes() {
-            let id = self.residual.id(node);
-            self.add_imbalance(node, i128::from(instance.supply(id)));
+        for (imbalance, id) in self.imbalance.iter_mut().zip(self.residual.numbers.ids()) {
+            *imbalance = i128::from(instance.supply(*id));
         }
     }
 
@@ -104,8 +99,8 @@ impl Preflow {
         for i in 0..network.arcs() {
             let arc = network.arc(i);
             let amount = i128::from(member(amounts, i, 0));
-            let tail = self.residual.number(arc.tail);
-            let head = self.residual.number(arc.head);
+            let tail = self.residual.numbers.of(arc.tail);
+            let head = self.residual.numbers.of(arc.head);
             self.add_imbalance(tail, amount.wrapping_neg());
             self.add_imbalance(head, amount);
         }
@@ -113,12 +108,19 @@ impl Preflow {
 
     /// Saturates all residual arcs out of a node.
     fn flood(&mut self, node: u32) {
-        for place in self.residual.first(node)..self.residual.end(node) {
+        for place in self.residual.starts.first(node)..self.residual.starts.end(node) {
             let half = self.residual.half(place);
             if half.residual_capacity > 0 {
                 self.move_along(node, place, half, half.residual_capacity);
             }
         }
+    }
+
+    /// Pushes excess to one terminal, until the rest can't reach it. The other one has neither excess nor a deficit.
+    fn drain_to(&mut self, terminal: u32, other: u32) {
+        set_member(&mut self.imbalance, other, 0);
+        set_member(&mut self.imbalance, terminal, ENDLESS_DEFICIT);
+        self.drain();
     }
 
     /// Pushes excess to deficits, until the rest can't reach any.
@@ -141,7 +143,7 @@ impl Preflow {
         self.levels.clear();
         self.waiting.clear();
         self.work = 0;
-        for node in 1..=self.residual.nodes() {
+        for node in 0..self.residual.numbers.count() {
             if self.imbalance(node) < 0 {
                 self.raise_to(node, 1);
             }
@@ -172,7 +174,7 @@ impl Preflow {
 
     /// Gives the next height to nodes without a height from which a residual arc leads to this one.
     fn reach_back(&mut self, node: u32, height: u32) {
-        for place in self.residual.first(node)..self.residual.end(node) {
+        for place in self.residual.starts.first(node)..self.residual.starts.end(node) {
             let half = self.residual.half(place);
             if self.height(half.to) == CUT_OFF
                 && self.residual.half(half.back).residual_capacity > 0
@@ -208,7 +210,7 @@ impl Preflow {
     /// Pushes excess along half-arcs that lead one level down, and from their ends on, as long as there is some.
     fn push_down(&mut self, node: u32) {
         let height = self.height(node);
-        for place in member(&self.cursor, node, 0)..self.residual.end(node) {
+        for place in member(&self.cursor, node, 0)..self.residual.starts.end(node) {
             let half = self.residual.half(place);
             if self.leads_down(half, height) && self.leads_on(half.to) {
                 self.push(node, place, half);
@@ -234,7 +236,7 @@ impl Preflow {
             return true;
         }
         let height = self.height(node);
-        for place in member(&self.cursor, node, 0)..self.residual.end(node) {
+        for place in member(&self.cursor, node, 0)..self.residual.starts.end(node) {
             if self.leads_down(self.residual.half(place), height) {
                 set_member(&mut self.cursor, node, place);
                 return true;
@@ -272,12 +274,12 @@ impl Preflow {
     /// Pushes as much as excess and residual capacity allow.
     #[inline(always)]
     fn push(&mut self, from: u32, place: u32, half: Half) {
-        let amount = least(half.residual_capacity, self.imbalance(from));
-        self.move_along(from, place, half, amount);
+        let excess = i64::try_from(self.imbalance(from)).unwrap_or(i64::MAX);
+        self.move_along(from, place, half, half.residual_capacity.min(excess));
     }
 
-    #[inline(always)]
     /// Sends an amount along a half-arc.
+    #[inline(always)]
     fn move_along(&mut self, from: u32, place: u32, half: Half, amount: i64) {
         self.residual.send(place, amount);
         self.add_imbalance(from, i128::from(amount).wrapping_neg());
@@ -292,14 +294,13 @@ impl Preflow {
             return false;
         }
         self.levels.remove(node, old);
+        set_member(&mut self.height, node, CUT_OFF);
         if self.levels.first(old) == NONE {
             self.cut_off_above(old);
-            set_member(&mut self.height, node, CUT_OFF);
             return false;
         }
         let lowest = self.lowest_after(node);
         if lowest == CUT_OFF {
-            set_member(&mut self.height, node, CUT_OFF);
             return false;
         }
         self.raise_to(node, lowest.wrapping_add(1));
@@ -308,21 +309,21 @@ impl Preflow {
 
     /// The least height of a node to which a residual arc leads.
     fn lowest_after(&mut self, node: u32) -> u32 {
+        let halves = self.residual.halves_of(node);
         let mut lowest = CUT_OFF;
-        for place in self.residual.first(node)..self.residual.end(node) {
-            let half = self.residual.half(place);
+        for half in halves {
             if half.residual_capacity > 0 {
                 lowest = lowest.min(self.height(half.to));
             }
-            self.work = self.work.wrapping_add(1);
         }
-        self.work = self.work.wrapping_add(12);
+        let work = 12 + u64::try_from(halves.len()).unwrap_or(0);
+        self.work = self.work.wrapping_add(work);
         lowest
     }
 
     /// Gives a node this height.
     fn raise_to(&mut self, node: u32, height: u32) {
-        let first = self.residual.first(node);
+        let first = self.residual.starts.first(node);
         set_member(&mut self.height, node, height);
         set_member(&mut self.cursor, node, first);
         self.levels.insert(node, height);
@@ -331,21 +332,18 @@ impl Preflow {
     /// Gap: no deficit can be reached from the nodes above a height without nodes.
     fn cut_off_above(&mut self, height: u32) {
         for above in height..self.levels.highest() {
-            let first = self.levels.first(above.wrapping_add(1));
-            self.cut_off(first);
+            self.cut_off(above.wrapping_add(1));
         }
         self.levels.forget_above(height);
     }
 
-    /// Cuts off the nodes of one height, from this one on in its list.
-    fn cut_off(&mut self, first: u32) {
-        let mut node = first;
+    /// Cuts off the nodes of a height.
+    fn cut_off(&mut self, height: u32) {
         for _ in 0..u32::MAX {
-            if node == NONE {
+            let Some(node) = self.levels.take(height) else {
                 return;
-            }
+            };
             set_member(&mut self.height, node, CUT_OFF);
-            node = self.levels.after(node);
         }
     }
 
@@ -359,23 +357,10 @@ impl Preflow {
         member(&self.imbalance, node, 0)
     }
 
-    fn set_imbalance(&mut self, node: u32, amount: i128) {
-        set_member(&mut self.imbalance, node, amount);
-    }
-
     #[inline(always)]
     fn add_imbalance(&mut self, node: u32, amount: i128) {
         if let Some(imbalance) = self.imbalance.get_mut(node as usize) {
             *imbalance = imbalance.wrapping_add(amount);
         }
-    }
-}
-
-/// The lesser of residual capacity and excess.
-#[inline(always)]
-fn least(residual_capacity: i64, excess: i128) -> i64 {
-    match i64::try_from(excess) {
-        Ok(amount) => residual_capacity.min(amount),
-        Err(_) => residual_capacity,
     }
 }

@@ -28,20 +28,13 @@ const LONGEST: i128 = 1152921504606846976;
 /// Amounts fit into 64 bits if all that may be moved is less: 2^62.
 pub(crate) const MOST_MOVED: i128 = 4611686018427387904;
 
-/// The number of bits of these numbers.
-#[derive(Clone, Copy)]
-pub(crate) struct Bits {
-    pub nodes: u32,
-    pub cost: u32,
-}
-
 impl<'a, N: Network> Problem<'a, N> {
     pub(crate) fn new(
         alloc: Global,
         instance: &'a MinInstance<N>,
     ) -> Result<Problem<'a, N>, Memory> {
         let numbers = NodeNumbers::new(alloc, instance)?;
-        let mut excess = Vec::with_capacity(alloc, numbers.ids().len())?;
+        let mut excess = Vec::with_capacity(alloc, numbers.count() as usize)?;
         for id in numbers.ids() {
             excess.push(i128::from(instance.supply(*id)))?;
         }
@@ -84,7 +77,7 @@ impl<'a, N: Network> Problem<'a, N> {
 
     /// A bound above the cost of any path.
     pub(crate) fn longest_path(&self) -> i128 {
-        let nodes = i128::try_from(self.excess.len()).unwrap_or(0);
+        let nodes = i128::from(self.numbers.count());
         self.greatest.wrapping_mul(nodes).wrapping_add(1)
     }
 
@@ -114,19 +107,16 @@ impl<'a, N: Network> Problem<'a, N> {
 
     /// The number of arcs and nodes together.
     pub(crate) fn size(&self) -> u64 {
-        let nodes = u64::try_from(self.excess.len()).unwrap_or(0);
-        u64::from(self.network().arcs()).wrapping_add(nodes)
+        u64::from(self.network().arcs()) + u64::from(self.numbers.count())
     }
 
-    pub(crate) fn bits(&self) -> Bits {
-        let nodes = i128::try_from(self.excess.len()).unwrap_or(0);
-        Bits {
-            nodes: bits_of(nodes),
-            cost: bits_of(self.greatest),
-        }
+    /// The number of bits of the number of nodes.
+    pub(crate) fn node_bits(&self) -> u32 {
+        u32::BITS - self.numbers.count().leading_zeros()
     }
-}
 
-fn bits_of(number: i128) -> u32 {
-    i128::BITS.wrapping_sub(number.leading_zeros())
+    /// The number of bits of the greatest cost.
+    pub(crate) fn cost_bits(&self) -> u32 {
+        i128::BITS - self.greatest.leading_zeros()
+    }
 }

@@ -17,7 +17,7 @@ mod update;
 use crate::levels::Levels;
 use crate::number::Number;
 use crate::problem::Problem;
-use crate::residual::{Node, Residual};
+use crate::residual::Residual;
 use crate::tables::count_of;
 use dimacs_lines::Memory;
 use dimacs_network::Network;
@@ -61,8 +61,8 @@ impl<V: Number> Scaling<V> {
         problem: &Problem<'_, N>,
     ) -> Result<Scaling<V>, Memory> {
         let nodes = problem.excess.len();
-        let bits = problem.bits();
-        let residual = Residual::new(alloc, problem, bits.nodes)?;
+        let node_bits = problem.node_bits();
+        let residual = Residual::new(alloc, problem, node_bits)?;
         let path = Vec::with_capacity(alloc, LONGEST)?;
         let ranks = Levels::new(alloc, nodes.saturating_mul(RANKS), nodes)?;
         Ok(Scaling {
@@ -70,7 +70,7 @@ impl<V: Number> Scaling<V> {
             active: VecDeque::new(alloc),
             path,
             ranks,
-            level: bits.cost.saturating_add(bits.nodes),
+            level: problem.cost_bits().saturating_add(node_bits),
             left: 0,
             leaves_out: true,
         })
@@ -95,7 +95,7 @@ impl<V: Number> Scaling<V> {
     /// One phase, which begins with the arcs whose reduced cost is below this. Returns whether an excess is left.
     fn refine(&mut self, bound: V) -> Result<bool, Memory> {
         self.saturate(bound);
-        gather_active(&self.residual.nodes, &mut self.active)?;
+        self.gather_active()?;
         let mut is_short = self.update_or_park()?;
         for _ in 0..u64::MAX {
             let Some(node) = self.active.pop_front() else {
@@ -127,17 +127,26 @@ impl<V: Number> Scaling<V> {
         }
     }
 
+    /// Puts the nodes with excess into the queue.
+    fn gather_active(&mut self) -> Result<(), Memory> {
+        for number in 0..count_of(&self.residual.nodes) {
+            if self.residual.node(number).excess.is_positive() {
+                self.active.push_back(number)?;
+            }
+        }
+        Ok(())
+    }
+
     /// Updates all prices. Returns whether an excess reaches no deficit.
     fn update_or_park(&mut self) -> Result<bool, Memory> {
-        let nodes = u64::try_from(self.residual.nodes.len()).unwrap_or(0);
-        self.left = nodes.max(1);
+        self.left = u64::from(count_of(&self.residual.nodes)).max(1);
         if self.update() {
             return Ok(false);
         }
         if self.residual.take_back() {
             self.leaves_out = false;
             self.saturate(V::of(0));
-            gather_active(&self.residual.nodes, &mut self.active)?;
+            self.gather_active()?;
             if self.update() {
                 return Ok(false);
             }
@@ -168,16 +177,4 @@ impl<V: Number> Scaling<V> {
             node.cursor = place;
         }
     }
-}
-
-/// Puts the nodes with excess into the queue.
-fn gather_active<V: Number>(nodes: &[Node<V>], active: &mut VecDeque<u32>) -> Result<(), Memory> {
-    let mut number: u32 = 0;
-    for node in nodes {
-        if node.excess.is_positive() {
-            active.push_back(number)?;
-        }
-        number = number.wrapping_add(1);
-    }
-    Ok(())
 }

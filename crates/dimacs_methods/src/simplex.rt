@@ -18,12 +18,11 @@ mod tree;
 
 use crate::number::Number;
 use crate::problem::Problem;
-use crate::simplex::arcs::{AT_CAP, AT_LOW, Arcs, IN_TREE, potential};
+use crate::simplex::arcs::{AT_CAP, AT_LOW, Arcs, IN_TREE};
 use crate::simplex::cycle::{Cycle, Leaving};
 use crate::simplex::mixing::Mixing;
-use crate::simplex::numbering::number_of;
-use crate::simplex::tree::{Hook, Node, Tree};
-use crate::tables::set_member;
+use crate::simplex::tree::{Hook, Tree};
+use crate::tables::{member, set_member};
 use dimacs_lines::Memory;
 use dimacs_network::Network;
 use std::alloc::Global;
@@ -193,12 +192,8 @@ impl<V: Number> Simplex<V> {
     /// Removes the arc between a node and its parent from the tree. It carries one of its bounds.
     fn leave(&mut self, out: u32) {
         let node = self.tree.node(out);
-        let flow = if self.arcs.price(node.arc).tail == out {
-            node.down
-        } else {
-            node.up
-        };
-        let state = if flow.is_zero() { AT_LOW } else { AT_CAP };
+        let is_empty = self.arcs.flow(out, &node).is_zero();
+        let state = if is_empty { AT_LOW } else { AT_CAP };
         self.arcs.set_state(node.arc, state);
     }
 
@@ -208,10 +203,19 @@ impl<V: Number> Simplex<V> {
         self.moves = MOVES_PER_NUMBERING.wrapping_mul(nodes.wrapping_add(u64::from(self.count)));
         let numbers = self.tree.renumber(alloc)?;
         for price in &mut self.arcs.prices {
-            price.tail = number_of(&numbers, price.tail);
-            price.head = number_of(&numbers, price.head);
+            price.tail = member(&numbers, price.tail, 0);
+            price.head = member(&numbers, price.head, 0);
         }
         Ok(())
+    }
+
+    /// Copies the flow of the tree arcs into the table of arcs.
+    fn settle(&mut self) {
+        for number in 0..self.tree.root() {
+            let node = self.tree.node(number);
+            let flow = self.arcs.flow(number, &node);
+            self.arcs.set_residual_capacity(node.arc, flow.narrow());
+        }
     }
 
     /// The amounts of the arcs.
@@ -220,7 +224,7 @@ impl<V: Number> Simplex<V> {
         alloc: Global,
         network: &N,
     ) -> Result<Vec<i64>, Memory> {
-        settle(&mut self.arcs, &self.tree.nodes);
+        self.settle();
         let mut mixing = Mixing::new(network.arcs());
         let mut amounts = Vec::with_capacity(alloc, network.arcs() as usize)?;
         for i in 0..network.arcs() {
@@ -233,26 +237,9 @@ impl<V: Number> Simplex<V> {
     /// The potentials by the first numbers of the nodes.
     pub(crate) fn potentials(&self, alloc: Global) -> Result<Vec<i128>, Memory> {
         let mut potentials = vec![in alloc; 0i128; self.tree.names.len()]?;
-        let mut number: u32 = 0;
-        for name in &self.tree.names {
-            let value = potential(&self.tree.potentials, number).wide();
-            set_member(&mut potentials, *name, value);
-            number = number.wrapping_add(1);
+        for (name, potential) in self.tree.names.iter().zip(&self.tree.potentials) {
+            set_member(&mut potentials, *name, potential.wide());
         }
         Ok(potentials)
-    }
-}
-
-/// Copies the flow of the tree arcs into the table of arcs.
-fn settle<V: Number>(arcs: &mut Arcs<V>, nodes: &[Node<V>]) {
-    let mut number: u32 = 0;
-    for node in nodes {
-        let flow = if arcs.price(node.arc).tail == number {
-            node.down
-        } else {
-            node.up
-        };
-        arcs.set_residual_capacity(node.arc, flow.narrow());
-        number = number.wrapping_add(1);
     }
 }

@@ -17,6 +17,15 @@ pub(crate) fn set_member<T: Copy>(table: &mut [T], index: u32, value: T) {
     }
 }
 
+/// The members at these indices; none if some are beyond the end.
+#[inline(always)]
+pub(crate) fn members<T>(table: &[T], start: u32, end: u32) -> &[T] {
+    match table.get(start as usize..end as usize) {
+        Some(members) => members,
+        None => &[],
+    }
+}
+
 /// The number of members.
 pub(crate) fn count_of<T>(table: &[T]) -> u32 {
     u32::try_from(table.len()).unwrap_or(u32::MAX)

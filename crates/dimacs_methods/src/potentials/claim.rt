@@ -1,6 +1,6 @@
 //! A flow that is claimed to cost least, and its residual arcs.
 
-use crate::potentials::numbering::Numbering;
+use crate::node_numbers::NodeNumbers;
 use dimacs_instance::MinInstance;
 use dimacs_lines::Memory;
 use dimacs_network::{ArcView, Network, Side};
@@ -29,7 +29,7 @@ pub(crate) struct Claim<'a, N: Network> {
     /// The amounts, in the order of the arcs.
     amounts: &'a [i64],
     /// The numbers of the nodes that have an arc.
-    pub numbering: Numbering,
+    pub numbers: NodeNumbers,
 }
 
 impl<'a, N: Network> Claim<'a, N> {
@@ -38,29 +38,17 @@ impl<'a, N: Network> Claim<'a, N> {
         instance: &'a MinInstance<N>,
         amounts: &'a [i64],
     ) -> Result<Claim<'a, N>, Memory> {
-        let numbering = Numbering::new(alloc, instance.network())?;
+        let numbers = NodeNumbers::of_ends(alloc, instance.network())?;
         Ok(Claim {
             instance,
             amounts,
-            numbering,
+            numbers,
         })
     }
 
-    /// The number of arcs.
     #[inline(always)]
-    pub(crate) fn arc_count(&self) -> u32 {
-        self.instance.network().arcs()
-    }
-
-    /// The arc with this index.
-    #[inline(always)]
-    pub(crate) fn arc(&self, i: u32) -> Option<ArcView> {
-        let network = self.instance.network();
-        if i < network.arcs() {
-            Some(network.arc(i))
-        } else {
-            None
-        }
+    pub(crate) fn network(&self) -> &'a N {
+        self.instance.network()
     }
 
     /// Whether the arc with this index can carry more, and less.
@@ -80,11 +68,11 @@ impl<'a, N: Network> Claim<'a, N> {
 
     /// The sum of all costs, without their signs.
     pub(crate) fn cost_sum(&self) -> u128 {
+        let network = self.network();
         let mut sum: u128 = 0;
-        for i in 0..self.arc_count() {
-            if let Some(arc) = self.arc(i) {
-                sum = sum.wrapping_add(u128::from(arc.cost.unsigned_abs()));
-            }
+        for i in 0..network.arcs() {
+            let cost = network.arc(i).cost;
+            sum = sum.wrapping_add(u128::from(cost.unsigned_abs()));
         }
         sum
     }

@@ -1,13 +1,14 @@
 //! Cycles of residual arcs with negative cost.
 
 use crate::number::Number;
-use crate::potentials::claim::{Claim, ResidualArc};
+use crate::potentials::Guess;
+use crate::potentials::claim::Claim;
 use crate::potentials::groups::Places;
 use crate::potentials::step::Step;
 use crate::potentials::tight::Tight;
 use crate::tables::{member, set_member};
 use dimacs_lines::Memory;
-use dimacs_network::{Network, Side};
+use dimacs_network::Network;
 use std::alloc::{AllocError, Global};
 
 /// The cheapest step from a group to the next group of a cycle.
@@ -31,20 +32,23 @@ pub(crate) fn cycle_over<N: Network, V: Number>(
     claim: &Claim<'_, N>,
     places: &Places<V>,
     groups: &[u32],
-) -> Result<Vec<ResidualArc>, Memory> {
+) -> Result<Guess, Memory> {
     let none = Cheapest {
         cost: V::greatest(),
         next: u32::MAX,
         step: None,
     };
+    let steps = Step::all(alloc, claim)?;
     let mut cheapest = vec![in alloc; none; places.groups as usize]?;
     set_next(&mut cheapest, groups, none);
-    for i in 0..claim.arc_count() {
-        compare(claim, places, i, Side::Tail, &mut cheapest);
-        compare(claim, places, i, Side::Head, &mut cheapest);
+    keep_cheapest(&mut cheapest, &steps, places);
+    let mut chosen = Vec::with_capacity(alloc, groups.len())?;
+    for group in groups {
+        if let Some(step) = member(&cheapest, *group, none).step {
+            chosen.push(step)?;
+        }
     }
-    let steps = steps_of(alloc, groups, &cheapest, none)?;
-    close(alloc, claim, places, &steps)
+    close(alloc, steps, places, &chosen)
 }
 
 /// A cycle with one step that costs less than the difference of its ends' shifts within a group. Empty if there is
@@ -53,51 +57,21 @@ pub(crate) fn cycle_within<N: Network, V: Number>(
     alloc: Global,
     claim: &Claim<'_, N>,
     places: &Places<V>,
-) -> Result<Vec<ResidualArc>, Memory> {
-    let mut steps = Vec::new(alloc);
-    if let Some(step) = first_too_cheap(claim, places) {
-        steps.push(step)?;
-    }
-    close(alloc, claim, places, &steps)
-}
-
-/// The first step within a group that costs too little.
-fn first_too_cheap<N: Network, V: Number>(
-    claim: &Claim<'_, N>,
-    places: &Places<V>,
-) -> Option<Step<V>> {
-    for i in 0..claim.arc_count() {
-        let forth = too_cheap(claim, places, i, Side::Tail);
-        let either = forth.or(too_cheap(claim, places, i, Side::Head));
-        if either.is_some() {
-            return either;
+) -> Result<Guess, Memory> {
+    let steps = Step::all(alloc, claim)?;
+    let mut chosen = Vec::new(alloc);
+    for step in &steps {
+        if step.link(places).is_torn() {
+            chosen.push(*step)?;
+            break;
         }
     }
-    None
-}
-
-/// The step along an arc from this side, if it is within a group and costs too little.
-fn too_cheap<N: Network, V: Number>(
-    claim: &Claim<'_, N>,
-    places: &Places<V>,
-    i: u32,
-    side: Side,
-) -> Option<Step<V>> {
-    let step = Step::of(claim, i, side)?;
-    let excess = step.excess(places)?;
-    if excess.is_negative() {
-        Some(step)
-    } else {
-        None
-    }
+    close(alloc, steps, places, &chosen)
 }
 
 /// Sets for each group of a cycle which group is next.
 fn set_next<V: Number>(cheapest: &mut [Cheapest<V>], groups: &[u32], none: Cheapest<V>) {
-    let Some(&last) = groups.last() else {
-        return;
-    };
-    let mut before = last;
+    let mut before = groups.last().copied().unwrap_or(0);
     for group in groups {
         let next = Cheapest {
             next: *group,
@@ -108,54 +82,39 @@ fn set_next<V: Number>(cheapest: &mut [Cheapest<V>], groups: &[u32], none: Cheap
     }
 }
 
-/// Keeps the step along an arc from this side, if it leads from a group to the next and is the cheapest so far.
-fn compare<N: Network, V: Number>(
-    claim: &Claim<'_, N>,
-    places: &Places<V>,
-    i: u32,
-    side: Side,
-    cheapest: &mut [Cheapest<V>],
-) {
-    let Some(step) = Step::of(claim, i, side) else {
-        return;
-    };
-    let link = step.link(places);
-    let Some(best) = cheapest.get_mut(link.from as usize) else {
-        return;
-    };
-    if link.to == best.next && link.cost.is_below(best.cost) {
-        best.cost = link.cost;
-        best.step = Some(step);
-    }
-}
-
-/// The steps from each group to the next.
-fn steps_of<V: Number>(
-    alloc: Global,
-    groups: &[u32],
-    cheapest: &[Cheapest<V>],
-    none: Cheapest<V>,
-) -> Result<Vec<Step<V>>, Memory> {
-    let mut steps = Vec::with_capacity(alloc, groups.len())?;
-    for group in groups {
-        if let Some(step) = member(cheapest, *group, none).step {
-            steps.push(step)?;
+/// Keeps the cheapest of the steps from each group to the next.
+fn keep_cheapest<V: Number>(cheapest: &mut [Cheapest<V>], steps: &[Step<V>], places: &Places<V>) {
+    for step in steps {
+        let link = step.link(places);
+        if let Some(best) = cheapest.get_mut(link.from as usize)
+            && link.to == best.next
+            && link.cost.is_below(best.cost)
+        {
+            best.cost = link.cost;
+            best.step = Some(*step);
         }
     }
-    Ok(steps)
 }
 
-/// Joins these steps into a cycle by tight steps within groups.
-fn close<N: Network, V: Number>(
+/// Joins the chosen steps into a cycle by tight steps within groups.
+fn close<V: Number>(
     alloc: Global,
-    claim: &Claim<'_, N>,
+    steps: Vec<Step<V>>,
     places: &Places<V>,
-    steps: &[Step<V>],
-) -> Result<Vec<ResidualArc>, Memory> {
+    chosen: &[Step<V>],
+) -> Result<Guess, Memory> {
     let mut cycle = Vec::new(alloc);
-    if let Some(last) = steps.last() {
-        let mut tight = Tight::new(alloc, claim, places)?;
-        tight.connect_all(last.to, steps, &mut cycle)?;
+    let Some(last) = chosen.last() else {
+        return Ok(Guess::Cycle(cycle));
+    };
+    let mut steps = steps;
+    steps.retain(|step| step.link(places).is_tight());
+    let mut tight = Tight::new(alloc, &steps, places.nodes())?;
+    let mut at = last.to;
+    for step in chosen {
+        tight.connect(at, step.from, &mut cycle)?;
+        cycle.push(step.arc)?;
+        at = step.to;
     }
-    Ok(cycle)
+    Ok(Guess::Cycle(cycle))
 }

@@ -31,10 +31,15 @@ pub(crate) struct Groups<V> {
 }
 
 impl<V: Number> Places<V> {
-    #[inline(always)]
     /// The place of a node.
+    #[inline(always)]
     pub(crate) fn of(&self, node: u32) -> Place<V> {
         place_of(&self.places, node)
+    }
+
+    /// The number of nodes.
+    pub(crate) fn nodes(&self) -> u32 {
+        count_of(&self.places)
     }
 
     /// Replaces groups by the groups of groups that they were joined to.
@@ -114,14 +119,13 @@ impl<V: Number> Groups<V> {
     /// Ties the ends of all arcs that can carry both more and less. Stops with false at an arc that contradicts earlier
     /// ones.
     pub(crate) fn tie_all<N: Network>(&mut self, claim: &Claim<'_, N>) -> bool {
-        for i in 0..claim.arc_count() {
-            let Some(arc) = claim.arc(i) else {
-                continue;
-            };
+        let network = claim.network();
+        for i in 0..network.arcs() {
+            let arc = network.arc(i);
             let residual_capacity = claim.residual_capacity(i, arc);
             if residual_capacity.more && residual_capacity.less {
-                let tail = claim.numbering.of(arc.tail);
-                let head = claim.numbering.of(arc.head);
+                let tail = claim.numbers.of(arc.tail);
+                let head = claim.numbers.of(arc.head);
                 if !self.tie(tail, head, V::of(arc.cost)) {
                     return false;
                 }

@@ -38,33 +38,17 @@ pub(crate) fn joints<V: Number>(
 ) -> Result<Option<Places<V>>, Memory> {
     let mut joining = Joining::new(alloc, links, groups)?;
     joining.count_links();
-    for group in 0..groups {
-        joining.ask(group)?;
+    for _ in 0..u64::MAX {
+        let Some(group) = joining.todo.pop() else {
+            break;
+        };
+        joining.join(group)?;
     }
-    joining.run()?;
     if joining.joined < groups / 8 {
         return Ok(None);
     }
     let places = joining.groups.places(alloc)?;
     Ok(Some(places))
-}
-
-impl Degree {
-    #[inline(always)]
-    fn with(self, link: u32) -> Degree {
-        Degree {
-            count: self.count.wrapping_add(1),
-            mix: self.mix ^ link,
-        }
-    }
-
-    #[inline(always)]
-    fn without(self, link: u32) -> Degree {
-        Degree {
-            count: self.count.wrapping_sub(1),
-            mix: self.mix ^ link,
-        }
-    }
 }
 
 impl<'a, V: Number> Joining<'a, V> {
@@ -77,7 +61,7 @@ impl<'a, V: Number> Joining<'a, V> {
             groups,
             into,
             out,
-            todo: Vec::new(alloc),
+            todo: (0..count).collect(alloc)?,
             joined: 0,
         })
     }
@@ -85,38 +69,16 @@ impl<'a, V: Number> Joining<'a, V> {
     fn count_links(&mut self) {
         let mut number: u32 = 0;
         for link in self.links {
-            let out = degree_of(&self.out, link.from).with(number);
-            set_member(&mut self.out, link.from, out);
-            let into = degree_of(&self.into, link.to).with(number);
-            set_member(&mut self.into, link.to, into);
+            count(&mut self.out, link.from, 1, number);
+            count(&mut self.into, link.to, 1, number);
             number = number.wrapping_add(1);
         }
     }
 
-    /// Puts a group on the list, if it has only one link in, or out.
-    fn ask(&mut self, group: u32) -> Result<(), Memory> {
-        if self.only_link(group).is_some() {
-            self.todo.push(group)?;
-        }
-        Ok(())
-    }
-
-    fn run(&mut self) -> Result<(), Memory> {
-        for _ in 0..u64::MAX {
-            let Some(group) = self.todo.pop() else {
-                break;
-            };
-            if self.groups.is_root(group) {
-                self.join(group)?;
-            }
-        }
-        Ok(())
-    }
-
     /// The index of the only link into a group, or otherwise of the only one out of it.
     fn only_link(&self, group: u32) -> Option<u32> {
-        let into = degree_of(&self.into, group);
-        let out = degree_of(&self.out, group);
+        let into = member(&self.into, group, NO_DEGREE);
+        let out = member(&self.out, group, NO_DEGREE);
         if into.count == 1 {
             Some(into.mix)
         } else if out.count == 1 {
@@ -126,7 +88,7 @@ impl<'a, V: Number> Joining<'a, V> {
         }
     }
 
-    /// Joins a group to the other end of its only link.
+    /// Joins a group to the other end of its only link, if it has such a link and wasn't joined to another group.
     fn join(&mut self, group: u32) -> Result<(), Memory> {
         let Some(number) = self.only_link(group) else {
             return Ok(());
@@ -149,13 +111,14 @@ impl<'a, V: Number> Joining<'a, V> {
             self.leave_out(root, back);
         }
         self.joined = self.joined.wrapping_add(1);
-        self.ask(root)
+        self.todo.push(root)?;
+        Ok(())
     }
 
     /// The other link of a group with exactly one link in and one out; otherwise this one.
     fn other_link(&self, group: u32, number: u32) -> u32 {
-        let into = degree_of(&self.into, group);
-        let out = degree_of(&self.out, group);
+        let into = member(&self.into, group, NO_DEGREE);
+        let out = member(&self.out, group, NO_DEGREE);
         if into.count == 1 && out.count == 1 {
             into.mix ^ out.mix ^ number
         } else {
@@ -173,25 +136,27 @@ impl<'a, V: Number> Joining<'a, V> {
 
     /// Stops counting a link from a group to itself.
     fn leave_out(&mut self, group: u32, number: u32) {
-        let into = degree_of(&self.into, group).without(number);
-        set_member(&mut self.into, group, into);
-        let out = degree_of(&self.out, group).without(number);
-        set_member(&mut self.out, group, out);
+        count(&mut self.into, group, -1, number);
+        count(&mut self.out, group, -1, number);
+    }
+}
+
+/// Counts a link, or stops counting one if `change` is -1.
+#[inline(always)]
+fn count(degrees: &mut [Degree], group: u32, change: i32, link: u32) {
+    if let Some(degree) = degrees.get_mut(group as usize) {
+        degree.count = degree.count.wrapping_add_signed(change);
+        degree.mix ^= link;
     }
 }
 
 /// Adds the degrees of two groups that are joined.
 fn merge(degrees: &mut [Degree], one: u32, other: u32, root: u32) {
-    let a = degree_of(degrees, one);
-    let b = degree_of(degrees, other);
+    let a = member(degrees, one, NO_DEGREE);
+    let b = member(degrees, other, NO_DEGREE);
     let sum = Degree {
         count: a.count.wrapping_add(b.count),
         mix: a.mix ^ b.mix,
     };
     set_member(degrees, root, sum);
-}
-
-#[inline(always)]
-fn degree_of(degrees: &[Degree], group: u32) -> Degree {
-    member(degrees, group, NO_DEGREE)
 }

@@ -6,7 +6,7 @@ use crate::potentials::groups::{Place, Places};
 use crate::potentials::listing::Listed;
 use crate::tables::{member, set_member};
 use dimacs_lines::Memory;
-use dimacs_network::Network;
+use dimacs_network::{ArcView, Network};
 use std::alloc::{AllocError, Global};
 
 /// A residual arc from one group to another: the distance of `to` is at most that of `from` plus `cost`.
@@ -38,14 +38,14 @@ impl<V: Number> Link<V> {
         claim: &Claim<'_, N>,
         places: &Places<V>,
         i: u32,
+        arc: ArcView,
     ) -> Option<Link<V>> {
-        let arc = claim.arc(i)?;
         let residual_capacity = claim.residual_capacity(i, arc);
         if residual_capacity.more == residual_capacity.less {
             return None;
         }
-        let tail = places.of(claim.numbering.of(arc.tail));
-        let head = places.of(claim.numbering.of(arc.head));
+        let tail = places.of(claim.numbers.of(arc.tail));
+        let head = places.of(claim.numbers.of(arc.head));
         let cost = V::of(arc.cost);
         if residual_capacity.more {
             Some(Link::between(tail, cost, head))
@@ -70,10 +70,21 @@ impl<V: Number> Link<V> {
         Link::between(joints.of(self.from), self.cost, joints.of(self.to))
     }
 
-    #[inline(always)]
     /// Whether it leads from a group to itself.
+    #[inline(always)]
     pub(crate) fn is_within(&self) -> bool {
         self.from == self.to
+    }
+
+    /// Whether it is within a group, at the difference of its ends' shifts.
+    pub(crate) fn is_tight(&self) -> bool {
+        self.is_within() && self.cost.is_zero()
+    }
+
+    /// Whether it is within a group, and costs less than that: then it closes a cycle of negative cost.
+    #[inline(always)]
+    pub(crate) fn is_torn(&self) -> bool {
+        self.is_within() && self.cost.is_negative()
     }
 
     /// Relaxes the link. Returns whether that lowered the distance of `to`.
@@ -94,15 +105,17 @@ pub(crate) fn all_links<N: Network, V: Number>(
     claim: &Claim<'_, N>,
     places: &Places<V>,
 ) -> Result<Option<Vec<Link<V>>>, Memory> {
-    let mut links = Vec::with_capacity(alloc, claim.arc_count() as usize)?;
-    for i in 0..claim.arc_count() {
-        let Some(link) = Link::of(claim, places, i) else {
+    let network = claim.network();
+    let mut links = Vec::with_capacity(alloc, network.arcs() as usize)?;
+    for i in 0..network.arcs() {
+        let Some(link) = Link::of(claim, places, i, network.arc(i)) else {
             continue;
         };
+        if link.is_torn() {
+            return Ok(None);
+        }
         if !link.is_within() {
             links.push(link)?;
-        } else if link.cost.is_negative() {
-            return Ok(None);
         }
     }
     Ok(Some(links))
@@ -117,7 +130,7 @@ pub(crate) fn joined_links<V: Number>(
     let mut torn = false;
     links.retain_mut(|link| {
         *link = link.joined(joints);
-        torn = torn || link.is_within() && link.cost.is_negative();
+        torn = torn || link.is_torn();
         !link.is_within()
     });
     if torn {

@@ -24,7 +24,6 @@ pub(crate) fn lower_all<V: Number>(
     tree: &mut Tree<V>,
     budget: u64,
 ) -> Result<End, Memory> {
-    begin(links, tree);
     for _ in 0..u64::MAX {
         let Some(group) = tree.waiting.pop() else {
             return Ok(End::Settled);
@@ -38,26 +37,6 @@ pub(crate) fn lower_all<V: Number>(
         }
     }
     Ok(End::TooLong)
-}
-
-/// Puts each group with a link that lowers a distance into the queue.
-fn begin<V: Number>(links: &Listing<Link<V>>, tree: &mut Tree<V>) {
-    for group in 0..tree.groups() {
-        if lowers(links, tree, group) {
-            tree.waiting.push(group);
-        }
-    }
-}
-
-/// Whether a link out of a group lowers a distance.
-fn lowers<V: Number>(links: &Listing<Link<V>>, tree: &Tree<V>, group: u32) -> bool {
-    let distance = tree.distance(group);
-    for link in links.of(group) {
-        if distance.plus(link.cost).is_below(tree.distance(link.to)) {
-            return true;
-        }
-    }
-    false
 }
 
 /// The groups on the path down the tree from one group to another.

@@ -5,8 +5,9 @@ use crate::potentials::claim::{Claim, ResidualArc};
 use crate::potentials::groups::Places;
 use crate::potentials::links::Link;
 use crate::potentials::listing::Listed;
+use dimacs_lines::Memory;
 use dimacs_network::{Network, Side};
-use std::alloc::AllocError;
+use std::alloc::{AllocError, Global};
 
 /// A residual arc between nodes, by their numbers.
 pub(crate) struct Step<V> {
@@ -33,37 +34,50 @@ impl<V: Number> Listed for Step<V> {
 }
 
 impl<V: Number> Step<V> {
-    /// The step along an arc from this side, if the arc can carry more, or less, that way.
-    pub(crate) fn of<N: Network>(claim: &Claim<'_, N>, i: u32, side: Side) -> Option<Step<V>> {
-        let arc = claim.arc(i)?;
-        let residual_capacity = claim.residual_capacity(i, arc);
-        let (has_residual_capacity, cost) = match side {
-            Side::Tail => (residual_capacity.more, V::of(arc.cost)),
-            Side::Head => (residual_capacity.less, V::of(arc.cost).negated()),
-        };
-        if !has_residual_capacity {
-            return None;
+    /// All steps, in the order of the arcs.
+    pub(crate) fn all<N: Network>(
+        alloc: Global,
+        claim: &Claim<'_, N>,
+    ) -> Result<Vec<Step<V>>, Memory> {
+        let network = claim.network();
+        let mut steps = Vec::new(alloc);
+        for i in 0..network.arcs() {
+            let arc = network.arc(i);
+            let capacity = claim.residual_capacity(i, arc);
+            let forth = Step {
+                cost: V::of(arc.cost),
+                from: claim.numbers.of(arc.tail),
+                to: claim.numbers.of(arc.head),
+                arc: ResidualArc {
+                    arc: i,
+                    side: Side::Tail,
+                },
+            };
+            if capacity.more {
+                steps.push(forth)?;
+            }
+            if capacity.less {
+                steps.push(forth.reversed())?;
+            }
         }
-        Some(Step {
-            cost,
-            from: claim.numbering.of(side.near(arc)),
-            to: claim.numbering.of(side.far(arc)),
-            arc: ResidualArc { arc: i, side },
-        })
+        Ok(steps)
+    }
+
+    /// The step back along an arc, from its head.
+    fn reversed(self) -> Step<V> {
+        Step {
+            cost: self.cost.negated(),
+            from: self.to,
+            to: self.from,
+            arc: ResidualArc {
+                arc: self.arc.arc,
+                side: Side::Head,
+            },
+        }
     }
 
     /// The same as a link between groups.
     pub(crate) fn link(&self, places: &Places<V>) -> Link<V> {
         Link::between(places.of(self.from), self.cost, places.of(self.to))
-    }
-
-    /// Its cost less the difference of its ends' shifts, if both are in one group.
-    pub(crate) fn excess(&self, places: &Places<V>) -> Option<V> {
-        let link = self.link(places);
-        if link.is_within() {
-            Some(link.cost)
-        } else {
-            None
-        }
     }
 }

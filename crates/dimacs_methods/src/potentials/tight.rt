@@ -1,13 +1,11 @@
 //! Paths of tight steps within groups.
 
 use crate::number::Number;
-use crate::potentials::claim::{Claim, ResidualArc};
-use crate::potentials::groups::Places;
+use crate::potentials::claim::ResidualArc;
 use crate::potentials::listing::Listing;
 use crate::potentials::step::Step;
 use crate::tables::{member, set_member};
 use dimacs_lines::Memory;
-use dimacs_network::{Network, Side};
 use std::alloc::Global;
 
 /// The tight steps, whose cost is the difference of their ends' shifts within a group, and the paths found over them.
@@ -20,40 +18,22 @@ pub(crate) struct Tight<V> {
 }
 
 impl<V: Number> Tight<V> {
-    pub(crate) fn new<N: Network>(
-        alloc: Global,
-        claim: &Claim<'_, N>,
-        places: &Places<V>,
-    ) -> Result<Tight<V>, Memory> {
-        let nodes = claim.numbering.count();
-        let steps = tight_steps(alloc, claim, places)?;
-        let steps = Listing::new(alloc, &steps, nodes)?;
-        let onward = vec![in alloc; None; nodes as usize]?;
+    /// No paths yet, over these steps between nodes with numbers below `nodes`.
+    pub(crate) fn new(alloc: Global, steps: &[Step<V>], nodes: u32) -> Result<Tight<V>, Memory> {
         Ok(Tight {
-            steps,
-            onward,
+            steps: Listing::new(alloc, steps, nodes)?,
+            onward: vec![in alloc; None; nodes as usize]?,
             queue: Vec::new(alloc),
         })
     }
 
-    /// Appends these steps to a path that has come to `start`, with a path of tight steps before each of them.
-    pub(crate) fn connect_all(
+    /// Appends a path with the fewest steps from one node to another. Each group may be connected only once.
+    pub(crate) fn connect(
         &mut self,
-        start: u32,
-        steps: &[Step<V>],
+        from: u32,
+        to: u32,
         path: &mut Vec<ResidualArc>,
     ) -> Result<(), Memory> {
-        let mut at = start;
-        for step in steps {
-            self.connect(at, step.from, path)?;
-            path.push(step.arc)?;
-            at = step.to;
-        }
-        Ok(())
-    }
-
-    /// Appends a path with the fewest steps from one node to another. Each group may be connected only once.
-    fn connect(&mut self, from: u32, to: u32, path: &mut Vec<ResidualArc>) -> Result<(), Memory> {
         self.search(from, to)?;
         let mut at = from;
         for _ in 0..self.queue.len() {
@@ -96,35 +76,4 @@ impl<V: Number> Tight<V> {
         }
         Ok(())
     }
-}
-
-/// The tight steps, in the order of the arcs.
-fn tight_steps<N: Network, V: Number>(
-    alloc: Global,
-    claim: &Claim<'_, N>,
-    places: &Places<V>,
-) -> Result<Vec<Step<V>>, Memory> {
-    let mut steps = Vec::new(alloc);
-    for i in 0..claim.arc_count() {
-        add_tight(claim, places, i, Side::Tail, &mut steps)?;
-        add_tight(claim, places, i, Side::Head, &mut steps)?;
-    }
-    Ok(steps)
-}
-
-/// Adds the step along an arc from this side, if it is tight.
-fn add_tight<N: Network, V: Number>(
-    claim: &Claim<'_, N>,
-    places: &Places<V>,
-    i: u32,
-    side: Side,
-    steps: &mut Vec<Step<V>>,
-) -> Result<(), Memory> {
-    if let Some(step) = Step::of(claim, i, side)
-        && let Some(excess) = step.excess(places)
-        && excess.is_zero()
-    {
-        steps.push(step)?;
-    }
-    Ok(())
 }

@@ -77,11 +77,14 @@ fn ring(alloc: Global, groups: u32) -> Result<Vec<Node>, Memory> {
 }
 
 impl<V: Number> Tree<V> {
-    /// All groups are children of one root, whose number is the number of groups.
+    /// All groups are children of one root, whose number is the number of groups, and all wait in the queue.
     pub(crate) fn new(alloc: Global, groups: u32) -> Result<Tree<V>, Memory> {
         let nodes = ring(alloc, groups)?;
         let distances = vec![in alloc; V::of(0); groups as usize]?;
-        let waiting = Waiting::new(alloc, groups)?;
+        let mut waiting = Waiting::new(alloc, groups)?;
+        for group in 0..groups {
+            waiting.push(group);
+        }
         Ok(Tree {
             distances,
             nodes,
@@ -139,25 +142,25 @@ impl<V: Number> Tree<V> {
     #[inline(never)]
     fn lower(&mut self, group: u32, parent: u32, change: V) -> bool {
         let node = self.node(group);
-        if node.children == OUT {
-            self.reach(group, change);
-            self.hang(group, group, parent);
-            return true;
-        }
-        if self.walked > self.looked.wrapping_mul(WALKS) {
-            let Some(part) = self.walk(group, parent, &Subtree::Leaves) else {
+        if node.children != OUT {
+            let moves = self.walked <= self.looked.wrapping_mul(WALKS);
+            let part = if moves {
+                self.walk(group, parent, &Subtree::Moves(change))
+            } else {
+                self.walk(group, parent, &Subtree::Leaves)
+            };
+            let Some(part) = part else {
                 return false;
             };
             self.cut(node, part);
-            self.reach(group, change);
-            self.hang(group, group, parent);
-            return true;
+            if moves {
+                self.hang(group, part.last, parent);
+                return true;
+            }
         }
-        let Some(part) = self.walk(group, parent, &Subtree::Moves(change)) else {
-            return false;
-        };
-        self.cut(node, part);
-        self.hang(group, part.last, parent);
+        self.change(group, change);
+        self.set_children(group, 0);
+        self.hang(group, group, parent);
         true
     }
 
@@ -193,13 +196,6 @@ impl<V: Number> Tree<V> {
         let distance = self.distance(group).plus(change);
         set_member(&mut self.distances, group, distance);
         self.waiting.push(group);
-    }
-
-    /// Changes the distance of a group that enters the tree without children.
-    #[inline(always)]
-    fn reach(&mut self, group: u32, change: V) {
-        self.change(group, change);
-        self.set_children(group, 0);
     }
 
     /// Removes the part of the ring that begins with this node's group.

@@ -1,10 +1,11 @@
 //! The queue of nodes with excess, the highest first.
 
+use crate::levels::NONE;
 use crate::tables::{count_of, member, set_member};
 use dimacs_lines::Memory;
 use std::alloc::Global;
 
-/// A linked list of the queued nodes of each height; 0 stands for no node.
+/// A linked list of the queued nodes of each height.
 #[derive(Drop)]
 pub(crate) struct Waiting {
     first: Vec<u32>,
@@ -14,19 +15,18 @@ pub(crate) struct Waiting {
 }
 
 impl Waiting {
-    /// The empty queue. Takes 9 bytes for each node.
-    pub(crate) fn new(alloc: Global, nodes: u32) -> Result<Waiting, Memory> {
-        let size = nodes as usize + 1;
+    /// The empty queue; heights are at most the number of nodes. Takes 9 bytes for each node.
+    pub(crate) fn new(alloc: Global, nodes: usize) -> Result<Waiting, Memory> {
         Ok(Waiting {
-            first: vec![in alloc; 0u32; size]?,
-            after: vec![in alloc; 0u32; size]?,
-            waits: vec![in alloc; false; size]?,
+            first: vec![in alloc; NONE; nodes.saturating_add(1)]?,
+            after: vec![in alloc; NONE; nodes]?,
+            waits: vec![in alloc; false; nodes]?,
             highest: 0,
         })
     }
 
     pub(crate) fn clear(&mut self) {
-        self.first.fill(0);
+        self.first.fill(NONE);
         self.waits.fill(false);
         self.highest = 0;
     }
@@ -42,7 +42,7 @@ impl Waiting {
             return;
         }
         set_member(&mut self.waits, node, true);
-        set_member(&mut self.after, node, member(&self.first, height, 0));
+        set_member(&mut self.after, node, member(&self.first, height, NONE));
         set_member(&mut self.first, height, node);
         self.highest = self.highest.max(height);
     }
@@ -50,11 +50,15 @@ impl Waiting {
     /// Takes a node of the greatest height.
     pub(crate) fn pop(&mut self) -> Option<u32> {
         self.descend();
-        let node = member(&self.first, self.highest, 0);
-        if node == 0 {
+        let node = member(&self.first, self.highest, NONE);
+        if node == NONE {
             return None;
         }
-        set_member(&mut self.first, self.highest, member(&self.after, node, 0));
+        set_member(
+            &mut self.first,
+            self.highest,
+            member(&self.after, node, NONE),
+        );
         set_member(&mut self.waits, node, false);
         Some(node)
     }
@@ -62,7 +66,7 @@ impl Waiting {
     /// Goes down to the greatest height of a queued node.
     fn descend(&mut self) {
         for _ in 0..self.highest {
-            if member(&self.first, self.highest, 0) > 0 {
+            if member(&self.first, self.highest, NONE) != NONE {
                 return;
             }
             self.highest = self.highest.wrapping_sub(1);

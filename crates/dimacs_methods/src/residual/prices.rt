@@ -2,6 +2,7 @@
 
 use crate::number::Number;
 use crate::residual::{Node, Residual};
+use crate::tables::set_member;
 use dimacs_lines::Memory;
 use std::alloc::Global;
 
@@ -21,42 +22,26 @@ impl<V: Number> Residual<V> {
         Ok(potentials)
     }
 
+    /// A residue of no price of the head of an arc with negative reduced cost.
     fn free_residue(&self, alloc: Global) -> Result<i128, Memory> {
-        let taken = self.taken_residues(alloc)?;
-        let mut residue: i128 = 0;
-        for is_taken in &taken {
-            if !*is_taken {
-                return Ok(residue);
-            }
-            residue = residue.wrapping_add(1);
-        }
-        Ok(0)
-    }
-
-    /// The residues of the prices of heads of arcs with negative reduced cost.
-    fn taken_residues(&self, alloc: Global) -> Result<Vec<bool>, Memory> {
         let residues = usize::try_from(1i128.doubled(self.doublings)).unwrap_or(0);
         let mut taken = vec![in alloc; false; residues]?;
         for node in &self.nodes {
             self.take_residues(node, &mut taken);
         }
-        Ok(taken)
+        let free = taken.iter().position(|is_taken| !*is_taken);
+        Ok(i128::try_from(free.unwrap_or(0)).unwrap_or(0))
     }
 
     /// Marks the residues of the prices of heads of arcs with negative reduced cost out of this node.
     fn take_residues(&self, node: &Node<V>, taken: &mut [bool]) {
         for half in self.between(node.start, node.end) {
             if half.residual_capacity > 0 && self.reduced(node.price, half).is_negative() {
-                let residue = self.residue(self.price(half.to));
-                if let Some(is_taken) = taken.get_mut(residue) {
-                    *is_taken = true;
-                }
+                let price = self.price(half.to);
+                let floor = price.halved(self.doublings).doubled(self.doublings);
+                let residue = u32::try_from(price.minus(floor).wide()).unwrap_or(0);
+                set_member(taken, residue, true);
             }
         }
-    }
-
-    fn residue(&self, price: V) -> usize {
-        let floor = price.halved(self.doublings).doubled(self.doublings);
-        usize::try_from(price.minus(floor).wide()).unwrap_or(0)
     }
 }

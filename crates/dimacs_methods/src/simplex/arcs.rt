@@ -3,6 +3,7 @@
 use crate::number::Number;
 use crate::problem::Problem;
 use crate::simplex::mixing::Mixing;
+use crate::simplex::tree::Node;
 use crate::tables::{member, set_member};
 use dimacs_lines::Memory;
 use dimacs_network::Network;
@@ -45,15 +46,9 @@ impl<V: Number> Price<V> {
     #[inline(always)]
     pub(crate) fn reduced(&self, potentials: &[V]) -> V {
         self.cost
-            .plus(potential(potentials, self.tail))
-            .minus(potential(potentials, self.head))
+            .plus(member(potentials, self.tail, V::of(0)))
+            .minus(member(potentials, self.head, V::of(0)))
     }
-}
-
-/// The potential of a node.
-#[inline(always)]
-pub(crate) fn potential<V: Number>(potentials: &[V], node: u32) -> V {
-    member(potentials, node, V::of(0))
 }
 
 impl<V: Number> Arcs<V> {
@@ -85,14 +80,10 @@ impl<V: Number> Arcs<V> {
                 tail: problem.numbers.of(arc.tail),
                 head: problem.numbers.of(arc.head),
             };
-            self.put(mixing.next(), price, arc.cap.wrapping_sub(arc.low));
+            let position = mixing.next();
+            set_member(&mut self.prices, position, price);
+            self.set_residual_capacity(position, arc.cap.wrapping_sub(arc.low));
         }
-    }
-
-    #[inline(always)]
-    fn put(&mut self, position: u32, price: Price<V>, residual_capacity: i64) {
-        set_member(&mut self.prices, position, price);
-        self.set_residual_capacity(position, residual_capacity);
     }
 
     #[inline(always)]
@@ -118,6 +109,16 @@ impl<V: Number> Arcs<V> {
     /// Sets the capacity less the lower bound; at the end, for a tree arc, the amount less the lower bound.
     pub(crate) fn set_residual_capacity(&mut self, position: u32, residual_capacity: i64) {
         set_member(&mut self.residual_capacities, position, residual_capacity);
+    }
+
+    /// The flow of the arc between a node and its parent, less the lower bound.
+    #[inline(always)]
+    pub(crate) fn flow(&self, number: u32, node: &Node<V>) -> V {
+        if self.price(node.arc).tail == number {
+            node.down
+        } else {
+            node.up
+        }
     }
 
     /// The amount less the lower bound, after `settle`.

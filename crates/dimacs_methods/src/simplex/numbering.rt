@@ -33,11 +33,11 @@ impl<V: Number> Tree<V> {
 
     fn rename(&mut self, numbers: &[u32]) {
         for node in &mut self.nodes {
-            node.parent = number_of(numbers, node.parent);
-            node.before = number_of(numbers, node.before);
+            node.parent = member(numbers, node.parent, 0);
+            node.before = member(numbers, node.before, 0);
         }
         for place in &mut self.places {
-            place.after = number_of(numbers, place.after);
+            place.after = member(numbers, place.after, 0);
         }
     }
 }
@@ -61,10 +61,4 @@ fn arrange<T: Copy>(alloc: Global, table: &mut Vec<T>, order: &[u32]) -> Result<
     }
     *table = arranged;
     Ok(())
-}
-
-/// The new number of a node.
-#[inline(always)]
-pub(crate) fn number_of(numbers: &[u32], node: u32) -> u32 {
-    member(numbers, node, 0)
 }

@@ -2,7 +2,7 @@
 
 use crate::number::Number;
 use crate::simplex::cycle::Cycle;
-use crate::tables::member;
+use crate::tables::{count_of, member};
 use dimacs_lines::Memory;
 use std::alloc::{AllocError, Global};
 
@@ -56,9 +56,37 @@ pub(crate) struct Tree<V: Number> {
     pub names: Vec<u32>,
 }
 
-impl<V: Number> Node<V> {
-    /// A node with this excess as a child of the root.
-    fn on_root(root: u32, before: u32, excess: V) -> Node<V> {
+impl<V: Number> Tree<V> {
+    /// Each node is a child of the root, by an artificial arc that takes its excess at no cost, or fills its deficit at
+    /// this price. A node without either has an arc to the root, so that flow can go to the root from everywhere.
+    pub(crate) fn star(alloc: Global, excess: &[i128], price: V) -> Result<Tree<V>, Memory> {
+        let root = count_of(excess);
+        let size = excess.len().saturating_add(1);
+        let mut tree = Tree {
+            nodes: Vec::with_capacity(alloc, size)?,
+            places: Vec::with_capacity(alloc, size)?,
+            potentials: Vec::with_capacity(alloc, size)?,
+            names: (0..root).collect(alloc)?,
+        };
+        for amount in excess {
+            tree.add_leaf(V::of_wide(*amount), price)?;
+        }
+        tree.nodes.push(Node {
+            up: V::of(0),
+            down: V::of(0),
+            parent: root,
+            arc: ARTIFICIAL,
+            before: root.saturating_sub(1),
+        })?;
+        tree.places.push(Place { after: 0, depth: 0 })?;
+        tree.potentials.push(V::of(0))?;
+        Ok(tree)
+    }
+
+    /// Adds the next child of the root.
+    fn add_leaf(&mut self, excess: V, price: V) -> Result<(), Memory> {
+        let root = self.root();
+        let number = count_of(&self.nodes);
         let has_deficit = excess.is_negative();
         let flow = if has_deficit {
             excess.negated()
@@ -66,36 +94,25 @@ impl<V: Number> Node<V> {
             excess
         };
         let residual_capacity = V::greatest().minus(flow);
-        Node {
+        self.nodes.push(Node {
             up: if has_deficit { flow } else { residual_capacity },
             down: if has_deficit { residual_capacity } else { flow },
             parent: root,
             arc: ARTIFICIAL,
-            before,
-        }
-    }
-}
-
-impl<V: Number> Tree<V> {
-    /// Each node is a child of the root, by an artificial arc that takes its excess at no cost, or fills its deficit at
-    /// this price. A node without either has an arc to the root, so that flow can go to the root from everywhere.
-    pub(crate) fn star(alloc: Global, excess: &[i128], price: V) -> Result<Tree<V>, Memory> {
-        let root = u32::try_from(excess.len()).unwrap_or(0);
-        let nodes = star_nodes(alloc, excess, root)?;
-        let places = star_places(alloc, root)?;
-        let potentials = star_potentials(alloc, excess, price)?;
-        let names = (0..root).collect(alloc)?;
-        Ok(Tree {
-            nodes,
-            places,
-            potentials,
-            names,
-        })
+            before: number.checked_sub(1).unwrap_or(root),
+        })?;
+        self.places.push(Place {
+            after: number.wrapping_add(1),
+            depth: 1,
+        })?;
+        self.potentials
+            .push(if has_deficit { price } else { V::of(0) })?;
+        Ok(())
     }
 
     /// The root.
     pub(crate) fn root(&self) -> u32 {
-        u32::try_from(self.names.len()).unwrap_or(0)
+        count_of(&self.names)
     }
 
     #[inline(always)]
@@ -227,53 +244,6 @@ impl<V: Number> Tree<V> {
             node.before = before;
         }
     }
-}
-
-/// The nodes of a star, ordered by number, then its root.
-fn star_nodes<V: Number>(
-    alloc: Global,
-    excess: &[i128],
-    root: u32,
-) -> Result<Vec<Node<V>>, Memory> {
-    let mut nodes = Vec::with_capacity(alloc, excess.len().saturating_add(1))?;
-    let mut before = root;
-    let mut number: u32 = 0;
-    for amount in excess {
-        nodes.push(Node::on_root(root, before, V::of_wide(*amount)))?;
-        before = number;
-        number = number.wrapping_add(1);
-    }
-    nodes.push(Node {
-        up: V::of(0),
-        down: V::of(0),
-        parent: root,
-        arc: ARTIFICIAL,
-        before: root.saturating_sub(1),
-    })?;
-    Ok(nodes)
-}
-
-fn star_places(alloc: Global, root: u32) -> Result<Vec<Place>, Memory> {
-    let mut places = Vec::with_capacity(alloc, (root as usize).saturating_add(1))?;
-    for number in 0..root {
-        places.push(Place {
-            after: number.wrapping_add(1),
-            depth: 1,
-        })?;
-    }
-    places.push(Place { after: 0, depth: 0 })?;
-    Ok(places)
-}
-
-/// The price for each node with a deficit, 0 for the others and the root.
-fn star_potentials<V: Number>(alloc: Global, excess: &[i128], price: V) -> Result<Vec<V>, Memory> {
-    let mut potentials = vec![in alloc; V::of(0); excess.len().saturating_add(1)]?;
-    for (potential, amount) in potentials.iter_mut().zip(excess) {
-        if V::of_wide(*amount).is_negative() {
-            *potential = price;
-        }
-    }
-    Ok(potentials)
 }
 
 /// Nodes that follow each other in preorder.
