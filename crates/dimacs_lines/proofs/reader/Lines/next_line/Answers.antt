@@ -8,6 +8,7 @@ returns-in-Ok-clause-answer g c = λ is_open.
     let found = c.in-Ok.ensures in
     answers_left c.give_line.result c.args.self.now c.find_end.new.self c.give_line.new.self _ _ found.given (found.progress ∙ is_open) found.left found.enough c.give_line.ensures.given
 
+-- written out, since what is tried without an answer takes longer
 pub returns-in-Ok-clause-device : goal.returns-in-Ok-clause-device
 returns-in-Ok-clause-device g c = search rules
 
