@@ -10,9 +10,7 @@ use crate::memory_files::{Done, held};
 use crate::tables::{case, cell, rows};
 use crate::words::words;
 use dimacs_lines::{FlakySink, FlakySource, MemorySink};
-use dimacs_runs::{
-    CommandError, Files, RunError, Status, command_status, run_command,
-};
+use dimacs_runs::{CommandError, Files, RunError, Status, command_status, run_command};
 use std::alloc::{AllocError, Global};
 use std::process::Abort;
 use std::test::Fail;
@@ -211,8 +209,6 @@ fn add(lines: &mut String, sign: &str, name: &str) -> Result<(), AllocError> {
     lines.push_str(sign)?;
     lines.push_str(name)?;
     lines.push('\n')
-}
-
 }
 
 /// Command lines, each with what is done with files, what it prints, the device that fails and what could not be done
