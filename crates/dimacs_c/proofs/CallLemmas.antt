@@ -25,12 +25,12 @@ pub bytes_of : {a b : List ℕ} → Some a ≡ Some b → a ≡ b
 bytes_of is = ap (λ (held : Option (List ℕ)). unwrap_or held []) is
 
 -- one sink was empty, and its bytes were handed out
-pub answered : (tells : Status → List ℕ → Type 0) (ended : Result Status RunError) (start bytes : List ℕ) (answer : ℕ) (h : Handed ℕ) → start ≡ []
-    → Reports tells ended (Some start) (Some bytes) → Ends ended bytes answer h → Answers tells answer h
-answered tells (Ok s) start bytes answer h empty reports ends =
+pub answered : (writes : Status → List ℕ → Type 0) (ended : Result Status RunError) (start bytes : List ℕ) (answer : ℕ) (h : Handed ℕ) → start ≡ []
+    → Reports writes ended (Some start) (Some bytes) → Ends ended bytes answer h → Answers writes answer h
+answered writes (Ok s) start bytes answer h empty reports ends =
     let whole : bytes ≡ reports.0 = bytes_of reports.2 ∙ ap (λ front. front ++ reports.0) empty in
     inl (s, reports.0, reports.1, ends.0, subst (λ text. HandsOut text h) whole ends.1)
-answered tells (Err error) start bytes answer h empty reports ends = inr ends
+answered writes (Err error) start bytes answer h empty reports ends = inr ends
 
 -- ---- several texts, each from its own sink
 -- the bytes of a sink, and the buffer for them
@@ -45,16 +45,16 @@ abbrev pub held : List Kept → List (Option (List ℕ))
 held [] = []
 held (k ∷ kept) = Some k.0 ∷ held kept
 
-abbrev pub rooms_of : List Kept → List (Handed ℕ)
-rooms_of [] = []
-rooms_of (k ∷ kept) = k.1 ∷ rooms_of kept
+abbrev pub buffers_of : List Kept → List (Handed ℕ)
+buffers_of [] = []
+buffers_of (k ∷ kept) = k.1 ∷ buffers_of kept
 
 -- each buffer got the bytes of its sink, or nothing
 abbrev pub EndEach : Result Status RunError → List Kept → Type 0
 EndEach ended [] = Unit {0}
 EndEach ended (k ∷ kept) = ((answer : ℕ) × Ends ended k.0 answer k.1) × EndEach ended kept
 
-hands_each : (s : Status) (texts : List (List ℕ)) (kept : List Kept) → AcceptAll texts (begun kept) (held kept) → EndEach (Ok s) kept → HandsEach texts (rooms_of kept)
+hands_each : (s : Status) (texts : List (List ℕ)) (kept : List Kept) → AcceptAll texts (begun kept) (held kept) → EndEach (Ok s) kept → HandsEach texts (buffers_of kept)
 hands_each s [] [] same ends = tt
 hands_each s [] (k ∷ kept) same ends =
     let empty : k.0 ≡ [] = bytes_of (ap (λ sinks. get_or sinks 0 None) same) in
@@ -63,12 +63,12 @@ hands_each s [] (k ∷ kept) same ends =
 hands_each s (text ∷ texts) [] never ends = absurd never
 hands_each s (text ∷ texts) (k ∷ kept) accepted ends = (subst (λ t. HandsOut t k.1) (bytes_of accepted.0) ends.0.1.1, hands_each s texts kept accepted.1 ends.1)
 
-hand_nothing : (error : RunError) (kept : List Kept) → EndEach (Err error) kept → HandNothing (rooms_of kept)
+hand_nothing : (error : RunError) (kept : List Kept) → EndEach (Err error) kept → HandNothing (buffers_of kept)
 hand_nothing error [] ends = tt
 hand_nothing error (k ∷ kept) ends = (ends.0.1.1, hand_nothing error kept ends.1)
 
 -- all sinks were empty, and their bytes were handed out
-pub answered_texts : (tells : Status → List (List ℕ) → Type 0) (ended : Result Status RunError) (kept : List Kept) (report : List ℕ) (answer : ℕ) (last : Handed ℕ)
-    → ReportsAll tells ended (begun kept) (held kept) → EndEach ended kept → Ends ended report answer last → AnswersTexts tells answer (rooms_of kept)
-answered_texts tells (Ok s) kept report answer last reports ends status = inl (s, reports.0, reports.1, status.0, hands_each s reports.0 kept reports.2 ends)
-answered_texts tells (Err error) kept report answer last reports ends status = inr (status.0, hand_nothing error kept ends)
+pub answered_texts : (writes : Status → List (List ℕ) → Type 0) (ended : Result Status RunError) (kept : List Kept) (report : List ℕ) (answer : ℕ) (last : Handed ℕ)
+    → ReportsAll writes ended (begun kept) (held kept) → EndEach ended kept → Ends ended report answer last → AnswersTexts writes answer (buffers_of kept)
+answered_texts writes (Ok s) kept report answer last reports ends status = inl (s, reports.0, reports.1, status.0, hands_each s reports.0 kept reports.2 ends)
+answered_texts writes (Err error) kept report answer last reports ends status = inr (status.0, hand_nothing error kept ends)

@@ -23,7 +23,7 @@ use Rattle.dimacs_runs.specs.Verdicts.{failure_line, gave_up_line, infeasible_li
 use Rattle.dimacs_c.specs.Calls.{Handed, HandsOut}
 
 -- what a call hands out: a status, a line, and perhaps items: bytes or predecessors, potentials or distances, amounts
-pub record Said : Type 0 where
+pub record Printed : Type 0 where
   pub status : ℕ
   pub line : List ℕ
   pub marks : List ℕ
@@ -31,7 +31,7 @@ pub record Said : Type 0 where
   pub amounts : List ℤ
 
 -- only a status and a line
-abbrev pub only : ℕ → List ℕ → Said
+abbrev pub only : ℕ → List ℕ → Printed
 only status line = record { status = status; line = line; marks = []; numbers = []; amounts = [] }
 
 -- the status of an error: a test that fails, misuse, or out of memory
@@ -49,73 +49,73 @@ error_line (Length array) = []
 error_line Memory = []
 
 -- what is handed out for an answer or an error
-abbrev pub said : {X : Type 0} → (X → Said) → Result X ArrayError → Said
-said says (Ok x) = says x
-said says (Err error) = only (error_status error) (error_line error)
+abbrev pub printed : {X : Type 0} → (X → Printed) → Result X ArrayError → Printed
+printed prints (Ok x) = prints x
+printed prints (Err error) = only (error_status error) (error_line error)
 
-abbrev pub verdict_said : Verdict → Said
-verdict_said verdict = only 0 (verdict_lines verdict)
+abbrev pub verdict_printed : Verdict → Printed
+verdict_printed verdict = only 0 (verdict_lines verdict)
 
-abbrev pub max_said : MaxCertified → Said
-max_said (max_certified.Optimal total inside) = record (only 0 (max_line total)) { marks = inside.items }
-max_said (max_certified.Better y) = record (only 1 (failure_line (Solution 0 0) NotMaximum)) { amounts = y }
+abbrev pub max_printed : MaxCertified → Printed
+max_printed (max_certified.Optimal total inside) = record (only 0 (max_line total)) { marks = inside.items }
+max_printed (max_certified.Better y) = record (only 1 (failure_line (Solution 0 0) NotMaximum)) { amounts = y }
 
 -- 5 if the potentials don't fit into an array
-abbrev pub min_said : MinCertified → Said
-min_said (min_certified.Optimal total potentials) = record (only 0 (min_line total)) { numbers = potentials.items }
-min_said (min_certified.Wide total p) = only 5 gave_up_line
-min_said (min_certified.Better y) = record (only 1 (failure_line (Solution 0 0) NotLeast)) { amounts = y }
+abbrev pub min_printed : MinCertified → Printed
+min_printed (min_certified.Optimal total potentials) = record (only 0 (min_line total)) { numbers = potentials.items }
+min_printed (min_certified.Wide total p) = only 5 gave_up_line
+min_printed (min_certified.Better y) = record (only 1 (failure_line (Solution 0 0) NotLeast)) { amounts = y }
 
 -- a flow is feasible although none should be
 abbrev pub feasible_line : List ℕ
 feasible_line = refusal_line (codes "instance") 0 0 Feasible
 
-abbrev pub infeasible_said : InfeasibleCertified → Said
-infeasible_said (infeasible_certified.Infeasible inside) = record (only 0 infeasible_line) { marks = inside.items }
-infeasible_said (infeasible_certified.Feasible x) = record (only 1 feasible_line) { amounts = x }
+abbrev pub infeasible_printed : InfeasibleCertified → Printed
+infeasible_printed (infeasible_certified.Infeasible inside) = record (only 0 infeasible_line) { marks = inside.items }
+infeasible_printed (infeasible_certified.Feasible x) = record (only 1 feasible_line) { amounts = x }
 
-abbrev pub paths_said : Vec ℕ → Said
-paths_said preds = record (only 0 (sources_line 1)) { marks = preds.items }
+abbrev pub paths_printed : Vec ℕ → Printed
+paths_printed preds = record (only 0 (sources_line 1)) { marks = preds.items }
 
-abbrev pub max_found : MaxSolved → Said
+abbrev pub max_found : MaxSolved → Printed
 max_found (max_solved.Optimal total x inside) = record (only 0 (max_line total)) { marks = inside.items; amounts = x }
 max_found max_solved.GaveUp = only 5 gave_up_line
 
 -- 5, too, if the potentials don't fit into an array
-abbrev pub min_found : MinSolved → Said
+abbrev pub min_found : MinSolved → Printed
 min_found (min_solved.Optimal total x potentials) = record (only 0 (min_line total)) { numbers = potentials.items; amounts = x }
 min_found (min_solved.Wide total x p) = only 5 gave_up_line
 min_found (min_solved.Infeasible inside) = record (only 0 infeasible_line) { marks = inside.items }
 min_found min_solved.GaveUp = only 5 gave_up_line
 
 -- 5 if a distance doesn't fit into an array
-abbrev pub paths_found : PathsSolved → Said
+abbrev pub paths_found : PathsSolved → Printed
 paths_found (paths_solved.Distances distances preds) = record (only 0 (sources_line 1)) { marks = preds.items; numbers = distances.items }
 paths_found (paths_solved.Far labels) = only 5 gave_up_line
 
 -- the line of a possible answer of the judge is handed out, with its status; out of memory is one, without a line
 abbrev pub AnswersLine : (Result Verdict ArrayError → Type 0) → ℕ → Handed ℕ → Type 0
 AnswersLine judges answer h =
-    (r : Result Verdict ArrayError) × judges r × (answer ≡ (said verdict_said r).status) × HandsOut (said verdict_said r).line h
+    (r : Result Verdict ArrayError) × judges r × (answer ≡ (printed verdict_printed r).status) × HandsOut (printed verdict_printed r).line h
 
 -- a caller's buffers for a line and for items; a call has none for items that it never hands out
-pub record Rooms : Type 0 where
+pub record Buffers : Type 0 where
   pub line : Handed ℕ
   pub marks : Option (Handed ℕ)
   pub numbers : Option (Handed ℤ)
   pub amounts : Option (Handed ℤ)
 
-abbrev pub rooms : Handed ℕ → Option (Handed ℕ) → Option (Handed ℤ) → Option (Handed ℤ) → Rooms
-rooms line marks numbers amounts = record { line = line; marks = marks; numbers = numbers; amounts = amounts }
+abbrev pub buffers : Handed ℕ → Option (Handed ℕ) → Option (Handed ℤ) → Option (Handed ℤ) → Buffers
+buffers line marks numbers amounts = record { line = line; marks = marks; numbers = numbers; amounts = amounts }
 
 -- everything is handed out, each part to its buffer
-pub record HandsOutAll (s : Said) (r : Rooms) : Type 0 where
+pub record HandsOutAll (s : Printed) (r : Buffers) : Type 0 where
   pub line : HandsOut s.line r.line
   pub marks : IfSome r.marks (HandsOut s.marks)
   pub numbers : IfSome r.numbers (HandsOut s.numbers)
   pub amounts : IfSome r.amounts (HandsOut s.amounts)
 
 -- a possible answer of the certifier or the solver is handed out, with its status
-abbrev pub AnswersItems : {X : Type 0} → (X → Said) → (Result X ArrayError → Type 0) → ℕ → Rooms → Type 0
-AnswersItems {X} says gives answer given =
-    (r : Result X ArrayError) × gives r × (answer ≡ (said says r).status) × HandsOutAll (said says r) given
+abbrev pub AnswersItems : {X : Type 0} → (X → Printed) → (Result X ArrayError → Type 0) → ℕ → Buffers → Type 0
+AnswersItems {X} prints gives answer given =
+    (r : Result X ArrayError) × gives r × (answer ≡ (printed prints r).status) × HandsOutAll (printed prints r) given

@@ -2,7 +2,7 @@
 
 ghost use Rattle.std.specs.Prelude.{◌≡◌};
 ghost use Rattle.dimacs_c.specs.Calls.{HandsOut, handed};
-ghost use Rattle.dimacs_c.specs.inside.Calls.{Ends, EndsSaid};
+ghost use Rattle.dimacs_c.specs.inside.Calls.{Ends, EndsPrinted};
 
 use dimacs_lines::DeviceFault;
 use dimacs_runs::{RunError, Status, exit_status};
@@ -37,17 +37,17 @@ pub(crate) fn end(
 
 /// Copies items of a call over arrays, unless writing its line failed, and returns the status. Writing to memory fails
 /// only if memory runs out.
-pub(crate) fn hand_said<T: Copy>(
+pub(crate) fn hand_printed<T: Copy>(
     put: Result<u32, DeviceFault>,
     items: &[T],
-    room: &mut [T],
+    buffer: &mut [T],
     needed: &mut usize,
 ) -> u32
-    ensures { EndsSaid put items.now result (handed room.old room.new needed.new) }
+    ensures { EndsPrinted put items.now result (handed buffer.old buffer.new needed.new) }
 {
     match put {
         Ok(status) => {
-            hand_out(items, room, needed);
+            hand_out(items, buffer, needed);
             status
         }
         Err(_) => {
@@ -67,10 +67,10 @@ pub(crate) fn misuse(needed: &mut usize) -> u32
 }
 
 /// Copies as much as fits into the buffer, and sets the length of the whole.
-fn hand_out<T: Copy>(items: &[T], room: &mut [T], needed: &mut usize)
-    ensures { HandsOut items.now (handed room.old room.new needed.new) }
+fn hand_out<T: Copy>(items: &[T], buffer: &mut [T], needed: &mut usize)
+    ensures { HandsOut items.now (handed buffer.old buffer.new needed.new) }
 {
-    let count = items.len().min(room.len());
-    room[..count].copy_from_slice(&items[..count]);
+    let count = items.len().min(buffer.len());
+    buffer[..count].copy_from_slice(&items[..count]);
     *needed = items.len();
 }

@@ -3,10 +3,10 @@
 ghost use Rattle.std.specs.Prelude.{◌≡◌, ℕ, List, Option, None, Some, IfOk};
 ghost use Rattle.dimacs_lines.specs.Puts.{Puts};
 ghost use Rattle.dimacs_arrays.specs.MinArrays.{CertifiesInfeasibleArrays, JudgesInfeasibleArrays};
-ghost use Rattle.dimacs_c.specs.Arrays.{AnswersItems, AnswersLine, infeasible_said, rooms, said};
+ghost use Rattle.dimacs_c.specs.Arrays.{AnswersItems, AnswersLine, infeasible_printed, buffers, printed};
 ghost use Rattle.dimacs_c.specs.Calls.{handed};
 
-use crate::answer::hand_said;
+use crate::answer::hand_printed;
 use crate::lines::{hand_judged, put_error, put_feasible, put_yes};
 use dimacs_arrays::{
     ArrayError, InfeasibleCertified, MinArrays, certify_infeasible_arrays, judge_infeasible_arrays,
@@ -43,15 +43,15 @@ pub extern "C" fn dimacs_certify_infeasible_arrays(
     flows: &mut [i64],
     flows_needed: &mut usize,
 ) -> u32
-    ensures { AnswersItems infeasible_said (CertifiesInfeasibleArrays instance.now) result
-        (rooms (handed out.old out.new needed.new) (Some (handed inside.old inside.new inside_needed.new)) None (Some (handed flows.old flows.new flows_needed.new))) }
+    ensures { AnswersItems infeasible_printed (CertifiesInfeasibleArrays instance.now) result
+        (buffers (handed out.old out.new needed.new) (Some (handed inside.old inside.new inside_needed.new)) None (Some (handed flows.old flows.new flows_needed.new))) }
 {
     let answer = certify_infeasible_arrays(alloc, instance);
     let mut line = MemorySink::new(alloc);
     let put = put_certified(&mut line, &answer);
-    hand_said(put, inside_of(&answer), inside, inside_needed);
-    hand_said(put, flow_of(&answer), flows, flows_needed);
-    hand_said(put, line.bytes(), out, needed)
+    hand_printed(put, inside_of(&answer), inside, inside_needed);
+    hand_printed(put, flow_of(&answer), flows, flows_needed);
+    hand_printed(put, line.bytes(), out, needed)
 }
 
 /// Writes the line of the answer, and returns its status.
@@ -59,8 +59,8 @@ fn put_certified<K: Sink>(
     sink: &mut K,
     answer: &Result<InfeasibleCertified, ArrayError>,
 ) -> Result<u32, DeviceFault>
-    ensures status { IfOk result (λ status. status ≡ (said infeasible_said answer.now).status) }
-    ensures line { Puts result (K.seen sink.old) (said infeasible_said answer.now).line (K.seen sink.new) }
+    ensures status { IfOk result (λ status. status ≡ (printed infeasible_printed answer.now).status) }
+    ensures line { Puts result (K.seen sink.old) (printed infeasible_printed answer.now).line (K.seen sink.new) }
 {
     match answer {
         Ok(InfeasibleCertified::Infeasible(_)) => put_yes(sink, &Verdict::Infeasible),
@@ -71,7 +71,7 @@ fn put_certified<K: Sink>(
 
 /// The bytes of the set; none if a flow is feasible.
 fn inside_of(answer: &Result<InfeasibleCertified, ArrayError>) -> &[u8]
-    ensures { result.now ≡ (said infeasible_said answer.now).marks }
+    ensures { result.now ≡ (printed infeasible_printed answer.now).marks }
 {
     match answer {
         Ok(InfeasibleCertified::Infeasible(inside)) => inside,
@@ -81,7 +81,7 @@ fn inside_of(answer: &Result<InfeasibleCertified, ArrayError>) -> &[u8]
 
 /// The feasible flow, if there is one.
 fn flow_of(answer: &Result<InfeasibleCertified, ArrayError>) -> &[i64]
-    ensures { result.now ≡ (said infeasible_said answer.now).amounts }
+    ensures { result.now ≡ (printed infeasible_printed answer.now).amounts }
 {
     match answer {
         Ok(InfeasibleCertified::Feasible(flow)) => flow.amounts(),

@@ -3,11 +3,11 @@
 ghost use Rattle.std.specs.Prelude.{◌≡◌, ℕ, List, Option, IfOk};
 ghost use Rattle.dimacs_lines.specs.Puts.{Puts};
 ghost use Rattle.dimacs_runs.specs.Verdicts.{failure_line, gave_up_line, verdict_lines};
-ghost use Rattle.dimacs_c.specs.Arrays.{error_line, error_status, feasible_line, said, verdict_said};
+ghost use Rattle.dimacs_c.specs.Arrays.{error_line, error_status, feasible_line, printed, verdict_printed};
 ghost use Rattle.dimacs_c.specs.Calls.{handed};
 ghost use Rattle.dimacs_c.specs.inside.Arrays.{EndsLine};
 
-use crate::answer::{MISUSED, NO_MEMORY, hand_said};
+use crate::answer::{MISUSED, NO_MEMORY, hand_printed};
 use dimacs_arrays::ArrayError;
 use dimacs_judge::{Verdict, Where};
 use dimacs_lines::{DeviceFault, MemorySink, Sink};
@@ -34,11 +34,11 @@ pub(crate) fn hand_judged(
     out: &mut [u8],
     needed: &mut usize,
 ) -> u32
-    ensures { EndsLine (said verdict_said answer) result (handed out.old out.new needed.new) }
+    ensures { EndsLine (printed verdict_printed answer) result (handed out.old out.new needed.new) }
 {
     let mut line = MemorySink::new(alloc);
     let put = put_judged(&mut line, answer);
-    hand_said(put, line.bytes(), out, needed)
+    hand_printed(put, line.bytes(), out, needed)
 }
 
 /// Writes the line of a judge's answer, and returns its status.
@@ -46,8 +46,8 @@ fn put_judged<K: Sink>(
     sink: &mut K,
     answer: Result<Verdict, ArrayError>,
 ) -> Result<u32, DeviceFault>
-    ensures status { IfOk result (λ status. status ≡ (said verdict_said answer).status) }
-    ensures line { Puts result (K.seen sink.old) (said verdict_said answer).line (K.seen sink.new) }
+    ensures status { IfOk result (λ status. status ≡ (printed verdict_printed answer).status) }
+    ensures line { Puts result (K.seen sink.old) (printed verdict_printed answer).line (K.seen sink.new) }
 {
     match answer {
         Ok(verdict) => put_yes(sink, &verdict),

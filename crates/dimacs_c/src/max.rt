@@ -3,10 +3,10 @@
 ghost use Rattle.std.specs.Prelude.{◌≡◌, ℕ, List, Option, None, Some, IfOk};
 ghost use Rattle.dimacs_lines.specs.Puts.{Puts};
 ghost use Rattle.dimacs_arrays.specs.MaxArrays.{CertifiesMaxArrays, JudgesMaxArrays, SolvesMaxArrays};
-ghost use Rattle.dimacs_c.specs.Arrays.{AnswersItems, AnswersLine, max_found, max_said, rooms, said};
+ghost use Rattle.dimacs_c.specs.Arrays.{AnswersItems, AnswersLine, max_found, max_printed, buffers, printed};
 ghost use Rattle.dimacs_c.specs.Calls.{handed};
 
-use crate::answer::hand_said;
+use crate::answer::hand_printed;
 use crate::lines::{WHOLE_FLOW, hand_judged, put_error, put_no, put_wide, put_yes};
 use dimacs_arrays::{
     ArrayError, MaxArrays, MaxCertified, MaxSolved, certify_max_arrays, judge_max_arrays,
@@ -47,15 +47,15 @@ pub extern "C" fn dimacs_certify_max_arrays(
     better: &mut [i64],
     better_needed: &mut usize,
 ) -> u32
-    ensures { AnswersItems max_said (CertifiesMaxArrays instance.now flows.now) result
-        (rooms (handed out.old out.new needed.new) (Some (handed inside.old inside.new inside_needed.new)) None (Some (handed better.old better.new better_needed.new))) }
+    ensures { AnswersItems max_printed (CertifiesMaxArrays instance.now flows.now) result
+        (buffers (handed out.old out.new needed.new) (Some (handed inside.old inside.new inside_needed.new)) None (Some (handed better.old better.new better_needed.new))) }
 {
     let answer = certify_max_arrays(alloc, instance, flows);
     let mut line = MemorySink::new(alloc);
     let put = put_certified(&mut line, &answer);
-    hand_said(put, inside_of(&answer), inside, inside_needed);
-    hand_said(put, better_of(&answer), better, better_needed);
-    hand_said(put, line.bytes(), out, needed)
+    hand_printed(put, inside_of(&answer), inside, inside_needed);
+    hand_printed(put, better_of(&answer), better, better_needed);
+    hand_printed(put, line.bytes(), out, needed)
 }
 
 /// Writes the line of the answer, and returns its status.
@@ -63,8 +63,8 @@ fn put_certified<K: Sink>(
     sink: &mut K,
     answer: &Result<MaxCertified, ArrayError>,
 ) -> Result<u32, DeviceFault>
-    ensures status { IfOk result (λ status. status ≡ (said max_said answer.now).status) }
-    ensures line { Puts result (K.seen sink.old) (said max_said answer.now).line (K.seen sink.new) }
+    ensures status { IfOk result (λ status. status ≡ (printed max_printed answer.now).status) }
+    ensures line { Puts result (K.seen sink.old) (printed max_printed answer.now).line (K.seen sink.new) }
 {
     match answer {
         Ok(MaxCertified::Optimal { value, .. }) => put_yes(sink, &Verdict::Max(*value)),
@@ -75,7 +75,7 @@ fn put_certified<K: Sink>(
 
 /// The bytes of the cut; none if the flow isn't maximum.
 fn inside_of(answer: &Result<MaxCertified, ArrayError>) -> &[u8]
-    ensures { result.now ≡ (said max_said answer.now).marks }
+    ensures { result.now ≡ (printed max_printed answer.now).marks }
 {
     match answer {
         Ok(MaxCertified::Optimal { inside, .. }) => inside,
@@ -85,7 +85,7 @@ fn inside_of(answer: &Result<MaxCertified, ArrayError>) -> &[u8]
 
 /// The better flow, if there is one.
 fn better_of(answer: &Result<MaxCertified, ArrayError>) -> &[i64]
-    ensures { result.now ≡ (said max_said answer.now).amounts }
+    ensures { result.now ≡ (printed max_printed answer.now).amounts }
 {
     match answer {
         Ok(MaxCertified::Better(flow)) => flow.amounts(),
@@ -108,14 +108,14 @@ pub extern "C" fn dimacs_solve_max_arrays(
     inside_needed: &mut usize,
 ) -> u32
     ensures { AnswersItems max_found (SolvesMaxArrays instance.now limit) result
-        (rooms (handed out.old out.new needed.new) (Some (handed inside.old inside.new inside_needed.new)) None (Some (handed flows.old flows.new flows_needed.new))) }
+        (buffers (handed out.old out.new needed.new) (Some (handed inside.old inside.new inside_needed.new)) None (Some (handed flows.old flows.new flows_needed.new))) }
 {
     let answer = solve_max_arrays(alloc, instance, limit);
     let mut line = MemorySink::new(alloc);
     let put = put_solved(&mut line, &answer);
-    hand_said(put, inside_by(&answer), inside, inside_needed);
-    hand_said(put, flow_of(&answer), flows, flows_needed);
-    hand_said(put, line.bytes(), out, needed)
+    hand_printed(put, inside_by(&answer), inside, inside_needed);
+    hand_printed(put, flow_of(&answer), flows, flows_needed);
+    hand_printed(put, line.bytes(), out, needed)
 }
 
 /// Writes the line of the answer, and returns its status.
@@ -123,8 +123,8 @@ fn put_solved<K: Sink>(
     sink: &mut K,
     answer: &Result<MaxSolved, ArrayError>,
 ) -> Result<u32, DeviceFault>
-    ensures status { IfOk result (λ status. status ≡ (said max_found answer.now).status) }
-    ensures line { Puts result (K.seen sink.old) (said max_found answer.now).line (K.seen sink.new) }
+    ensures status { IfOk result (λ status. status ≡ (printed max_found answer.now).status) }
+    ensures line { Puts result (K.seen sink.old) (printed max_found answer.now).line (K.seen sink.new) }
 {
     match answer {
         Ok(MaxSolved::Optimal { value, .. }) => put_yes(sink, &Verdict::Max(*value)),
@@ -135,7 +135,7 @@ fn put_solved<K: Sink>(
 
 /// The bytes of the cut, if a flow was found.
 fn inside_by(answer: &Result<MaxSolved, ArrayError>) -> &[u8]
-    ensures { result.now ≡ (said max_found answer.now).marks }
+    ensures { result.now ≡ (printed max_found answer.now).marks }
 {
     match answer {
         Ok(MaxSolved::Optimal { inside, .. }) => inside,
@@ -145,7 +145,7 @@ fn inside_by(answer: &Result<MaxSolved, ArrayError>) -> &[u8]
 
 /// The flow, if one was found.
 fn flow_of(answer: &Result<MaxSolved, ArrayError>) -> &[i64]
-    ensures { result.now ≡ (said max_found answer.now).amounts }
+    ensures { result.now ≡ (printed max_found answer.now).amounts }
 {
     match answer {
         Ok(MaxSolved::Optimal { flow, .. }) => flow.amounts(),

@@ -3,10 +3,10 @@
 ghost use Rattle.std.specs.Prelude.{◌≡◌, ℕ, List, Option, None, Some, IfOk};
 ghost use Rattle.dimacs_lines.specs.Puts.{Puts};
 ghost use Rattle.dimacs_arrays.specs.MinArrays.{CertifiesMinArrays, JudgesMinArrays, SolvesMinArrays};
-ghost use Rattle.dimacs_c.specs.Arrays.{AnswersItems, AnswersLine, min_found, min_said, rooms, said};
+ghost use Rattle.dimacs_c.specs.Arrays.{AnswersItems, AnswersLine, min_found, min_printed, buffers, printed};
 ghost use Rattle.dimacs_c.specs.Calls.{handed};
 
-use crate::answer::hand_said;
+use crate::answer::hand_printed;
 use crate::lines::{WHOLE_FLOW, hand_judged, put_error, put_no, put_wide, put_yes};
 use dimacs_arrays::{
     ArrayError, MinArrays, MinCertified, MinSolved, certify_min_arrays, judge_min_arrays,
@@ -47,15 +47,15 @@ pub extern "C" fn dimacs_certify_min_arrays(
     better: &mut [i64],
     better_needed: &mut usize,
 ) -> u32
-    ensures { AnswersItems min_said (CertifiesMinArrays instance.now flows.now) result
-        (rooms (handed out.old out.new needed.new) None (Some (handed potentials.old potentials.new potentials_needed.new)) (Some (handed better.old better.new better_needed.new))) }
+    ensures { AnswersItems min_printed (CertifiesMinArrays instance.now flows.now) result
+        (buffers (handed out.old out.new needed.new) None (Some (handed potentials.old potentials.new potentials_needed.new)) (Some (handed better.old better.new better_needed.new))) }
 {
     let answer = certify_min_arrays(alloc, instance, flows);
     let mut line = MemorySink::new(alloc);
     let put = put_certified(&mut line, &answer);
-    hand_said(put, potentials_of(&answer), potentials, potentials_needed);
-    hand_said(put, better_of(&answer), better, better_needed);
-    hand_said(put, line.bytes(), out, needed)
+    hand_printed(put, potentials_of(&answer), potentials, potentials_needed);
+    hand_printed(put, better_of(&answer), better, better_needed);
+    hand_printed(put, line.bytes(), out, needed)
 }
 
 /// Writes the line of the answer, and returns its status.
@@ -63,8 +63,8 @@ fn put_certified<K: Sink>(
     sink: &mut K,
     answer: &Result<MinCertified, ArrayError>,
 ) -> Result<u32, DeviceFault>
-    ensures status { IfOk result (λ status. status ≡ (said min_said answer.now).status) }
-    ensures line { Puts result (K.seen sink.old) (said min_said answer.now).line (K.seen sink.new) }
+    ensures status { IfOk result (λ status. status ≡ (printed min_printed answer.now).status) }
+    ensures line { Puts result (K.seen sink.old) (printed min_printed answer.now).line (K.seen sink.new) }
 {
     match answer {
         Ok(MinCertified::Optimal { cost, .. }) => put_yes(sink, &Verdict::Min(*cost)),
@@ -76,7 +76,7 @@ fn put_certified<K: Sink>(
 
 /// The potentials; none if the flow doesn't cost least, or if they don't fit into an array.
 fn potentials_of(answer: &Result<MinCertified, ArrayError>) -> &[i64]
-    ensures { result.now ≡ (said min_said answer.now).numbers }
+    ensures { result.now ≡ (printed min_printed answer.now).numbers }
 {
     match answer {
         Ok(MinCertified::Optimal { potentials, .. }) => potentials,
@@ -86,7 +86,7 @@ fn potentials_of(answer: &Result<MinCertified, ArrayError>) -> &[i64]
 
 /// The better flow, if there is one.
 fn better_of(answer: &Result<MinCertified, ArrayError>) -> &[i64]
-    ensures { result.now ≡ (said min_said answer.now).amounts }
+    ensures { result.now ≡ (printed min_printed answer.now).amounts }
 {
     match answer {
         Ok(MinCertified::Better(flow)) => flow.amounts(),
@@ -111,16 +111,16 @@ pub extern "C" fn dimacs_solve_min_arrays(
     inside_needed: &mut usize,
 ) -> u32
     ensures { AnswersItems min_found (SolvesMinArrays instance.now limit) result
-        (rooms (handed out.old out.new needed.new) (Some (handed inside.old inside.new inside_needed.new))
+        (buffers (handed out.old out.new needed.new) (Some (handed inside.old inside.new inside_needed.new))
         (Some (handed potentials.old potentials.new potentials_needed.new)) (Some (handed flows.old flows.new flows_needed.new))) }
 {
     let answer = solve_min_arrays(alloc, instance, limit);
     let mut line = MemorySink::new(alloc);
     let put = put_solved(&mut line, &answer);
-    hand_said(put, inside_by(&answer), inside, inside_needed);
-    hand_said(put, potentials_by(&answer), potentials, potentials_needed);
-    hand_said(put, flow_of(&answer), flows, flows_needed);
-    hand_said(put, line.bytes(), out, needed)
+    hand_printed(put, inside_by(&answer), inside, inside_needed);
+    hand_printed(put, potentials_by(&answer), potentials, potentials_needed);
+    hand_printed(put, flow_of(&answer), flows, flows_needed);
+    hand_printed(put, line.bytes(), out, needed)
 }
 
 /// Writes the line of the answer, and returns its status.
@@ -128,8 +128,8 @@ fn put_solved<K: Sink>(
     sink: &mut K,
     answer: &Result<MinSolved, ArrayError>,
 ) -> Result<u32, DeviceFault>
-    ensures status { IfOk result (λ status. status ≡ (said min_found answer.now).status) }
-    ensures line { Puts result (K.seen sink.old) (said min_found answer.now).line (K.seen sink.new) }
+    ensures status { IfOk result (λ status. status ≡ (printed min_found answer.now).status) }
+    ensures line { Puts result (K.seen sink.old) (printed min_found answer.now).line (K.seen sink.new) }
 {
     match answer {
         Ok(MinSolved::Optimal { cost, .. }) => put_yes(sink, &Verdict::Min(*cost)),
@@ -141,7 +141,7 @@ fn put_solved<K: Sink>(
 
 /// The bytes of the set, if no flow is feasible.
 fn inside_by(answer: &Result<MinSolved, ArrayError>) -> &[u8]
-    ensures { result.now ≡ (said min_found answer.now).marks }
+    ensures { result.now ≡ (printed min_found answer.now).marks }
 {
     match answer {
         Ok(MinSolved::Infeasible { inside }) => inside,
@@ -151,7 +151,7 @@ fn inside_by(answer: &Result<MinSolved, ArrayError>) -> &[u8]
 
 /// The potentials, if a flow was found and they fit into an array.
 fn potentials_by(answer: &Result<MinSolved, ArrayError>) -> &[i64]
-    ensures { result.now ≡ (said min_found answer.now).numbers }
+    ensures { result.now ≡ (printed min_found answer.now).numbers }
 {
     match answer {
         Ok(MinSolved::Optimal { potentials, .. }) => potentials,
@@ -161,7 +161,7 @@ fn potentials_by(answer: &Result<MinSolved, ArrayError>) -> &[i64]
 
 /// The flow, if one was found and its potentials fit into an array.
 fn flow_of(answer: &Result<MinSolved, ArrayError>) -> &[i64]
-    ensures { result.now ≡ (said min_found answer.now).amounts }
+    ensures { result.now ≡ (printed min_found answer.now).amounts }
 {
     match answer {
         Ok(MinSolved::Optimal { flow, .. }) => flow.amounts(),

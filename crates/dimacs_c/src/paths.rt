@@ -3,10 +3,10 @@
 ghost use Rattle.std.specs.Prelude.{◌≡◌, ℕ, List, Option, None, Some, IfOk};
 ghost use Rattle.dimacs_lines.specs.Puts.{Puts};
 ghost use Rattle.dimacs_arrays.specs.GraphArrays.{CertifiesPathsArrays, JudgesPathsArrays, SolvesPathsArrays};
-ghost use Rattle.dimacs_c.specs.Arrays.{AnswersItems, AnswersLine, paths_found, paths_said, rooms, said};
+ghost use Rattle.dimacs_c.specs.Arrays.{AnswersItems, AnswersLine, paths_found, paths_printed, buffers, printed};
 ghost use Rattle.dimacs_c.specs.Calls.{handed};
 
-use crate::answer::hand_said;
+use crate::answer::hand_printed;
 use crate::lines::{hand_judged, put_error, put_wide, put_yes};
 use dimacs_arrays::{
     ArrayError, GraphArrays, PathsSolved, certify_paths_arrays, judge_paths_arrays,
@@ -45,19 +45,19 @@ pub extern "C" fn dimacs_certify_paths_arrays(
     predecessors: &mut [u32],
     predecessors_needed: &mut usize,
 ) -> u32
-    ensures { AnswersItems paths_said (CertifiesPathsArrays graph.now source distances.now) result
-        (rooms (handed out.old out.new needed.new) (Some (handed predecessors.old predecessors.new predecessors_needed.new)) None None) }
+    ensures { AnswersItems paths_printed (CertifiesPathsArrays graph.now source distances.now) result
+        (buffers (handed out.old out.new needed.new) (Some (handed predecessors.old predecessors.new predecessors_needed.new)) None None) }
 {
     let answer = certify_paths_arrays(alloc, graph, source, distances);
     let mut line = MemorySink::new(alloc);
     let put = put_certified(&mut line, &answer);
-    hand_said(
+    hand_printed(
         put,
         predecessors_of(&answer),
         predecessors,
         predecessors_needed,
     );
-    hand_said(put, line.bytes(), out, needed)
+    hand_printed(put, line.bytes(), out, needed)
 }
 
 /// Writes the line of the answer, and returns its status.
@@ -65,8 +65,8 @@ fn put_certified<K: Sink>(
     sink: &mut K,
     answer: &Result<Vec<u32>, ArrayError>,
 ) -> Result<u32, DeviceFault>
-    ensures status { IfOk result (λ status. status ≡ (said paths_said answer.now).status) }
-    ensures line { Puts result (K.seen sink.old) (said paths_said answer.now).line (K.seen sink.new) }
+    ensures status { IfOk result (λ status. status ≡ (printed paths_printed answer.now).status) }
+    ensures line { Puts result (K.seen sink.old) (printed paths_printed answer.now).line (K.seen sink.new) }
 {
     match answer {
         Ok(_) => put_yes(sink, &Verdict::Sources(1)),
@@ -76,7 +76,7 @@ fn put_certified<K: Sink>(
 
 /// The predecessors; none if the distances are refused.
 fn predecessors_of(answer: &Result<Vec<u32>, ArrayError>) -> &[u32]
-    ensures { result.now ≡ (said paths_said answer.now).marks }
+    ensures { result.now ≡ (printed paths_printed answer.now).marks }
 {
     match answer {
         Ok(predecessors) => predecessors,
@@ -98,20 +98,20 @@ pub extern "C" fn dimacs_solve_paths_arrays(
     predecessors_needed: &mut usize,
 ) -> u32
     ensures { AnswersItems paths_found (SolvesPathsArrays graph.now source) result
-        (rooms (handed out.old out.new needed.new) (Some (handed predecessors.old predecessors.new predecessors_needed.new))
+        (buffers (handed out.old out.new needed.new) (Some (handed predecessors.old predecessors.new predecessors_needed.new))
         (Some (handed distances.old distances.new distances_needed.new)) None) }
 {
     let answer = solve_paths_arrays(alloc, graph, source);
     let mut line = MemorySink::new(alloc);
     let put = put_solved(&mut line, &answer);
-    hand_said(
+    hand_printed(
         put,
         predecessors_by(&answer),
         predecessors,
         predecessors_needed,
     );
-    hand_said(put, distances_by(&answer), distances, distances_needed);
-    hand_said(put, line.bytes(), out, needed)
+    hand_printed(put, distances_by(&answer), distances, distances_needed);
+    hand_printed(put, line.bytes(), out, needed)
 }
 
 /// Writes the line of the answer, and returns its status.
@@ -119,8 +119,8 @@ fn put_solved<K: Sink>(
     sink: &mut K,
     answer: &Result<PathsSolved, ArrayError>,
 ) -> Result<u32, DeviceFault>
-    ensures status { IfOk result (λ status. status ≡ (said paths_found answer.now).status) }
-    ensures line { Puts result (K.seen sink.old) (said paths_found answer.now).line (K.seen sink.new) }
+    ensures status { IfOk result (λ status. status ≡ (printed paths_found answer.now).status) }
+    ensures line { Puts result (K.seen sink.old) (printed paths_found answer.now).line (K.seen sink.new) }
 {
     match answer {
         Ok(PathsSolved::Distances { .. }) => put_yes(sink, &Verdict::Sources(1)),
@@ -131,7 +131,7 @@ fn put_solved<K: Sink>(
 
 /// The predecessors, if the distances fit into an array.
 fn predecessors_by(answer: &Result<PathsSolved, ArrayError>) -> &[u32]
-    ensures { result.now ≡ (said paths_found answer.now).marks }
+    ensures { result.now ≡ (printed paths_found answer.now).marks }
 {
     match answer {
         Ok(PathsSolved::Distances { predecessors, .. }) => predecessors,
@@ -141,7 +141,7 @@ fn predecessors_by(answer: &Result<PathsSolved, ArrayError>) -> &[u32]
 
 /// The distances, if they fit into an array.
 fn distances_by(answer: &Result<PathsSolved, ArrayError>) -> &[i64]
-    ensures { result.now ≡ (said paths_found answer.now).numbers }
+    ensures { result.now ≡ (printed paths_found answer.now).numbers }
 {
     match answer {
         Ok(PathsSolved::Distances { distances, .. }) => distances,

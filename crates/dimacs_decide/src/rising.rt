@@ -94,7 +94,7 @@ struct RisingTree {
 }
 
 impl RisingTree {
-    /// The search that has reached only its source.
+    /// The search tree after only the source was reached.
     fn new<N: Network, C: DistanceClaim>(
         alloc: Global,
         network: &N,

@@ -60,10 +60,10 @@ sees_nothing seen = record { done = nothing seen.done; faults = refl }
 pub is_error : {X : Type 0} (result : Result X CommandError) (error : CommandError) → IsErrAnd result (λ e. e ≡ error) → result ≡ Err error
 is_error result error is = let (other, same, it) = err_from_is_err_and result is in same ∙ ap Err it
 
-module _ {plan : Plan} {holds : Contents} {empty : Option (List ℕ)} {tells : Reporting} {result : Result Status CommandError} {a : FilesSeen} {output : Written} where
+module _ {plan : Plan} {holds : Contents} {empty : Option (List ℕ)} {writes : Reporting} {result : Result Status CommandError} {a : FilesSeen} {output : Written} where
   -- a file could not be opened
   pub stops_opening : {name : List ℕ} {error : CommandError} {b c : FilesSeen} (before after : List (List ℕ)) → plan.opened ≡ before ++ name ∷ after → IsErrAnd result (λ e. e ≡ error)
-      → Sees (map Opened before) a b → FailsWith (NotOpened name) b c error → RunsFiles plan holds empty tells result (seen_by a output) (seen_by c output)
+      → Sees (map Opened before) a b → FailsWith (NotOpened name) b c error → RunsFiles plan holds empty writes result (seen_by a output) (seen_by c output)
   stops_opening {name} {error} {b} {c} before after whole is seen fails = rw (is_error result error is) record {
     events = map Opened before ++ NotOpened name fails.cause ∷ [];
     seen = sees_then (map Opened before) (NotOpened name fails.cause ∷ []) a b c seen fails.seen;
@@ -75,7 +75,7 @@ module _ {plan : Plan} {holds : Contents} {empty : Option (List ℕ)} {tells : R
   -- a file could not be created, and those before it were closed
   pub stops_creating : {name : List ℕ} {error : CommandError} {b c d : FilesSeen} (before after : List (List ℕ)) → plan.created ≡ before ++ name ∷ after → IsErrAnd result (λ e. e ≡ error)
       → Sees (map Opened plan.opened ++ map Created before) a b → FailsWith (NotCreated name) b c error → Sees (map (closed_empty empty) before) c d
-      → RunsFiles plan holds empty tells result (seen_by a output) (seen_by d output)
+      → RunsFiles plan holds empty writes result (seen_by a output) (seen_by d output)
   stops_creating {name} {error} {b} {c} {d} before after whole is seen fails closed = rw (is_error result error is) record {
     events = map Opened plan.opened ++ map Created before ++ NotCreated name fails.cause ∷ map (closed_empty empty) before;
     seen = sees_then (map Opened plan.opened ++ map Created before) (NotCreated name fails.cause ∷ map (closed_empty empty) before) a b d seen
@@ -91,10 +91,10 @@ module _ {plan : Plan} {holds : Contents} {empty : Option (List ℕ)} {tells : R
       → Sees (map Opened plan.opened ++ map Created plan.created) a b → Sees (map Read read ++ map Wrote written) b c
       → result ≡ named ended failure → IsFirstOf failure (flat_map failures (closings (closed_files read written)))
       → CountsDevices ended (all_before output.faults new.faults (closed_files read written)) (all_after output.faults new.faults (closed_files read written))
-      → ((texts : List (List ℕ)) → map holds plan.opened ≡ map Some texts → tells texts (named ended failure) (at_first plan.created empty output.accepted) (at_last written new.accepted))
+      → ((texts : List (List ℕ)) → map holds plan.opened ≡ map Some texts → writes texts (named ended failure) (at_first plan.created empty output.accepted) (at_last written new.accepted))
       → (ended ≡ Err Memory → at_last written new.accepted ≡ at_first plan.created empty output.accepted)
       → (AnyRead (closed_files read written) → at_last written new.accepted ≡ at_first plan.created empty output.accepted)
-      → RunsFiles plan holds empty tells result (seen_by a output) (seen_by c new)
+      → RunsFiles plan holds empty writes result (seen_by a output) (seen_by c new)
   uses_files {b} {c} {new} read written ended failure all_read all_written opened closed is first counts reported memory unread =
       let files : List Closed = closed_files read written in
       let fails = names_failure output.faults new.faults files ended failure first counts in
@@ -125,9 +125,9 @@ each_text (x ∷ xs) P each (a ∷ more) is = let first : x ≡ Some a = cc in l
 each_text xs P each texts is = absurd cc
 
 -- ---- what a run reports, after its failure was named
-pub reports_named : (tells : Status → List ℕ → Type 0) (ended : Result Status RunError) (failure : Option Failure) (old new : Option (List ℕ)) → Reports tells ended old new → Reports tells (named ended failure) old new
-reports_named tells (Err Device) (Some it) old new reports = reports
-reports_named tells ended failure old new reports = reports
+pub reports_named : (writes : Status → List ℕ → Type 0) (ended : Result Status RunError) (failure : Option Failure) (old new : Option (List ℕ)) → Reports writes ended old new → Reports writes (named ended failure) old new
+reports_named writes (Err Device) (Some it) old new reports = reports
+reports_named writes ended failure old new reports = reports
 
 pub reports_all_named : (writes : Status → List (List ℕ) → Type 0) (ended : Result Status RunError) (failure : Option Failure) (old new : List (Option (List ℕ))) → ReportsAll writes ended old new → ReportsAll writes (named ended failure) old new
 reports_all_named writes (Err Device) (Some it) old new reports = reports

@@ -1,5 +1,6 @@
 -- Arguments, one by one.
-use Rattle.std.proofs.Common.{◌≡◌, ◌≢◌, ◌∙◌, ℕ, ◌∷◌, ◌++◌, [], ◌<◌, ◌≤◌, List, Option, Some, None, IfSome, IfNone, length, map, drop, get_or, refl, sym, ap, subst, arith}
+use Rattle.std.proofs.Common.{◌≡◌, ◌≢◌, ◌∙◌, ◌+◌, ℕ, ◌∷◌, ◌++◌, [], ◌<◌, ◌≤◌, List, Option, Some, None, IfSome, IfNone, length, map, drop, take, get_or, refl, slice_get, suc, sym, ap, subst, arith, zero}
+use Rattle.std.specs.Option.{option_map}
 use Rattle.std.specs.Prelude.{codes}
 use Rattle.std.proofs.lemmas.List.{length-map}
 use Rattle.std.specs.String.{string_bytes}
@@ -11,16 +12,34 @@ use Rattle.dimacs_runs.specs.declared.jobs.JudgeKind.{JudgeKind}
 use Rattle.dimacs_runs.specs.declared.jobs.SolveJob.{SolveJob}
 use Rattle.dimacs_runs.specs.declared.jobs.SpreadKind.{SpreadKind}
 use Rattle.dimacs_runs.specs.declared.jobs.SolveJob.TheVariants.{Max, Min, Paths}
+use Rattle.dimacs_runs.specs.inside.Making.{names_of}
 use Rattle.dimacs_runs.specs.Jobs.{AreCertifyFiles, AreOptions, Asks, AsksProducer, IsLimit, GiveLimit, certify_reads, certify_word, file_count, judge_word, solve_word, spread_word}
-
-pub one_word : {A : Type 0} (f : A → List ℕ) (words : List A) (a : A) (x : List ℕ) → 1 ≤ length words → length words < 2 → a ≡ get_or words 0 a → x ≡ f a → map f words ≡ x ∷ []
-one_word f (p ∷ []) a x least most first is_x = sym (rw (is_x, first) refl)
-one_word f words a x least most first is_x = absurd (omega (arith, least, most))
 
 pub two_words : {A : Type 0} (f : A → List ℕ) (words : List A) (a b : A) (x y : List ℕ) → 2 ≤ length words → length words < 3 → a ≡ get_or words 0 a → b ≡ get_or words 1 b
     → x ≡ f a → y ≡ f b → map f words ≡ x ∷ y ∷ []
 two_words f (p ∷ q ∷ []) a b x y least most first second is_x is_y = sym (rw (is_x, is_y, first, second) refl)
 two_words f words a b x y least most first second is_x is_y = absurd (omega (arith, least, most))
+
+-- the first names of a run are those of the files that it reads
+pub first_word : {A : Type 0} (f : A → List ℕ) (words : List A) (a : A) (x : List ℕ) → 1 ≤ length words → a ≡ get_or words 0 a → x ≡ f a → take 1 (map f words) ≡ x ∷ []
+first_word f (p ∷ words) a x least first is_x = sym (rw (is_x, first) refl)
+first_word f [] a x least first is_x = absurd (omega (arith, least))
+
+pub first_words : {A : Type 0} (f : A → List ℕ) (words : List A) (a b : A) (x y : List ℕ) → 2 ≤ length words → a ≡ get_or words 0 a → b ≡ get_or words 1 b
+    → x ≡ f a → y ≡ f b → take 2 (map f words) ≡ x ∷ y ∷ []
+first_words f (p ∷ q ∷ words) a b x y least first second is_x is_y = sym (rw (is_x, is_y, first, second) refl)
+first_words f words a b x y least first second is_x is_y = absurd (omega (arith, least))
+
+-- the name after them, if there is one, is that of the file to create
+pub last_word : {W : Type 0} (g : W → List ℕ) (n : ℕ) (names : List (List ℕ)) (last : Option W) → length names ≤ n + 1 → option_map g last ≡ slice_get names n → names_of g last ≡ drop n names
+last_word g zero [] None most is = refl
+last_word g zero [] (Some w) most is = absurd cc
+last_word g zero (x ∷ []) None most is = absurd cc
+last_word g zero (x ∷ []) (Some w) most is = let same : g w ≡ x = cc in rw same refl
+last_word g zero (x ∷ y ∷ names) last most is = absurd (omega (arith, most))
+last_word g (suc n) [] None most is = refl
+last_word g (suc n) [] (Some w) most is = absurd cc
+last_word g (suc n) (x ∷ names) last most is = last_word g n names last (omega (arith, most)) is
 
 pub three_words : {A : Type 0} (f : A → List ℕ) (words : List A) (a b c : A) (x y z : List ℕ) → 3 ≤ length words → length words < 4 → a ≡ get_or words 0 a → b ≡ get_or words 1 b → c ≡ get_or words 2 c
     → x ≡ f a → y ≡ f b → z ≡ f c → map f words ≡ x ∷ y ∷ z ∷ []

@@ -76,8 +76,8 @@ abbrev pub Reporting : Type 1
 Reporting = List (List ℕ) → Result Status CommandError → List (Option (List ℕ)) → List (Option (List ℕ)) → Type 0
 
 abbrev pub ReportsOne : (List ℕ → Status → List ℕ → Type 0) → Reporting
-ReportsOne tells (text ∷ []) result (old ∷ []) (new ∷ []) = Reports (tells text) result old new
-ReportsOne tells other result old new = ⊥
+ReportsOne writes (text ∷ []) result (old ∷ []) (new ∷ []) = Reports (writes text) result old new
+ReportsOne writes other result old new = ⊥
 
 -- `Infeasible` has no claim
 abbrev pub ReportsJudged : JudgeKind → Reporting
@@ -153,13 +153,13 @@ abbrev pub at_last : List WrittenFile → Option (List ℕ) → List (Option (Li
 at_last written output = map (λ (file : WrittenFile). file.seen.accepted) written ++ output ∷ []
 
 -- all files were opened or created, used and closed, and what follows from the texts was written
-pub record UsesFiles (plan : Plan) (holds : Contents) (empty : Option (List ℕ)) (tells : Reporting) (events : List FileEvent) (result : Result Status CommandError) (old new : Option (List ℕ)) : Type 0 where
+pub record UsesFiles (plan : Plan) (holds : Contents) (empty : Option (List ℕ)) (writes : Reporting) (events : List FileEvent) (result : Result Status CommandError) (old new : Option (List ℕ)) : Type 0 where
   pub read : List ReadFile
   pub written : List WrittenFile
   pub all_read : map (λ (file : ReadFile). file.name) read ≡ plan.opened
   pub all_written : map (λ (file : WrittenFile). file.name) written ≡ plan.created
   pub happened : events ≡ map Opened plan.opened ++ map Created plan.created ++ map Read read ++ map Wrote written
-  pub reports : (texts : List (List ℕ)) → map holds plan.opened ≡ map Some texts → tells texts result (at_first plan.created empty old) (at_last written new)
+  pub reports : (texts : List (List ℕ)) → map holds plan.opened ≡ map Some texts → writes texts result (at_first plan.created empty old) (at_last written new)
   pub nothing_written : WritesNothing result → at_last written new ≡ at_first plan.created empty old
 
 -- a file was created, written and closed
@@ -219,8 +219,8 @@ PutsNothing stops result old new = stops × IsErr result × (new.output.accepted
 
 -- the files of the plan were used, or one of them could not be opened or created
 abbrev pub RunsFiles : Plan → Contents → Option (List ℕ) → Reporting → Result Status CommandError → Seen → Seen → Type 0
-RunsFiles plan holds empty tells result old new =
-    RunsOver (λ events. PutsNothing (StopsOpening plan events ⊎ StopsCreating plan empty events) result old new ⊎ UsesFiles plan holds empty tells events result old.output.accepted new.output.accepted) result old new
+RunsFiles plan holds empty writes result old new =
+    RunsOver (λ events. PutsNothing (StopsOpening plan events ⊎ StopsCreating plan empty events) result old new ⊎ UsesFiles plan holds empty writes events result old.output.accepted new.output.accepted) result old new
 
 -- the files of the plan were read and one was created for a text, or one of them could not be opened or created
 abbrev pub MakesOfFiles : Plan → Contents → Option (List ℕ) → Making → Result Status CommandError → Seen → Seen → Type 0

@@ -21,7 +21,7 @@ AcceptInTurn (text ∷ texts) (held ∷ old) (holds ∷ new) = (AcceptsFront hel
 
 -- this is a possible outcome; if a refusal is possible, it is the outcome
 abbrev pub MayWrite : (Status → List (List ℕ) → Type 0) → Status → List (List ℕ) → Type 0
-MayWrite tells status out = tells status out × ((refusal : List (List ℕ)) → tells Refused refusal → (status ≡ Refused) × (out ≡ refusal))
+MayWrite writes status out = writes status out × ((refusal : List (List ℕ)) → writes Refused refusal → (status ≡ Refused) × (out ≡ refusal))
 
 -- the report is the last text
 abbrev pub report_of : List (List ℕ) → List ℕ
@@ -31,9 +31,9 @@ report_of (text ∷ texts) = report_of texts
 
 -- this is a possible outcome, and all possible ones have its status and its report
 abbrev pub WritesAlike : (Status → List (List ℕ) → Type 0) → Status → List (List ℕ) → Type 0
-WritesAlike tells status out = tells status out × ((s : Status) (other : List (List ℕ)) → tells s other → (s ≡ status) × (report_of other ≡ report_of out))
+WritesAlike writes status out = writes status out × ((s : Status) (other : List (List ℕ)) → writes s other → (s ≡ status) × (report_of other ≡ report_of out))
 
 -- all texts of a possible outcome were written; after an error, nothing or a beginning of them
 abbrev pub ReportsAll : {E : Type 0} → (Status → List (List ℕ) → Type 0) → Result Status E → List (Option (List ℕ)) → List (Option (List ℕ)) → Type 0
-ReportsAll told (Ok status) old new = (out : List (List ℕ)) × told status out × AcceptAll out old new
-ReportsAll told (Err error) old new = (new ≡ old) ⊎ ((status : Status) × (out : List (List ℕ)) × told status out × AcceptInTurn out old new)
+ReportsAll writes (Ok status) old new = (out : List (List ℕ)) × writes status out × AcceptAll out old new
+ReportsAll writes (Err error) old new = (new ≡ old) ⊎ ((status : Status) × (out : List (List ℕ)) × writes status out × AcceptInTurn out old new)

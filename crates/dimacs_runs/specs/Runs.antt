@@ -44,11 +44,11 @@ pub record TextSays (V : Type 0) : Type 1 where
 abbrev pub says : {V : Type 0} → TextKind → (List LineRecord → V → Type 0) → List ℕ → TextSays V
 says kind gives bytes = record { name = text_word kind; spells = SpellsValue kind gives (lines bytes); fault = Fault kind (lines bytes) }
 
--- a text that spells a value is printed by `told`; otherwise the line of its fault is printed
+-- prints `printed v` if the text spells a value v, otherwise the line of its fault
 abbrev pub PrintsText : {V : Type 0} → TextSays V → (V → List ℕ) → Status → List ℕ → Type 0
-PrintsText text told Done out = (v : _) × text.spells v × (out ≡ told v)
-PrintsText text told Refused out = (l : ℕ) × (f : ℕ) × (r : Reason) × text.fault l f r × (out ≡ refusal_line text.name l f r)
-PrintsText text told GaveUp out = ⊥
+PrintsText text printed Done out = (v : _) × text.spells v × (out ≡ printed v)
+PrintsText text printed Refused out = (l : ℕ) × (f : ℕ) × (r : Reason) × text.fault l f r × (out ≡ refusal_line text.name l f r)
+PrintsText text printed GaveUp out = ⊥
 
 -- how a value is printed: as its canonical text, or as the line that describes it
 abbrev pub in_form : {V : Type 0} → TextForm → (V → List ℕ) → (V → List ℕ) → V → List ℕ
@@ -69,9 +69,9 @@ Prints form Distances bytes = PrintsText (says Distances GivesDistances bytes) (
 
 -- this is the only possible outcome
 abbrev pub ReportsAlone : (Status → List ℕ → Type 0) → Status → List ℕ → Type 0
-ReportsAlone tells status out = tells status out × ((s : Status) (other : List ℕ) → tells s other → (s ≡ status) × (other ≡ out))
+ReportsAlone writes status out = writes status out × ((s : Status) (other : List ℕ) → writes s other → (s ≡ status) × (other ≡ out))
 
 -- the text of a possible outcome was written; after an error, nothing or a beginning of it
 abbrev pub Reports : {E : Type 0} → (Status → List ℕ → Type 0) → Result Status E → Option (List ℕ) → Option (List ℕ) → Type 0
-Reports tells (Ok status) old new = (out : List ℕ) × ReportsAlone tells status out × (new ≡ after_piece old out)
-Reports tells (Err error) old new = (new ≡ old) ⊎ ((status : Status) × (out : List ℕ) × ReportsAlone tells status out × AcceptsFront old out new)
+Reports writes (Ok status) old new = (out : List ℕ) × ReportsAlone writes status out × (new ≡ after_piece old out)
+Reports writes (Err error) old new = (new ≡ old) ⊎ ((status : Status) × (out : List ℕ) × ReportsAlone writes status out × AcceptsFront old out new)

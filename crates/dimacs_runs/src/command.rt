@@ -10,9 +10,8 @@ use crate::failure::CommandError;
 use crate::files::Files;
 use crate::jobs::Job;
 use crate::outcome::{NO_RUN, RunError, Status, exit_status};
-use crate::runs_that_certify::certify_files;
+use crate::runs_that_make::{ClaimJob, certify_files, make_of_claim};
 use crate::runs_that_read::{judge_files, print_file};
-use crate::runs_that_spread::spread_files;
 use crate::runs_that_write::solve_files;
 use crate::text::TextForm;
 use crate::words::job;
@@ -70,7 +69,9 @@ fn run_job<'a, F: Files, K: Sink>(
         Job::Show(kind, name) => print_file(alloc, TextForm::Summary, kind, name, files, output),
         Job::Judge(kind, names) => judge_files(alloc, kind, names, files, output),
         Job::Certify(kind, names) => certify_files(alloc, kind, names, files, output),
-        Job::Spread(kind, names) => spread_files(alloc, kind, names, files, output),
+        Job::Spread(kind, names) => {
+            make_of_claim(alloc, ClaimJob::Spread(kind), names, files, output)
+        }
         Job::Solve(job, names) => solve_files(alloc, job, names, files, output),
     }
 }

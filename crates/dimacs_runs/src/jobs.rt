@@ -94,7 +94,7 @@ impl<'a> Job<'a> {
 }
 
 /// The argument at this place, from 0.
-fn word(words: &[String], place: usize) -> Option<&str>
+pub(crate) fn word(words: &[String], place: usize) -> Option<&str>
     ensures { option_map (λ word. word.now) result ≡ slice_get (map string_bytes words.now) place }
 {
     match words.get(place) {

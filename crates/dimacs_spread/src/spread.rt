@@ -53,7 +53,7 @@ pub fn spread_min<N: Network>(
     spread(alloc, instance.network(), solution)
 }
 
-/// The same for any network. Each arc gets its lower bound; then the arcs are raised, the cheapest first.
+/// Deals out the sums over any network. Each arc gets its lower bound; then the arcs are filled, the cheapest first.
 fn spread<N: Network>(alloc: Global, network: &N, solution: &Solution) -> Result<Flow, JudgeError>
     requires { All HasBounds (N.list network.now) }
     ensures deals { IfOk result (λ flow. Deals (N.list network.now) solution.now.entries.items flow) }

@@ -12,6 +12,6 @@ Ends (Ok s) text answer h = (answer ≡ status_number (Ok s)) × HandsOut text h
 Ends (Err error) text answer h = (answer ≡ 4) × HandsNothing h
 
 -- the end of a part of a call over arrays that wrote its line, or failed to, and hands out these items
-abbrev pub EndsSaid : {X : Type 0} → Result ℕ DeviceFault → List X → ℕ → Handed X → Type 0
-EndsSaid (Ok status) items answer h = (answer ≡ status) × HandsOut items h
-EndsSaid (Err fault) items answer h = (answer ≡ 4) × HandsNothing h
+abbrev pub EndsPrinted : {X : Type 0} → Result ℕ DeviceFault → List X → ℕ → Handed X → Type 0
+EndsPrinted (Ok status) items answer h = (answer ≡ status) × HandsOut items h
+EndsPrinted (Err fault) items answer h = (answer ≡ 4) × HandsNothing h

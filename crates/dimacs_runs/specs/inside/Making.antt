@@ -6,7 +6,9 @@ use Rattle.dimacs_runs.specs.declared.failure.CommandError.{CommandError}
 use Rattle.dimacs_runs.specs.declared.outcome.RunError.{RunError}
 use Rattle.dimacs_runs.specs.declared.outcome.Status.{Status}
 use Rattle.dimacs_runs.specs.declared.made.Outcome.{Outcome}
-use Rattle.dimacs_runs.specs.Commands.{Contents, Making, RunsOver, Seen, StopsOpening, WritesNothing, at_first, at_last, failures_named, files_for, made_events, output_faults, reads, text_first}
+use Rattle.dimacs_runs.specs.declared.runs_that_make.ClaimJob.{ClaimJob}
+use Rattle.dimacs_runs.specs.declared.runs_that_make.ClaimJob.TheVariants.{Certify, Spread}
+use Rattle.dimacs_runs.specs.Commands.{Contents, MakesCertificate, MakesSpread, Making, RunsOver, Seen, StopsOpening, WritesNothing, at_first, at_last, failures_named, files_for, made_events, output_faults, reads, text_first}
 use Rattle.dimacs_runs.specs.Files.{FileEvent, FilesSeen, NotCreated, Opened, Read, ReadFile, Sees, WrittenFile, failures}
 use Rattle.dimacs_runs.specs.Outputs.{ReportsAll}
 use Rattle.dimacs_runs.specs.inside.Outcomes.{IfEnds, unclaimed_texts}
@@ -16,6 +18,11 @@ use Rattle.dimacs_runs.specs.inside.Reports.{report_status}
 abbrev pub names_of : {W : Type 0} → (W → List ℕ) → Option W → List (List ℕ)
 names_of bytes None = []
 names_of bytes (Some word) = bytes word ∷ []
+
+-- what a run makes of an instance and a claim
+abbrev pub made_for : ClaimJob → Making
+made_for (Certify kind) = MakesCertificate kind
+made_for (Spread kind) = MakesSpread kind
 
 -- the outcome is written as these texts, with this status
 abbrev pub IsWritten : Outcome → Status → List (List ℕ) → Type 0

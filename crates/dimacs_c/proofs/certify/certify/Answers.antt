@@ -13,7 +13,7 @@ returns c =
     let reported = c.run_certify-ended.ensures.reports a b (ap Some c.new-first.ensures) (λ some. ap Some c.new-second.ensures) in
     let reports = rw (ap (λ (m : InMemory). m.bytes) c.new-text.ensures, ap (λ (m : InMemory). m.bytes) c.new-report.ensures) at reported in
     let handed_text = rw c.bytes.ensures at c.end.ensures in
-    let said = rw c.bytes-2.ensures at c.end-2.ensures in
+    let printed = rw c.bytes-2.ensures at c.end-2.ensures in
     answered_texts (WritesAlike (Certified c.args.kind a b)) c.run_certify-ended.result
     ((c.run_certify-ended.new.certificate_out.bytes, handed c.args.certificate.now c.end.new.out c.end.new.needed) ∷ (c.run_certify-ended.new.report.bytes, handed c.args.out.now c.end-2.new.out c.end-2.new.needed) ∷ [])
-    c.run_certify-ended.new.report.bytes c.end-2.result (handed c.args.out.now c.end-2.new.out c.end-2.new.needed) reports ((c.end.result, handed_text), ((c.end-2.result, said), tt)) said
+    c.run_certify-ended.new.report.bytes c.end-2.result (handed c.args.out.now c.end-2.new.out c.end-2.new.needed) reports ((c.end.result, handed_text), ((c.end-2.result, printed), tt)) printed

@@ -1,14 +1,14 @@
 use Rattle.std.proofs.Common.{None, Some, ap}
 use Rattle.dimacs_lines.specs.Devices.{InMemory}
 use Rattle.dimacs_arrays.specs.MinArrays.{CertifiesInfeasibleArrays}
-use Rattle.dimacs_c.specs.Arrays.{infeasible_said, rooms}
+use Rattle.dimacs_c.specs.Arrays.{infeasible_printed, buffers}
 use Rattle.dimacs_c.specs.Calls.{handed}
 use Rattle.dimacs_c.proofs.ArrayLemmas.{items_answered}
 use Rattle.dimacs_c.proofs.infeasible.dimacs_certify_infeasible_arrays.Goals as goal
 
 pub returns : goal.returns
 returns c =
-    items_answered infeasible_said (CertifiesInfeasibleArrays c.args.instance.now) tt c.certify_infeasible_arrays-answer.result c.certify_infeasible_arrays-answer.ensures
+    items_answered infeasible_printed (CertifiesInfeasibleArrays c.args.instance.now) tt c.certify_infeasible_arrays-answer.result c.certify_infeasible_arrays-answer.ensures
     c.put_certified-put.result c.put_certified-put.ensures.status c.new-line.result.bytes c.put_certified-put.new.sink.bytes (ap (λ (m : InMemory). m.bytes) c.new-line.ensures) c.put_certified-put.ensures.line.accepted
-    (rooms (handed c.args.out.now c.hand_said-3.new.room c.hand_said-3.new.needed) (Some (handed c.args.inside.now c.hand_said.new.room c.hand_said.new.needed)) None (Some (handed c.args.flows.now c.hand_said-2.new.room c.hand_said-2.new.needed))) c.hand_said-3.result (rw c.bytes.ensures at c.hand_said-3.ensures)
-    (c.hand_said.result, rw c.inside_of.ensures at c.hand_said.ensures) tt (c.hand_said-2.result, rw c.flow_of.ensures at c.hand_said-2.ensures)
+    (buffers (handed c.args.out.now c.hand_printed-3.new.buffer c.hand_printed-3.new.needed) (Some (handed c.args.inside.now c.hand_printed.new.buffer c.hand_printed.new.needed)) None (Some (handed c.args.flows.now c.hand_printed-2.new.buffer c.hand_printed-2.new.needed))) c.hand_printed-3.result (rw c.bytes.ensures at c.hand_printed-3.ensures)
+    (c.hand_printed.result, rw c.inside_of.ensures at c.hand_printed.ensures) tt (c.hand_printed-2.result, rw c.flow_of.ensures at c.hand_printed-2.ensures)

@@ -1,14 +1,14 @@
 use Rattle.std.proofs.Common.{None, Some, ap}
 use Rattle.dimacs_lines.specs.Devices.{InMemory}
 use Rattle.dimacs_arrays.specs.MaxArrays.{CertifiesMaxArrays}
-use Rattle.dimacs_c.specs.Arrays.{max_said, rooms}
+use Rattle.dimacs_c.specs.Arrays.{max_printed, buffers}
 use Rattle.dimacs_c.specs.Calls.{handed}
 use Rattle.dimacs_c.proofs.ArrayLemmas.{items_answered}
 use Rattle.dimacs_c.proofs.max.dimacs_certify_max_arrays.Goals as goal
 
 pub returns : goal.returns
 returns c =
-    items_answered max_said (CertifiesMaxArrays c.args.instance.now c.args.flows.now) tt c.certify_max_arrays-answer.result c.certify_max_arrays-answer.ensures
+    items_answered max_printed (CertifiesMaxArrays c.args.instance.now c.args.flows.now) tt c.certify_max_arrays-answer.result c.certify_max_arrays-answer.ensures
     c.put_certified-put.result c.put_certified-put.ensures.status c.new-line.result.bytes c.put_certified-put.new.sink.bytes (ap (λ (m : InMemory). m.bytes) c.new-line.ensures) c.put_certified-put.ensures.line.accepted
-    (rooms (handed c.args.out.now c.hand_said-3.new.room c.hand_said-3.new.needed) (Some (handed c.args.inside.now c.hand_said.new.room c.hand_said.new.needed)) None (Some (handed c.args.better.now c.hand_said-2.new.room c.hand_said-2.new.needed))) c.hand_said-3.result (rw c.bytes.ensures at c.hand_said-3.ensures)
-    (c.hand_said.result, rw c.inside_of.ensures at c.hand_said.ensures) tt (c.hand_said-2.result, rw c.better_of.ensures at c.hand_said-2.ensures)
+    (buffers (handed c.args.out.now c.hand_printed-3.new.buffer c.hand_printed-3.new.needed) (Some (handed c.args.inside.now c.hand_printed.new.buffer c.hand_printed.new.needed)) None (Some (handed c.args.better.now c.hand_printed-2.new.buffer c.hand_printed-2.new.needed))) c.hand_printed-3.result (rw c.bytes.ensures at c.hand_printed-3.ensures)
+    (c.hand_printed.result, rw c.inside_of.ensures at c.hand_printed.ensures) tt (c.hand_printed-2.result, rw c.better_of.ensures at c.hand_printed-2.ensures)

@@ -1,7 +1,7 @@
 use Rattle.std.proofs.Common.{Some, ap}
 use Rattle.dimacs_lines.specs.Devices.{InMemory}
 use Rattle.dimacs_arrays.specs.MinArrays.{SolvesMinArrays}
-use Rattle.dimacs_c.specs.Arrays.{min_found, rooms}
+use Rattle.dimacs_c.specs.Arrays.{min_found, buffers}
 use Rattle.dimacs_c.specs.Calls.{handed}
 use Rattle.dimacs_c.proofs.ArrayLemmas.{items_answered}
 use Rattle.dimacs_c.proofs.min.dimacs_solve_min_arrays.Goals as goal
@@ -10,5 +10,5 @@ pub returns : goal.returns
 returns c =
     items_answered min_found (SolvesMinArrays c.args.instance.now c.args.limit) tt c.solve_min_arrays-answer.result c.solve_min_arrays-answer.ensures
     c.put_solved-put.result c.put_solved-put.ensures.status c.new-line.result.bytes c.put_solved-put.new.sink.bytes (ap (λ (m : InMemory). m.bytes) c.new-line.ensures) c.put_solved-put.ensures.line.accepted
-    (rooms (handed c.args.out.now c.hand_said-4.new.room c.hand_said-4.new.needed) (Some (handed c.args.inside.now c.hand_said.new.room c.hand_said.new.needed)) (Some (handed c.args.potentials.now c.hand_said-2.new.room c.hand_said-2.new.needed)) (Some (handed c.args.flows.now c.hand_said-3.new.room c.hand_said-3.new.needed))) c.hand_said-4.result (rw c.bytes.ensures at c.hand_said-4.ensures)
-    (c.hand_said.result, rw c.inside_by.ensures at c.hand_said.ensures) (c.hand_said-2.result, rw c.potentials_by.ensures at c.hand_said-2.ensures) (c.hand_said-3.result, rw c.flow_of.ensures at c.hand_said-3.ensures)
+    (buffers (handed c.args.out.now c.hand_printed-4.new.buffer c.hand_printed-4.new.needed) (Some (handed c.args.inside.now c.hand_printed.new.buffer c.hand_printed.new.needed)) (Some (handed c.args.potentials.now c.hand_printed-2.new.buffer c.hand_printed-2.new.needed)) (Some (handed c.args.flows.now c.hand_printed-3.new.buffer c.hand_printed-3.new.needed))) c.hand_printed-4.result (rw c.bytes.ensures at c.hand_printed-4.ensures)
+    (c.hand_printed.result, rw c.inside_by.ensures at c.hand_printed.ensures) (c.hand_printed-2.result, rw c.potentials_by.ensures at c.hand_printed-2.ensures) (c.hand_printed-3.result, rw c.flow_of.ensures at c.hand_printed-3.ensures)

@@ -1,7 +1,7 @@
 use Rattle.std.proofs.Common.{None, Some, ap}
 use Rattle.dimacs_lines.specs.Devices.{InMemory}
 use Rattle.dimacs_arrays.specs.GraphArrays.{SolvesPathsArrays}
-use Rattle.dimacs_c.specs.Arrays.{paths_found, rooms}
+use Rattle.dimacs_c.specs.Arrays.{paths_found, buffers}
 use Rattle.dimacs_c.specs.Calls.{handed}
 use Rattle.dimacs_c.proofs.ArrayLemmas.{items_answered}
 use Rattle.dimacs_c.proofs.paths.dimacs_solve_paths_arrays.Goals as goal
@@ -10,5 +10,5 @@ pub returns : goal.returns
 returns c =
     items_answered paths_found (SolvesPathsArrays c.args.graph.now c.args.source) tt c.solve_paths_arrays-answer.result c.solve_paths_arrays-answer.ensures
     c.put_solved-put.result c.put_solved-put.ensures.status c.new-line.result.bytes c.put_solved-put.new.sink.bytes (ap (λ (m : InMemory). m.bytes) c.new-line.ensures) c.put_solved-put.ensures.line.accepted
-    (rooms (handed c.args.out.now c.hand_said-3.new.room c.hand_said-3.new.needed) (Some (handed c.args.predecessors.now c.hand_said.new.room c.hand_said.new.needed)) (Some (handed c.args.distances.now c.hand_said-2.new.room c.hand_said-2.new.needed)) None) c.hand_said-3.result (rw c.bytes.ensures at c.hand_said-3.ensures)
-    (c.hand_said.result, rw c.predecessors_by.ensures at c.hand_said.ensures) (c.hand_said-2.result, rw c.distances_by.ensures at c.hand_said-2.ensures) tt
+    (buffers (handed c.args.out.now c.hand_printed-3.new.buffer c.hand_printed-3.new.needed) (Some (handed c.args.predecessors.now c.hand_printed.new.buffer c.hand_printed.new.needed)) (Some (handed c.args.distances.now c.hand_printed-2.new.buffer c.hand_printed-2.new.needed)) None) c.hand_printed-3.result (rw c.bytes.ensures at c.hand_printed-3.ensures)
+    (c.hand_printed.result, rw c.predecessors_by.ensures at c.hand_printed.ensures) (c.hand_printed-2.result, rw c.distances_by.ensures at c.hand_printed-2.ensures) tt

@@ -15,8 +15,8 @@ returns c =
     let reports = rw (ap (λ (m : InMemory). m.bytes) c.new-claim.ensures, ap (λ (m : InMemory). m.bytes) c.new-text.ensures, ap (λ (m : InMemory). m.bytes) c.new-report.ensures) at reported in
     let claim = rw c.bytes.ensures at c.end.ensures in
     let handed_text = rw c.bytes-2.ensures at c.end-2.ensures in
-    let said = rw c.bytes-3.ensures at c.end-3.ensures in
+    let printed = rw c.bytes-3.ensures at c.end-3.ensures in
     answered_texts (MayWrite (Solved c.args.job a b)) c.run_solve-ended.result
     ((c.run_solve-ended.new.claim_out.bytes, handed c.args.solution.now c.end.new.out c.end.new.needed) ∷ (c.run_solve-ended.new.certificate_out.bytes, handed c.args.certificate.now c.end-2.new.out c.end-2.new.needed)
     ∷ (c.run_solve-ended.new.report.bytes, handed c.args.out.now c.end-3.new.out c.end-3.new.needed) ∷ [])
-    c.run_solve-ended.new.report.bytes c.end-3.result (handed c.args.out.now c.end-3.new.out c.end-3.new.needed) reports ((c.end.result, claim), ((c.end-2.result, handed_text), ((c.end-3.result, said), tt))) said
+    c.run_solve-ended.new.report.bytes c.end-3.result (handed c.args.out.now c.end-3.new.out c.end-3.new.needed) reports ((c.end.result, claim), ((c.end-2.result, handed_text), ((c.end-3.result, printed), tt))) printed

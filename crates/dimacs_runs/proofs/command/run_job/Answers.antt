@@ -10,4 +10,4 @@ pub returns-in-Certify : goal.returns-in-Certify
 returns-in-Certify g c = record { runs = rw c.in-Certify.is c.certify_files.ensures.runs }
 
 pub returns-in-Spread : goal.returns-in-Spread
-returns-in-Spread g c = record { runs = rw c.in-Spread.is c.spread_files.ensures.runs }
+returns-in-Spread g c = record { runs = rw c.in-Spread.is c.make_of_claim.ensures.runs }

@@ -5,7 +5,7 @@ use Rattle.std.specs.String.{string_bytes}
 use Rattle.dimacs_runs.proofs.WordLemmas.{limited, two_words}
 use Rattle.dimacs_runs.proofs.words.limit.Goals as goal
 
-pub returns-in-len2-clause-limit : goal.returns-in-len2-clause-told
+pub returns-in-len2-clause-limit : goal.returns-in-len2-clause-limit
 returns-in-len2-clause-limit c =
     limited c.limit_in.result _ c.as_bytes.result.now
     (two_words string_bytes c.args.options.now c.word-item.result c.number-item.result _ _ c.in-len2.len_at_least c.in-len2.len_below c.word-item.is c.number-item.is

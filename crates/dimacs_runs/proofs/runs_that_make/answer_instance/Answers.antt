@@ -6,7 +6,7 @@ use Rattle.dimacs_runs.specs.inside.Outcomes.{IfEnds, settled, unclaimed_texts}
 use Rattle.dimacs_runs.proofs.FileLemmas.{one_first}
 use Rattle.dimacs_runs.proofs.MakingLemmas.{answers_files, answers_nothing}
 use Rattle.dimacs_runs.proofs.PlanLemmas.{each_text, sees_nothing}
-use Rattle.dimacs_runs.proofs.runs_that_certify.answer_instance.Goals as goal
+use Rattle.dimacs_runs.proofs.runs_that_make.answer_instance.Goals as goal
 
 pub returns-in_err-instance : goal.returns-in_err-instance
 returns-in_err-instance g c =

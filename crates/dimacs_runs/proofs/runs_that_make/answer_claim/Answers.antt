@@ -1,11 +1,12 @@
 use Rattle.std.proofs.Common.{ℕ, ◌∙◌, List, [], ◌∷◌, ap, refl}
-use Rattle.dimacs_runs.specs.Commands.{Contents, MakesCertificate}
+use Rattle.dimacs_runs.specs.Commands.{Contents}
 use Rattle.dimacs_runs.specs.Files.{Read, ReadFile}
+use Rattle.dimacs_runs.specs.inside.Making.{made_for}
 use Rattle.dimacs_runs.specs.inside.Outcomes.{IfEnds, unclaimed_texts}
 use Rattle.dimacs_runs.proofs.FileLemmas.{sees_two, two_first}
 use Rattle.dimacs_runs.proofs.MakingLemmas.{answers_files, answers_nothing}
 use Rattle.dimacs_runs.proofs.PlanLemmas.{each_text, sees_nothing}
-use Rattle.dimacs_runs.proofs.runs_that_certify.answer_pair.Goals as goal
+use Rattle.dimacs_runs.proofs.runs_that_make.answer_claim.Goals as goal
 
 pub returns-in_err-instance : goal.returns-in_err-instance
 returns-in_err-instance g c =
@@ -17,18 +18,18 @@ returns-in_err-claim g c =
 
 pub returns : goal.returns
 returns g c =
-    let answer = c.certify_claim-answer.result in
-    let instance : ReadFile = record { name = c.in_ok-instance.instance.name.now; faults = g.F.Input.Source.faults c.certify_claim-answer.new.instance } in
-    let claim : ReadFile = record { name = c.in_ok-claim.claim.name.now; faults = g.F.Input.Source.faults c.certify_claim-answer.new.claim } in
+    let answer = c.make-answer.result in
+    let instance : ReadFile = record { name = c.in_ok-instance.instance.name.now; faults = g.F.Input.Source.faults c.make-answer.new.instance } in
+    let claim : ReadFile = record { name = c.in_ok-claim.claim.name.now; faults = g.F.Input.Source.faults c.make-answer.new.claim } in
     record {
       answers = answers_files (instance ∷ claim ∷ []) answer c.or-failure.result
           (rw (c.in_ok-instance.ensures.named, c.in_ok-claim.ensures.named) refl)
           (sees_two c.in_ok-instance.ensures.opened c.in_ok-claim.ensures.opened)
           (sees_two c.close_read.ensures.seen c.close_read-2.ensures.seen) c.name_failure.ensures
           (rw c.or-failure.ensures (two_first c.close_read.result c.close_read-2.result (Read instance) (Read claim) c.close_read.ensures.failure c.close_read-2.ensures.failure))
-          (rw (c.in_ok-instance.ensures.faultless, c.in_ok-claim.ensures.faultless) at c.certify_claim-answer.ensures.faults)
-          (each_text (_ ∷ _ ∷ []) (λ (texts : List (List ℕ)). IfEnds unclaimed_texts (MakesCertificate c.args.kind texts) answer) (λ a first b second.
-          (c.certify_claim-answer.ensures.certifies a b
+          (rw (c.in_ok-instance.ensures.faultless, c.in_ok-claim.ensures.faultless) at c.make-answer.ensures.faults)
+          (each_text (_ ∷ _ ∷ []) (λ (texts : List (List ℕ)). IfEnds unclaimed_texts (made_for c.args.job texts) answer) (λ a first b second.
+          (c.make-answer.ensures.made a b
           (c.in_ok-instance.ensures.coming ∙ first)
-          (λ some. c.in_ok-claim.ensures.coming ∙ ap (λ (h : Contents). h c.args.claim.now) c.in_ok-instance.ensures.holds ∙ second))));
+          (c.in_ok-claim.ensures.coming ∙ ap (λ (h : Contents). h c.args.claim.now) c.in_ok-instance.ensures.holds ∙ second))));
     }

@@ -1,8 +1,0 @@
-use Rattle.dimacs_runs.proofs.WordLemmas.{reads_two}
-use Rattle.dimacs_runs.proofs.runs_that_certify.certify_files.Goals as goal
-
-pub returns-in-Infeasible : goal.returns-in-Infeasible
-returns-in-Infeasible g c = record { runs = rw c.in-Infeasible.is c.certify_by_one.ensures.runs }
-
-pub returns-in_default : goal.returns-in_default
-returns-in_default g c = record { runs = rw (reads_two c.args.kind c.in_default.not-Infeasible) c.certify_by_two.ensures.runs }

@@ -1,0 +1,143 @@
+//! Runs that read their files, close them, and only then create a file for the text that they made.
+
+ghost use Rattle.std.specs.Prelude.{◌≡◌, ◌≤◌, ◌∷◌, [], ℕ, List, Some, length, map};
+ghost use Rattle.std.specs.String.{string_bytes};
+ghost use Rattle.dimacs_runs.specs.declared.jobs.CertifyKind.TheVariants as certifies;
+ghost use Rattle.dimacs_runs.specs.Commands.{MakesCertificate, MakesOfFiles, reads_first, seen_by};
+ghost use Rattle.dimacs_runs.specs.Jobs.{AreCertifyFiles, certify_reads};
+ghost use Rattle.dimacs_runs.specs.Judgings.{CountsDevices};
+ghost use Rattle.dimacs_runs.specs.inside.Making.{AnswersFiles, made_for};
+ghost use Rattle.dimacs_runs.specs.inside.Outcomes.{IfEnds, unclaimed_texts};
+
+use crate::certify::certify_claim;
+use crate::certify_infeasible::certify_infeasible;
+use crate::failure::{CommandError, name_failure};
+use crate::files::Files;
+use crate::in_use::{close_read, open};
+use crate::jobs::{CertifyKind, SpreadKind, word};
+use crate::made::Outcome;
+use crate::made_files::write_made;
+use crate::outcome::{RunError, Status};
+use crate::spread::spread_claim;
+use crate::stop::settle;
+use dimacs_lines::{Sink, Source};
+use std::alloc::Global;
+
+/// What is made of an instance and a claim.
+#[derive(Clone, Copy)]
+pub(crate) enum ClaimJob {
+    /// A certificate, or a better solution.
+    Certify(CertifyKind),
+    /// The claimed flow, dealt out to parallel arcs.
+    Spread(SpreadKind),
+}
+
+/// Certifies a claim in the files with these names.
+pub(crate) fn certify_files<'a, F: Files, K: Sink>(
+    alloc: Global,
+    kind: CertifyKind,
+    names: &'a [String],
+    files: &mut F,
+    output: &mut K,
+) -> Result<Status, CommandError<'a>>
+    requires { AreCertifyFiles kind (length names.now) }
+    ensures runs { MakesOfFiles (reads_first (certify_reads kind) (map string_bytes names.now)) (F.holds files.old) F.empty (MakesCertificate kind) result
+        (seen_by (F.seen files.old) (K.seen output.old))
+        (seen_by (F.seen files.new) (K.seen output.new)) }
+{
+    match kind {
+        CertifyKind::Infeasible => certify_instance(alloc, names, files, output),
+        kind => make_of_claim(alloc, ClaimJob::Certify(kind), names, files, output),
+    }
+}
+
+/// Makes a text of the files of an instance and a claim, and writes it to the third file if one is named.
+pub(crate) fn make_of_claim<'a, F: Files, K: Sink>(
+    alloc: Global,
+    job: ClaimJob,
+    names: &'a [String],
+    files: &mut F,
+    output: &mut K,
+) -> Result<Status, CommandError<'a>>
+    requires least { 2 ≤ length names.now }
+    requires most { length names.now ≤ 3 }
+    ensures runs { MakesOfFiles (reads_first 2 (map string_bytes names.now)) (F.holds files.old) F.empty (made_for job) result
+        (seen_by (F.seen files.old) (K.seen output.old))
+        (seen_by (F.seen files.new) (K.seen output.new)) }
+{
+    let [instance, claim, ..] = names else {
+        unreachable!()
+    };
+    let outcome = answer_claim(alloc, job, instance.as_str(), claim.as_str(), files)?;
+    write_made(outcome, word(names, 2), files, output)
+}
+
+/// Certifies that no flow is feasible, in the file of an instance, and writes the set of nodes, or a feasible flow, to
+/// the second file if one is named.
+fn certify_instance<'a, F: Files, K: Sink>(
+    alloc: Global,
+    names: &'a [String],
+    files: &mut F,
+    output: &mut K,
+) -> Result<Status, CommandError<'a>>
+    requires least { 1 ≤ length names.now }
+    requires most { length names.now ≤ 2 }
+    ensures runs { MakesOfFiles (reads_first 1 (map string_bytes names.now)) (F.holds files.old) F.empty (MakesCertificate certifies.Infeasible) result
+        (seen_by (F.seen files.old) (K.seen output.old))
+        (seen_by (F.seen files.new) (K.seen output.new)) }
+{
+    let [instance, ..] = names else {
+        unreachable!()
+    };
+    let outcome = answer_instance(alloc, instance.as_str(), files)?;
+    write_made(outcome, word(names, 1), files, output)
+}
+
+/// Opens the files of the instance and the claim, makes a text of them, and closes the files.
+fn answer_claim<'a, F: Files>(
+    alloc: Global,
+    job: ClaimJob,
+    instance: &'a str,
+    claim: &'a str,
+    files: &mut F,
+) -> Result<Outcome, CommandError<'a>>
+    ensures answers { AnswersFiles (instance.now ∷ claim.now ∷ []) (F.holds files.old) (made_for job) result (F.seen files.old) (F.seen files.new) }
+{
+    let mut instance = open(files, instance)?;
+    let mut claim = open(files, claim)?;
+    let answer = make(alloc, job, &mut instance.device, &mut claim.device);
+    let failure = close_read(files, instance).or(close_read(files, claim));
+    name_failure(answer, failure)
+}
+
+/// Makes a text of an instance and a claim.
+fn make<P: Source, Q: Source>(
+    alloc: Global,
+    job: ClaimJob,
+    instance: &mut P,
+    claim: &mut Q,
+) -> Result<Outcome, RunError>
+    ensures made { (a b : List ℕ) → P.coming instance.old ≡ Some a → Q.coming claim.old ≡ Some b →
+        IfEnds unclaimed_texts (made_for job (a ∷ b ∷ [])) result }
+    ensures faults { CountsDevices result (P.faults instance.old ∷ Q.faults claim.old ∷ []) (P.faults instance.new ∷ Q.faults claim.new ∷ []) }
+{
+    match job {
+        ClaimJob::Certify(kind) => certify_claim(alloc, kind, instance, claim),
+        ClaimJob::Spread(kind) => spread_claim(alloc, kind, instance, claim),
+    }
+}
+
+/// Opens the file of the instance, certifies that no flow is feasible, and closes the file.
+fn answer_instance<'a, F: Files>(
+    alloc: Global,
+    instance: &'a str,
+    files: &mut F,
+) -> Result<Outcome, CommandError<'a>>
+    ensures answers { AnswersFiles (instance.now ∷ []) (F.holds files.old) (MakesCertificate certifies.Infeasible) result
+        (F.seen files.old) (F.seen files.new) }
+{
+    let mut instance = open(files, instance)?;
+    let answer = settle(certify_infeasible(alloc, &mut instance.device));
+    let failure = close_read(files, instance);
+    name_failure(answer, failure)
+}
