@@ -52,12 +52,13 @@ static RUNS: [(&str, &str); 16] = [
 
 /// The text after the list of runs.
 static NOTES: &str = "\
-A judge is given what shows that a claim is true. A certify run needs no such
-file: it writes one to CERTIFICATE or LABELS, if it is named, or a better or a
-feasible solution, once the other files are read; so do spread runs with OUT. A
-solve run empties the files that it writes before it reads INSTANCE, or GRAPH and
-QUERY, so no other word may name them. The other runs write no file. N is how many flows or steps are tried,
-a number from 0 to 1000000000, and 1000000 if it isn't given.
+A judge is given a certificate, which shows that a claim is true. A certify run
+needs none: it writes one to CERTIFICATE or LABELS, if it is named, or a better
+or a feasible solution, once the other files are read; so do spread runs with
+OUT. A solve run empties the files that it writes before it reads INSTANCE, or
+GRAPH and QUERY, so no other argument may name them. The other runs write no
+file. N limits the flows or steps that are tried: a number from 0 to 1000000000,
+1000000 by default.
 
 KIND:
   max    an instance of maximum flow       solution   a claimed flow
@@ -69,7 +70,7 @@ KIND:
 Exit status:
   0  done; a judge said yes                3  a file failed, or isn't there
   1  refused: the line begins with x       4  out of memory
-  2  these words ask for no run            5  a solve run gave up: g limit
+  2  the arguments name no run             5  a solve run gave up: g limit
 
 Example:
   dimacs judge-max pipes.max pipes.solution pipes.cut
