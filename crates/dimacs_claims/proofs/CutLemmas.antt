@@ -213,7 +213,7 @@ cut_round_trip c law =
     let lines = All-map (CanBeSpelled kinds.Cut) CutNode (ids_in c) (λ k d below. line_fits _ (named k d below).0 (omega (arith, (named k d below).1, law.nodes_few))) in
     let fit : All (CanBeSpelled kinds.Cut) all = All-cons (CanBeSpelled kinds.Cut) (CutProblem c.nodes (length (ids_in c))) (map CutNode (ids_in c)) problem lines in
     record {
-      said = map (λ (r : Record). Some r) all;
+      by_line = map (λ (r : Record). Some r) all;
       spelled = canonical_spelled kinds.Cut all fit (omega (arith, few, length-map (ids_in c) CutNode));
       given = record {
         named = ids_in c;

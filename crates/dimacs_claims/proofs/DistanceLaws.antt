@@ -210,7 +210,7 @@ distances_round_trip d are bare_ones few =
     let rs = distance_records d in
     let fit : All (CanBeSpelled Distances) rs = All-map (CanBeSpelled Distances) bare (label_records d) (All-weaker (CanBeSpelled Labels) (λ (r : Record). CanBeSpelled Distances (bare r)) bare_spelled (label_records d) (records_fit d are)) in
     record {
-      said = map (λ (r : Record). Some r) rs;
+      by_line = map (λ (r : Record). Some r) rs;
       spelled = canonical_spelled Distances rs fit (rw (length-map (label_records d) bare) few);
       given = (numbered_all rs, are, bare_ones);
     }

@@ -225,7 +225,7 @@ pub labels_round_trip : (labels : LabelsValue) → AreLabels labels → FitText 
 labels_round_trip labels are few =
     let rs = label_records labels in
     record {
-      said = map (λ (r : Record). Some r) rs;
+      by_line = map (λ (r : Record). Some r) rs;
       spelled = canonical_spelled Labels rs (records_fit labels are) few;
       given = (numbered_all rs, are);
     }
@@ -235,5 +235,5 @@ pub fit_read : (kind : TextKind) (gives : List LineRecord → LabelsValue → Ty
     → (all : List (List ℕ)) (noted : Result LabelsValue ReadError) → Reads (SpellsValue kind gives all) (Fault kind all) noted → IfOk noted FitText
 fit_read kind gives as_many all (Ok labels) h =
     let spells = h.0 in
-    omega (arith, one_a_line kind all spells.said 1 spells.spelled.spell, spells.spelled.few, as_many (numbered 1 spells.said) labels spells.given, length-map (numbered 1 spells.said) (λ (r : LineRecord). r.says))
+    omega (arith, one_a_line kind all spells.by_line 1 spells.spelled.spell, spells.spelled.few, as_many (numbered 1 spells.by_line) labels spells.given, length-map (numbered 1 spells.by_line) (λ (r : LineRecord). r.says))
 fit_read kind gives as_many all (Err error) h = tt

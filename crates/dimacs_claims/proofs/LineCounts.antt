@@ -5,8 +5,8 @@ use Rattle.dimacs_records.specs.declared.records.Record.{Record}
 use Rattle.dimacs_records.specs.Faults.{Spell}
 use Rattle.dimacs_records.specs.Readings.{numbered}
 
-pub one_a_line : (kind : TextKind) (all : List (List ℕ)) (said : List (Option Record)) (line : ℕ) → Spell kind all said → length (numbered line said) ≤ length all
+pub one_a_line : (kind : TextKind) (all : List (List ℕ)) (by_line : List (Option Record)) (line : ℕ) → Spell kind all by_line → length (numbered line by_line) ≤ length all
 one_a_line kind [] [] line h = omega arith
-one_a_line kind (text ∷ all) (None ∷ said) line h = omega (arith, one_a_line kind all said (suc line) h.1)
-one_a_line kind (text ∷ all) (Some r ∷ said) line h = omega (arith, one_a_line kind all said (suc line) h.2)
-one_a_line kind all said line h = absurd h
+one_a_line kind (text ∷ all) (None ∷ by_line) line h = omega (arith, one_a_line kind all by_line (suc line) h.1)
+one_a_line kind (text ∷ all) (Some r ∷ by_line) line h = omega (arith, one_a_line kind all by_line (suc line) h.2)
+one_a_line kind all by_line line h = absurd h

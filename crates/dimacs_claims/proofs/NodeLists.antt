@@ -7,7 +7,7 @@ use Rattle.std.proofs.lemmas.Bool.Decides.{nat_tests}
 use Rattle.std.proofs.lemmas.List.{map-append}
 use Rattle.std.proofs.lemmas.List.Elements.{filter-append, All-nil, All-cons}
 use Rattle.dimacs_records.specs.declared.records.Record.{Record}
-use Rattle.dimacs_records.specs.Canonical.{AreLines, said_lines}
+use Rattle.dimacs_records.specs.Canonical.{AreLines, records_of_line}
 use Rattle.dimacs_claims.specs.Cuts.{is_id}
 use Rattle.dimacs_records.proofs.CountLemmas.{count_by-cons, count_yes, count_no, none_counted}
 
@@ -73,17 +73,17 @@ passing_below p id least =
 
 -- a line for each ID that passes
 pub lines_of_passing : (p : ℕ → Bool) (line : ℕ → Record) (says : ℕ → Option Record → Type 0) (n : ℕ)
-    → ((i : ℕ) (said : Option Record) → i < n → says i said → said ≡ cond (p (i + 1)) (Some (line (i + 1))) None) → AreLines says n (λ i. map line (passing p i))
+    → ((i : ℕ) (rec : Option Record) → i < n → says i rec → rec ≡ cond (p (i + 1)) (Some (line (i + 1))) None) → AreLines says n (λ i. map line (passing p i))
 lines_of_passing p line says n each = record {
   none = refl;
-  more = λ i said within e.
+  more = λ i rec within e.
       let next : passing p (i + 1) ≡ passing p i ++ filter p ((i + 1) ∷ []) = search (rules, passing_below p (i + 1) (omega arith)) in
-      ap (map line) next ∙ map-append line (passing p i) (filter p ((i + 1) ∷ [])) ∙ ap (λ rs. map line (passing p i) ++ rs) (by_test (i + 1) said (p (i + 1)) (each i said within e));
+      ap (map line) next ∙ map-append line (passing p i) (filter p ((i + 1) ∷ [])) ∙ ap (λ rs. map line (passing p i) ++ rs) (by_test (i + 1) rec (p (i + 1)) (each i rec within e));
 }
   where
-    by_test : (id : ℕ) (said : Option Record) (b : Bool) → said ≡ cond b (Some (line id)) None → map line (cond b (id ∷ []) []) ≡ said_lines said
-    by_test id said true is = rw is refl
-    by_test id said false is = rw is refl
+    by_test : (id : ℕ) (rec : Option Record) (b : Bool) → rec ≡ cond b (Some (line id)) None → map line (cond b (id ∷ []) []) ≡ records_of_line rec
+    by_test id rec true is = rw is refl
+    by_test id rec false is = rw is refl
 
 length_filter : (p : ℕ → Bool) (a n : ℕ) → length (filter p (range_with_len a n)) ≤ n
 length_filter p a zero = omega arith

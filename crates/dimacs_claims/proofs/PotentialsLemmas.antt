@@ -18,7 +18,7 @@ use Rattle.dimacs_records.specs.declared.records.Record.{Record}
 use Rattle.dimacs_records.specs.declared.records.Record.TheVariants.{PotentialsProblem, PotentialsNode}
 use Rattle.dimacs_records.specs.declared.order.Earlier.{Earlier}
 use Rattle.dimacs_records.specs.Earlier.{names, counted_in}
-use Rattle.dimacs_records.specs.Canonical.{CanBeSpelled, AreLines, said_lines}
+use Rattle.dimacs_records.specs.Canonical.{CanBeSpelled, AreLines, records_of_line}
 use Rattle.dimacs_records.specs.Forms.{form, Word, Nodes, Count, Id, Wide}
 use Rattle.dimacs_records.specs.Readings.{LineRecord, records_of, IsAllowed, IsComplete}
 use Rattle.dimacs_records.specs.Texts.{AreFaultless}
@@ -243,7 +243,7 @@ potentials_round_trip p law =
     let lines = All-map (CanBeSpelled kinds.Potentials) node_line (with_values p ids) (λ k d below. line_fits _ _ (can k d below).0.0 (omega (arith, (can k d below).0.1, law.nodes_few)) (can k d below).1) in
     let fit : All (CanBeSpelled kinds.Potentials) all = All-cons (CanBeSpelled kinds.Potentials) (PotentialsProblem p.nodes (length ids)) (map node_line (with_values p ids)) problem lines in
     record {
-      said = map (λ (r : Record). Some r) all;
+      by_line = map (λ (r : Record). Some r) all;
       spelled = canonical_spelled kinds.Potentials all fit (omega (arith, few, same_length, length-map (with_values p ids) node_line));
       given = record {
         named = with_values p ids;
@@ -256,15 +256,15 @@ potentials_round_trip p law =
 
 -- a line for each node with a potential other than 0
 pub potential_lines : (p : PotentialsValue) (says : ℕ → Option Record → Type 0) (n : ℕ)
-    → ((i : ℕ) (said : Option Record) → i < n → says i said → said ≡ cond (nonzero_at p (i + 1)) (Some (PotentialsNode (i + 1) (potential_of p (i + 1)))) None)
+    → ((i : ℕ) (rec : Option Record) → i < n → says i rec → rec ≡ cond (nonzero_at p (i + 1)) (Some (PotentialsNode (i + 1) (potential_of p (i + 1)))) None)
     → AreLines says n (λ i. map node_line (with_values p (passing (nonzero_at p) i)))
 potential_lines p says n each =
     let value : ℕ → ℕ × ℤ = λ id. (id, potential_of p id) in
     let h = lines_of_passing (nonzero_at p) (λ id. node_line (value id)) says n each in
     record {
       none = refl;
-      more = λ i said within e.
-          map-map node_line value (passing (nonzero_at p) (i + 1)) ∙ h.more i said within e ∙ ap (λ rs. rs ++ said_lines said) (sym (map-map node_line value (passing (nonzero_at p) i)));
+      more = λ i rec within e.
+          map-map node_line value (passing (nonzero_at p) (i + 1)) ∙ h.more i rec within e ∙ ap (λ rs. rs ++ records_of_line rec) (sym (map-map node_line value (passing (nonzero_at p) i)));
     }
 
 -- the number of nodes below this ID with a potential other than 0

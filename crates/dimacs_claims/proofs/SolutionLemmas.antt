@@ -169,7 +169,7 @@ solution_round_trip s is =
     let entries = All-map (CanBeSpelled kinds.Solution) entry_record s.entries (λ k d below. entry_fits _ (is.entries k d below)) in
     let fit = All-cons (CanBeSpelled kinds.Solution) (value_record s.value) (map entry_record s.entries) (value_fits s is) entries in
     record {
-      said = map (λ (r : Record). Some r) (solution_records s);
+      by_line = map (λ (r : Record). Some r) (solution_records s);
       spelled = canonical_spelled kinds.Solution (solution_records s) fit (omega (arith, length-map s.entries entry_record, is.few));
       given = record {
         before = [];
@@ -188,18 +188,18 @@ pub canonical-renumbered : (s : SolutionValue) → canonical_solution (renumbere
 canonical-renumbered s = ap (λ rs. canonical_text (value_record s.value ∷ rs)) (records-on_lines_from 2 s.entries)
 
 -- the records of spelled lines are of this kind, at most one a line
-all_of_kind : (all : List (List ℕ)) (said : List (Option Record)) (line : ℕ) → Spell kinds.Solution all said → All IsSolutionLine (numbered line said)
+all_of_kind : (all : List (List ℕ)) (by_line : List (Option Record)) (line : ℕ) → Spell kinds.Solution all by_line → All IsSolutionLine (numbered line by_line)
 all_of_kind [] [] line h = All-nil IsSolutionLine
-all_of_kind (text ∷ all) (None ∷ said) line h = all_of_kind all said (suc line) h.1
-all_of_kind (text ∷ all) (Some r ∷ said) line h =
-    All-cons IsSolutionLine (on_line line r) (numbered (suc line) said) (record { texts = texts_in text; spelled = h.1 }) (all_of_kind all said (suc line) h.2)
-all_of_kind all said line h = absurd h
+all_of_kind (text ∷ all) (None ∷ by_line) line h = all_of_kind all by_line (suc line) h.1
+all_of_kind (text ∷ all) (Some r ∷ by_line) line h =
+    All-cons IsSolutionLine (on_line line r) (numbered (suc line) by_line) (record { texts = texts_in text; spelled = h.1 }) (all_of_kind all by_line (suc line) h.2)
+all_of_kind all by_line line h = absurd h
 
-one_a_line : (all : List (List ℕ)) (said : List (Option Record)) (line : ℕ) → Spell kinds.Solution all said → length (numbered line said) ≤ length all
+one_a_line : (all : List (List ℕ)) (by_line : List (Option Record)) (line : ℕ) → Spell kinds.Solution all by_line → length (numbered line by_line) ≤ length all
 one_a_line [] [] line h = omega arith
-one_a_line (text ∷ all) (None ∷ said) line h = omega (arith, one_a_line all said (suc line) h.1)
-one_a_line (text ∷ all) (Some r ∷ said) line h = omega (arith, one_a_line all said (suc line) h.2)
-one_a_line all said line h = absurd h
+one_a_line (text ∷ all) (None ∷ by_line) line h = omega (arith, one_a_line all by_line (suc line) h.1)
+one_a_line (text ∷ all) (Some r ∷ by_line) line h = omega (arith, one_a_line all by_line (suc line) h.2)
+one_a_line all by_line line h = absurd h
 
 spelled_value : (value : ℤ) → IsOfKind kinds.Solution (value_record value) → IsWithin (neg_ℤ (pos (10 ^ 30))) (pos (10 ^ 30)) value
 spelled_value value h = (fits_of kinds.Solution (value_record value) (Wide ∷ []) h refl).0
@@ -231,12 +231,12 @@ lawful_of_records rs s are few h =
     record { value = spelled_value s.value parted.0; entries = spelled_entries s.entries entries; few = omega (arith, count, few) }
 
 -- the solution of spelled lines is lawful
-lawful_given : (all : List (List ℕ)) (said : List (Option Record)) (s : SolutionValue) → AreSpelled kinds.Solution all said → GivesSolution (numbered 1 said) s → IsLawful s
-lawful_given all said s spelled h =
-    lawful_of_records (numbered 1 said) s (all_of_kind all said 1 spelled.spell) (omega (arith, one_a_line all said 1 spelled.spell, spelled.few)) h
+lawful_given : (all : List (List ℕ)) (by_line : List (Option Record)) (s : SolutionValue) → AreSpelled kinds.Solution all by_line → GivesSolution (numbered 1 by_line) s → IsLawful s
+lawful_given all by_line s spelled h =
+    lawful_of_records (numbered 1 by_line) s (all_of_kind all by_line 1 spelled.spell) (omega (arith, one_a_line all by_line 1 spelled.spell, spelled.few)) h
 
 lawful_read : (all : List (List ℕ)) (noted : Result SolutionValue ReadError) → ReadsLines kinds.Solution GivesSolution all noted → IfOk noted IsLawful
-lawful_read all (Ok s) h = lawful_given all h.said s (spelled_of_faultless kinds.Solution all h.said h.faultless) h.given
+lawful_read all (Ok s) h = lawful_given all h.by_line s (spelled_of_faultless kinds.Solution all h.by_line h.faultless) h.given
 lawful_read all (Err error) h = tt
 
 -- ---- reading into a place
@@ -256,7 +256,7 @@ module _ {W : Type 0} (value : W → ℤ) (value_line : W → ℕ) (holds : W �
   pub reads_placed : (text : List ℕ) (result : Result W ReadError) → ReadsLines kinds.Solution (λ rs w. GivesPlaced (value w) (value_line w) (holds w) rs) (lines text) result → ReadsLike like text result
   reads_placed text (Ok w) h =
       let s : SolutionValue = record { value = value w; value_line = value_line w; entries = h.given.0 } in
-      read_as text (Ok w) (Ok s) (record { said = h.said; faultless = h.faultless; given = h.given.2 }) (record { value_is = refl; line_is = refl; entries = h.given.1 })
+      read_as text (Ok w) (Ok s) (record { by_line = h.by_line; faultless = h.faultless; given = h.given.2 }) (record { value_is = refl; line_is = refl; entries = h.given.1 })
   reads_placed text (Err (read_errors.Refused place reason)) h = read_as text (Err (read_errors.Refused place reason)) (Err (read_errors.Refused place reason)) h refl
   reads_placed text (Err read_errors.Device) h = read_as text (Err read_errors.Device) (Err read_errors.Device) tt refl
   reads_placed text (Err read_errors.Memory) h = read_as text (Err read_errors.Memory) (Err read_errors.Memory) tt refl
@@ -283,10 +283,10 @@ module _ (holds : List Entry → Type 0) (rs : List LineRecord) where
   pub end_tells : (value : Option ValueLine) → StandsForSolution value holds rs → earlier_value value ≡ noted_at_end kinds.Solution (records_of rs)
   end_tells value h = let says = say value h in rw (says.0, says.1.0, says.1.1) refl
 
-  pub value_placed : (value : Option ValueLine) (line : ℕ) (said : ℤ) → Passes (earlier_value value) (value_record said) → StandsForSolution value holds rs
-      → IsAllowed (records_of rs) (value_record said) × StandsForSolution (Some (record { value = said; line = line })) holds (rs ++ on_line line (value_record said) ∷ [])
-  value_placed None line said p h = (allowed_told (earlier_value None) (records_of rs) (value_record said) p (value_tells None said h), (h.0, h.1, record { before = rs; after = []; others_are = sym h.2 ∙ sym (append-nil rs); all_are = refl }))
-  value_placed (Some v) line said p h = absurd (cc (p.one_value))
+  pub value_placed : (value : Option ValueLine) (line : ℕ) (number : ℤ) → Passes (earlier_value value) (value_record number) → StandsForSolution value holds rs
+      → IsAllowed (records_of rs) (value_record number) × StandsForSolution (Some (record { value = number; line = line })) holds (rs ++ on_line line (value_record number) ∷ [])
+  value_placed None line number p h = (allowed_told (earlier_value None) (records_of rs) (value_record number) p (value_tells None number h), (h.0, h.1, record { before = rs; after = []; others_are = sym h.2 ∙ sym (append-nil rs); all_are = refl }))
+  value_placed (Some v) line number p h = absurd (cc (p.one_value))
 
   pub entry_placed : (value : Option ValueLine) (e : Entry) (more : List Entry → Type 0) → ((es : List Entry) → holds es → more (es ++ e ∷ [])) → StandsForSolution value holds rs
       → IsAllowed (records_of rs) (entry_record e) × StandsForSolution value more (rs ++ entry_line e ∷ [])

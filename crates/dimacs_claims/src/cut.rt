@@ -145,8 +145,8 @@ impl Begun for BegunCut {
     }
 
     #[inline(always)]
-    fn before(&self, said: Record) -> Earlier {
-        match said {
+    fn before(&self, rec: Record) -> Earlier {
+        match rec {
             Record::CutNode { id } => Earlier {
                 named: self.cut.contains(id),
                 ..self.before_end()
@@ -157,8 +157,8 @@ impl Begun for BegunCut {
     }
 
     #[inline(always)]
-    fn keep(&mut self, said: Record) -> Result<(), Memory> {
-        let Record::CutNode { id } = said else {
+    fn keep(&mut self, rec: Record) -> Result<(), Memory> {
+        let Record::CutNode { id } = rec else {
             unreachable!()
         };
         self.cut.add(id)
@@ -181,7 +181,7 @@ impl Begun for BegunCut {
 /// Reads the text of a set of nodes. `docs/TEXTS.md` has the rules and the order of faults.
 pub fn read_cut<S: Source>(alloc: Global, source: &mut S) -> Result<Cut, ReadError>
     ensures reads { (text : List ℕ) → S.coming source.old ≡ Some text → Reads (SpellsCut text) (Fault kinds.Cut (lines text)) result }
-    ensures device { CountsRead result (S.faults source.old) (S.faults source.new) }
+    ensures faults { CountsRead result (S.faults source.old) (S.faults source.new) }
 {
     read_counted::<BegunCut, S>(alloc, source)
 }

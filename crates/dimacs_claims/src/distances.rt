@@ -154,8 +154,8 @@ impl Begun for BegunDistances {
     }
 
     #[inline(always)]
-    fn before(&self, said: Record) -> Earlier {
-        match said {
+    fn before(&self, rec: Record) -> Earlier {
+        match rec {
             Record::DistancesNode { id, dist } => Earlier {
                 pred_unknown: false,
                 past_radius: false,
@@ -168,8 +168,8 @@ impl Begun for BegunDistances {
     }
 
     #[inline(always)]
-    fn keep(&mut self, said: Record) -> Result<(), Memory> {
-        match said {
+    fn keep(&mut self, rec: Record) -> Result<(), Memory> {
+        match rec {
             Record::DistancesNode { id, dist } => {
                 let pred = self.labels.last_source();
                 self.labels.keep_label(Label { dist, id, pred })
@@ -197,7 +197,7 @@ impl Begun for BegunDistances {
 pub fn read_distances<S: Source>(alloc: Global, source: &mut S) -> Result<Distances, ReadError>
     ensures reads { (text : List ℕ) → S.coming source.old ≡ Some text → Reads (SpellsDistances text) (Fault kinds.Distances (lines text)) result }
     ensures fits { (text : List ℕ) → S.coming source.old ≡ Some text → IfOk result (λ distances. FitText distances) }
-    ensures device { CountsRead result (S.faults source.old) (S.faults source.new) }
+    ensures faults { CountsRead result (S.faults source.old) (S.faults source.new) }
 {
     read_counted::<BegunDistances, S>(alloc, source)
 }

@@ -351,8 +351,8 @@ impl Begun for BegunLabels {
     }
 
     #[inline(always)]
-    fn before(&self, said: Record) -> Earlier {
-        match said {
+    fn before(&self, rec: Record) -> Earlier {
+        match rec {
             Record::LabelsNode { id, dist, pred } => self.before_label(Label { dist, id, pred }),
             Record::LabelsBlock { source, .. } => self.before_block(source),
             Record::LabelsProblem { .. } => self.lines(),
@@ -361,8 +361,8 @@ impl Begun for BegunLabels {
     }
 
     #[inline(always)]
-    fn keep(&mut self, said: Record) -> Result<(), Memory> {
-        match said {
+    fn keep(&mut self, rec: Record) -> Result<(), Memory> {
+        match rec {
             Record::LabelsNode { id, dist, pred } => self.keep_label(Label { dist, id, pred }),
             Record::LabelsBlock {
                 source,
@@ -392,7 +392,7 @@ impl Begun for BegunLabels {
 pub fn read_labels<S: Source>(alloc: Global, source: &mut S) -> Result<Labels, ReadError>
     ensures reads { (text : List ℕ) → S.coming source.old ≡ Some text → Reads (SpellsLabels text) (Fault kinds.Labels (lines text)) result }
     ensures fits { (text : List ℕ) → S.coming source.old ≡ Some text → IfOk result (λ labels. FitText labels) }
-    ensures device { CountsRead result (S.faults source.old) (S.faults source.new) }
+    ensures faults { CountsRead result (S.faults source.old) (S.faults source.new) }
 {
     let mut labels = read_plain_labels(alloc, source)?;
     labels.index()?;
@@ -403,7 +403,7 @@ pub fn read_labels<S: Source>(alloc: Global, source: &mut S) -> Result<Labels, R
 pub fn read_plain_labels<S: Source>(alloc: Global, source: &mut S) -> Result<Labels, ReadError>
     ensures reads { (text : List ℕ) → S.coming source.old ≡ Some text → Reads (SpellsLabels text) (Fault kinds.Labels (lines text)) result }
     ensures fits { (text : List ℕ) → S.coming source.old ≡ Some text → IfOk result (λ labels. FitText labels) }
-    ensures device { CountsRead result (S.faults source.old) (S.faults source.new) }
+    ensures faults { CountsRead result (S.faults source.old) (S.faults source.new) }
 {
     read_counted::<BegunLabels, S>(alloc, source)
 }
@@ -472,25 +472,25 @@ fn write_block<S: Sink>(output: &mut OutputBuffer, sink: &mut S, kind: TextKind,
 
 /// A line of labels as a text of this kind has it.
 #[inline(always)]
-fn in_kind(kind: TextKind, said: Record) -> Record
-    ensures { result ≡ in_kind kind said }
+fn in_kind(kind: TextKind, rec: Record) -> Record
+    ensures { result ≡ in_kind kind rec }
 {
     match kind {
-        TextKind::Distances => bare(said),
-        _ => said,
+        TextKind::Distances => bare(rec),
+        _ => rec,
     }
 }
 
 /// A line of labels as a line of distances: without PRED and RADIUS.
 #[inline(always)]
-fn bare(said: Record) -> Record
-    ensures { result ≡ bare said }
+fn bare(rec: Record) -> Record
+    ensures { result ≡ bare rec }
 {
-    match said {
+    match rec {
         Record::LabelsProblem { nodes, blocks } => Record::DistancesProblem { nodes, blocks },
         Record::LabelsBlock { source, count, .. } => Record::DistancesBlock { source, count },
         Record::LabelsNode { id, dist, .. } => Record::DistancesNode { id, dist },
-        _ => said,
+        _ => rec,
     }
 }
 

@@ -155,8 +155,8 @@ impl Begun for BegunPotentials {
     }
 
     #[inline(always)]
-    fn before(&self, said: Record) -> Earlier {
-        match said {
+    fn before(&self, rec: Record) -> Earlier {
+        match rec {
             Record::PotentialsNode { id, .. } => Earlier {
                 named: self.values.get(id).is_some(),
                 ..self.before_end()
@@ -167,11 +167,11 @@ impl Begun for BegunPotentials {
     }
 
     #[inline(always)]
-    fn keep(&mut self, said: Record) -> Result<(), Memory> {
+    fn keep(&mut self, rec: Record) -> Result<(), Memory> {
         let Record::PotentialsNode {
             id,
             value: potential,
-        } = said
+        } = rec
         else {
             unreachable!()
         };
@@ -201,7 +201,7 @@ impl Begun for BegunPotentials {
 /// Reads a text of potentials. `docs/TEXTS.md` has the rules and the order of faults.
 pub fn read_potentials<S: Source>(alloc: Global, source: &mut S) -> Result<Potentials, ReadError>
     ensures reads { (text : List ℕ) → S.coming source.old ≡ Some text → Reads (SpellsPotentials text) (Fault kinds.Potentials (lines text)) result }
-    ensures device { CountsRead result (S.faults source.old) (S.faults source.new) }
+    ensures faults { CountsRead result (S.faults source.old) (S.faults source.new) }
 {
     read_counted::<BegunPotentials, S>(alloc, source)
 }

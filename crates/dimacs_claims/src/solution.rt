@@ -105,10 +105,10 @@ impl<P: Place> Reading for SolutionReading<P> {
     ghost keeps = { λ reading placed. P.fixed placed.place ≡ P.fixed reading.place };
 
     #[inline(always)]
-    fn take(&mut self, line: u64, said: Record) -> Result<(), TakeError> {
-        match said {
+    fn take(&mut self, line: u64, rec: Record) -> Result<(), TakeError> {
+        match rec {
             Record::SolutionValue { value } => {
-                test_record(self.earlier(), said)?;
+                test_record(self.earlier(), rec)?;
                 self.value = Some(ValueLine { value, line });
             }
             Record::SolutionEntry { tail, head, flow } => {
@@ -126,12 +126,12 @@ impl<P: Place> Reading for SolutionReading<P> {
 
     fn finish(self) -> Result<Placed<P>, TakeError> {
         test_end(TextKind::Solution, self.earlier())?;
-        let Some(said) = self.value else {
+        let Some(line) = self.value else {
             unreachable!()
         };
         Ok(Placed {
-            value: said.value,
-            value_line: said.line,
+            value: line.value,
+            value_line: line.line,
             place: self.place,
         })
     }
@@ -143,7 +143,7 @@ pub fn read_solution<S: Source>(alloc: Global, source: &mut S) -> Result<Solutio
     ensures reads { (text : List ℕ) → S.coming source.old ≡ Some text
         → Reads (SpellsSolution text) (Fault kinds.Solution (lines text)) (result_map_both claimed (λ e. e) result) }
     ensures lawful { IfOk result (λ solution. IsLawful (claimed solution)) }
-    ensures device { CountsRead result (S.faults source.old) (S.faults source.new) }
+    ensures faults { CountsRead result (S.faults source.old) (S.faults source.new) }
 {
     let placed = read_solution_into(alloc, Vec::new(alloc), source)?;
     Ok(Solution {
@@ -166,7 +166,7 @@ pub fn read_solution_into<P: Place, S: Source>(
         (λ solution placed. IsPlaced placed.value placed.value_line (P.stands_for placed.place) solution) text result }
     ensures lawful { IfOk result (λ placed. IsPlacedLawful placed.value placed.value_line (P.stands_for placed.place)) }
     ensures fixed { IfOk result (λ placed. P.fixed placed.place ≡ P.fixed place) }
-    ensures device { CountsRead result (S.faults source.old) (S.faults source.new) }
+    ensures faults { CountsRead result (S.faults source.old) (S.faults source.new) }
 {
     read_text(
         alloc,

@@ -21,9 +21,9 @@ use std::alloc::Global;
 impl Text for Solution {
     ghost kind = { kinds.Solution };
 
-    ghost Said = { SolutionValue };
+    ghost Content = { SolutionValue };
 
-    ghost said = { λ s. claimed s };
+    ghost content = { λ s. claimed s };
 
     ghost spells = { λ text s. SpellsSolution text s };
 
@@ -61,9 +61,9 @@ impl Text for Solution {
 impl Text for Cut {
     ghost kind = { kinds.Cut };
 
-    ghost Said = { CutValue };
+    ghost Content = { CutValue };
 
-    ghost said = { λ c. c };
+    ghost content = { λ c. c };
 
     ghost spells = { λ text c. SpellsCut text c };
 
@@ -101,9 +101,9 @@ impl Text for Cut {
 impl Text for Potentials {
     ghost kind = { kinds.Potentials };
 
-    ghost Said = { PotentialsValue };
+    ghost Content = { PotentialsValue };
 
-    ghost said = { λ p. p };
+    ghost content = { λ p. p };
 
     ghost spells = { λ text p. SpellsPotentials text p };
 
@@ -141,9 +141,9 @@ impl Text for Potentials {
 impl Text for Labels {
     ghost kind = { kinds.Labels };
 
-    ghost Said = { LabelsValue };
+    ghost Content = { LabelsValue };
 
-    ghost said = { λ l. l };
+    ghost content = { λ l. l };
 
     ghost spells = { λ text l. SpellsLabels text l };
 
@@ -181,9 +181,9 @@ impl Text for Labels {
 impl Text for Distances {
     ghost kind = { kinds.Distances };
 
-    ghost Said = { LabelsValue };
+    ghost Content = { LabelsValue };
 
-    ghost said = { λ d. d };
+    ghost content = { λ d. d };
 
     ghost spells = { λ text d. SpellsDistances text d };
 

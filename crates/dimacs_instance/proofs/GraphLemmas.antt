@@ -125,7 +125,7 @@ graph_round_trip g is =
     let arcs = All-map (CanBeSpelled Graph) graph_arc g.arcs (λ k d below. arc_fits g.nodes _ is.nodes_few (is.joined k d below) (is.weights k d below)) in
     let fit = All-cons (CanBeSpelled Graph) (GraphProblem g.nodes (length g.arcs)) (map graph_arc g.arcs) (problem_fits g is) arcs in
     record {
-      said = map (λ (r : Record). Some r) (graph_records g);
+      by_line = map (λ (r : Record). Some r) (graph_records g);
       spelled = canonical_spelled Graph (graph_records g) fit (omega (arith, length-map g.arcs graph_arc, is.arcs_few));
       given = (numbered_all (graph_records g), is);
     }

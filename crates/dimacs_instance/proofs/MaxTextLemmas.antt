@@ -163,12 +163,12 @@ max_round_trip m is = by_order (nat_lt m.source m.sink)
   where
     by_order : (below : Bool) → SpellsMax (canonical_text (max_records m (if below then (MaxNode m.source Source, MaxNode m.sink Sink) else (MaxNode m.sink Sink, MaxNode m.source Source)))) m
     by_order true = record {
-      said = map (λ (r : Record). Some r) (max_records m (MaxNode m.source Source, MaxNode m.sink Sink));
+      by_line = map (λ (r : Record). Some r) (max_records m (MaxNode m.source Source, MaxNode m.sink Sink));
       spelled = all_spelled m.nodes (source_line m) (sink_line m) m.arcs (source_first m is);
       given = (inl (numbered_all (max_records m (MaxNode m.source Source, MaxNode m.sink Sink))), is);
     }
     by_order false = record {
-      said = map (λ (r : Record). Some r) (max_records m (MaxNode m.sink Sink, MaxNode m.source Source));
+      by_line = map (λ (r : Record). Some r) (max_records m (MaxNode m.sink Sink, MaxNode m.source Source));
       spelled = all_spelled m.nodes (sink_line m) (source_line m) m.arcs (sink_first m is);
       given = (inr (numbered_all (max_records m (MaxNode m.sink Sink, MaxNode m.source Source))), is);
     }

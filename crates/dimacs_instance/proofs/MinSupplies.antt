@@ -9,7 +9,7 @@ use Rattle.std.proofs.lemmas.List.Sums.{sum_by-append, sum_by-cons}
 use Rattle.dimacs_lines.specs.Limits.{most_nodes}
 use Rattle.dimacs_nodes.proofs.Entries.{entry_of, entries_below, entries_below-none, entries_below-next, entries_are, All-get}
 use Rattle.dimacs_records.specs.declared.records.Record.TheVariants.{MinNode}
-use Rattle.dimacs_records.specs.Canonical.{AreLines, said_lines}
+use Rattle.dimacs_records.specs.Canonical.{AreLines, records_of_line}
 use Rattle.dimacs_records.specs.Ranges.{IsWhole}
 use Rattle.dimacs_instance.specs.MinFlows.{MinValue, IsMin, IsSupply, supply_of, positive_part, negative_part}
 use Rattle.dimacs_instance.specs.MinTexts.{min_node}
@@ -90,15 +90,15 @@ negative_few (negsuc n) h = omega (arith, ints, h.0)
 
 -- a line for each node whose supply isn't 0
 pub supply_lines : (m : MinValue) → IsMin m → (says : ℕ → Option Record → Type 0) (n : ℕ)
-    → ((i : ℕ) (said : Option Record) → i < n → says i said → said ≡ cond (is_nonzero (supply_of m (i + 1))) (Some (MinNode (i + 1) (supply_of m (i + 1)))) None)
+    → ((i : ℕ) (rec : Option Record) → i < n → says i rec → rec ≡ cond (is_nonzero (supply_of m (i + 1))) (Some (MinNode (i + 1) (supply_of m (i + 1)))) None)
     → AreLines says n (λ i. map min_node (supplies_below m (i + 1)))
 supply_lines m law says n each = record {
   none = ap (map min_node) (first_supplies m law);
-  more = λ i said within e.
+  more = λ i rec within e.
       ap (map min_node) (next_supplies m law (i + 1)) ∙ map-append min_node (supplies_below m (i + 1)) (filter has_value ((i + 1, supply_of m (i + 1)) ∷ []))
-      ∙ ap (λ rs. map min_node (supplies_below m (i + 1)) ++ rs) (by_test (i + 1, supply_of m (i + 1)) said (is_nonzero (supply_of m (i + 1))) (each i said within e));
+      ∙ ap (λ rs. map min_node (supplies_below m (i + 1)) ++ rs) (by_test (i + 1, supply_of m (i + 1)) rec (is_nonzero (supply_of m (i + 1))) (each i rec within e));
 }
   where
-    by_test : (s : ℕ × ℤ) (said : Option Record) (b : Bool) → said ≡ cond b (Some (min_node s)) None → map min_node (cond b (s ∷ []) []) ≡ said_lines said
-    by_test s said true is = rw is refl
-    by_test s said false is = rw is refl
+    by_test : (s : ℕ × ℤ) (rec : Option Record) (b : Bool) → rec ≡ cond b (Some (min_node s)) None → map min_node (cond b (s ∷ []) []) ≡ records_of_line rec
+    by_test s rec true is = rw is refl
+    by_test s rec false is = rw is refl

@@ -201,7 +201,7 @@ min_round_trip m law =
     let kept : filter has_value (entries m.supplies) ≡ entries m.supplies =
     all_pass has_value (entries m.supplies) (All-weaker (IsSupply m.nodes) (λ (s : ℕ × ℤ). has_value s ≡ true) (λ s h. supplied_test s h.1) (entries m.supplies) law.supplied) in
     record {
-      said = map (λ (r : Record). Some r) (canonical_min_records m);
+      by_line = map (λ (r : Record). Some r) (canonical_min_records m);
       spelled = canonical_spelled Min (canonical_min_records m) (records_fit m law)
           (omega (arith, length-append (map min_node (entries m.supplies)) (map min_arc m.arcs), length-map (entries m.supplies) min_node, length-map m.arcs min_arc, few, law.nodes_few, law.arcs_few));
       given = record {

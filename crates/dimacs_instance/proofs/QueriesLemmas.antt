@@ -165,7 +165,7 @@ queries_round_trip queries are =
     let problem = QueriesProblem (kind_asked queries) (length (query_lines queries)) in
     let fit : All (CanBeSpelled kinds.Queries) (query_records queries) = All-cons (CanBeSpelled kinds.Queries) problem (query_lines queries) (problem_fits (kind_asked queries) (length (query_lines queries)) are.few) (query_lines_fit queries are.ids) in
     record {
-      said = map (λ (r : Record). Some r) (query_records queries);
+      by_line = map (λ (r : Record). Some r) (query_records queries);
       spelled = canonical_spelled kinds.Queries (query_records queries) fit (omega (arith, are.few));
       given = (numbered_all (query_records queries), are);
     }

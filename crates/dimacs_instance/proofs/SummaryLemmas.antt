@@ -87,9 +87,9 @@ module _ {T V : Type 0} (kind : TextKind) (gives : List LineRecord → V → Typ
   pub reads_summary : (result : Result T ReadError) → Reads (SpellsValue kind (λ rs s. GivesSummary gives sums rs s) all) fault result → ReadsSummary sums (SpellsValue kind gives all) fault result
   reads_summary (Ok s) reads =
       let given = reads.0.given in
-      let spelled : SpellsValue kind gives all given.0 = record { said = reads.0.said; spelled = reads.0.spelled; given = given.1 } in
+      let spelled : SpellsValue kind gives all given.0 = record { by_line = reads.0.by_line; spelled = reads.0.spelled; given = given.1 } in
       (given.0, given.2, (spelled, (λ other other_spelled. spells_one_value kind gives all other given.0 one other_spelled spelled), reads.2))
   reads_summary (Err (read_errors.Refused place reason)) reads =
-      (reads.0, reads.1, λ v spelled. reads.2 (summary_of v) (record { said = spelled.said; spelled = spelled.spelled; given = (v, spelled.given, refl) }))
+      (reads.0, reads.1, λ v spelled. reads.2 (summary_of v) (record { by_line = spelled.by_line; spelled = spelled.spelled; given = (v, spelled.given, refl) }))
   reads_summary (Err read_errors.Device) reads = tt
   reads_summary (Err read_errors.Memory) reads = tt

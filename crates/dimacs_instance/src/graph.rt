@@ -158,13 +158,13 @@ impl<N: OfWeightArcs> Begun for BegunGraph<N> {
 
     #[tactic(auto, using(crate::proofs::GraphLemmas::tells))]
     #[inline(always)]
-    fn before(&self, _said: Record) -> Earlier {
+    fn before(&self, _rec: Record) -> Earlier {
         self.before_end()
     }
 
     #[inline(always)]
-    fn keep(&mut self, said: Record) -> Result<(), Memory> {
-        let Record::GraphArc { tail, head, weight } = said else {
+    fn keep(&mut self, rec: Record) -> Result<(), Memory> {
+        let Record::GraphArc { tail, head, weight } = rec else {
             unreachable!()
         };
         self.arcs.push(WeightArc { tail, head, weight })
@@ -193,7 +193,7 @@ pub fn read_graph<S: Source>(
     source: &mut S,
 ) -> Result<Graph<ForwardStar<WeightArc>>, ReadError>
     ensures reads { (text : List ℕ) → S.coming source.old ≡ Some text → Reads (SpellsGraph text) (Fault kinds.Graph (lines text)) result }
-    ensures device { CountsRead result (S.faults source.old) (S.faults source.new) }
+    ensures faults { CountsRead result (S.faults source.old) (S.faults source.new) }
 {
     read_counted::<BegunGraph<ForwardStar<WeightArc>>, S>(alloc, source)
 }
@@ -204,7 +204,7 @@ pub fn read_plain_graph<S: Source>(
     source: &mut S,
 ) -> Result<Graph<PlainArcs<WeightArc>>, ReadError>
     ensures reads { (text : List ℕ) → S.coming source.old ≡ Some text → Reads (SpellsGraph text) (Fault kinds.Graph (lines text)) result }
-    ensures device { CountsRead result (S.faults source.old) (S.faults source.new) }
+    ensures faults { CountsRead result (S.faults source.old) (S.faults source.new) }
 {
     read_counted::<BegunGraph<PlainArcs<WeightArc>>, S>(alloc, source)
 }

@@ -248,13 +248,13 @@ impl<N: OfCapacityArcs> Begun for BegunMax<N> {
 
     #[tactic(auto, using(crate::proofs::MaxLemmas::tells))]
     #[inline(always)]
-    fn before(&self, said: Record) -> Earlier {
-        self.counted().before(said)
+    fn before(&self, rec: Record) -> Earlier {
+        self.counted().before(rec)
     }
 
     #[inline(always)]
-    fn keep(&mut self, said: Record) -> Result<(), Memory> {
-        match said {
+    fn keep(&mut self, rec: Record) -> Result<(), Memory> {
+        match rec {
             Record::MaxArc { tail, head, cap } => {
                 self.arcs.push(CapacityArc { tail, head, cap })?;
                 Ok(())
@@ -291,7 +291,7 @@ pub fn read_max<S: Source>(
     source: &mut S,
 ) -> Result<MaxInstance<ForwardStar<CapacityArc>>, ReadError>
     ensures reads { (text : List ℕ) → S.coming source.old ≡ Some text → Reads (SpellsMax text) (Fault kinds.Max (lines text)) result }
-    ensures device { CountsRead result (S.faults source.old) (S.faults source.new) }
+    ensures faults { CountsRead result (S.faults source.old) (S.faults source.new) }
 {
     read_counted::<BegunMax<ForwardStar<CapacityArc>>, S>(alloc, source)
 }
@@ -302,7 +302,7 @@ pub fn read_plain_max<S: Source>(
     source: &mut S,
 ) -> Result<MaxInstance<PlainArcs<CapacityArc>>, ReadError>
     ensures reads { (text : List ℕ) → S.coming source.old ≡ Some text → Reads (SpellsMax text) (Fault kinds.Max (lines text)) result }
-    ensures device { CountsRead result (S.faults source.old) (S.faults source.new) }
+    ensures faults { CountsRead result (S.faults source.old) (S.faults source.new) }
 {
     read_counted::<BegunMax<PlainArcs<CapacityArc>>, S>(alloc, source)
 }

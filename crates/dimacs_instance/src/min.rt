@@ -197,8 +197,8 @@ impl<N: OfCostArcs> Begun for BegunMin<N> {
     }
 
     #[inline(always)]
-    fn before(&self, said: Record) -> Earlier {
-        match said {
+    fn before(&self, rec: Record) -> Earlier {
+        match rec {
             Record::MinArc { .. } | Record::MinProblem { .. } => self.before_end(),
             Record::MinNode { id, .. } => Earlier {
                 misplaced: self.arcs.arcs() > 0,
@@ -210,8 +210,8 @@ impl<N: OfCostArcs> Begun for BegunMin<N> {
     }
 
     #[inline(always)]
-    fn keep(&mut self, said: Record) -> Result<(), Memory> {
-        match said {
+    fn keep(&mut self, rec: Record) -> Result<(), Memory> {
+        match rec {
             Record::MinArc {
                 tail,
                 head,
@@ -260,7 +260,7 @@ pub fn read_min<S: Source>(
     source: &mut S,
 ) -> Result<MinInstance<ForwardStar<ArcView>>, ReadError>
     ensures reads { (text : List ℕ) → S.coming source.old ≡ Some text → Reads (SpellsMin text) (Fault kinds.Min (lines text)) result }
-    ensures device { CountsRead result (S.faults source.old) (S.faults source.new) }
+    ensures faults { CountsRead result (S.faults source.old) (S.faults source.new) }
 {
     read_counted::<BegunMin<ForwardStar<ArcView>>, S>(alloc, source)
 }
@@ -271,7 +271,7 @@ pub fn read_plain_min<S: Source>(
     source: &mut S,
 ) -> Result<MinInstance<PlainArcs<ArcView>>, ReadError>
     ensures reads { (text : List ℕ) → S.coming source.old ≡ Some text → Reads (SpellsMin text) (Fault kinds.Min (lines text)) result }
-    ensures device { CountsRead result (S.faults source.old) (S.faults source.new) }
+    ensures faults { CountsRead result (S.faults source.old) (S.faults source.new) }
 {
     read_counted::<BegunMin<PlainArcs<ArcView>>, S>(alloc, source)
 }

@@ -54,10 +54,10 @@ impl Queries {
 
     /// Whether the record is a query of the other kind.
     #[inline(always)]
-    fn are_others(&self, said: Record) -> bool
-        ensures { result ≡ are_others said (asked self.now) }
+    fn are_others(&self, rec: Record) -> bool
+        ensures { result ≡ are_others rec (asked self.now) }
     {
-        match said {
+        match rec {
             Record::SourceQuery { .. } => matches!(self, Queries::Pairs(_)),
             Record::PairQuery { .. } => matches!(self, Queries::Sources(_)),
             _ => false,
@@ -161,16 +161,16 @@ impl Begun for BegunQueries {
 
     #[tactic(auto, using(crate::proofs::QueriesLemmas::tells))]
     #[inline(always)]
-    fn before(&self, said: Record) -> Earlier {
+    fn before(&self, rec: Record) -> Earlier {
         Earlier {
-            misplaced: self.queries.are_others(said),
+            misplaced: self.queries.are_others(rec),
             ..self.before_end()
         }
     }
 
     #[inline(always)]
-    fn keep(&mut self, said: Record) -> Result<(), Memory> {
-        match said {
+    fn keep(&mut self, rec: Record) -> Result<(), Memory> {
+        match rec {
             Record::SourceQuery { id } => {
                 let Queries::Sources(ids) = &mut self.queries else {
                     unreachable!()
@@ -212,7 +212,7 @@ pub fn read_queries<S: Source>(alloc: Global, source: &mut S) -> Result<Queries,
     ensures reads { (text : List ℕ) → S.coming source.old ≡ Some text
         → Reads (SpellsQueries text) (Fault kinds.Queries (lines text)) (result_map_both asked (λ e. e) result) }
     ensures lawful { IfOk result (λ queries. AreLawful (asked queries)) }
-    ensures device { CountsRead result (S.faults source.old) (S.faults source.new) }
+    ensures faults { CountsRead result (S.faults source.old) (S.faults source.new) }
 {
     match read_counted::<BegunQueries, S>(alloc, source) {
         Ok(lawful) => Ok(lawful.into_queries()),

@@ -44,7 +44,7 @@ pub trait Summary: Drop {
     /// Reads a text and keeps only its summary.
     fn read<S: Source>(alloc: Global, source: &mut S) -> Result<Self, ReadError>
         ensures reads { (bytes : List ℕ) → S.coming source.old ≡ Some bytes → ReadsSummary sums_up (spells bytes) (Fault kind (lines bytes)) result }
-        ensures device { CountsRead result (S.faults source.old) (S.faults source.new) };
+        ensures faults { CountsRead result (S.faults source.old) (S.faults source.new) };
 
     /// Writes the line about the value.
     fn show<K: Sink>(&self, sink: &mut K) -> Result<(), DeviceFault>

@@ -26,9 +26,9 @@ use std::alloc::Global;
 impl<N: OfCapacityArcs + Drop> Text for MaxInstance<N> {
     ghost kind = { kinds.Max };
 
-    ghost Said = { MaxValue };
+    ghost Content = { MaxValue };
 
-    ghost said = { λ m. m };
+    ghost content = { λ m. m };
 
     ghost spells = { λ text m. SpellsMax text m };
 
@@ -65,9 +65,9 @@ impl<N: OfCapacityArcs + Drop> Text for MaxInstance<N> {
 impl<N: OfCostArcs + Drop> Text for MinInstance<N> {
     ghost kind = { kinds.Min };
 
-    ghost Said = { MinValue };
+    ghost Content = { MinValue };
 
-    ghost said = { λ m. m };
+    ghost content = { λ m. m };
 
     ghost spells = { λ text m. SpellsMin text m };
 
@@ -105,9 +105,9 @@ impl<N: OfCostArcs + Drop> Text for MinInstance<N> {
 impl<N: OfWeightArcs + Drop> Text for Graph<N> {
     ghost kind = { kinds.Graph };
 
-    ghost Said = { NetworkValue };
+    ghost Content = { NetworkValue };
 
-    ghost said = { λ g. g };
+    ghost content = { λ g. g };
 
     ghost spells = { λ text g. SpellsGraph text g };
 
@@ -142,9 +142,9 @@ impl<N: OfWeightArcs + Drop> Text for Graph<N> {
 impl Text for Queries {
     ghost kind = { kinds.Queries };
 
-    ghost Said = { QueriesValue };
+    ghost Content = { QueriesValue };
 
-    ghost said = { λ q. asked q };
+    ghost content = { λ q. asked q };
 
     ghost spells = { λ text q. SpellsQueries text q };
 

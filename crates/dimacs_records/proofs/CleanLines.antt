@@ -30,49 +30,49 @@ NoneHolds test = (f : ℕ) (reason : Reason) → ¬ IsTrue (test f reason)
 abbrev pub Holds : (ℕ → Reason → Bool) → Place → Type 0
 Holds test p = IsTrue (test_at test p)
 
-pub records_in-append : (said more : List (Option Record)) → records_in (said ++ more) ≡ records_in said ++ records_in more
+pub records_in-append : (by_line more : List (Option Record)) → records_in (by_line ++ more) ≡ records_in by_line ++ records_in more
 records_in-append [] more = refl
-records_in-append (None ∷ said) more = records_in-append said more
-records_in-append (Some r ∷ said) more = ap (λ t. r ∷ t) (records_in-append said more)
+records_in-append (None ∷ by_line) more = records_in-append by_line more
+records_in-append (Some r ∷ by_line) more = ap (λ t. r ∷ t) (records_in-append by_line more)
 
-spell_append : (kind : TextKind) (lines after : List (List ℕ)) (said more : List (Option Record)) → Spell kind lines said → Spell kind after more → Spell kind (lines ++ after) (said ++ more)
+spell_append : (kind : TextKind) (lines after : List (List ℕ)) (by_line more : List (Option Record)) → Spell kind lines by_line → Spell kind after more → Spell kind (lines ++ after) (by_line ++ more)
 spell_append kind [] after [] more h rest = rest
-spell_append kind (line ∷ lines) after (None ∷ said) more h rest = (h.0, spell_append kind lines after said more h.1 rest)
-spell_append kind (line ∷ lines) after (Some r ∷ said) more h rest = (h.0, h.1, spell_append kind lines after said more h.2 rest)
-spell_append kind lines after said more h rest = absurd h
+spell_append kind (line ∷ lines) after (None ∷ by_line) more h rest = (h.0, spell_append kind lines after by_line more h.1 rest)
+spell_append kind (line ∷ lines) after (Some r ∷ by_line) more h rest = (h.0, h.1, spell_append kind lines after by_line more h.2 rest)
+spell_append kind lines after by_line more h rest = absurd h
 
 pub clean_nothing : (kind : TextKind) → IsClean kind [] []
 clean_nothing kind = record { spell = tt; none = λ before after line earlier p e. absurd (omega (arith, ap length e, length-append before (line ∷ after))) }
 
 -- clean lines and one more without a condition
-clean_push : (kind : TextKind) (before : List (List ℕ)) (said : List (Option Record)) (line : List ℕ) (x : Option Record)
-    → IsClean kind before said → Spell kind (line ∷ []) (x ∷ [])
-    → ((p : Place) → ¬ Condition kind (records_in said) (length before + 1) line p) → IsClean kind (before ++ line ∷ []) (said ++ x ∷ [])
-clean_push kind before said line x clean says none_here = record { spell = spell_append kind before (line ∷ []) said (x ∷ []) clean.spell says; none = none_at }
+clean_push : (kind : TextKind) (before : List (List ℕ)) (by_line : List (Option Record)) (line : List ℕ) (x : Option Record)
+    → IsClean kind before by_line → Spell kind (line ∷ []) (x ∷ [])
+    → ((p : Place) → ¬ Condition kind (records_in by_line) (length before + 1) line p) → IsClean kind (before ++ line ∷ []) (by_line ++ x ∷ [])
+clean_push kind before by_line line x clean says none_here = record { spell = spell_append kind before (line ∷ []) by_line (x ∷ []) clean.spell says; none = none_at }
   where
     none_at : (fore after : List (List ℕ)) (other : List ℕ) (earlier : List (Option Record)) (p : Place) → before ++ line ∷ [] ≡ fore ++ other ∷ after → Spell kind fore earlier
         → ¬ Condition kind (records_in earlier) (length fore + 1) other p
     none_at fore after other earlier p e spell h = elim (two_places before fore [] after line other e) [
       | same fore_is line_is ↦
-          let said_is = say_same kind fore said earlier (rw fore_is at clean.spell) spell in
+          let said_is = say_same kind fore by_line earlier (rw fore_is at clean.spell) spell in
           none_here p (rw (said_is, fore_is, line_is) h)
       | sooner rest longer ↦
           omega (arith, ap length e, ap length longer, length-append before (line ∷ []), length-append fore (other ∷ after), length-append before (line ∷ rest))
       | later rest longer ↦ clean.none fore rest other earlier p longer spell h
     ]
 
-pub clean_skip : (kind : TextKind) (before : List (List ℕ)) (said : List (Option Record)) (line : List ℕ)
-    → IsClean kind before said → is_skip (texts_in line) ≡ true → NoneHolds (limit_condition (length before + 1) line) → IsClean kind (before ++ line ∷ []) (said ++ None ∷ [])
-clean_skip kind before said line clean skip within = clean_push kind before said line None clean (skip, tt) (λ p c. elim c [
+pub clean_skip : (kind : TextKind) (before : List (List ℕ)) (by_line : List (Option Record)) (line : List ℕ)
+    → IsClean kind before by_line → is_skip (texts_in line) ≡ true → NoneHolds (limit_condition (length before + 1) line) → IsClean kind (before ++ line ∷ []) (by_line ++ None ∷ [])
+clean_skip kind before by_line line clean skip within = clean_push kind before by_line line None clean (skip, tt) (λ p c. elim c [
   | of_limit h ↦ within p.field p.reason h
   | of_shape solid h ↦ true≢false (sym skip ∙ solid)
   | of_record r solid spells h ↦ true≢false (sym skip ∙ solid)
 ])
 
-pub clean_record : (kind : TextKind) (before : List (List ℕ)) (said : List (Option Record)) (line : List ℕ) (r : Record) → IsClean kind before said
-    → is_skip (texts_in line) ≡ false → SpellsRecord kind (texts_in line) r → NoneHolds (limit_condition (length before + 1) line) → IsAllowed (records_in said) r
-    → IsClean kind (before ++ line ∷ []) (said ++ Some r ∷ [])
-clean_record kind before said line r clean solid spells within fits = clean_push kind before said line (Some r) clean (solid, spells, tt) (λ p c. elim c [
+pub clean_record : (kind : TextKind) (before : List (List ℕ)) (by_line : List (Option Record)) (line : List ℕ) (r : Record) → IsClean kind before by_line
+    → is_skip (texts_in line) ≡ false → SpellsRecord kind (texts_in line) r → NoneHolds (limit_condition (length before + 1) line) → IsAllowed (records_in by_line) r
+    → IsClean kind (before ++ line ∷ []) (by_line ++ Some r ∷ [])
+clean_record kind before by_line line r clean solid spells within fits = clean_push kind before by_line line (Some r) clean (solid, spells, tt) (λ p c. elim c [
   | of_limit h ↦ within p.field p.reason h
   | of_shape again h ↦ spelled_shape kind (texts_in line) r spells p.field p.reason h
   | of_record s again other h ↦ fits p (rw (spells_one kind (texts_in line) s r other spells) at h)

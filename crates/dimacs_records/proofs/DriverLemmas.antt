@@ -28,7 +28,7 @@ use Rattle.dimacs_records.proofs.FirstLemmas.{is_first}
 use Rattle.dimacs_records.proofs.PlaceLemmas.{test_at}
 use Rattle.dimacs_records.proofs.CleanLines.{NoneHolds, clean_nothing, clean_skip, clean_record, first_limit, first_shape, first_record}
 
-pub records_of-numbered : (n : ℕ) (said : List (Option Record)) → records_of (numbered n said) ≡ records_in said
+pub records_of-numbered : (n : ℕ) (by_line : List (Option Record)) → records_of (numbered n by_line) ≡ records_in by_line
 records_of-numbered n [] = refl
 records_of-numbered n (None ∷ more) = records_of-numbered (suc n) more
 records_of-numbered n (Some r ∷ more) = ap (λ rs. r ∷ rs) (records_of-numbered (suc n) more)
@@ -51,70 +51,70 @@ too_long : (kind : TextKind) (earlier : List Record) (number : ℕ) (line : List
 too_long kind earlier number line few long =
     first_limit kind earlier number line 0 LineTooLong (is_first (test_at (limit_condition number line)) limit_places (at 0 LineTooLong) (rw (line_number number few, lt-ltb longest_line (length line) long) refl))
 
-numbered-append : (n : ℕ) (said more : List (Option Record)) → numbered n (said ++ more) ≡ numbered n said ++ numbered (n + length said) more
+numbered-append : (n : ℕ) (by_line more : List (Option Record)) → numbered n (by_line ++ more) ≡ numbered n by_line ++ numbered (n + length by_line) more
 numbered-append n [] more = ap (λ k. numbered k more) (omega arith)
-numbered-append n (None ∷ said) more = numbered-append (suc n) said more ∙ ap (λ k. numbered (suc n) said ++ numbered k more) (omega arith)
-numbered-append n (Some r ∷ said) more = ap (λ rs. on_line n r ∷ rs) (numbered-append (suc n) said more ∙ ap (λ k. numbered (suc n) said ++ numbered k more) (omega arith))
+numbered-append n (None ∷ by_line) more = numbered-append (suc n) by_line more ∙ ap (λ k. numbered (suc n) by_line ++ numbered k more) (omega arith)
+numbered-append n (Some r ∷ by_line) more = ap (λ rs. on_line n r ∷ rs) (numbered-append (suc n) by_line more ∙ ap (λ k. numbered (suc n) by_line ++ numbered k more) (omega arith))
 
-said_each : (kind : TextKind) (before : List (List ℕ)) (said : List (Option Record)) → Spell kind before said → length said ≡ length before
+said_each : (kind : TextKind) (before : List (List ℕ)) (by_line : List (Option Record)) → Spell kind before by_line → length by_line ≡ length before
 said_each kind [] [] h = refl
-said_each kind (line ∷ lines) (None ∷ said) h = ap suc (said_each kind lines said h.1)
-said_each kind (line ∷ lines) (Some r ∷ said) h = ap suc (said_each kind lines said h.2)
-said_each kind lines said h = absurd h
+said_each kind (line ∷ lines) (None ∷ by_line) h = ap suc (said_each kind lines by_line h.1)
+said_each kind (line ∷ lines) (Some r ∷ by_line) h = ap suc (said_each kind lines by_line h.2)
+said_each kind lines by_line h = absurd h
 
 -- the records of n lines are before the next line
-all_before : (n : ℕ) (said : List (Option Record)) (line : ℕ) → n + length said ≤ line → AreBefore line (numbered n said)
+all_before : (n : ℕ) (by_line : List (Option Record)) (line : ℕ) → n + length by_line ≤ line → AreBefore line (numbered n by_line)
 all_before n [] line h = All-nil _
-all_before n (None ∷ said) line h = all_before (suc n) said line (omega (arith, h))
-all_before n (Some r ∷ said) line h = All-cons (λ (r : LineRecord). r.line < line) (on_line n r) (numbered (suc n) said) (omega (arith, h)) (all_before (suc n) said line (omega (arith, h)))
+all_before n (None ∷ by_line) line h = all_before (suc n) by_line line (omega (arith, h))
+all_before n (Some r ∷ by_line) line h = All-cons (λ (r : LineRecord). r.line < line) (on_line n r) (numbered (suc n) by_line) (omega (arith, h)) (all_before (suc n) by_line line (omega (arith, h)))
 
 -- a skipped line adds no record
-pub take_skip : (kind : TextKind) (before : List (List ℕ)) (said : List (Option Record)) (number : ℕ) (line : List ℕ) (stands_for : List LineRecord → Type 0) (done : Unit)
-    → ComesAfter kind before said number line → stands_for (numbered 1 said) → is_skip (texts_in line) ≡ true → TakesLine kind before said line stands_for (Ok done)
-take_skip kind before said number line stands_for done h stands skip = (
-  said ++ None ∷ [],
-  clean_skip kind before said line h.clean skip (within (length before + 1) line (omega (arith, h.next, h.few)) h.short),
-  subst stands_for (sym (numbered-append 1 said (None ∷ []) ∙ append-nil (numbered 1 said))) stands,
+pub take_skip : (kind : TextKind) (before : List (List ℕ)) (by_line : List (Option Record)) (number : ℕ) (line : List ℕ) (stands_for : List LineRecord → Type 0) (done : Unit)
+    → ComesAfter kind before by_line number line → stands_for (numbered 1 by_line) → is_skip (texts_in line) ≡ true → TakesLine kind before by_line line stands_for (Ok done)
+take_skip kind before by_line number line stands_for done h stands skip = (
+  by_line ++ None ∷ [],
+  clean_skip kind before by_line line h.clean skip (within (length before + 1) line (omega (arith, h.next, h.few)) h.short),
+  subst stands_for (sym (numbered-append 1 by_line (None ∷ []) ∙ append-nil (numbered 1 by_line))) stands,
 )
 
 -- a record is taken or refused
-pub take_record : (kind : TextKind) (before : List (List ℕ)) (said : List (Option Record)) (number : ℕ) (line : List ℕ) (r : Record) (old new : List LineRecord → Type 0) (result : Result Unit TakeError)
-    → ComesAfter kind before said number line → old (numbered 1 said) → is_skip (texts_in line) ≡ false → SpellsRecord kind (texts_in line) r
+pub take_record : (kind : TextKind) (before : List (List ℕ)) (by_line : List (Option Record)) (number : ℕ) (line : List ℕ) (r : Record) (old new : List LineRecord → Type 0) (result : Result Unit TakeError)
+    → ComesAfter kind before by_line number line → old (numbered 1 by_line) → is_skip (texts_in line) ≡ false → SpellsRecord kind (texts_in line) r
     → OnOk result ((rs : List LineRecord) → old rs → IsAllowed (records_of rs) r)
     → OnOk result ((rs : List LineRecord) → old rs → AreBefore number rs → new (rs ++ on_line number r ∷ []))
     → IfErr result (λ error. (rs : List LineRecord) → old rs → RefusesRecord (records_of rs) r error)
-    → TakesLine kind before said line new result
-take_record kind before said number line r old new (Ok done) h stands solid spells allowed taken refused =
+    → TakesLine kind before by_line line new result
+take_record kind before by_line number line r old new (Ok done) h stands solid spells allowed taken refused =
     let few = within (length before + 1) line (omega (arith, h.next, h.few)) h.short in
-    let fits : IsAllowed (records_in said) r = rw (← records_of-numbered 1 said) (allowed (numbered 1 said) stands) in
-    let each = said_each kind before said h.clean.spell in
-    let here : number ≡ 1 + length said = omega (arith, h.next, each) in
-    let stands_now = taken (numbered 1 said) stands (all_before 1 said number (omega (arith, here))) in (
-      said ++ Some r ∷ [],
-      clean_record kind before said line r h.clean solid spells few fits,
-      subst new (sym (numbered-append 1 said (Some r ∷ []) ∙ ap (λ k. numbered 1 said ++ on_line k r ∷ []) (sym here))) stands_now,
+    let fits : IsAllowed (records_in by_line) r = rw (← records_of-numbered 1 by_line) (allowed (numbered 1 by_line) stands) in
+    let each = said_each kind before by_line h.clean.spell in
+    let here : number ≡ 1 + length by_line = omega (arith, h.next, each) in
+    let stands_now = taken (numbered 1 by_line) stands (all_before 1 by_line number (omega (arith, here))) in (
+      by_line ++ Some r ∷ [],
+      clean_record kind before by_line line r h.clean solid spells few fits,
+      subst new (sym (numbered-append 1 by_line (Some r ∷ []) ∙ ap (λ k. numbered 1 by_line ++ on_line k r ∷ []) (sym here))) stands_now,
     )
-take_record kind before said number line r old new (Err (take_errors.Refused fault)) h stands solid spells allowed taken refused =
+take_record kind before by_line number line r old new (Err (take_errors.Refused fault)) h stands solid spells allowed taken refused =
     let few = within (length before + 1) line (omega (arith, h.next, h.few)) h.short in
-    let first : IsFirstCondition (records_in said) r fault = rw (← records_of-numbered 1 said) (refused (numbered 1 said) stands) in
-    first_record kind (records_in said) (length before + 1) line r fault.field fault.reason few solid spells first
-take_record kind before said number line r old new (Err take_errors.Memory) h stands solid spells allowed taken refused = tt
+    let first : IsFirstCondition (records_in by_line) r fault = rw (← records_of-numbered 1 by_line) (refused (numbered 1 by_line) stands) in
+    first_record kind (records_in by_line) (length before + 1) line r fault.field fault.reason few solid spells first
+take_record kind before by_line number line r old new (Err take_errors.Memory) h stands solid spells allowed taken refused = tt
 
 -- a line of a wrong shape
-pub take_fault : (kind : TextKind) (before : List (List ℕ)) (said : List (Option Record)) (number : ℕ) (line : List ℕ) (fault : LineFault) (stands_for : List LineRecord → Type 0)
-    → ComesAfter kind before said number line → ReadsLine kind (texts_in line) (Err fault) → TakesLine kind before said line stands_for (Err (take_errors.Refused fault))
-take_fault kind before said number line fault stands_for h reads =
-    first_shape kind (records_in said) (length before + 1) line fault.field fault.reason (within (length before + 1) line (omega (arith, h.next, h.few)) h.short) reads.0 reads.1
+pub take_fault : (kind : TextKind) (before : List (List ℕ)) (by_line : List (Option Record)) (number : ℕ) (line : List ℕ) (fault : LineFault) (stands_for : List LineRecord → Type 0)
+    → ComesAfter kind before by_line number line → ReadsLine kind (texts_in line) (Err fault) → TakesLine kind before by_line line stands_for (Err (take_errors.Refused fault))
+take_fault kind before by_line number line fault stands_for h reads =
+    first_shape kind (records_in by_line) (length before + 1) line fault.field fault.reason (within (length before + 1) line (omega (arith, h.next, h.few)) h.short) reads.0 reads.1
 
 -- at the end no line is left
 pub read_end : (kind : TextKind) (all : List (List ℕ)) (count : ℕ) (new : State) (left : Option (List ℕ)) (stands_for : List LineRecord → Type 0) → AtEnd new left → IsReadSoFar kind all count left stands_for → IsReadWhole kind all count stands_for
 read_end kind all count new left stands_for end h =
     let all_is : all ≡ h.before = h.all_is ∙ (ap (λ ls. h.before ++ ls) (end.none h.rest h.left_is) ∙ append-nil h.before) in
-    record { said = h.said; counted = h.counted ∙ ap length (sym all_is); clean = subst (λ ls. IsClean kind ls h.said) (sym all_is) h.clean; stands = h.stands }
+    record { by_line = h.by_line; counted = h.counted ∙ ap length (sym all_is); clean = subst (λ ls. IsClean kind ls h.by_line) (sym all_is) h.clean; stands = h.stands }
 
 -- the given line comes after those that were read
 pub comes_after : (kind : TextKind) (all : List (List ℕ)) (old new : State) (left later : Option (List ℕ)) (number : ℕ) (stands_for : List LineRecord → Type 0) → GivesLine old new left later number
-    → (h : IsReadSoFar kind all old.given left stands_for) → ComesAfter kind h.before h.said number new.line
+    → (h : IsReadSoFar kind all old.given left stands_for) → ComesAfter kind h.before h.by_line number new.line
 comes_after kind all old new left later number stands_for given h = record { clean = h.clean; next = given.next ∙ ap (λ n. n + 1) h.counted; few = given.few; short = given.short }
 
 abbrev pub at_number : ℕ → Result Unit TakeError → Result (Option ℕ) ReadError
@@ -123,12 +123,12 @@ at_number number (Err error) = Err (read_error number error)
 
 -- the given line is taken, or the text has its fault there
 pub read_one : (kind : TextKind) (all : List (List ℕ)) (old new : State) (left later : Option (List ℕ)) (number : ℕ) (before_stands stands_for : List LineRecord → Type 0) (result : Result Unit TakeError)
-    → GivesLine old new left later number → (h : IsReadSoFar kind all old.given left before_stands) → TakesLine kind h.before h.said new.line stands_for result → ReadsNext kind all old.given later stands_for (at_number number result)
+    → GivesLine old new left later number → (h : IsReadSoFar kind all old.given left before_stands) → TakesLine kind h.before h.by_line new.line stands_for result → ReadsNext kind all old.given later stands_for (at_number number result)
 read_one kind all old new left later number before_stands stands_for (Ok done) given h takes =
     let more = given.first h.rest h.left_is in
     record {
       before = h.before ++ new.line ∷ [];
-      said = takes.0;
+      by_line = takes.0;
       rest = more.0;
       left_is = more.1;
       all_is = h.all_is ∙ (ap (λ ls. h.before ++ ls) more.2 ∙ sym (append_assoc h.before (new.line ∷ []) (lines more.0)));
@@ -143,7 +143,7 @@ read_one kind all old new left later number before_stands stands_for (Err (take_
       before = h.before;
       line = new.line;
       after = lines more.0;
-      said = h.said;
+      by_line = h.by_line;
       lines_are = h.all_is ∙ ap (λ ls. h.before ++ ls) more.2;
       number = next;
       clean = h.clean;
@@ -168,11 +168,11 @@ stopped kind all old new left later before_stands stands_for (line_errors.TooMan
       before = h.before;
       line = more.0;
       after = more.1;
-      said = h.said;
+      by_line = h.by_line;
       lines_are = h.all_is ∙ ap (λ ls. h.before ++ ls) more.2;
       number = next;
       clean = h.clean;
-      first = too_many kind (records_in h.said) number more.0 stops.comes.1;
+      first = too_many kind (records_in h.by_line) number more.0 stops.comes.1;
     }
 stopped kind all old new left later before_stands stands_for (line_errors.TooLong number) stops h =
     let next : number ≡ length h.before + 1 = stops.comes.0 ∙ ap (λ n. n + 1) h.counted in
@@ -181,11 +181,11 @@ stopped kind all old new left later before_stands stands_for (line_errors.TooLon
       before = h.before;
       line = more.0;
       after = more.1;
-      said = h.said;
+      by_line = h.by_line;
       lines_are = h.all_is ∙ ap (λ ls. h.before ++ ls) more.2;
       number = next;
       clean = h.clean;
-      first = too_long kind (records_in h.said) number more.0 stops.comes.1 more.3;
+      first = too_long kind (records_in h.by_line) number more.0 stops.comes.1 more.3;
     }
 stopped kind all old new left later before_stands stands_for line_errors.Device stops h = tt
 stopped kind all old new left later before_stands stands_for line_errors.Memory stops h = tt
@@ -194,7 +194,7 @@ stopped kind all old new left later before_stands stands_for line_errors.Memory 
 pub read_nothing : (kind : TextKind) (lines_new : State) (text : List ℕ) (coming : Option (List ℕ)) (stands_for : List LineRecord → Type 0) → lines_new.held ≡ [] → coming ≡ Some text → stands_for [] → IsReadSoFar kind (lines text) 0 (text_left lines_new coming) stands_for
 read_nothing kind lines_new text coming stands_for empty h stands = record {
   before = [];
-  said = [];
+  by_line = [];
   rest = text;
   left_is = rw (empty, h) refl;
   all_is = refl;
@@ -207,9 +207,9 @@ read_nothing kind lines_new text coming stands_for empty h stands = record {
 pub read_value : {V : Type 0} (kind : TextKind) (gives : List LineRecord → V → Type 0) (all : List (List ℕ)) (count : ℕ) (stands_for : List LineRecord → Type 0) (v : V) → IsReadWhole kind all count stands_for
     → ((rs : List LineRecord) → stands_for rs → gives rs v) → ((rs : List LineRecord) → stands_for rs → IsComplete kind (records_of rs)) → GiveValue kind gives all v
 read_value kind gives all count stands_for v h given complete = record {
-  said = h.said;
-  faultless = record { clean = h.clean; none_at_end = rw (← records_of-numbered 1 h.said) (complete (numbered 1 h.said) h.stands) };
-  given = given (numbered 1 h.said) h.stands;
+  by_line = h.by_line;
+  faultless = record { clean = h.clean; none_at_end = rw (← records_of-numbered 1 h.by_line) (complete (numbered 1 h.by_line) h.stands) };
+  given = given (numbered 1 h.by_line) h.stands;
 }
 
 -- one of the lines has the text's fault
@@ -222,12 +222,12 @@ read_fault kind gives all read_errors.Memory h = tt
 pub read_end_fault : {V : Type 0} (kind : TextKind) (gives : List LineRecord → V → Type 0) (all : List (List ℕ)) (count : ℕ) (stands_for : List LineRecord → Type 0) (error : TakeError) → IsReadWhole kind all count stands_for
     → ((rs : List LineRecord) → stands_for rs → RefusesEnd kind (records_of rs) error) → ReadsLines kind gives all (Err (read_error (count + 1) error))
 read_end_fault kind gives all count stands_for (take_errors.Refused fault) h refused =
-    let end = refused (numbered 1 h.said) h.stands in
+    let end = refused (numbered 1 h.by_line) h.stands in
     inr (record {
-      said = h.said;
+      by_line = h.by_line;
       number = ap (λ n. n + 1) h.counted;
       field = end.0;
       clean = h.clean;
-      first = rw (← records_of-numbered 1 h.said) end.1;
+      first = rw (← records_of-numbered 1 h.by_line) end.1;
     })
 read_end_fault kind gives all count stands_for take_errors.Memory h refused = tt

@@ -64,15 +64,15 @@ same_bytes (b ∷ bs) = rw (eq-eqb b b refl) (same_bytes bs)
 
 -- a field with a content has no reason to be refused
 pub field_reason-said : (type : FieldType) (text : List ℕ) (part : Part) → Says type text part → field_reason type text ≡ None
-field_reason-said (Word w) text (Text said) h = rw (h.0, same_bytes w) refl
-field_reason-said (Either v w) text (Text said) h = elim h.0 [
+field_reason-said (Word w) text (Text word) h = rw (h.0, same_bytes w) refl
+field_reason-said (Either v w) text (Text word) h = elim h.0 [
   | inl e ↦ rw (e, same_bytes v) refl
   | inr e ↦ rw (e, same_bytes w, and_right (not (bytes_eq v w)) false refl) refl
 ]
 field_reason-said (Number low high) text (Amount n) h = rw (number_to text h.0.0, ← h.0.1, inside low high n h.1) refl
 field_reason-said (Word w) text (Amount n) h = absurd h
 field_reason-said (Either v w) text (Amount n) h = absurd h
-field_reason-said (Number low high) text (Text said) h = absurd h
+field_reason-said (Number low high) text (Text word) h = absurd h
 
 -- a field with no number, or one outside the range
 pub field_reason-refused : (low high : ℤ) (text : List ℕ) (fault : NumberFault) → ReadsNumber low high text (Err fault) → field_reason (Number low high) text ≡ Some (number_reason fault)

@@ -10,8 +10,8 @@ use Rattle.dimacs_records.specs.Readings.{IsOfKind}
 use Rattle.dimacs_records.proofs.SpellLaws.{as_many, form_types}
 
 fits_said : (type : FieldType) (text : List ℕ) (part : Part) → Says type text part → Fits type part
-fits_said (Word w) text (Text said) h = h.1
-fits_said (Either v w) text (Text said) h = rw h.1 h.0
+fits_said (Word w) text (Text word) h = h.1
+fits_said (Either v w) text (Text word) h = rw h.1 h.0
 fits_said (Number low high) text (Amount n) h = h.1
 fits_said type text part h = absurd h
 

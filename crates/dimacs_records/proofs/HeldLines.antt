@@ -58,7 +58,7 @@ plain_step kind all bytes given size coming r old new result says few so_far all
     let after = state (drop size bytes) (given + 1) says.line in
     let line = given_line kind bytes r size given coming says few in
     let there = comes_after kind all before after left later (given + 1) old line so_far in
-    read_one kind all before after left later (given + 1) old new result line so_far (take_record kind so_far.before so_far.said (given + 1) says.line r old new result there so_far.stands says.reads.0 says.reads.1 allowed taken refused)
+    read_one kind all before after left later (given + 1) old new result line so_far (take_record kind so_far.before so_far.by_line (given + 1) says.line r old new result there so_far.stands says.reads.0 says.reads.1 allowed taken refused)
 
 -- whole lines and the first line after them are one more whole line
 pub one_more_whole : (kind : TextKind) (held : List ℕ) (bytes count size : ℕ) (r : Record) → AreWholeLines (take bytes held) count → SaysFirst kind (drop bytes held) r size → AreWholeLines (take (bytes + size) held) (count + 1)

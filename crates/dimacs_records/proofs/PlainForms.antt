@@ -66,8 +66,8 @@ within_widest low high n test within =
     (omega (arith, ints, ends.0, within.0), omega (arith, ints, ends.1, within.1))
 
 plain_part : (type : FieldType) (part : Part) → is_plain_type type ≡ true → Fits type part → IsPlain (text_of part)
-plain_part (Word w) (Text said) test fits = subst IsPlain (sym fits) (plain_from w test)
-plain_part (Either v w) (Text said) test fits =
+plain_part (Word w) (Text word) test fits = subst IsPlain (sym fits) (plain_from w test)
+plain_part (Either v w) (Text word) test fits =
     let tests = and_parts (is_plain v) (is_plain w) test in
     elim fits [
       | inl e ↦ subst IsPlain (sym e) (plain_from v tests.0)
@@ -77,8 +77,8 @@ plain_part (Number low high) (Amount n) test fits = plain_signed_decimal n (with
 plain_part type part test fits = absurd fits
 
 part_says : (type : FieldType) (part : Part) → is_plain_type type ≡ true → Fits type part → Says type (text_of part) part
-part_says (Word w) (Text said) test fits = (fits, fits)
-part_says (Either v w) (Text said) test fits = (fits, refl)
+part_says (Word w) (Text word) test fits = (fits, fits)
+part_says (Either v w) (Text word) test fits = (fits, refl)
 part_says (Number low high) (Amount n) test fits = (spells_signed_decimal n (within_widest low high n test fits), fits)
 part_says type part test fits = absurd fits
 

@@ -42,7 +42,7 @@ IsShort text = length text ≤ 40
 
 says_plain : (type : FieldType) (text : List ℕ) (part : Part) → is_number type ≡ true → Says type text part → IsShort text → IsPlain text
 says_plain (Number low high) text (Amount n) is says short = spells_plain text n says.0 short
-says_plain (Number low high) text (Text said) is says short = absurd says
+says_plain (Number low high) text (Text word) is says short = absurd says
 says_plain (Word w) text part is says short = absurd (cc)
 says_plain (Either v w) text part is says short = absurd (cc)
 

@@ -21,30 +21,30 @@ use Rattle.dimacs_records.proofs.CleanLines.{NoneHolds, records_in-append}
 use Rattle.dimacs_records.proofs.DriverLemmas.{within, records_of-numbered}
 
 -- what the lines before a line spell, what it spells, and what those after it spell
-record SaidAt (kind : TextKind) (before : List (List ℕ)) (line : List ℕ) (said : List (Option Record)) : Type 0 where
+record SaidAt (kind : TextKind) (before : List (List ℕ)) (line : List ℕ) (by_line : List (Option Record)) : Type 0 where
   earlier : List (Option Record)
   here : Option Record
   more : List (Option Record)
-  said_is : said ≡ earlier ++ here ∷ more
+  said_is : by_line ≡ earlier ++ here ∷ more
   spell : Spell kind before earlier
   spell_here : Spell kind (line ∷ []) (here ∷ [])
 
-said_at : (kind : TextKind) (before after : List (List ℕ)) (line : List ℕ) (said : List (Option Record)) → Spell kind (before ++ line ∷ after) said → SaidAt kind before line said
+said_at : (kind : TextKind) (before after : List (List ℕ)) (line : List ℕ) (by_line : List (Option Record)) → Spell kind (before ++ line ∷ after) by_line → SaidAt kind before line by_line
 said_at kind [] after line (None ∷ more) h = record { earlier = []; here = None; more = more; said_is = refl; spell = tt; spell_here = (h.0, tt) }
 said_at kind [] after line (Some r ∷ more) h = record { earlier = []; here = Some r; more = more; said_is = refl; spell = tt; spell_here = (h.0, h.1, tt) }
-said_at kind (first ∷ before) after line (None ∷ said) h =
-    let rest = said_at kind before after line said h.1 in
+said_at kind (first ∷ before) after line (None ∷ by_line) h =
+    let rest = said_at kind before after line by_line h.1 in
     record { earlier = None ∷ rest.earlier; here = rest.here; more = rest.more; said_is = ap (λ t. None ∷ t) rest.said_is; spell = (h.0, rest.spell); spell_here = rest.spell_here }
-said_at kind (first ∷ before) after line (Some r ∷ said) h =
-    let rest = said_at kind before after line said h.2 in
+said_at kind (first ∷ before) after line (Some r ∷ by_line) h =
+    let rest = said_at kind before after line by_line h.2 in
     record { earlier = Some r ∷ rest.earlier; here = rest.here; more = rest.more; said_is = ap (λ t. Some r ∷ t) rest.said_is; spell = (h.0, h.1, rest.spell); spell_here = rest.spell_here }
-said_at kind before after line said h = absurd h
+said_at kind before after line by_line h = absurd h
 
 -- no line of a clean text exceeds a limit
-no_limit : (kind : TextKind) (all before after : List (List ℕ)) (line : List ℕ) (said : List (Option Record)) → IsClean kind all said → all ≡ before ++ line ∷ after
+no_limit : (kind : TextKind) (all before after : List (List ℕ)) (line : List ℕ) (by_line : List (Option Record)) → IsClean kind all by_line → all ≡ before ++ line ∷ after
     → NoneHolds (limit_condition (length before + 1) line)
-no_limit kind all before after line said clean e f reason h =
-    let s = said_at kind before after line said (rw e at clean.spell) in
+no_limit kind all before after line by_line clean e f reason h =
+    let s = said_at kind before after line by_line (rw e at clean.spell) in
     clean.none before after line s.earlier (at f reason) e s.spell (of_limit h)
 
 -- if neither limit's condition holds, both limits do
@@ -52,17 +52,17 @@ limits_of : (number : ℕ) (line : List ℕ) → NoneHolds (limit_condition numb
 limits_of number line none = (ltb-false most_lines number (false_from_ne_true _ (none 0 LineLimit)), ltb-false longest_line (length line) (false_from_ne_true _ (none 0 LineTooLong)))
 
 -- each line of a clean text is within the limits
-clean_limits : (kind : TextKind) (all : List (List ℕ)) (said : List (Option Record)) (k : ℕ) (d : List ℕ) → IsClean kind all said → k < length all
+clean_limits : (kind : TextKind) (all : List (List ℕ)) (by_line : List (Option Record)) (k : ℕ) (d : List ℕ) → IsClean kind all by_line → k < length all
     → (k < most_lines) × (length (get_or all k d) ≤ longest_line)
-clean_limits kind all said k d clean below =
-    let limits = limits_of _ _ (no_limit kind all (take k all) (drop (suc k) all) (get_or all k d) said clean (split_at all k d below)) in
+clean_limits kind all by_line k d clean below =
+    let limits = limits_of _ _ (no_limit kind all (take k all) (drop (suc k) all) (get_or all k d) by_line clean (split_at all k d below)) in
     (omega (arith, limits.0, length-take k all), limits.1)
 
 -- a text without a fault is spelled
-pub spelled_of_faultless : (kind : TextKind) (all : List (List ℕ)) (said : List (Option Record)) → IsFaultless kind all said → AreSpelled kind all said
-spelled_of_faultless kind all said h = record {
-  few = elim (cases_lt most_lines (length all)) [ inl more ↦ absurd (omega (arith, (clean_limits kind all said most_lines [] h.clean more).0)) | inr few ↦ few ];
-  short = λ k d below. (clean_limits kind all said k d h.clean below).1;
+pub spelled_of_faultless : (kind : TextKind) (all : List (List ℕ)) (by_line : List (Option Record)) → IsFaultless kind all by_line → AreSpelled kind all by_line
+spelled_of_faultless kind all by_line h = record {
+  few = elim (cases_lt most_lines (length all)) [ inl more ↦ absurd (omega (arith, (clean_limits kind all by_line most_lines [] h.clean more).0)) | inr few ↦ few ];
+  short = λ k d below. (clean_limits kind all by_line k d h.clean below).1;
   spell = h.clean.spell;
 }
 
@@ -81,23 +81,23 @@ no_condition kind earlier number line (Some r) p says within_limits allowed c = 
 ]
 
 -- the record of a line, with those before it and after it
-records_at : (kind : TextKind) (before : List (List ℕ)) (line : List ℕ) (said earlier : List (Option Record)) (s : SaidAt kind before line said) (r : Record)
-    → s.earlier ≡ earlier → s.here ≡ Some r → records_in said ≡ records_in earlier ++ r ∷ records_in s.more
-records_at kind before line said earlier s r same here = ap records_in s.said_is ∙ rw (here, same) (records_in-append earlier (Some r ∷ s.more))
+records_at : (kind : TextKind) (before : List (List ℕ)) (line : List ℕ) (by_line earlier : List (Option Record)) (s : SaidAt kind before line by_line) (r : Record)
+    → s.earlier ≡ earlier → s.here ≡ Some r → records_in by_line ≡ records_in earlier ++ r ∷ records_in s.more
+records_at kind before line by_line earlier s r same here = ap records_in s.said_is ∙ rw (here, same) (records_in-append earlier (Some r ∷ s.more))
 
 -- spelled lines whose records have no condition have no fault
-pub faultless_of_spelled : (kind : TextKind) (all : List (List ℕ)) (said : List (Option Record)) → AreSpelled kind all said → AreFaultless kind (records_in said) → IsFaultless kind all said
-faultless_of_spelled kind all said spelled faultless = record { clean = record { spell = spelled.spell; none = none_at }; none_at_end = faultless.complete }
+pub faultless_of_spelled : (kind : TextKind) (all : List (List ℕ)) (by_line : List (Option Record)) → AreSpelled kind all by_line → AreFaultless kind (records_in by_line) → IsFaultless kind all by_line
+faultless_of_spelled kind all by_line spelled faultless = record { clean = record { spell = spelled.spell; none = none_at }; none_at_end = faultless.complete }
   where
     none_at : (before after : List (List ℕ)) (line : List ℕ) (earlier : List (Option Record)) (p : Place) → all ≡ before ++ line ∷ after → Spell kind before earlier
         → ¬ Condition kind (records_in earlier) (length before + 1) line p
     none_at before after line earlier p e spell =
-        let s = said_at kind before after line said (rw e at spelled.spell) in
+        let s = said_at kind before after line by_line (rw e at spelled.spell) in
         let same : s.earlier ≡ earlier = say_same kind before s.earlier earlier s.spell spell in
         let below : length before < length all = omega (arith, ap length e, length-append before (line ∷ after)) in
         let short = rw (e, get_or-append_seam before line after line) at (spelled.short (length before) line below) in
         let within_limits = within (length before + 1) line (omega (arith, below, spelled.few)) short in
-        let allowed : (r : Record) → s.here ≡ Some r → IsAllowed (records_in earlier) r = λ r here. faultless.allowed _ _ r (records_at kind before line said earlier s r same here) in
+        let allowed : (r : Record) → s.here ≡ Some r → IsAllowed (records_in earlier) r = λ r here. faultless.allowed _ _ r (records_at kind before line by_line earlier s r same here) in
         no_condition kind (records_in earlier) (length before + 1) line s.here p s.spell_here within_limits allowed
 
 -- the result of a reader is exact if records that give a value have no fault and give no other value
@@ -106,18 +106,18 @@ pub reads_exactly : {V : Type 0} (kind : TextKind) (gives : List LineRecord → 
     → ((rs : List LineRecord) (v w : V) → gives rs v → gives rs w → v ≡ w)
     → ReadsLines kind gives all result → Reads (SpellsValue kind gives all) (Fault kind all) result
 reads_exactly kind gives all (Ok v) faultless same h = (
-  record { said = h.said; spelled = spelled_of_faultless kind all h.said h.faultless; given = h.given },
+  record { by_line = h.by_line; spelled = spelled_of_faultless kind all h.by_line h.faultless; given = h.given },
   λ other s.
-      let said_is = say_same kind all s.said h.said s.spelled.spell h.faultless.clean.spell in
-      same (numbered 1 h.said) other v (rw said_is at s.given) h.given,
-  λ l f r. no_fault kind all h.said l f r h.faultless,
+      let said_is = say_same kind all s.by_line h.by_line s.spelled.spell h.faultless.clean.spell in
+      same (numbered 1 h.by_line) other v (rw said_is at s.given) h.given,
+  λ l f r. no_fault kind all h.by_line l f r h.faultless,
 )
 reads_exactly kind gives all (Err (read_errors.Refused place reason)) faultless same h = (
   h,
   λ l f r other. one_fault kind all l f place.line place.field r reason other h,
   λ v s.
-      let none = faultless_of_spelled kind all s.said s.spelled (rw (← records_of-numbered 1 s.said) (faultless (numbered 1 s.said) v s.given)) in
-      no_fault kind all s.said place.line place.field reason none h,
+      let none = faultless_of_spelled kind all s.by_line s.spelled (rw (← records_of-numbered 1 s.by_line) (faultless (numbered 1 s.by_line) v s.given)) in
+      no_fault kind all s.by_line place.line place.field reason none h,
 )
 reads_exactly kind gives all (Err read_errors.Device) faultless same h = tt
 reads_exactly kind gives all (Err read_errors.Memory) faultless same h = tt
@@ -126,5 +126,5 @@ reads_exactly kind gives all (Err read_errors.Memory) faultless same h = tt
 pub spells_one_value : {V : Type 0} (kind : TextKind) (gives : List LineRecord → V → Type 0) (all : List (List ℕ)) (v w : V) → ((rs : List LineRecord) (v w : V) → gives rs v → gives rs w → v ≡ w)
     → SpellsValue kind gives all v → SpellsValue kind gives all w → v ≡ w
 spells_one_value kind gives all v w same s t =
-    let said_is = say_same kind all s.said t.said s.spelled.spell t.spelled.spell in
-    same (numbered 1 t.said) v w (rw said_is at s.given) t.given
+    let said_is = say_same kind all s.by_line t.by_line s.spelled.spell t.spelled.spell in
+    same (numbered 1 t.by_line) v w (rw said_is at s.given) t.given

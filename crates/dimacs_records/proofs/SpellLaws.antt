@@ -74,8 +74,8 @@ all_said_by (type ∷ types) (text ∷ texts) = said_by type text ∷ all_said_b
 all_said_by types texts = []
 
 part_said : (type : FieldType) (text : List ℕ) (part : Part) → Says type text part → part ≡ said_by type text
-part_said (Word w) text (Text said) h = ap Text h.1
-part_said (Either v w) text (Text said) h = ap Text h.1
+part_said (Word w) text (Text word) h = ap Text h.1
+part_said (Either v w) text (Text word) h = ap Text h.1
 part_said (Number low high) text (Amount n) h = ap Amount h.0.1
 part_said type text part h = absurd h
 

@@ -7,7 +7,7 @@ use Rattle.std.proofs.lemmas.Option.{slice_get-map}
 use Rattle.dimacs_lines.specs.Devices.{Written}
 use Rattle.dimacs_lines.specs.OutputBuffers.{PageState, IsWritten}
 use Rattle.dimacs_records.specs.declared.records.Record.{Record}
-use Rattle.dimacs_records.specs.Canonical.{AreLines, canonical_line, canonical_text, said_lines}
+use Rattle.dimacs_records.specs.Canonical.{AreLines, canonical_line, canonical_text, records_of_line}
 
 pub canonical_text-append : (rs more : List Record) → canonical_text (rs ++ more) ≡ canonical_text rs ++ canonical_text more
 canonical_text-append rs more = flat_map-append canonical_line rs more
@@ -22,21 +22,21 @@ lines_after start new output text before more all is h =
     let same : (text ++ canonical_text before) ++ canonical_text more ≡ text ++ canonical_text all = append_assoc text (canonical_text before) (canonical_text more) ∙ ap (λ t. text ++ t) (sym (ap canonical_text is ∙ canonical_text-append before more)) in
     subst (λ t. IsWritten start t new output) same h
 
-next_line : (rs : List Record) (i : ℕ) → i < length rs → take (suc i) rs ≡ take i rs ++ said_lines (slice_get rs i)
+next_line : (rs : List Record) (i : ℕ) → i < length rs → take (suc i) rs ≡ take i rs ++ records_of_line (slice_get rs i)
 next_line [] i within = absurd (omega (arith, within))
 next_line (r ∷ rs) zero within = refl
 next_line (r ∷ rs) (suc i) within = ap (λ some. r ∷ some) (next_line rs i (omega (arith, within)))
 
 -- a line for each record of a list
-pub lines_of_list : (says : ℕ → Option Record → Type 0) (n : ℕ) (rs : List Record) → n ≤ length rs → ((i : ℕ) (said : Option Record) → i < n → says i said → said ≡ slice_get rs i) → AreLines says n (λ i. take i rs)
+pub lines_of_list : (says : ℕ → Option Record → Type 0) (n : ℕ) (rs : List Record) → n ≤ length rs → ((i : ℕ) (rec : Option Record) → i < n → says i rec → rec ≡ slice_get rs i) → AreLines says n (λ i. take i rs)
 lines_of_list says n rs few each = record {
   none = refl;
-  more = λ i said within e. ap (λ k. take k rs) (add-one i) ∙ next_line rs i (omega (arith, within, few)) ∙ ap (λ o. take i rs ++ said_lines o) (sym (each i said within e));
+  more = λ i rec within e. ap (λ k. take k rs) (add-one i) ∙ next_line rs i (omega (arith, within, few)) ∙ ap (λ o. take i rs ++ records_of_line o) (sym (each i rec within e));
 }
 
 -- a line for each item of a list
-pub lines_of_items : {A : Type 0} (f : A → Record) (says : ℕ → Option Record → Type 0) (n : ℕ) (xs : List A) → n ≤ length xs → ((i : ℕ) (said : Option Record) → i < n → says i said → said ≡ option_map f (slice_get xs i)) → AreLines says n (λ i. take i (map f xs))
-lines_of_items f says n xs few each = lines_of_list says n (map f xs) (omega (arith, few, length-map xs f)) (λ i said within e. each i said within e ∙ sym (slice_get-map f xs i))
+pub lines_of_items : {A : Type 0} (f : A → Record) (says : ℕ → Option Record → Type 0) (n : ℕ) (xs : List A) → n ≤ length xs → ((i : ℕ) (rec : Option Record) → i < n → says i rec → rec ≡ option_map f (slice_get xs i)) → AreLines says n (λ i. take i (map f xs))
+lines_of_items f says n xs few each = lines_of_list says n (map f xs) (omega (arith, few, length-map xs f)) (λ i rec within e. each i rec within e ∙ sym (slice_get-map f xs i))
 
 -- these are all of them
 pub all_items : {A : Type 0} (f : A → Record) (n : ℕ) (xs : List A) → n ≡ length xs → take n (map f xs) ≡ map f xs

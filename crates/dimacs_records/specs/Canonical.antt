@@ -23,19 +23,19 @@ canonical_line r = line_of (letter_of r) (parts_of r)
 abbrev pub canonical_text : List Record → List ℕ
 canonical_text rs = flat_map canonical_line rs
 
-abbrev pub said_lines : Option Record → List Record
-said_lines None = []
-said_lines (Some r) = r ∷ []
+abbrev pub records_of_line : Option Record → List Record
+records_of_line None = []
+records_of_line (Some r) = r ∷ []
 
 -- `below i` has the records of the numbers below i, each with one record or none
 pub record AreLines (says : ℕ → Option Record → Type 0) (count : ℕ) (below : ℕ → List Record) : Type 0 where
   pub none : below 0 ≡ []
-  pub more : (i : ℕ) (said : Option Record) → i < count → says i said → below (i + 1) ≡ below i ++ said_lines said
+  pub more : (i : ℕ) (rec : Option Record) → i < count → says i rec → below (i + 1) ≡ below i ++ records_of_line rec
 
 -- a field of this type can have this content
 abbrev pub Fits : FieldType → Part → Type 0
-Fits (Word w) (Text said) = said ≡ w
-Fits (Either v w) (Text said) = (said ≡ v) ⊎ (said ≡ w)
+Fits (Word w) (Text word) = word ≡ w
+Fits (Either v w) (Text word) = (word ≡ v) ⊎ (word ≡ w)
 Fits (Number low high) (Amount n) = IsWithin low high n
 Fits type part = ⊥
 

@@ -11,4 +11,4 @@ OneFaultLaw = (kind : TextKind) (lines : List (List ℕ)) (l f l' f' : ℕ) (r r
 
 -- a text without a condition that holds has no fault
 abbrev pub NoFaultLaw : Type 0
-NoFaultLaw = (kind : TextKind) (lines : List (List ℕ)) (said : List (Option Record)) (l f : ℕ) (r : Reason) → IsFaultless kind lines said → ¬ Fault kind lines l f r
+NoFaultLaw = (kind : TextKind) (lines : List (List ℕ)) (by_line : List (Option Record)) (l f : ℕ) (r : Reason) → IsFaultless kind lines by_line → ¬ Fault kind lines l f r

@@ -19,7 +19,7 @@ abbrev pub Spell : TextKind → List (List ℕ) → List (Option Record) → Typ
 Spell kind [] [] = Unit {0}
 Spell kind (line ∷ lines) (None ∷ more) = (is_skip (texts_in line) ≡ true) × Spell kind lines more
 Spell kind (line ∷ lines) (Some r ∷ more) = (is_skip (texts_in line) ≡ false) × SpellsRecord kind (texts_in line) r × Spell kind lines more
-Spell kind lines said = ⊥
+Spell kind lines by_line = ⊥
 
 -- the records of lines, without skipped lines
 abbrev pub records_in : List (Option Record) → List Record
@@ -28,8 +28,8 @@ records_in (None ∷ more) = records_in more
 records_in (Some r ∷ more) = r ∷ records_in more
 
 -- the lines spell these records, and no condition holds at any line
-pub record IsClean (kind : TextKind) (lines : List (List ℕ)) (said : List (Option Record)) : Type 0 where
-  pub spell : Spell kind lines said
+pub record IsClean (kind : TextKind) (lines : List (List ℕ)) (by_line : List (Option Record)) : Type 0 where
+  pub spell : Spell kind lines by_line
   pub none : (before after : List (List ℕ)) (line : List ℕ) (earlier : List (Option Record)) (p : Place) → lines ≡ before ++ line ∷ after → Spell kind before earlier → ¬ Condition kind (records_in earlier) (length before + 1) line p
 
 -- clean lines, then one at which this condition is the first
@@ -37,11 +37,11 @@ pub record FaultyLine (kind : TextKind) (lines : List (List ℕ)) (l f : ℕ) (r
   pub before : List (List ℕ)
   pub line : List ℕ
   pub after : List (List ℕ)
-  pub said : List (Option Record)
+  pub by_line : List (Option Record)
   pub lines_are : lines ≡ before ++ line ∷ after
   pub number : l ≡ length before + 1
-  pub clean : IsClean kind before said
-  pub first : FirstOf (Condition kind (records_in said) l line) places (at f r)
+  pub clean : IsClean kind before by_line
+  pub first : FirstOf (Condition kind (records_in by_line) l line) places (at f r)
 
 -- this condition is the first at the end of a text of these records
 abbrev pub FirstAtEnd : TextKind → List Record → Reason → Type 0
@@ -49,16 +49,16 @@ FirstAtEnd kind all reason = FirstOf (λ other. IsTrue (end_condition kind all o
 
 -- clean lines, and this condition at their end
 pub record FaultyEnd (kind : TextKind) (lines : List (List ℕ)) (l f : ℕ) (r : Reason) : Type 0 where
-  pub said : List (Option Record)
+  pub by_line : List (Option Record)
   pub number : l ≡ length lines + 1
   pub field : f ≡ 0
-  pub clean : IsClean kind lines said
-  pub first : FirstAtEnd kind (records_in said) r
+  pub clean : IsClean kind lines by_line
+  pub first : FirstAtEnd kind (records_in by_line) r
 
 abbrev pub Fault : TextKind → List (List ℕ) → ℕ → ℕ → Reason → Type 0
 Fault kind lines l f r = FaultyLine kind lines l f r ⊎ FaultyEnd kind lines l f r
 
 -- no condition holds at any line or at the end
-pub record IsFaultless (kind : TextKind) (lines : List (List ℕ)) (said : List (Option Record)) : Type 0 where
-  pub clean : IsClean kind lines said
-  pub none_at_end : (reason : Reason) → ¬ IsTrue (end_condition kind (records_in said) reason)
+pub record IsFaultless (kind : TextKind) (lines : List (List ℕ)) (by_line : List (Option Record)) : Type 0 where
+  pub clean : IsClean kind lines by_line
+  pub none_at_end : (reason : Reason) → ¬ IsTrue (end_condition kind (records_in by_line) reason)

@@ -75,9 +75,9 @@ RefusesEnd kind all take_errors.Memory = Unit {0}
 
 -- the lines have no fault, and their records give this value
 pub record GiveValue {V : Type 0} (kind : TextKind) (gives : List LineRecord → V → Type 0) (all : List (List ℕ)) (v : V) : Type 0 where
-  pub said : List (Option Record)
-  pub faultless : IsFaultless kind all said
-  pub given : gives (numbered 1 said) v
+  pub by_line : List (Option Record)
+  pub faultless : IsFaultless kind all by_line
+  pub given : gives (numbered 1 by_line) v
 
 -- the value of lines without a fault, or their fault
 abbrev pub ReadsLines : {V : Type 0} → TextKind → (List LineRecord → V → Type 0) → List (List ℕ) → Result V ReadError → Type 0

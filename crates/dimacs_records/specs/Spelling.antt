@@ -76,8 +76,8 @@ parts_of r = (record_line r).parts
 
 -- a field of this type with this text has this content
 abbrev pub Says : FieldType → List ℕ → Part → Type 0
-Says (Word w) text (Text said) = (text ≡ w) × (said ≡ w)
-Says (Either v w) text (Text said) = ((text ≡ v) ⊎ (text ≡ w)) × (said ≡ text)
+Says (Word w) text (Text word) = (text ≡ w) × (word ≡ w)
+Says (Either v w) text (Text word) = ((text ≡ v) ⊎ (text ≡ w)) × (word ≡ text)
 Says (Number low high) text (Amount n) = Spells text n × IsWithin low high n
 Says type text part = ⊥
 

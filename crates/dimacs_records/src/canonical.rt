@@ -5,7 +5,7 @@ ghost use Rattle.dimacs_lines.specs.Puts.{Puts};
 ghost use Rattle.dimacs_lines.specs.OutputBuffers.{Appends};
 ghost use Rattle.dimacs_records.specs.declared.printed.Part.TheVariants.{Number};
 ghost use Rattle.dimacs_records.specs.declared.records.Record.{Record};
-ghost use Rattle.dimacs_records.specs.Canonical.{AreLines, canonical_line, canonical_text, line_of, said_lines};
+ghost use Rattle.dimacs_records.specs.Canonical.{AreLines, canonical_line, canonical_text, line_of, records_of_line};
 ghost use Rattle.dimacs_records.specs.Spelling.{Text, Amount};
 
 use crate::printed::{Part, write_line};
@@ -13,11 +13,11 @@ use crate::records::Record;
 use dimacs_lines::{DeviceFault, OutputBuffer, Sink};
 
 /// Puts the line of a record.
-pub fn put_record<S: Sink>(sink: &mut S, said: &Record) -> Result<(), DeviceFault>
-    ensures { Puts result (S.seen sink.old) (canonical_line said.now) (S.seen sink.new) }
+pub fn put_record<S: Sink>(sink: &mut S, rec: &Record) -> Result<(), DeviceFault>
+    ensures { Puts result (S.seen sink.old) (canonical_line rec.now) (S.seen sink.new) }
 {
     let mut output = OutputBuffer::new();
-    write_record(&mut output, sink, said);
+    write_record(&mut output, sink, rec);
     output.finish(sink)
 }
 
@@ -67,26 +67,26 @@ pub fn write_lines<S: Sink, F: Fn(usize) -> Option<Record>>(
         → Appends (canonical_text (below count)) (S.seen sink.old) output.old (S.seen sink.new) output.new }
 {
     for i in 0..count {
-        write_said(output, sink, line(i));
+        write_if_any(output, sink, line(i));
     }
 }
 
 /// Writes the line of a record, if there is one.
 #[inline(always)]
-fn write_said<S: Sink>(output: &mut OutputBuffer, sink: &mut S, said: Option<Record>)
-    ensures { Appends (canonical_text (said_lines said)) (S.seen sink.old) output.old (S.seen sink.new) output.new }
+fn write_if_any<S: Sink>(output: &mut OutputBuffer, sink: &mut S, rec: Option<Record>)
+    ensures { Appends (canonical_text (records_of_line rec)) (S.seen sink.old) output.old (S.seen sink.new) output.new }
 {
-    if let Some(said) = said {
-        write_record(output, sink, &said);
+    if let Some(rec) = rec {
+        write_record(output, sink, &rec);
     }
 }
 
 /// Writes the line of a record through a buffer.
 #[inline(always)]
-pub fn write_record<S: Sink>(output: &mut OutputBuffer, sink: &mut S, said: &Record)
-    ensures { Appends (canonical_line said.now) (S.seen sink.old) output.old (S.seen sink.new) output.new }
+pub fn write_record<S: Sink>(output: &mut OutputBuffer, sink: &mut S, rec: &Record)
+    ensures { Appends (canonical_line rec.now) (S.seen sink.old) output.old (S.seen sink.new) output.new }
 {
-    match *said {
+    match *rec {
         Record::MaxProblem { nodes, arcs } => write_problem(output, sink, b"max", nodes, arcs),
         Record::MaxNode { id, end } => {
             write_line(output, sink, b"n", &[unsigned(id), Part::Word(end.word())])

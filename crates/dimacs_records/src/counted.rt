@@ -57,16 +57,16 @@ pub trait Begun: Drop {
         ensures { begun_by result (problem ∷ []) };
 
     /// What the taken records contribute to the tests of one more.
-    fn before(&self, said: Record) -> Earlier
-        requires { IsOfKind kind said }
-        ensures noted { result ≡ noted self.now said }
-        ensures so { (rs : List Record) → begun_by self.now rs → result ≡ noted_before rs said };
+    fn before(&self, rec: Record) -> Earlier
+        requires { IsOfKind kind rec }
+        ensures noted { result ≡ noted self.now rec }
+        ensures so { (rs : List Record) → begun_by self.now rs → result ≡ noted_before rs rec };
 
     /// Keeps a record that passed all tests.
-    fn keep(&mut self, said: Record) -> Result<(), Memory>
-        requires of_kind { IsOfKind kind said }
-        requires passes { Passes (noted self.old said) said }
-        ensures kept { OnOk result ((rs : List Record) → begun_by self.old rs → begun_by self.new (rs ++ said ∷ [])) }
+    fn keep(&mut self, rec: Record) -> Result<(), Memory>
+        requires of_kind { IsOfKind kind rec }
+        requires passes { Passes (noted self.old rec) rec }
+        ensures kept { OnOk result ((rs : List Record) → begun_by self.old rs → begun_by self.new (rs ++ rec ∷ [])) }
         ensures unchanged { OnErr result (self.new ≡ self.old) };
 
     /// What the taken records contribute to the tests at the end.
@@ -110,15 +110,15 @@ impl<B: Begun> Reading for CountedReading<B> {
     ghost gives = { λ rs value. B.gives rs value };
 
     #[inline(always)]
-    fn take(&mut self, _line: u64, said: Record) -> Result<(), TakeError> {
+    fn take(&mut self, _line: u64, rec: Record) -> Result<(), TakeError> {
         match &mut self.begun {
             Some(begun) => {
-                test_record(begun.before(said), said)?;
-                begun.keep(said)?;
+                test_record(begun.before(rec), rec)?;
+                begun.keep(rec)?;
             }
             None => {
-                test_first(said)?;
-                self.begun = Some(B::begin(self.alloc, said));
+                test_first(rec)?;
+                self.begun = Some(B::begin(self.alloc, rec));
             }
         }
         Ok(())
@@ -140,18 +140,18 @@ pub fn read_counted<B: Begun, S: Source>(
     source: &mut S,
 ) -> Result<B::Value, ReadError>
     ensures reads { (text : List ℕ) → S.coming source.old ≡ Some text → Reads (SpellsValue B.kind B.gives (lines text)) (Fault B.kind (lines text)) result }
-    ensures device { CountsRead result (S.faults source.old) (S.faults source.new) }
+    ensures faults { CountsRead result (S.faults source.old) (S.faults source.new) }
 {
     read_text(alloc, B::kind(), CountedReading::<B>::new(alloc), source)
 }
 
 /// Tests the first record: it has to be a problem line.
-fn test_first(said: Record) -> Result<(), TakeError>
-    ensures problem { OnOk result (is_problem said ≡ true) }
-    ensures allowed { OnOk result (IsAllowed [] said) }
-    ensures refused { IfErr result (λ error. needs_problem (kind_of said) ≡ true → RefusesRecord [] said error) }
+fn test_first(rec: Record) -> Result<(), TakeError>
+    ensures problem { OnOk result (is_problem rec ≡ true) }
+    ensures allowed { OnOk result (IsAllowed [] rec) }
+    ensures refused { IfErr result (λ error. needs_problem (kind_of rec) ≡ true → RefusesRecord [] rec error) }
 {
-    if declares(said) {
+    if declares(rec) {
         Ok(())
     } else {
         Err(TakeError::refused(0, Reason::ProblemMissing))

@@ -36,7 +36,7 @@ pub fn read_text<R: Reading, S: Source>(
     ensures reads { (text : List ℕ) → S.coming source.old ≡ Some text → ReadsLines kind R.gives (lines text) result }
     ensures spelled { IfOk result (λ value. IsGivenByLines kind R.gives value) }
     ensures kept { IfOk result (λ value. R.keeps reading value) }
-    ensures device { CountsRead result (S.faults source.old) (S.faults source.new) }
+    ensures faults { CountsRead result (S.faults source.old) (S.faults source.new) }
 {
     let mut reading = reading;
     let mut lines = Lines::new(alloc)?;
@@ -64,7 +64,7 @@ fn read_lines<R: Reading, S: Source>(
     ensures spelled { IfOk result (λ count. HasTaken kind (lines.old.given + 1) (R.stands_for reading.old)
         → HasTaken kind (count + 1) (R.stands_for reading.new)) }
     ensures kept { (value : R.Value) → R.keeps reading.new value → R.keeps reading.old value }
-    ensures device { CountsRead result (S.faults source.old) (S.faults source.new) }
+    ensures faults { CountsRead result (S.faults source.old) (S.faults source.new) }
 {
     loop {
         take_held(kind, lines, reading)?;
@@ -130,7 +130,7 @@ fn take_plain<R: Reading>(
     let mut lines = 0;
     while let Some(line) = plain_line::<R>(kind, &held[bytes..]) {
         lines += 1;
-        if let Err(error) = reading.take(given + lines, line.said) {
+        if let Err(error) = reading.take(given + lines, line.rec) {
             return Err(at_line(given + lines, error));
         }
         bytes += line.size;
@@ -156,7 +156,7 @@ fn read_line<R: Reading, S: Source>(
     ensures spelled { IfOk result (λ answer. HasTaken kind (lines.old.given + 1) (R.stands_for reading.old)
         → HasTaken kind (lines.old.given + 1 + option_len answer) (R.stands_for reading.new)) }
     ensures kept { (value : R.Value) → R.keeps reading.new value → R.keeps reading.old value }
-    ensures device { CountsRead result (S.faults source.old) (S.faults source.new) }
+    ensures faults { CountsRead result (S.faults source.old) (S.faults source.new) }
 {
     match lines.next_line(source) {
         Ok(None) => Ok(None),
@@ -178,15 +178,15 @@ fn take_line<R: Reading>(
 ) -> Result<(), TakeError>
     requires { R.kind reading.old ≡ kind }
     ensures kind { R.kind reading.new ≡ kind }
-    ensures takes { (before : List (List ℕ)) (said : List (Option Record)) → ComesAfter kind before said number line.now
-        → R.stands_for reading.old (numbered 1 said)
-        → TakesLine kind before said line.now (R.stands_for reading.new) result }
+    ensures takes { (before : List (List ℕ)) (by_line : List (Option Record)) → ComesAfter kind before by_line number line.now
+        → R.stands_for reading.old (numbered 1 by_line)
+        → TakesLine kind before by_line line.now (R.stands_for reading.new) result }
     ensures spelled { OnOk result (HasTaken kind number (R.stands_for reading.old) → HasTaken kind (number + 1) (R.stands_for reading.new)) }
     ensures kept { (value : R.Value) → R.keeps reading.new value → R.keeps reading.old value }
 {
     match record(kind, line) {
         Ok(None) => Ok(()),
-        Ok(Some(said)) => reading.take(number, said),
+        Ok(Some(rec)) => reading.take(number, rec),
         Err(fault) => Err(TakeError::Refused(fault)),
     }
 }

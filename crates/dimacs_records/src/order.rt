@@ -73,34 +73,34 @@ impl Earlier {
 
     /// The record needs a problem line before it, and there is none.
     #[inline(always)]
-    fn is_without_problem(self, said: Record) -> bool
-        ensures { result ≡ ((needs_problem (kind_of said) && not (is_problem said)) && is_none self.problem) }
+    fn is_without_problem(self, rec: Record) -> bool
+        ensures { result ≡ ((needs_problem (kind_of rec) && not (is_problem rec)) && is_none self.problem) }
     {
         match self.problem {
             Some(_) => false,
-            None => wants_problem(said),
+            None => wants_problem(rec),
         }
     }
 
     /// The record is a second problem line.
     #[inline(always)]
-    fn is_second_problem(self, said: Record) -> bool
-        ensures { result ≡ (is_problem said && is_some self.problem) }
+    fn is_second_problem(self, rec: Record) -> bool
+        ensures { result ≡ (is_problem rec && is_some self.problem) }
     {
         match self.problem {
-            Some(_) => declares(said),
+            Some(_) => declares(rec),
             None => false,
         }
     }
 
     /// The text has as many lines as it declares, or the block as many labels, and the record is one more.
     #[inline(always)]
-    fn is_full_for(self, said: Record) -> bool
-        ensures { result ≡ passes_count self said }
+    fn is_full_for(self, rec: Record) -> bool
+        ensures { result ≡ passes_count self rec }
     {
-        match said {
+        match rec {
             Record::LabelsNode { .. } | Record::DistancesNode { .. } => self.block_full,
-            _ => counts(said) && self.is_full(),
+            _ => counts(rec) && self.is_full(),
         }
     }
 
@@ -186,22 +186,22 @@ impl Earlier {
 
 /// Tests one more record, in the order in which its faults are named. Returns the first fault.
 #[inline(always)]
-pub fn test_record(earlier: Earlier, said: Record) -> Result<(), TakeError>
-    ensures passes { OnOk result (Passes earlier said) }
-    ensures noted { result ≡ answer_at (place_by earlier said) }
+pub fn test_record(earlier: Earlier, rec: Record) -> Result<(), TakeError>
+    ensures passes { OnOk result (Passes earlier rec) }
+    ensures noted { result ≡ answer_at (place_by earlier rec) }
 {
-    refuse_if(earlier.is_without_problem(said), 0, Reason::ProblemMissing)?;
-    refuse_if(earlier.is_second_problem(said), 0, Reason::ProblemTwice)?;
+    refuse_if(earlier.is_without_problem(rec), 0, Reason::ProblemMissing)?;
+    refuse_if(earlier.is_second_problem(rec), 0, Reason::ProblemTwice)?;
     refuse_if(earlier.misplaced, 0, Reason::RecordOrder)?;
-    refuse_if(earlier.has_above(second_id(said)), 2, Reason::NodeRange)?;
-    refuse_if(earlier.has_above(third_id(said)), 3, Reason::NodeRange)?;
-    refuse_if(earlier.has_above(fourth_id(said)), 4, Reason::NodeRange)?;
+    refuse_if(earlier.has_above(second_id(rec)), 2, Reason::NodeRange)?;
+    refuse_if(earlier.has_above(third_id(rec)), 3, Reason::NodeRange)?;
+    refuse_if(earlier.has_above(fourth_id(rec)), 4, Reason::NodeRange)?;
     refuse_if(earlier.named, 2, Reason::NodeTwice)?;
     refuse_if(earlier.end_named, 3, Reason::EndTwice)?;
     refuse_if(earlier.lacks_end, 0, Reason::EndMissing)?;
-    refuse_if(has_wrong_low(said), 4, Reason::BoundOrder)?;
-    refuse_if(has_wrong_cap(said), 5, Reason::BoundOrder)?;
-    refuse_if(earlier.is_full_for(said), 0, Reason::TooMany)?;
+    refuse_if(has_wrong_low(rec), 4, Reason::BoundOrder)?;
+    refuse_if(has_wrong_cap(rec), 5, Reason::BoundOrder)?;
+    refuse_if(earlier.is_full_for(rec), 0, Reason::TooMany)?;
     refuse_if(earlier.block_short, 0, Reason::TooFew)?;
     refuse_if(earlier.valued, 0, Reason::SolutionTwice)?;
     refuse_if(earlier.pred_unknown, 0, Reason::PredUnknown)?;
@@ -250,21 +250,21 @@ fn needs_problem(kind: TextKind) -> bool
 
 /// Whether the record has to come after a problem line.
 #[inline(always)]
-fn wants_problem(said: Record) -> bool
-    ensures { result ≡ (needs_problem (kind_of said) && not (is_problem said)) }
+fn wants_problem(rec: Record) -> bool
+    ensures { result ≡ (needs_problem (kind_of rec) && not (is_problem rec)) }
 {
-    match said {
+    match rec {
         Record::SolutionValue { .. } | Record::SolutionEntry { .. } => false,
-        _ => !declares(said),
+        _ => !declares(rec),
     }
 }
 
 /// Whether the record is a problem line.
 #[inline(always)]
-pub(crate) fn declares(said: Record) -> bool
-    ensures { result ≡ is_problem said }
+pub(crate) fn declares(rec: Record) -> bool
+    ensures { result ≡ is_problem rec }
 {
-    match said {
+    match rec {
         Record::MaxProblem { .. }
         | Record::MinProblem { .. }
         | Record::GraphProblem { .. }
@@ -279,10 +279,10 @@ pub(crate) fn declares(said: Record) -> bool
 
 /// The ID in field 2, if NODES bounds it.
 #[inline(always)]
-fn second_id(said: Record) -> Option<u32>
-    ensures { (p : Option Declared) → is_above_at 2 p (bounded_ids said) ≡ is_so (is_above p) result }
+fn second_id(rec: Record) -> Option<u32>
+    ensures { (p : Option Declared) → is_above_at 2 p (bounded_ids rec) ≡ is_so (is_above p) result }
 {
-    match said {
+    match rec {
         Record::MaxNode { id, .. }
         | Record::MinNode { id, .. }
         | Record::CutNode { id }
@@ -298,10 +298,10 @@ fn second_id(said: Record) -> Option<u32>
 
 /// The ID in field 3, if NODES bounds it.
 #[inline(always)]
-fn third_id(said: Record) -> Option<u32>
-    ensures { (p : Option Declared) → is_above_at 3 p (bounded_ids said) ≡ is_so (is_above p) result }
+fn third_id(rec: Record) -> Option<u32>
+    ensures { (p : Option Declared) → is_above_at 3 p (bounded_ids rec) ≡ is_so (is_above p) result }
 {
-    match said {
+    match rec {
         Record::MaxArc { head, .. } | Record::MinArc { head, .. } | Record::GraphArc { head, .. } =>
             Some(head),
         _ => None,
@@ -310,10 +310,10 @@ fn third_id(said: Record) -> Option<u32>
 
 /// The ID in field 4, if NODES bounds it.
 #[inline(always)]
-fn fourth_id(said: Record) -> Option<u32>
-    ensures { (p : Option Declared) → is_above_at 4 p (bounded_ids said) ≡ is_so (is_above p) result }
+fn fourth_id(rec: Record) -> Option<u32>
+    ensures { (p : Option Declared) → is_above_at 4 p (bounded_ids rec) ≡ is_so (is_above p) result }
 {
-    match said {
+    match rec {
         Record::LabelsNode { pred, .. } => Some(pred),
         _ => None,
     }
@@ -321,10 +321,10 @@ fn fourth_id(said: Record) -> Option<u32>
 
 /// Whether the bound in field 4 is negative.
 #[inline(always)]
-fn has_wrong_low(said: Record) -> bool
-    ensures { result ≡ is_bound_wrong 4 said }
+fn has_wrong_low(rec: Record) -> bool
+    ensures { result ≡ is_bound_wrong 4 rec }
 {
-    match said {
+    match rec {
         Record::MaxArc { cap, .. } => cap < 0,
         Record::MinArc { low, .. } => low < 0,
         _ => false,
@@ -333,10 +333,10 @@ fn has_wrong_low(said: Record) -> bool
 
 /// Whether CAP is below LOW.
 #[inline(always)]
-fn has_wrong_cap(said: Record) -> bool
-    ensures { result ≡ is_bound_wrong 5 said }
+fn has_wrong_cap(rec: Record) -> bool
+    ensures { result ≡ is_bound_wrong 5 rec }
 {
-    match said {
+    match rec {
         Record::MinArc { low, cap, .. } => cap < low,
         _ => false,
     }
@@ -344,10 +344,10 @@ fn has_wrong_cap(said: Record) -> bool
 
 /// Whether the problem line counts this line.
 #[inline(always)]
-fn counts(said: Record) -> bool
-    ensures { result ≡ is_counted said }
+fn counts(rec: Record) -> bool
+    ensures { result ≡ is_counted rec }
 {
-    match said {
+    match rec {
         Record::MaxArc { .. }
         | Record::MinArc { .. }
         | Record::GraphArc { .. }

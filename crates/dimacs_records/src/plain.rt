@@ -23,7 +23,7 @@ pub(crate) struct PlainLines {
 #[derive(Clone, Copy)]
 pub(crate) struct PlainLine {
     pub(crate) size: usize,
-    pub(crate) said: Record,
+    pub(crate) rec: Record,
 }
 
 /// The fields of a line with a node and a number.
@@ -39,7 +39,7 @@ struct NodeLine {
 /// Each reading `R` gets its own copy, in which the kind is a constant; the compiler drops the forms of other kinds.
 #[inline]
 pub(crate) fn plain_line<R: Reading>(kind: TextKind, bytes: &[u8]) -> Option<PlainLine>
-    ensures { IfSome result (λ line. SaysFirst kind bytes.now line.said line.size) }
+    ensures { IfSome result (λ line. SaysFirst kind bytes.now line.rec line.size) }
 {
     match kind {
         TextKind::Max | TextKind::Graph => arc_line(kind, b'a', bytes),
@@ -55,64 +55,64 @@ pub(crate) fn plain_line<R: Reading>(kind: TextKind, bytes: &[u8]) -> Option<Pla
 /// A node or an arc line of an instance of minimum cost flow.
 #[inline(always)]
 fn min_line(bytes: &[u8]) -> Option<PlainLine>
-    ensures { IfSome result (λ line. SaysFirst Min bytes.now line.said line.size) }
+    ensures { IfSome result (λ line. SaysFirst Min bytes.now line.rec line.size) }
 {
     if let Some(line) = bounds_line(bytes) {
         return Some(line);
     }
     let NodeLine { size, id, number } = node_line(bytes, b'n')?;
-    let said = Record::MinNode { id, supply: number };
-    Some(PlainLine { size, said })
+    let rec = Record::MinNode { id, supply: number };
+    Some(PlainLine { size, rec })
 }
 
 /// A node line of potentials.
 #[inline(always)]
 fn potentials_line(bytes: &[u8]) -> Option<PlainLine>
-    ensures { IfSome result (λ line. SaysFirst Potentials bytes.now line.said line.size) }
+    ensures { IfSome result (λ line. SaysFirst Potentials bytes.now line.rec line.size) }
 {
     let NodeLine { size, id, number } = node_line(bytes, b'y')?;
-    let said = Record::PotentialsNode {
+    let rec = Record::PotentialsNode {
         id,
         value: i128::from(number),
     };
-    Some(PlainLine { size, said })
+    Some(PlainLine { size, rec })
 }
 
 /// A node line of distances.
 #[inline(always)]
 fn distances_line(bytes: &[u8]) -> Option<PlainLine>
-    ensures { IfSome result (λ line. SaysFirst Distances bytes.now line.said line.size) }
+    ensures { IfSome result (λ line. SaysFirst Distances bytes.now line.rec line.size) }
 {
     let NodeLine { size, id, number } = node_line(bytes, b'd')?;
-    let said = Record::DistancesNode {
+    let rec = Record::DistancesNode {
         id,
         dist: i128::from(number),
     };
-    Some(PlainLine { size, said })
+    Some(PlainLine { size, rec })
 }
 
 /// A node line of labels.
 #[inline(always)]
 fn labels_line(bytes: &[u8]) -> Option<PlainLine>
-    ensures { IfSome result (λ line. SaysFirst Labels bytes.now line.said line.size) }
+    ensures { IfSome result (λ line. SaysFirst Labels bytes.now line.rec line.size) }
 {
     let mut numbers = PlainNumbers::after(b'd', bytes)?;
     let id = numbers.id(b' ')?;
     let dist = numbers.whole(b' ')?;
     let pred = numbers.id(b'\n')?;
-    let said = Record::LabelsNode {
+    let rec = Record::LabelsNode {
         id,
         dist: i128::from(dist),
         pred,
     };
     let size = numbers.at();
-    Some(PlainLine { size, said })
+    Some(PlainLine { size, rec })
 }
 
 /// An arc line with bounds and cost.
 #[inline(always)]
 fn bounds_line(bytes: &[u8]) -> Option<PlainLine>
-    ensures { IfSome result (λ line. SaysFirst Min bytes.now line.said line.size) }
+    ensures { IfSome result (λ line. SaysFirst Min bytes.now line.rec line.size) }
 {
     let mut numbers = PlainNumbers::after(b'a', bytes)?;
     let tail = numbers.id(b' ')?;
@@ -120,7 +120,7 @@ fn bounds_line(bytes: &[u8]) -> Option<PlainLine>
     let low = numbers.whole(b' ')?;
     let cap = numbers.whole(b' ')?;
     let cost = numbers.whole(b'\n')?;
-    let said = Record::MinArc {
+    let rec = Record::MinArc {
         tail,
         head,
         low,
@@ -128,7 +128,7 @@ fn bounds_line(bytes: &[u8]) -> Option<PlainLine>
         cost,
     };
     let size = numbers.at();
-    Some(PlainLine { size, said })
+    Some(PlainLine { size, rec })
 }
 
 /// A line of a node and a number.
@@ -146,21 +146,21 @@ fn node_line(bytes: &[u8], letter: u8) -> Option<NodeLine>
 /// A line of two nodes and a number.
 #[inline(always)]
 fn arc_line(kind: TextKind, letter: u8, bytes: &[u8]) -> Option<PlainLine>
-    ensures { IfSome result (λ line. SaysFirst kind bytes.now line.said line.size) }
+    ensures { IfSome result (λ line. SaysFirst kind bytes.now line.rec line.size) }
 {
     let mut numbers = PlainNumbers::after(letter, bytes)?;
     let tail = numbers.id(b' ')?;
     let head = numbers.id(b' ')?;
     let number = numbers.whole(b'\n')?;
     let size = numbers.at();
-    let said = arc_record(kind, letter, tail, head, number)?;
-    Some(PlainLine { size, said })
+    let rec = arc_record(kind, letter, tail, head, number)?;
+    Some(PlainLine { size, rec })
 }
 
 /// The record of a line with two nodes and a number, if the kind has such lines with this letter.
 #[inline(always)]
 fn arc_record(kind: TextKind, letter: u8, tail: u32, head: u32, number: i64) -> Option<Record>
-    ensures { IfSome result (λ said. SaysArc kind letter tail head number said) }
+    ensures { IfSome result (λ rec. SaysArc kind letter tail head number rec) }
 {
     match (kind, letter) {
         (TextKind::Max, b'a') => Some(Record::MaxArc {

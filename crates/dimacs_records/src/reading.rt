@@ -28,12 +28,12 @@ pub trait Reading: Drop {
 
     /// Takes the record of the line with this number; lines come in order. It succeeds only if no condition of the kind
     /// holds; `Refused` names the first that does. After an error the reading is unchanged.
-    fn take(&mut self, line: u64, said: Record) -> Result<(), TakeError>
-        requires of_kind { IsOfKind (kind self.old) said }
+    fn take(&mut self, line: u64, rec: Record) -> Result<(), TakeError>
+        requires of_kind { IsOfKind (kind self.old) rec }
         ensures kind { kind self.new ≡ kind self.old }
-        ensures allowed { OnOk result ((rs : List LineRecord) → stands_for self.old rs → IsAllowed (records_of rs) said) }
-        ensures taken { OnOk result ((rs : List LineRecord) → stands_for self.old rs → AreBefore line rs → stands_for self.new (rs ++ on_line line said ∷ [])) }
-        ensures refused { IfErr result (λ error. (rs : List LineRecord) → stands_for self.old rs → RefusesRecord (records_of rs) said error) }
+        ensures allowed { OnOk result ((rs : List LineRecord) → stands_for self.old rs → IsAllowed (records_of rs) rec) }
+        ensures taken { OnOk result ((rs : List LineRecord) → stands_for self.old rs → AreBefore line rs → stands_for self.new (rs ++ on_line line rec ∷ [])) }
+        ensures refused { IfErr result (λ error. (rs : List LineRecord) → stands_for self.old rs → RefusesRecord (records_of rs) rec error) }
         ensures unchanged { OnErr result ((rs : List LineRecord) → stands_for self.new rs ↔ stands_for self.old rs) }
         ensures kept { (value : Self.Value) → keeps self.new value → keeps self.old value };
 

@@ -19,22 +19,22 @@ pub trait Text: Drop {
     ghost kind: { TextKind };
 
     /// The mathematical value.
-    ghost Said: { Type 0 };
+    ghost Content: { Type 0 };
 
     /// The mathematical value of this one; it doesn't depend on capacities of lists.
-    ghost said: { Self → Said };
+    ghost content: { Self → Content };
 
     /// Which bytes spell which value.
-    ghost spells: { List ℕ → Said → Type 0 };
+    ghost spells: { List ℕ → Content → Type 0 };
 
     /// What holds of every value that was read from a text.
-    ghost lawful: { Said → Type 0 };
+    ghost lawful: { Content → Type 0 };
 
     /// The canonical text of a value.
-    ghost canonical: { Said → List ℕ };
+    ghost canonical: { Content → List ℕ };
 
     /// The line that `show` puts.
-    ghost shown: { Said → List ℕ };
+    ghost shown: { Content → List ℕ };
 
     /// The kind of text, as a value.
     fn kind() -> TextKind
@@ -42,15 +42,15 @@ pub trait Text: Drop {
 
     /// Reads a whole text: its value, or its first fault.
     fn read<S: Source>(alloc: Global, source: &mut S) -> Result<Self, ReadError>
-        ensures reads { (bytes : List ℕ) → S.coming source.old ≡ Some bytes → ReadsAs said (spells bytes) (Fault kind (lines bytes)) result }
-        ensures device { CountsRead result (S.faults source.old) (S.faults source.new) }
-        ensures lawful { IfOk result (λ value. lawful (said value)) };
+        ensures reads { (bytes : List ℕ) → S.coming source.old ≡ Some bytes → ReadsAs content (spells bytes) (Fault kind (lines bytes)) result }
+        ensures faults { CountsRead result (S.faults source.old) (S.faults source.new) }
+        ensures lawful { IfOk result (λ value. lawful (content value)) };
 
     /// Puts the canonical text of the value.
     fn write<K: Sink>(&self, sink: &mut K) -> Result<(), DeviceFault>
-        ensures puts { Puts result (K.seen sink.old) (canonical (said self.now)) (K.seen sink.new) };
+        ensures puts { Puts result (K.seen sink.old) (canonical (content self.now)) (K.seen sink.new) };
 
     /// Puts one line about the value, which begins with `i`.
     fn show<K: Sink>(&self, sink: &mut K) -> Result<(), DeviceFault>
-        ensures puts { Puts result (K.seen sink.old) (shown (said self.now)) (K.seen sink.new) };
+        ensures puts { Puts result (K.seen sink.old) (shown (content self.now)) (K.seen sink.new) };
 }

@@ -93,17 +93,17 @@ impl Begun for CountedGraph {
     }
 
     #[inline(always)]
-    fn before(&self, _said: Record) -> Earlier {
+    fn before(&self, _rec: Record) -> Earlier {
         self.before_end()
     }
 
     #[inline(always)]
-    fn keep(&mut self, said: Record) -> Result<(), Memory> {
+    fn keep(&mut self, rec: Record) -> Result<(), Memory> {
         let Record::GraphArc {
             tail: _tail,
             head: _head,
             weight: _weight,
-        } = said
+        } = rec
         else {
             unreachable!()
         };

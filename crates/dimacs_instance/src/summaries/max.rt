@@ -124,8 +124,8 @@ impl Begun for CountedMax {
     }
 
     #[inline(always)]
-    fn before(&self, said: Record) -> Earlier {
-        match said {
+    fn before(&self, rec: Record) -> Earlier {
+        match rec {
             Record::MaxArc { .. } => self.before_end(),
             Record::MaxNode { id, end } => Earlier {
                 misplaced: self.arcs > 0,
@@ -139,8 +139,8 @@ impl Begun for CountedMax {
     }
 
     #[inline(always)]
-    fn keep(&mut self, said: Record) -> Result<(), Memory> {
-        match said {
+    fn keep(&mut self, rec: Record) -> Result<(), Memory> {
+        match rec {
             Record::MaxArc {
                 tail: _tail,
                 head: _head,

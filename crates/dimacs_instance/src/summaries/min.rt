@@ -116,8 +116,8 @@ impl Begun for CountedMin {
     }
 
     #[inline(always)]
-    fn before(&self, said: Record) -> Earlier {
-        match said {
+    fn before(&self, rec: Record) -> Earlier {
+        match rec {
             Record::MinArc { .. } | Record::MinProblem { .. } => self.before_end(),
             Record::MinNode { id, .. } => Earlier {
                 misplaced: self.arcs > 0,
@@ -129,8 +129,8 @@ impl Begun for CountedMin {
     }
 
     #[inline(always)]
-    fn keep(&mut self, said: Record) -> Result<(), Memory> {
-        match said {
+    fn keep(&mut self, rec: Record) -> Result<(), Memory> {
+        match rec {
             Record::MinArc {
                 tail: _tail,
                 head: _head,

@@ -18,13 +18,13 @@ use Rattle.dimacs_records.specs.Readings.{LineRecord, numbered, AreSpelledBefore
 -- the first `count` lines are read and clean, the reading stands for their records, and this text is left
 pub record IsReadSoFar (kind : TextKind) (all : List (List ℕ)) (count : ℕ) (left : Option (List ℕ)) (stands_for : List LineRecord → Type 0) : Type 0 where
   pub before : List (List ℕ)
-  pub said : List (Option Record)
+  pub by_line : List (Option Record)
   pub rest : List ℕ
   pub left_is : left ≡ Some rest
   pub all_is : all ≡ before ++ lines rest
   pub counted : count ≡ length before
-  pub clean : IsClean kind before said
-  pub stands : stands_for (numbered 1 said)
+  pub clean : IsClean kind before by_line
+  pub stands : stands_for (numbered 1 by_line)
 
 -- the reading stands for some records that lines before this one can spell
 abbrev pub HasTaken : TextKind → ℕ → (List LineRecord → Type 0) → Type 0
@@ -32,10 +32,10 @@ HasTaken kind line stands_for = (rs : List LineRecord) × stands_for rs × AreSp
 
 -- all lines are read
 pub record IsReadWhole (kind : TextKind) (all : List (List ℕ)) (count : ℕ) (stands_for : List LineRecord → Type 0) : Type 0 where
-  pub said : List (Option Record)
+  pub by_line : List (Option Record)
   pub counted : count ≡ length all
-  pub clean : IsClean kind all said
-  pub stands : stands_for (numbered 1 said)
+  pub clean : IsClean kind all by_line
+  pub stands : stands_for (numbered 1 by_line)
 
 -- why a line is refused; I/O errors and out of memory are left open
 abbrev pub RefusesLine : TextKind → List (List ℕ) → ReadError → Type 0
@@ -61,13 +61,13 @@ ReadsAll kind all stands_for (Err error) = RefusesLine kind all error
 
 -- the result of taking one more line: it is clean and the reading stands for its record too; or its first condition
 abbrev pub TakesLine : TextKind → List (List ℕ) → List (Option Record) → List ℕ → (List LineRecord → Type 0) → Result Unit TakeError → Type 0
-TakesLine kind before said line stands_for (Ok done) = (more : List (Option Record)) × IsClean kind (before ++ line ∷ []) more × stands_for (numbered 1 more)
-TakesLine kind before said line stands_for (Err (take_errors.Refused fault)) = FirstOf (Condition kind (records_in said) (length before + 1) line) places (at fault.field fault.reason)
-TakesLine kind before said line stands_for (Err take_errors.Memory) = Unit {0}
+TakesLine kind before by_line line stands_for (Ok done) = (more : List (Option Record)) × IsClean kind (before ++ line ∷ []) more × stands_for (numbered 1 more)
+TakesLine kind before by_line line stands_for (Err (take_errors.Refused fault)) = FirstOf (Condition kind (records_in by_line) (length before + 1) line) places (at fault.field fault.reason)
+TakesLine kind before by_line line stands_for (Err take_errors.Memory) = Unit {0}
 
 -- a line within the limits, after lines that were read
-pub record ComesAfter (kind : TextKind) (before : List (List ℕ)) (said : List (Option Record)) (number : ℕ) (line : List ℕ) : Type 0 where
-  pub clean : IsClean kind before said
+pub record ComesAfter (kind : TextKind) (before : List (List ℕ)) (by_line : List (Option Record)) (number : ℕ) (line : List ℕ) : Type 0 where
+  pub clean : IsClean kind before by_line
   pub next : number ≡ length before + 1
   pub few : number ≤ most_lines
   pub short : length line ≤ longest_line

@@ -23,8 +23,8 @@ abbrev pub StopsAt : {V : Type 0} → TextSays V → Unread → Type 0
 StopsAt text unread = (text_word unread.kind ≡ text.name) × ReadsIn text (Err unread.error)
 
 abbrev pub ReadsOne : {T V : Type 0} → (T → V) → TextSays V → Result T Unread → Type 0
-ReadsOne said text (Ok value) = ReadsIn text (Ok (said value))
-ReadsOne said text (Err unread) = StopsAt text unread
+ReadsOne content text (Ok value) = ReadsIn text (Ok (content value))
+ReadsOne content text (Err unread) = StopsAt text unread
 
 -- the texts are read one after another, up to the first that can't be read
 abbrev pub ReadsTwo : {T U V W : Type 0} → (T → V) → (U → W) → TextSays V → TextSays W → Result (T × U) Unread → Type 0

@@ -13,7 +13,7 @@ put_text-requires g c = λ i within. omega (arith, within, c.nodes-nodes.ensures
 pub returns-clause-puts : goal.returns-clause-puts
 returns-clause-puts g c =
     let is_in = set.contains c.args.cut.now.ids in
-    rw (c.nodes-nodes.ensures, c.len-count.ensures.count) at (c.put_text.ensures (λ i. map CutNode (passing is_in i)) (lines_of_passing is_in CutNode _ _ (λ i said within e. e)))
+    rw (c.nodes-nodes.ensures, c.len-count.ensures.count) at (c.put_text.ensures (λ i. map CutNode (passing is_in i)) (lines_of_passing is_in CutNode _ _ (λ i rec within e. e)))
 
 pub returns-clause-round_trip : goal.returns-clause-round_trip
 returns-clause-round_trip g c = cut_round_trip c.args.cut.now c.len-count.ensures.lawful

@@ -11,7 +11,7 @@ put_text-requires g c = λ i within. omega (arith, within, c.nodes-nodes.ensures
 pub returns-clause-puts : goal.returns-clause-puts
 returns-clause-puts g c =
     let p = c.args.potentials.now in
-    rw (c.nodes-nodes.ensures.nodes, c.count_nonzero-count.ensures) at (c.put_text.ensures (λ i. map node_line (with_values p (passing (nonzero_at p) i))) (potential_lines p _ _ (λ i said within e. e)))
+    rw (c.nodes-nodes.ensures.nodes, c.count_nonzero-count.ensures) at (c.put_text.ensures (λ i. map node_line (with_values p (passing (nonzero_at p) i))) (potential_lines p _ _ (λ i rec within e. e)))
 
 pub returns-clause-round_trip : goal.returns-clause-round_trip
 returns-clause-round_trip g c = potentials_round_trip c.args.potentials.now c.nodes-nodes.ensures.lawful

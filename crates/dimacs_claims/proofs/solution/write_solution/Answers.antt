@@ -14,7 +14,7 @@ returns-clause-puts g c =
     let entries = c.as_slice-entries.result.now in
     let n = length entries in
     let same : entries ≡ c.args.solution.now.entries.items = search rules in
-    rw (all_items entry_record n entries refl, same, to_z-of_z w128 value fits) at (c.put_text.ensures (λ i. take i (map entry_record entries)) (lines_of_items entry_record _ n entries (omega arith) (λ i said within e. e)))
+    rw (all_items entry_record n entries refl, same, to_z-of_z w128 value fits) at (c.put_text.ensures (λ i. take i (map entry_record entries)) (lines_of_items entry_record _ n entries (omega arith) (λ i rec within e. e)))
 
 pub returns-clause-round_trip : goal.returns-clause-round_trip
 returns-clause-round_trip g c = solution_round_trip (claimed c.args.solution.now)

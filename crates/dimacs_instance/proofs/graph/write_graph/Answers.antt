@@ -14,7 +14,7 @@ returns-clause-puts g c =
     let n = c.arcs-arcs.result in
     let all : n ≡ length arcs = rw c.network-network.ensures.arcs at c.arcs-arcs.ensures in
     rw (all_items graph_arc n arcs all, c.nodes-nodes.ensures, c.network-network.ensures.nodes, all) at
-    (c.put_text.ensures (λ i. take i (map graph_arc arcs)) (lines_of_items graph_arc _ n arcs (omega (arith, all)) (λ i said within e. rw c.network-network.ensures.arcs at e)))
+    (c.put_text.ensures (λ i. take i (map graph_arc arcs)) (lines_of_items graph_arc _ n arcs (omega (arith, all)) (λ i rec within e. rw c.network-network.ensures.arcs at e)))
 
 pub returns-clause-round_trip : goal.returns-clause-round_trip
 returns-clause-round_trip g c = graph_round_trip c.args.graph.now c.network-network.ensures.lawful

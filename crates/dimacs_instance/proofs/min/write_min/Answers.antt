@@ -25,9 +25,9 @@ returns-clause-puts g c =
     let problem = MinProblem nodes n in
     let supplies = map min_node (supplies_below m (nodes + 1)) in
     let first = line_after start _ _ [] problem (c.write_record.ensures start [] (c.new-output.ensures.written start)) in
-    let second = lines_after start _ _ [] (problem ∷ []) supplies _ refl (c.write_lines.ensures (λ i. map min_node (supplies_below m (i + 1))) (supply_lines m law _ nodes (λ i said within e. e)) start _ first) in
+    let second = lines_after start _ _ [] (problem ∷ []) supplies _ refl (c.write_lines.ensures (λ i. map min_node (supplies_below m (i + 1))) (supply_lines m law _ nodes (λ i rec within e. e)) start _ first) in
     let third = lines_after start _ _ [] (problem ∷ supplies) (take n (map min_arc m.arcs)) _ refl
-    (c.write_lines-2.ensures (λ i. take i (map min_arc m.arcs)) (lines_of_items min_arc _ n m.arcs (omega (arith, all_arcs)) (λ i said within e. rw c.network-network.ensures.arcs at e)) start _ second) in
+    (c.write_lines-2.ensures (λ i. take i (map min_arc m.arcs)) (lines_of_items min_arc _ n m.arcs (omega (arith, all_arcs)) (λ i rec within e. rw c.network-network.ensures.arcs at e)) start _ second) in
     rw (all_items min_arc n m.arcs all_arcs, all_nodes, all_arcs, all_supplies m law) at (c.finish.ensures start _ third)
 
 pub returns-clause-round_trip : goal.returns-clause-round_trip

@@ -14,7 +14,7 @@ returns-clause-puts g c =
     let problem = QueriesProblem c.kind.result c.len.result in
     let n = c.len-2.result in
     let first = line_after start _ _ [] problem (c.write_problem.ensures start [] (c.new-output.ensures.written start)) in
-    let all = c.write_lines.ensures (λ i. take i rs) (lines_of_list _ n rs (omega (arith, c.len-2.ensures)) (λ i said within e. e)) start _ first in
+    let all = c.write_lines.ensures (λ i. take i rs) (lines_of_list _ n rs (omega (arith, c.len-2.ensures)) (λ i rec within e. e)) start _ first in
     rw (take_all n rs (omega (arith, c.len-2.ensures)), c.kind.ensures, c.len.ensures) at (c.finish.ensures start _ (lines_after start _ _ [] (problem ∷ []) (take n rs) _ refl all))
 
 pub returns-clause-round_trip : goal.returns-clause-round_trip

@@ -6,4 +6,4 @@ use Rattle.dimacs_records.proofs.canonical.write_all.Goals as goal
 pub returns : goal.returns
 returns g c = λ start text h.
     let rs = c.args.records.now in
-    rw (take_all (length rs) rs (omega arith)) at (c.write_lines.ensures (λ i. take i rs) (lines_of_list _ (length rs) rs (omega arith) (λ i said within e. e)) start text h)
+    rw (take_all (length rs) rs (omega arith)) at (c.write_lines.ensures (λ i. take i rs) (lines_of_list _ (length rs) rs (omega arith) (λ i rec within e. e)) start text h)

@@ -1,6 +1,6 @@
 use Rattle.std.proofs.Common.{◌≡◌, ◌++◌, ◌+◌, subst, arith}
 use Rattle.dimacs_lines.specs.OutputBuffers.{IsWritten}
-use Rattle.dimacs_records.specs.Canonical.{canonical_text, said_lines}
+use Rattle.dimacs_records.specs.Canonical.{canonical_text, records_of_line}
 use Rattle.dimacs_records.proofs.WrittenLemmas.{lines_after}
 use Rattle.dimacs_records.proofs.canonical.write_lines.Goals as goal
 
@@ -9,7 +9,7 @@ loop-i-preserved g c = record {
   within = omega (arith, c.loop-i-test.true);
   written = λ below are start text h.
       let i = c.loop-i.i in
-      lines_after start _ _ text (below i) (said_lines c.line.result) (below (i + 1)) (are.more i c.line.result c.loop-i-test.true c.line.ensures)
+      lines_after start _ _ text (below i) (records_of_line c.line.result) (below (i + 1)) (are.more i c.line.result c.loop-i-test.true c.line.ensures)
       (c.write_said.ensures start (text ++ canonical_text (below i)) (c.loop-i.invariant.written below are start text h));
 }
 

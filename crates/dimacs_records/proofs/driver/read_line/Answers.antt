@@ -33,7 +33,7 @@ returns-in-Ok-clause-reads g c =
     let given : GivesLine old new left later number = rw c.in-Ok-Some.field-0-is at (c.in-Ok-Some.ensures.answer c.requires.open) in
     λ all h.
     let there = comes_after c.args.kind all old new left later number before_stands given h in
-    let takes : TakesLine c.args.kind h.before h.said new.line stands (Ok c.in-Ok.field-0) = subst (λ line. TakesLine c.args.kind h.before h.said line stands (Ok c.in-Ok.field-0)) c.line.ensures (c.in-Ok.ensures.takes h.before h.said (rw c.line.ensures there) h.stands) in
+    let takes : TakesLine c.args.kind h.before h.by_line new.line stands (Ok c.in-Ok.field-0) = subst (λ line. TakesLine c.args.kind h.before h.by_line line stands (Ok c.in-Ok.field-0)) c.line.ensures (c.in-Ok.ensures.takes h.before h.by_line (rw c.line.ensures there) h.stands) in
     read_one c.args.kind all old new left later number before_stands stands (Ok c.in-Ok.field-0) given h takes
 
 pub returns-in-Err-take_line-clause-reads : goal.returns-in-Err-take_line-clause-reads
@@ -49,7 +49,7 @@ returns-in-Err-take_line-clause-reads g c =
     let given : GivesLine old new left later number = rw c.in-Ok-Some.field-0-is at (c.in-Ok-Some.ensures.answer c.requires.open) in
     λ all h.
     let there = comes_after c.args.kind all old new left later number before_stands given h in
-    let takes : TakesLine c.args.kind h.before h.said new.line stands (Err error) = subst (λ line. TakesLine c.args.kind h.before h.said line stands (Err error)) c.line.ensures (c.in-Err-take_line.ensures.takes h.before h.said (rw c.line.ensures there) h.stands) in
+    let takes : TakesLine c.args.kind h.before h.by_line new.line stands (Err error) = subst (λ line. TakesLine c.args.kind h.before h.by_line line stands (Err error)) c.line.ensures (c.in-Err-take_line.ensures.takes h.before h.by_line (rw c.line.ensures there) h.stands) in
     rw c.at_line.ensures (read_one c.args.kind all old new left later number before_stands stands (Err error) given h takes)
 
 pub returns-in-Ok-None-clause-spelled : goal.returns-in-Ok-None-clause-spelled

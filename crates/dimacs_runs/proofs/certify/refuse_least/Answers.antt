@@ -13,8 +13,8 @@ returns-clause-certifies g c = λ s x improved line.
     elim c.match-branch-2.branch [
       | in-Some w ↦
           let solution = w.in-Some.solution in
-          let said : IsMinSolutionOf i y (claimed solution) = rw w.in-Some.is at c.in_ok-solution.ensures.some in
-          rw (c.certified.ensures, w.made-is) (cheaper_certifies i s solution c.at_value.result (rw (c.at_value.ensures, line) refl) (x, y, improved, inl (claimed solution, said, refl)))
+          let claims : IsMinSolutionOf i y (claimed solution) = rw w.in-Some.is at c.in_ok-solution.ensures.some in
+          rw (c.certified.ensures, w.made-is) (cheaper_certifies i s solution c.at_value.result (rw (c.at_value.ensures, line) refl) (x, y, improved, inl (claimed solution, claims, refl)))
       | in-None w ↦
           let beyond : LeavesCostRange i.arcs y = rw w.in-None.is at c.in_ok-solution.ensures.none in
           rw (c.certified.ensures, w.made-is) (unsaid_certifies i s c.at_value.result (rw (c.at_value.ensures, line) refl) (x, y, improved, inr (beyond, refl)))

@@ -9,12 +9,12 @@ use Rattle.dimacs_runs.proofs.text.show.Goals as goal
 
 pub returns-in_ok-show-in-Ok-clause-reports : goal.returns-in_ok-show-in-Ok-clause-reports
 returns-in_ok-show-in-Ok-clause-reports g c = λ bytes coming.
-    let value = g.T.Text.said c.in-Ok.value in
+    let value = g.T.Text.content c.in-Ok.value in
     (g.T.Text.shown value, value_printed (text_says g.T.Text.kind g.T.Text.spells bytes) g.T.Text.shown value (c.in-Ok.ensures.reads bytes coming), c.in_ok-show-in-Ok.ensures.puts.accepted)
 
 pub returns-in_err-show-in-Ok-clause-reports : goal.returns-in_err-show-in-Ok-clause-reports
 returns-in_err-show-in-Ok-clause-reports g c = λ bytes coming.
-    let value = g.T.Text.said c.in-Ok.value in
+    let value = g.T.Text.content c.in-Ok.value in
     let (error, is, device) = err_from_is_err_and c.from_residual.result c.from_residual.ensures.1 in
     rw is (inr (Done, g.T.Text.shown value, value_printed (text_says g.T.Text.kind g.T.Text.spells bytes) g.T.Text.shown value (c.in-Ok.ensures.reads bytes coming), c.in_err-show-in-Ok.ensures.puts.accepted))
 

@@ -12,7 +12,7 @@ returns-in-DistancesBlock-clause-noted c =
     rw line.is (subst (λ (t : LabelsBegun). c.before_block.result ≡ before t (LabelsBlock line.source line.count None)) c.self.view_is (c.before_block.ensures line.count None))
 
 pub returns-in-DistancesBlock-clause-so : goal.returns-in-DistancesBlock-clause-so
-returns-in-DistancesBlock-clause-so c = λ rs h. rw (h, returns-in-DistancesBlock-clause-noted c) (tells_bare c.args.self.now c.args.said c.requires.spelled.for_kind)
+returns-in-DistancesBlock-clause-so c = λ rs h. rw (h, returns-in-DistancesBlock-clause-noted c) (tells_bare c.args.self.now c.args.rec c.requires.spelled.for_kind)
 
 pub returns-in-DistancesNode-clause-so : goal.returns-in-DistancesNode-clause-so
 returns-in-DistancesNode-clause-so c = λ rs h.

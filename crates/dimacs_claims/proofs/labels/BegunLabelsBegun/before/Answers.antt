@@ -10,7 +10,7 @@ returns-in-LabelsBlock-clause-noted c =
     rw c.in-LabelsBlock.is (c.before_block.ensures c.in-LabelsBlock.count c.in-LabelsBlock.radius)
 
 pub returns-in-LabelsBlock-clause-so : goal.returns-in-LabelsBlock-clause-so
-returns-in-LabelsBlock-clause-so c = λ rs h. rw (h, returns-in-LabelsBlock-clause-noted c) (tells c.args.self.now c.args.said c.requires.spelled.for_kind)
+returns-in-LabelsBlock-clause-so c = λ rs h. rw (h, returns-in-LabelsBlock-clause-noted c) (tells c.args.self.now c.args.rec c.requires.spelled.for_kind)
 
 pub returns-in-LabelsNode-clause-so : goal.returns-in-LabelsNode-clause-so
 returns-in-LabelsNode-clause-so c = λ rs h.

@@ -15,17 +15,17 @@ one_more rs line said = map-append (λ (r : LineRecord). r.says) rs (on_line lin
 pub returns-in_ok-keep-in-Some-clause-taken : goal.returns-in_ok-keep-in-Some-clause-taken
 returns-in_ok-keep-in-Some-clause-taken g c = λ rs h before.
     let kept = c.in_ok-keep-in-Some.ensures.kept (records_of rs) (rw c.in-Some.is at h) in
-    subst (g.B.Begun.begun_by c.keep.new.self) (sym (one_more rs c.args._line c.args.said)) kept
+    subst (g.B.Begun.begun_by c.keep.new.self) (sym (one_more rs c.args._line c.args.rec)) kept
 
 pub returns-in_ok-test_first-in-None-clause-taken : goal.returns-in_ok-test_first-in-None-clause-taken
 returns-in_ok-test_first-in-None-clause-taken g c = λ rs h before.
     let none : records_of rs ≡ [] = rw c.in-None.is at h in
-    subst (g.B.Begun.begun_by c.begin.result) (sym (one_more rs c.args._line c.args.said ∙ ap (λ xs. xs ++ c.args.said ∷ []) none)) c.begin.ensures
+    subst (g.B.Begun.begun_by c.begin.result) (sym (one_more rs c.args._line c.args.rec ∙ ap (λ xs. xs ++ c.args.rec ∷ []) none)) c.begin.ensures
 
 pub returns-in_err-test_first-in-None-clause-refused : goal.returns-in_err-test_first-in-None-clause-refused
 returns-in_err-test_first-in-None-clause-refused g c =
     let p = err_from_is_err_and c.from_residual-in_err-test_first-in-None.result c.from_residual-in_err-test_first-in-None.ensures.1 in
-    let needs : needs_problem (kind_of c.args.said) ≡ true = ap needs_problem c.requires.of_kind.spelled.for_kind ∙ g.met.B.Begun.has_problem in
+    let needs : needs_problem (kind_of c.args.rec) ≡ true = ap needs_problem c.requires.of_kind.spelled.for_kind ∙ g.met.B.Begun.has_problem in
     rw (p.1, p.2) (λ rs h. let none : records_of rs ≡ [] = rw c.in-None.is at h in rw none (c.in_err-test_first-in-None.ensures.refused needs))
 
 pub returns-in_ok-test_first-in-None-clause-allowed : goal.returns-in_ok-test_first-in-None-clause-allowed
@@ -35,11 +35,11 @@ returns-in_ok-test_first-in-None-clause-allowed g c = λ rs h.
 pub returns-in_ok-keep-in-Some-clause-allowed : goal.returns-in_ok-keep-in-Some-clause-allowed
 returns-in_ok-keep-in-Some-clause-allowed g c = λ rs h.
     let begun = rw c.in-Some.is at h in
-    allowed_told c.before-in-Some.result (records_of rs) c.args.said c.in_ok-test_record-in-Some.ensures.passes (c.before-in-Some.ensures.so (records_of rs) begun)
+    allowed_told c.before-in-Some.result (records_of rs) c.args.rec c.in_ok-test_record-in-Some.ensures.passes (c.before-in-Some.ensures.so (records_of rs) begun)
 
 pub returns-in_err-test_record-in-Some-clause-refused : goal.returns-in_err-test_record-in-Some-clause-refused
 returns-in_err-test_record-in-Some-clause-refused g c =
     let p = err_from_is_err_and c.from_residual.result c.from_residual.ensures.1 in
     rw (p.1, p.2) (λ rs h.
     let begun = rw c.in-Some.is at h in
-    refused_noted c.before-in-Some.result (records_of rs) c.args.said _ c.in_err-test_record-in-Some.ensures.noted (c.before-in-Some.ensures.so (records_of rs) begun))
+    refused_noted c.before-in-Some.result (records_of rs) c.args.rec _ c.in_err-test_record-in-Some.ensures.noted (c.before-in-Some.ensures.so (records_of rs) begun))
