@@ -10,7 +10,7 @@ loop-i-preserved g c = record {
   written = λ below are start text h.
       let i = c.loop-i.i in
       lines_after start _ _ text (below i) (records_of_line c.line.result) (below (i + 1)) (are.more i c.line.result c.loop-i-test.true c.line.ensures)
-      (c.write_said.ensures start (text ++ canonical_text (below i)) (c.loop-i.invariant.written below are start text h));
+      (c.write_if_any.ensures start (text ++ canonical_text (below i)) (c.loop-i.invariant.written below are start text h));
 }
 
 pub returns : goal.returns
