@@ -14,17 +14,17 @@ use Rattle.dimacs_lines.proofs.NumberLemmas.{place_sum-lt}
 -- digits, and the byte right after them
 pub digits_stand : (bytes : List ℕ) (at stop count n : ℕ) → at + count < length bytes → 0 < count → count ≤ 16 → All IsAsciiDigit (take count (drop at bytes)) → n ≡ place_sum (take count (drop at bytes))
     → get_or bytes (at + count) 0 ≡ stop → DigitsAt bytes at stop n (at + count + 1)
-digits_stand bytes at stop count n inside some few each says ends =
+digits_stand bytes at stop count n inside some few each value ends =
     let rest = drop at bytes in
     let size : length (take count rest) ≡ count = length-take-le count rest (omega (arith, length-drop at bytes)) in
     let cut : drop (at + count) bytes ≡ get_or bytes (at + count) 0 ∷ drop (at + count + 1) bytes = drop_more bytes (at + count) 0 inside in
     let after : drop count rest ≡ stop ∷ drop (at + count + 1) bytes = drop-drop count at bytes ∙ (cut ∙ ap (λ b. b ∷ drop (at + count + 1) bytes) ends) in
     record {
       digits = take count rest;
-      some = omega (arith, size, some);
-      few = omega (arith, size, few);
+      nonempty = omega (arith, size, some);
+      at_most_sixteen = omega (arith, size, few);
       each = each;
-      says = says;
+      value = value;
       ends = record { there = sym (take-append-drop count rest) ∙ ap (λ ys. take count rest ++ ys) after; passed = omega (arith, size); within = omega arith };
     }
 
@@ -63,7 +63,7 @@ place_sum-split bytes at count enough within =
 
 -- a text of digits
 pub stands_digits : (bytes : List ℕ) (at stop n next : ℕ) → DigitsAt bytes at stop n next → StandsAt bytes at stop (pos n) next
-stands_digits bytes at stop n next d = record { text = d.digits; spelled = rw d.says (spells_digits d.digits d.some d.each); short = omega (arith, d.few); ends = d.ends }
+stands_digits bytes at stop n next d = record { text = d.digits; spelled = rw d.value (spells_digits d.digits d.nonempty d.each); short = omega (arith, d.at_most_sixteen); ends = d.ends }
 
 -- a minus, then digits
 pub stands_minus : (bytes : List ℕ) (at stop n next : ℕ) → at < length bytes → get_or bytes at 0 ≡ 45 → DigitsAt bytes (at + 1) stop n next → StandsAt bytes at stop (neg_ℤ (pos n)) next
@@ -72,7 +72,7 @@ stands_minus bytes at stop n next inside minus d =
     let first : drop at bytes ≡ 45 ∷ drop (at + 1) bytes = cut ∙ ap (λ b. b ∷ drop (at + 1) bytes) minus in
     record {
       text = 45 ∷ d.digits;
-      spelled = rw d.says (spells_minus d.digits d.some d.each);
-      short = omega (arith, d.few);
+      spelled = rw d.value (spells_minus d.digits d.nonempty d.each);
+      short = omega (arith, d.at_most_sixteen);
       ends = record { there = first ∙ ap (λ ys. 45 ∷ ys) d.ends.there; passed = omega (arith, d.ends.passed); within = d.ends.within };
     }

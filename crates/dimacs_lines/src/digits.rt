@@ -14,7 +14,7 @@ ghost use Rattle.dimacs_lines.specs.inside.Plain.{has_sixteen};
 #[inline(always)]
 pub fn digits_at(line: &[u8], at: usize) -> Option<(usize, u32)>
     requires { at ≤ length line.now }
-    ensures some { IfSome result (λ found. 0 < found.0) }
+    ensures positive { IfSome result (λ found. 0 < found.0) }
     ensures count { IfSome result (λ found. found.0 ≡ prefix_len is_ascii_digit (take 8 (drop at line.now))) }
     ensures value { IfSome result (λ found. found.1 ≡ place_sum (take found.0 (drop at line.now))) }
 {
@@ -32,10 +32,10 @@ pub fn digits_at(line: &[u8], at: usize) -> Option<(usize, u32)>
 
 /// The value of one to eight digits at `at`.
 #[inline(always)]
-pub fn few_digits(line: &[u8], at: usize, count: usize) -> u32
+pub fn digits_value(line: &[u8], at: usize, count: usize) -> u32
     requires room { at + 8 ≤ length line.now }
-    requires some { 0 < count }
-    requires few { count ≤ 8 }
+    requires positive { 0 < count }
+    requires at_most_eight { count ≤ 8 }
     requires digits { All IsAsciiDigit (take count (drop at line.now)) }
     ensures { result ≡ place_sum (take count (drop at line.now)) }
 {
@@ -88,7 +88,7 @@ fn short_word(bytes: &[u8]) -> u64
 #[inline(always)]
 fn count_to_end(word: u64) -> u32
     ensures count { result ≡ prefix_len has_sixteen (to_le_bytes w64 word) }
-    ensures few { result ≤ 8 }
+    ensures at_most_eight { result ≤ 8 }
 {
     let ends = (word & 0x1010101010101010) ^ 0x1010101010101010;
     ends.trailing_zeros() / 8
@@ -98,8 +98,8 @@ fn count_to_end(word: u64) -> u32
 /// gives ten or more.
 #[inline(always)]
 fn values_on_top(word: u64, count: u32) -> u64
-    requires some { 0 < count }
-    requires few { count ≤ 8 }
+    requires positive { 0 < count }
+    requires at_most_eight { count ≤ 8 }
     ensures { to_le_bytes w64 result
         ≡ replicate (8 - count) 0 ++ map (λ b. bit_xor b 48) (take count (to_le_bytes w64 word)) }
 {

@@ -124,7 +124,7 @@ impl<W: Write> Sink for FileDevice<W> {
 /// Writes once. If a signal interrupts the write, writes again. It is an error to write nothing of some bytes.
 fn write_some<W: Write>(writer: &mut W, bytes: &[u8]) -> io::Result<usize>
     ensures room { IfOk result (λ count. count ≤ length bytes.now) }
-    ensures some { IfOk result (λ count. count ≡ 0 → length bytes.now ≡ 0) }
+    ensures progress { IfOk result (λ count. count ≡ 0 → length bytes.now ≡ 0) }
     ensures bytes { WriteAppends (W.contents writer.old) (W.contents writer.new) result bytes.now }
 {
     for _ in 0..u64::MAX {

@@ -24,7 +24,7 @@ const PAST_WIDE: u128 = 1_000_000_000_000_000_000_000_000_000_001;
 pub fn number(text: &[u8]) -> Result<i64, NumberFault>
     ensures { ReadsNumber (neg_ℤ (pos (2 ^ 63))) (pos (2 ^ 63 - 1)) text.now result }
 {
-    match within(text, i128::from(i64::MIN), i128::from(i64::MAX)) {
+    match number_in_range(text, i128::from(i64::MIN), i128::from(i64::MAX)) {
         Ok(n) => Ok(n as i64),
         Err(fault) => Err(fault),
     }
@@ -35,16 +35,16 @@ pub fn number(text: &[u8]) -> Result<i64, NumberFault>
 pub fn wide(text: &[u8]) -> Result<i128, NumberFault>
     ensures { ReadsNumber (neg_ℤ (pos (10 ^ 30))) (pos (10 ^ 30)) text.now result }
 {
-    within(text, -WIDE, WIDE)
+    number_in_range(text, -WIDE, WIDE)
 }
 
 /// Reads a number from `low` to `high`.
-fn within(text: &[u8], low: i128, high: i128) -> Result<i128, NumberFault>
+fn number_in_range(text: &[u8], low: i128, high: i128) -> Result<i128, NumberFault>
     requires low { neg_ℤ (pos (10 ^ 30)) ≤ℤ low }
     requires high { high ≤ℤ pos (10 ^ 30) }
     ensures { ReadsNumber low high text.now result }
 {
-    let (negative, digits) = signed(text);
+    let (negative, digits) = split_sign(text);
     if !is_digits(digits) {
         return Err(NumberFault::BadNumber);
     }
@@ -57,7 +57,7 @@ fn within(text: &[u8], low: i128, high: i128) -> Result<i128, NumberFault>
 }
 
 /// Whether the text begins with a minus, and what follows the sign.
-fn signed(text: &[u8]) -> (bool, &[u8])
+fn split_sign(text: &[u8]) -> (bool, &[u8])
     ensures negative { result.0 ≡ is_negative text.now }
     ensures digits { result.1.now ≡ digits_of text.now }
 {

@@ -72,7 +72,7 @@ impl OutputBuffer {
         ensures { Appends bytes.now (S.seen sink.old) self.old (S.seen sink.new) self.new }
     {
         if PAGE - self.length < bytes.len() {
-            self.turn(sink, bytes);
+            self.flush_and_append(sink, bytes);
         } else {
             self.append(bytes);
         }
@@ -89,7 +89,7 @@ impl OutputBuffer {
 
     /// Appends a line: a letter, then up to five numbers with a blank before each. It tests only once for room.
     pub fn line<S: Sink>(&mut self, sink: &mut S, letter: u8, numbers: &[i64])
-        requires few { length numbers.now ≤ 5 }
+        requires at_most_five { length numbers.now ≤ 5 }
         ensures { Appends (numbers_line letter numbers.now) (S.seen sink.old) self.old (S.seen sink.new) self.new }
     {
         self.make_room(sink, LONGEST_LINE);
@@ -134,12 +134,12 @@ impl OutputBuffer {
 
     /// Appends the bytes if the buffer has no room for them: puts what it holds first.
     #[inline(never)]
-    fn turn<S: Sink>(&mut self, sink: &mut S, bytes: &[u8])
+    fn flush_and_append<S: Sink>(&mut self, sink: &mut S, bytes: &[u8])
         ensures { Appends bytes.now (S.seen sink.old) self.old (S.seen sink.new) self.new }
     {
         self.flush(sink);
         if PAGE < bytes.len() {
-            self.failed = put_unless(self.failed, sink, bytes);
+            self.failed = put_unless_failed(self.failed, sink, bytes);
         } else {
             self.append(bytes);
         }
@@ -164,7 +164,7 @@ impl OutputBuffer {
             → IsWritten start text (S.seen sink.old) self.old → IsWritten start text (S.seen sink.new) self.new }
         ensures empty { self.new.kept ≡ [] }
     {
-        self.failed = put_unless(self.failed, sink, &self.bytes[..self.length]);
+        self.failed = put_unless_failed(self.failed, sink, &self.bytes[..self.length]);
         self.length = 0;
     }
 
@@ -172,7 +172,7 @@ impl OutputBuffer {
     #[inline(always)]
     fn append(&mut self, bytes: &[u8])
         requires { length self.old.kept + length bytes.now ≤ 16384 }
-        ensures kept { self.new.kept ≡ self.old.kept ++ bytes.now }
+        ensures appended { self.new.kept ≡ self.old.kept ++ bytes.now }
         ensures failed { self.new.failed ≡ self.old.failed }
     {
         let end = self.length + bytes.len();
@@ -182,9 +182,9 @@ impl OutputBuffer {
 
     #[inline(always)]
     fn append_line(&mut self, letter: u8, numbers: &[i64])
-        requires few { length numbers.now ≤ 5 }
+        requires at_most_five { length numbers.now ≤ 5 }
         requires room { length self.old.kept + 107 ≤ 16384 }
-        ensures kept { self.new.kept ≡ self.old.kept ++ numbers_line letter numbers.now }
+        ensures appended { self.new.kept ≡ self.old.kept ++ numbers_line letter numbers.now }
         ensures failed { self.new.failed ≡ self.old.failed }
     {
         self.append(&[letter]);
@@ -197,7 +197,7 @@ impl OutputBuffer {
     #[inline(always)]
     fn append_line_of_three(&mut self, letter: u8, first: i64, second: i64, third: i64)
         requires { length self.old.kept + 107 ≤ 16384 }
-        ensures kept { self.new.kept ≡ self.old.kept ++ numbers_line letter (first ∷ second ∷ third ∷ []) }
+        ensures appended { self.new.kept ≡ self.old.kept ++ numbers_line letter (first ∷ second ∷ third ∷ []) }
         ensures failed { self.new.failed ≡ self.old.failed }
     {
         self.append(&[letter]);
@@ -211,7 +211,7 @@ impl OutputBuffer {
     #[inline(always)]
     fn append_field(&mut self, n: i64)
         requires { length self.old.kept + 21 ≤ 16384 }
-        ensures kept { self.new.kept ≡ self.old.kept ++ number_field n }
+        ensures appended { self.new.kept ≡ self.old.kept ++ number_field n }
         ensures short { length self.new.kept ≤ length self.old.kept + 21 }
         ensures failed { self.new.failed ≡ self.old.failed }
     {
@@ -222,7 +222,7 @@ impl OutputBuffer {
     #[inline(always)]
     fn append_number(&mut self, n: i64)
         requires { length self.old.kept + 20 ≤ 16384 }
-        ensures kept { self.new.kept ≡ self.old.kept ++ signed_decimal n }
+        ensures appended { self.new.kept ≡ self.old.kept ++ signed_decimal n }
         ensures failed { self.new.failed ≡ self.old.failed }
     {
         if n < 0 {
@@ -237,7 +237,7 @@ impl OutputBuffer {
     fn append_digits(&mut self, n: u64)
         requires short { length (decimal n) ≤ 19 }
         requires room { length self.old.kept + 19 ≤ 16384 }
-        ensures kept { self.new.kept ≡ self.old.kept ++ decimal n }
+        ensures appended { self.new.kept ≡ self.old.kept ++ decimal n }
         ensures failed { self.new.failed ≡ self.old.failed }
     {
         if n < 10_000 {
@@ -254,7 +254,7 @@ impl OutputBuffer {
     #[inline(never)]
     fn append_long(&mut self, n: u64)
         requires { length self.old.kept + length (decimal n) ≤ 16384 }
-        ensures kept { self.new.kept ≡ self.old.kept ++ decimal n }
+        ensures appended { self.new.kept ≡ self.old.kept ++ decimal n }
         ensures failed { self.new.failed ≡ self.old.failed }
     {
         let mut digits = Buffer::new();
@@ -266,7 +266,7 @@ impl OutputBuffer {
     fn append_short(&mut self, n: u64)
         requires short { n < 10000 }
         requires room { length self.old.kept + 4 ≤ 16384 }
-        ensures kept { self.new.kept ≡ self.old.kept ++ decimal n }
+        ensures appended { self.new.kept ≡ self.old.kept ++ decimal n }
         ensures failed { self.new.failed ≡ self.old.failed }
     {
         if n < 100 {
@@ -282,7 +282,7 @@ impl OutputBuffer {
     fn append_four(&mut self, n: u64)
         requires short { n < 10000 }
         requires room { length self.old.kept + 4 ≤ 16384 }
-        ensures kept { self.new.kept ≡ self.old.kept ++ (two_digits (n / 100) ++ two_digits (n % 100)) }
+        ensures appended { self.new.kept ≡ self.old.kept ++ (two_digits (n / 100) ++ two_digits (n % 100)) }
         ensures failed { self.new.failed ≡ self.old.failed }
     {
         self.append(&two_digits(n / 100));
@@ -295,7 +295,7 @@ impl OutputBuffer {
     fn append_first(&mut self, n: u64)
         requires short { n < 100 }
         requires room { length self.old.kept + 2 ≤ 16384 }
-        ensures kept { self.new.kept ≡ self.old.kept ++ decimal n }
+        ensures appended { self.new.kept ≡ self.old.kept ++ decimal n }
         ensures failed { self.new.failed ≡ self.old.failed }
     {
         let (digits, count) = first_digits(n);
@@ -306,7 +306,7 @@ impl OutputBuffer {
 }
 
 /// Puts the bytes, unless a put failed before. Returns whether one has failed by now.
-fn put_unless<S: Sink>(failed: bool, sink: &mut S, bytes: &[u8]) -> bool
+fn put_unless_failed<S: Sink>(failed: bool, sink: &mut S, bytes: &[u8]) -> bool
     ensures { IsPut failed (S.seen sink.old) bytes.now result (S.seen sink.new) }
 {
     failed || put_all(sink, bytes).is_err()

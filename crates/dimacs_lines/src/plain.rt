@@ -5,7 +5,7 @@ ghost use Rattle.std.specs.Prelude.{◌≡◌, ◌≤◌, ◌<◌, ◌+◌, ◌�
 ghost use Rattle.dimacs_lines.specs.Plain.{StandsAt};
 ghost use Rattle.dimacs_lines.specs.inside.Plain.{DigitsAt, IsRunOfDigits, ends_of};
 
-use crate::digits::few_digits;
+use crate::digits::digits_value;
 use std::marker::Model;
 use std::simd::prelude::*;
 
@@ -126,8 +126,8 @@ impl<'a> PlainNumbers<'a> {
         ensures none { IfNone result (self.new ≡ self.old) }
     {
         let at = self.at();
-        let count = self.run(1, stop)?;
-        Some(few_digits(self.bytes, at, count))
+        let count = self.digit_run(1, stop)?;
+        Some(digits_value(self.bytes, at, count))
     }
 
     /// Takes one to sixteen digits with `stop` right after them.
@@ -141,18 +141,18 @@ impl<'a> PlainNumbers<'a> {
             return Some(u64::from(size));
         }
         let at = self.at();
-        let count = self.run(9, stop)?;
-        let high = few_digits(self.bytes, at, count - 8);
-        let low = few_digits(self.bytes, at + count - 8, 8);
+        let count = self.digit_run(9, stop)?;
+        let high = digits_value(self.bytes, at, count - 8);
+        let low = digits_value(self.bytes, at + count - 8, 8);
         Some(u64::from(high) * 100_000_000 + u64::from(low))
     }
 
     /// Takes a run of `least` to `least + 7` digits with `stop` right after it, and returns its length. Takes nothing if
     /// the bytes have another form.
     #[inline(always)]
-    fn run(&mut self, least: usize, stop: u8) -> Option<usize>
-        requires some { 0 < least }
-        requires few { least ≤ 9 }
+    fn digit_run(&mut self, least: usize, stop: u8) -> Option<usize>
+        requires positive { 0 < least }
+        requires at_most_nine { least ≤ 9 }
         ensures run { IfSome result (λ count. IsRunOfDigits self.old.bytes self.old.at stop count self.new.at) }
         ensures length { IfSome result (λ count. (least ≤ count) × (count ≤ least + 7)) }
         ensures bytes { self.new.bytes ≡ self.old.bytes }

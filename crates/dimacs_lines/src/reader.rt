@@ -122,7 +122,7 @@ impl Lines {
     pub fn skip(&mut self, bytes: usize, lines: u64)
         requires within { bytes ≤ length self.old.held }
         requires whole { AreWholeLines (take bytes self.old.held) lines }
-        requires few { self.old.given + lines ≤ most_lines }
+        requires line_limit { self.old.given + lines ≤ most_lines }
         ensures { self.new ≡ record self.old { held = drop bytes self.old.held; given = self.old.given + lines; line = [] } }
     {
         self.line_start = 0;
@@ -199,7 +199,7 @@ impl Lines {
         requires { length self.old.held ≤ longest_line }
         ensures more { IfOk result (λ count. PullsMore self.old self.new (S.coming source.old) (S.coming source.new) count) }
         ensures end { result ≡ Ok 0 → IfSome (S.coming source.old) (λ bytes. bytes ≡ []) }
-        ensures few { IfOk result (λ count. count ≤ greatest_piece) }
+        ensures at_most_a_piece { IfOk result (λ count. count ≤ greatest_piece) }
         ensures bounded { OnOk result (length self.new.held ≤ most_held) }
         ensures given { self.new.given ≡ self.old.given }
         ensures progress { self.new.progress ≡ self.old.progress }
@@ -292,7 +292,7 @@ fn grow(buffer: &mut Vec<u8>, held: usize) -> Result<(), Memory>
     requires held { held ≤ length buffer.old.items }
     requires bounded { length buffer.old.items ≤ most_held }
     ensures room { OnOk result (held < length buffer.new.items) }
-    ensures kept { take held buffer.new.items ≡ take held buffer.old.items }
+    ensures held_unchanged { take held buffer.new.items ≡ take held buffer.old.items }
     ensures no_shorter { length buffer.old.items ≤ length buffer.new.items }
     ensures bounded { length buffer.new.items ≤ most_held }
 {
@@ -311,10 +311,10 @@ fn pull_after<S: Source>(
 ) -> Result<usize, DeviceFault>
     requires { held < length buffer.old }
     ensures within { IfOk result (λ count. held + count ≤ length buffer.new) }
-    ensures few { IfOk result (λ count. count ≤ greatest_piece) }
+    ensures at_most_a_piece { IfOk result (λ count. count ≤ greatest_piece) }
     ensures given { IfOk result (λ count. S.coming source.old ≡ before_piece (take count (drop held buffer.new)) (S.coming source.new)) }
     ensures end { result ≡ Ok 0 → IfSome (S.coming source.old) (λ bytes. bytes ≡ []) }
-    ensures kept { take held buffer.new ≡ take held buffer.old }
+    ensures held_unchanged { take held buffer.new ≡ take held buffer.old }
     ensures device { CountsFault result (S.faults source.old) (S.faults source.new) }
 {
     let room = buffer.len().min(held + PIECE);

@@ -53,7 +53,7 @@ impl<'a> Token<'a> {
 /// The fields of a line: the maximal runs of bytes that are not blanks (32, 9 and 13), from left to right.
 pub fn fields(line: &[u8]) -> Fields<'_>
     ensures value { result ≡ fields_of line.now }
-    ensures law { AreFields line.now result }
+    ensures maximal_runs { AreFields line.now result }
 {
     Fields::new(line)
 }
@@ -93,7 +93,7 @@ impl<'a> Scan<'a> {
         ensures some { IfSome result (λ token. self.old ≡ view_field token.field ∷ self.new) }
     {
         let line = self.line;
-        let start = self.at + blanks(&line[self.at..]);
+        let start = self.at + leading_blanks(&line[self.at..]);
         self.at = start;
         if start == line.len() {
             return None;
@@ -118,7 +118,7 @@ fn token_at(line: &[u8], start: usize) -> Token<'_>
             plain: Some(plain.number),
         };
     }
-    let text = &line[start..start + run(&line[start..])];
+    let text = &line[start..start + field_length(&line[start..])];
     Token {
         field: Field { text, start },
         plain: None,
@@ -159,7 +159,7 @@ fn plain_number(line: &[u8], start: usize) -> Option<Plain>
 #[inline(always)]
 fn plain_digits(line: &[u8], at: usize) -> Option<(usize, u32)>
     requires { at ≤ length line.now }
-    ensures some { IfSome result (λ found. 0 < found.0) }
+    ensures positive { IfSome result (λ found. 0 < found.0) }
     ensures within { IfSome result (λ found. at + found.0 ≤ length line.now) }
     ensures run { IfSome result (λ found. found.0 ≡ position_or_len is_blank (drop at line.now)) }
     ensures digits { IfSome result (λ found. All IsAsciiDigit (take found.0 (drop at line.now))) }
@@ -191,7 +191,7 @@ fn is_blank(b: u8) -> bool
 
 /// How many blanks the bytes begin with.
 #[inline(always)]
-fn blanks(bytes: &[u8]) -> usize
+fn leading_blanks(bytes: &[u8]) -> usize
     ensures length { result ≡ position_or_len (λ b. not (is_blank b)) bytes.now }
     ensures within { result ≤ length bytes.now }
 {
@@ -205,7 +205,7 @@ fn blanks(bytes: &[u8]) -> usize
 
 /// How many bytes stand before the first blank.
 #[inline(always)]
-fn run(bytes: &[u8]) -> usize
+fn field_length(bytes: &[u8]) -> usize
     ensures length { result ≡ position_or_len is_blank bytes.now }
     ensures within { result ≤ length bytes.now }
 {

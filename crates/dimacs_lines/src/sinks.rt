@@ -66,7 +66,7 @@ impl Sink for MemorySink {
 /// whole piece. The puts listed in `fails`, counted from 1, fail: they use up no size, and the sink goes on after them.
 #[derive(Drop)]
 pub struct FlakySink<'a> {
-    kept: MemorySink,
+    memory: MemorySink,
     sizes: &'a [usize],
     fails: &'a [u64],
     puts: u64,
@@ -75,7 +75,7 @@ pub struct FlakySink<'a> {
 impl<'a> Model for FlakySink<'a> {
     ghost Value = { Flaky };
 
-    ghost view = { λ s. record { bytes = s.kept.bytes; faults = s.kept.faults; sizes = s.sizes.now; fails = s.fails.now; calls = s.puts } };
+    ghost view = { λ s. record { bytes = s.memory.bytes; faults = s.memory.faults; sizes = s.sizes.now; fails = s.fails.now; calls = s.puts } };
 }
 
 impl<'a> FlakySink<'a> {
@@ -84,7 +84,7 @@ impl<'a> FlakySink<'a> {
         ensures { result ≡ record { bytes = []; faults = 0; sizes = sizes.now; fails = fails.now; calls = 0 } }
     {
         FlakySink {
-            kept: MemorySink::new(alloc),
+            memory: MemorySink::new(alloc),
             sizes,
             fails,
             puts: 0,
@@ -95,14 +95,14 @@ impl<'a> FlakySink<'a> {
     pub fn bytes(&self) -> &[u8]
         ensures { result.now ≡ self.now.bytes }
     {
-        self.kept.bytes()
+        self.memory.bytes()
     }
 
     /// How many puts failed so far, modulo 2^64.
     pub fn faults(&self) -> u64
         ensures { result ≡ self.now.faults }
     {
-        self.kept.faults
+        self.memory.faults
     }
 }
 
@@ -124,10 +124,10 @@ impl<'a> Sink for FlakySink<'a> {
     {
         self.puts = self.puts.saturating_add(1);
         if self.fails.contains(&self.puts) {
-            self.kept.faults = self.kept.faults.wrapping_add(1);
+            self.memory.faults = self.memory.faults.wrapping_add(1);
             return Err(DeviceFault);
         }
         let count = next_piece(&mut self.sizes, bytes.len());
-        self.kept.put(&bytes[..count])
+        self.memory.put(&bytes[..count])
     }
 }

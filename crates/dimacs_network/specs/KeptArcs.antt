@@ -17,4 +17,4 @@ cost_arc tail head low cap cost = record { tail = tail; head = head; low = low; 
 
 -- the arcs whose parts are at the same positions of these two lists
 unfoldable pub arcs_of : {F B : Type 0} → (F → B → ArcView) → List F → List B → List ArcView
-arcs_of arc_of with_ends apart = map (λ parts. arc_of parts.0 parts.1) (zip with_ends apart)
+arcs_of arc_of ends numbers = map (λ parts. arc_of parts.0 parts.1) (zip ends numbers)

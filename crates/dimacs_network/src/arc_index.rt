@@ -6,7 +6,7 @@ ghost use Rattle.dimacs_network.specs.Arcs.{IsKthBetween};
 ghost use Rattle.dimacs_network.specs.ArcOrder.{HasRoom, Indexes};
 ghost use Rattle.dimacs_network.specs.inside.ArcOrder.{IsFirst};
 
-use crate::arc_order::{FEW, OutArc, put_in_order};
+use crate::arc_order::{FEW, OutArc, fill_in_order};
 use crate::network::Network;
 use crate::tail_starts::TailStarts;
 use dimacs_lines::Memory;
@@ -41,7 +41,7 @@ impl ArcIndex {
         requires { HasRoom (N.list network.now) self.old }
         ensures { Indexes (N.list network.now) self.new }
     {
-        put_in_order(network, &mut self.starts, &mut self.outs);
+        fill_in_order(network, &mut self.starts, &mut self.outs);
     }
 
     /// As `Network::find` of the network that filled the index.
@@ -94,9 +94,9 @@ impl ArcIndex {
     fn guess(&self, tail: u32, head: u32) -> usize
         ensures { result ≤ length self.now.outs.items }
     {
-        let part = self.starts.part(tail, self.outs.len());
-        let outs = &self.outs[part.from..part.to];
-        part.from
+        let range = self.starts.range_of(tail, self.outs.len());
+        let outs = &self.outs[range.from..range.to];
+        range.from
             + if outs.len() <= FEW {
                 count_before(outs, tail, head)
             } else {

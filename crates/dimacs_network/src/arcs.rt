@@ -19,11 +19,11 @@ pub trait KeptArc: Copy {
     ghost arc_of: { ArcEnds → Self.Short.Long → ArcView };
 
     /// Splits an arc into its stored parts.
-    fn parts(self) -> (ArcEnds, <Self::Short as ShortForm>::Long)
+    fn into_parts(self) -> (ArcEnds, <Self::Short as ShortForm>::Long)
         ensures { arc_of result.0 result.1 ≡ shows self };
 
     /// The arc with these parts.
-    fn whole(ends: ArcEnds, numbers: <Self::Short as ShortForm>::Long) -> ArcView
+    fn from_parts(ends: ArcEnds, numbers: <Self::Short as ShortForm>::Long) -> ArcView
         ensures { result ≡ arc_of ends numbers };
 }
 
@@ -66,13 +66,13 @@ impl KeptArc for WeightArc {
     ghost arc_of = { λ ends weight. weight_arc ends.tail ends.head weight };
 
     #[inline(always)]
-    fn parts(self) -> (ArcEnds, i64) {
+    fn into_parts(self) -> (ArcEnds, i64) {
         let WeightArc { tail, head, weight } = self;
         (ArcEnds { tail, head }, weight)
     }
 
     #[inline(always)]
-    fn whole(ends: ArcEnds, weight: i64) -> ArcView {
+    fn from_parts(ends: ArcEnds, weight: i64) -> ArcView {
         let ArcEnds { tail, head } = ends;
         WeightArc { tail, head, weight }.view()
     }
@@ -110,13 +110,13 @@ impl KeptArc for CapacityArc {
     ghost arc_of = { λ ends cap. capacity_arc ends.tail ends.head cap };
 
     #[inline(always)]
-    fn parts(self) -> (ArcEnds, i64) {
+    fn into_parts(self) -> (ArcEnds, i64) {
         let CapacityArc { tail, head, cap } = self;
         (ArcEnds { tail, head }, cap)
     }
 
     #[inline(always)]
-    fn whole(ends: ArcEnds, cap: i64) -> ArcView {
+    fn from_parts(ends: ArcEnds, cap: i64) -> ArcView {
         let ArcEnds { tail, head } = ends;
         CapacityArc { tail, head, cap }.view()
     }
@@ -172,7 +172,7 @@ impl KeptArc for ArcView {
     ghost arc_of = { λ ends numbers. cost_arc ends.tail ends.head numbers.low numbers.cap numbers.cost };
 
     #[inline(always)]
-    fn parts(self) -> (ArcEnds, BoundsAndCost) {
+    fn into_parts(self) -> (ArcEnds, BoundsAndCost) {
         let ArcView {
             tail,
             head,
@@ -184,7 +184,7 @@ impl KeptArc for ArcView {
     }
 
     #[inline(always)]
-    fn whole(ends: ArcEnds, numbers: BoundsAndCost) -> ArcView {
+    fn from_parts(ends: ArcEnds, numbers: BoundsAndCost) -> ArcView {
         ArcView {
             tail: ends.tail,
             head: ends.head,

@@ -54,7 +54,7 @@ impl<A: KeptArc> PlainArcs<A> {
         ensures pushed { OnOk result (self.new ≡ record self.old { arcs = self.old.arcs ++ A.shows arc ∷ [] }) }
         ensures unchanged { OnErr result (self.new ≡ self.old) }
     {
-        let (ends, numbers) = arc.parts();
+        let (ends, numbers) = arc.into_parts();
         self.ends.reserve(1)?;
         self.numbers.push(numbers)?;
         self.ends.push_reserved(ends);
@@ -77,6 +77,6 @@ impl<A: KeptArc> Network for PlainArcs<A> {
 
     #[inline(always)]
     fn arc(&self, i: u32) -> ArcView {
-        A::whole(self.ends[i as usize], self.numbers.at(i as usize))
+        A::from_parts(self.ends[i as usize], self.numbers.at(i as usize))
     }
 }

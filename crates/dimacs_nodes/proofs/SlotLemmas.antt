@@ -11,7 +11,7 @@ unfolding place_of
 place_of-number directory id = omega arith
 
 pub no_pages : IsDirectory [] 0
-no_pages = record { short = omega arith; whole = refl; few = omega arith; known = λ i some. absurd (some refl); apart = λ i j below same. absurd (omega (arith, below)) }
+no_pages = record { short = omega arith; whole = refl; numbers_fit = omega arith; allocated = λ i some. absurd (some refl); distinct = λ i j below same. absurd (omega (arith, below)) }
 
 -- the same directory numbers give the same places
 pub place_of-same : (old new : List ℕ) → SameNumbers old new → (id : ℕ) → place_of new id ≡ place_of old id
@@ -24,7 +24,7 @@ unfolding place_of
 apart_places directory slots id other is inside same =
     let numbers : number_of directory id ≡ number_of directory other = omega (arith, same) in
     let below : 64 * number_of directory id < slots = omega (arith, inside) in
-    let pages : id / 64 ≡ other / 64 = is.apart (id / 64) (other / 64) below numbers in
+    let pages : id / 64 ≡ other / 64 = is.distinct (id / 64) (other / 64) below numbers in
     omega (arith, same, numbers, pages)
 
 module _ {T : Type 0} (blank : T) where
@@ -44,7 +44,7 @@ module _ {T : Type 0} (blank : T) where
   -- the value on a page that isn't allocated
   pub slot_value-no_page : (directory : List ℕ) (slots : List T) (id : ℕ) → IsDirectory directory (length slots) → number_of directory id ≡ NO_PAGE → slot_value blank directory slots id ≡ blank
   unfolding place_of
-  slot_value-no_page directory slots id is none = slot_value-past directory slots id (omega (arith, none, is.few))
+  slot_value-no_page directory slots id is none = slot_value-past directory slots id (omega (arith, none, is.numbers_fit))
 
   pub slot_value-same_page : (directory : List ℕ) (slots : List T) (id other : ℕ) → IsDirectory directory (length slots) → length slots ≤ place_of directory id → other / 64 ≡ id / 64 → slot_value blank directory slots other ≡ blank
   unfolding place_of
@@ -87,13 +87,13 @@ module _ (directory : List ℕ) (slots id : ℕ) (is : IsDirectory directory slo
   other_number : (i : ℕ) → i ≢ id / 64 → get_or directory i NO_PAGE ≢ number
   other_number i off same = elim (cases_eq (get_or directory i NO_PAGE) NO_PAGE) [
     | inl none ↦ omega (arith, same, none, room)
-    | inr some ↦ omega (arith, same, is.known i some, is.whole)
+    | inr some ↦ omega (arith, same, is.allocated i some, is.whole)
   ]
 
   taken_before : (i : ℕ) → i ≢ id / 64 → 64 * get_or longer i NO_PAGE < slots + 64 → 64 * get_or directory i NO_PAGE < slots
   taken_before i off below = elim (cases_eq (get_or directory i NO_PAGE) NO_PAGE) [
     | inl none ↦ absurd (omega (arith, below, elsewhere i off, none, room, is.whole))
-    | inr some ↦ is.known i some
+    | inr some ↦ is.allocated i some
   ]
 
   pub page_place : place_of longer id < slots + 64
@@ -104,19 +104,19 @@ module _ (directory : List ℕ) (slots id : ℕ) (is : IsDirectory directory slo
   page_numbered = record {
     short = rw length-set is.short;
     whole = omega (arith, is.whole);
-    few = omega (arith, is.whole, room);
-    known = λ i some. elim (cases_eq i (id / 64)) [
+    numbers_fit = omega (arith, is.whole, room);
+    allocated = λ i some. elim (cases_eq i (id / 64)) [
       | inl same ↦ omega (arith, at_page i same, is.whole)
-      | inr off ↦ omega (arith, elsewhere i off, is.known i (λ none. some (elsewhere i off ∙ none)))
+      | inr off ↦ omega (arith, elsewhere i off, is.allocated i (λ none. some (elsewhere i off ∙ none)))
     ];
-    apart = λ i j below same. elim (cases_eq i (id / 64)) [
+    distinct = λ i j below same. elim (cases_eq i (id / 64)) [
       | inl here ↦ elim (cases_eq j (id / 64)) [
         | inl there ↦ here ∙ sym there
         | inr off ↦ absurd (other_number j off (sym (elsewhere j off) ∙ sym same ∙ at_page i here))
       ]
       | inr off ↦ elim (cases_eq j (id / 64)) [
         | inl there ↦ absurd (other_number i off (sym (elsewhere i off) ∙ same ∙ at_page j there))
-        | inr away ↦ is.apart i j (taken_before i off below) (sym (elsewhere i off) ∙ same ∙ elsewhere j away)
+        | inr away ↦ is.distinct i j (taken_before i off below) (sym (elsewhere i off) ∙ same ∙ elsewhere j away)
       ]
     ];
   }
@@ -144,7 +144,7 @@ pub same_directory : (old new : List ℕ) (slots : ℕ) → SameNumbers old new 
 same_directory old new slots same short is = record {
   short = short;
   whole = is.whole;
-  few = is.few;
-  known = λ i some. rw (same i) (is.known i (λ none. some (same i ∙ none)));
-  apart = λ i j below equal. is.apart i j (rw (same i) at below) (sym (same i) ∙ equal ∙ same j);
+  numbers_fit = is.numbers_fit;
+  allocated = λ i some. rw (same i) (is.allocated i (λ none. some (same i ∙ none)));
+  distinct = λ i j below equal. is.distinct i j (rw (same i) at below) (sym (same i) ∙ equal ∙ same j);
 }

@@ -32,7 +32,7 @@ module _ {T : Type 0} where
   slots_in table = length table.slots.items
 
   -- at most the page of this ID was allocated, if it had none, and the directory up to it
-  pub record TakesPageAlone (old new : NodeTable T) (id : ℕ) : Type 0 where
+  pub record AllocatesOnlyItsPage (old new : NodeTable T) (id : ℕ) : Type 0 where
     pub reach : reach_of new ≤ max (reach_of old) (id / 64 + 1)
     pub page : slots_in new ≤ slots_in old + 64
     pub none : HasSlot old id → slots_in new ≡ slots_in old

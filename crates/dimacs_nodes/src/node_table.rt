@@ -33,7 +33,7 @@ pub struct Slot<T> {
 }
 
 impl<T: Copy> NodeTable<T> {
-    ghost use Rattle.dimacs_nodes.specs.Tables.{HasSlot, IsSlot, SameValues, TakesPageAlone, blank_of, reach_of, slots_in, value_of};
+    ghost use Rattle.dimacs_nodes.specs.Tables.{HasSlot, IsSlot, SameValues, AllocatesOnlyItsPage, blank_of, reach_of, slots_in, value_of};
 
     /// A table of blank values. It allocates nothing.
     pub fn new(alloc: Global, blank: T) -> NodeTable<T>
@@ -76,14 +76,14 @@ impl<T: Copy> NodeTable<T> {
         ensures set { OnOk result (value_of self.new id ≡ value) }
         ensures others { OnOk result ((other : ℕ) → other ≢ id → value_of self.new other ≡ value_of self.old other) }
         ensures unchanged { OnErr result (SameValues self.old self.new) }
-        ensures blank { blank_of self.new ≡ blank_of self.old }
-        ensures memory { TakesPageAlone self.old self.new id }
+        ensures same_blank { blank_of self.new ≡ blank_of self.old }
+        ensures memory { AllocatesOnlyItsPage self.old self.new id }
         ensures replaces { HasSlot self.old id → IsOk result }
     {
         match self.slots.get_mut(place(&self.directory, id)) {
             Some(slot) => *slot = value,
             None => {
-                let place = self.take_page(id)?;
+                let place = self.allocate_page(id)?;
                 self.put(place, value);
             }
         }
@@ -95,15 +95,15 @@ impl<T: Copy> NodeTable<T> {
     pub fn reserve(&mut self, id: u32) -> Result<usize, Memory>
         ensures same { SameValues self.old self.new }
         ensures place { IfOk result (IsSlot self.new id) }
-        ensures blank { blank_of self.new ≡ blank_of self.old }
-        ensures memory { TakesPageAlone self.old self.new id }
+        ensures same_blank { blank_of self.new ≡ blank_of self.old }
+        ensures memory { AllocatesOnlyItsPage self.old self.new id }
         ensures repeats { HasSlot self.old id → IsOk result }
     {
         let place = place(&self.directory, id);
         if place < self.slots.len() {
             return Ok(place);
         }
-        self.take_page(id)
+        self.allocate_page(id)
     }
 
     /// Sets the value in the slot with this index.
@@ -112,8 +112,8 @@ impl<T: Copy> NodeTable<T> {
         requires { place < slots_in self.old }
         ensures set { (id : ℕ) → IsSlot self.old id place → value_of self.new id ≡ value }
         ensures others { (id other : ℕ) → IsSlot self.old id place → other ≢ id → value_of self.new other ≡ value_of self.old other }
-        ensures places { (other : ℕ) → HasSlot self.old other → HasSlot self.new other }
-        ensures blank { blank_of self.new ≡ blank_of self.old }
+        ensures slots_stay { (other : ℕ) → HasSlot self.old other → HasSlot self.new other }
+        ensures same_blank { blank_of self.new ≡ blank_of self.old }
         ensures no_memory { (reach_of self.new ≡ reach_of self.old) × (slots_in self.new ≡ slots_in self.old) }
     {
         self.slots[place] = value;
@@ -122,7 +122,7 @@ impl<T: Copy> NodeTable<T> {
     /// An ID greater than all that were set; at most 2^32.
     pub fn end(&self) -> usize
         ensures within { result ≤ 4294967296 }
-        ensures blank { (id : ℕ) → result ≤ id → value_of self.now id ≡ blank_of self.now }
+        ensures blank_after { (id : ℕ) → result ≤ id → value_of self.now id ≡ blank_of self.now }
     {
         self.directory.len() * PAGE
     }
@@ -132,7 +132,7 @@ impl<T: Copy> NodeTable<T> {
     #[inline]
     pub fn skip_blank(&self, id: u32) -> usize
         ensures from { id ≤ result }
-        ensures blank { (other : ℕ) → id ≤ other → other < result → value_of self.now other ≡ blank_of self.now }
+        ensures blank_between { (other : ℕ) → id ≤ other → other < result → value_of self.now other ≡ blank_of self.now }
     {
         if place(&self.directory, id) < self.slots.len() {
             id as usize
@@ -144,12 +144,12 @@ impl<T: Copy> NodeTable<T> {
     /// Allocates the page of an ID that has none.
     #[cold]
     #[inline(never)]
-    fn take_page(&mut self, id: u32) -> Result<usize, Memory>
+    fn allocate_page(&mut self, id: u32) -> Result<usize, Memory>
         requires { ¬ HasSlot self.old id }
         ensures same { SameValues self.old self.new }
         ensures place { IfOk result (IsSlot self.new id) }
-        ensures blank { blank_of self.new ≡ blank_of self.old }
-        ensures memory { TakesPageAlone self.old self.new id }
+        ensures same_blank { blank_of self.new ≡ blank_of self.old }
+        ensures memory { AllocatesOnlyItsPage self.old self.new id }
     {
         let number = self.slots.len() / PAGE;
         if number >= NO_PAGE as usize {

@@ -21,10 +21,10 @@ pub record IsRunOfDigits (bytes : List ℕ) (at stop count next : ℕ) : Type 0 
 -- one to sixteen digits stand there, and their value is n
 pub record DigitsAt (bytes : List ℕ) (at stop n next : ℕ) : Type 0 where
   pub digits : List ℕ
-  pub some : 0 < length digits
-  pub few : length digits ≤ 16
+  pub nonempty : 0 < length digits
+  pub at_most_sixteen : length digits ≤ 16
   pub each : All IsAsciiDigit digits
-  pub says : n ≡ place_sum digits
+  pub value : n ≡ place_sum digits
   pub ends : EndsAt bytes at stop digits next
 
 -- a bit for each byte that is no digit, the first byte's lowest

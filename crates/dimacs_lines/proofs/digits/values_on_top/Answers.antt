@@ -31,5 +31,5 @@ returns c =
     let small = All-map (λ b. b < 256) (λ b. bit_xor b 48) bytes (λ k d h. xor_lt 8 (get_or bytes k d) 48 (AllBytes-to_le_bytes word k d h) (lit< tt)) in
     let power : 64 - 8 * count ≡ 8 * (8 - count) = omega arith in
     ap₂ (λ n e. to_le_bytes w64 (n * 2 ^ e % 2 ^ 64)) turned power
-    ∙ to_le_bytes-shl (8 - count) count (map (λ b. bit_xor b 48) bytes) (omega arith) c.requires.few small
+    ∙ to_le_bytes-shl (8 - count) count (map (λ b. bit_xor b 48) bytes) (omega arith) c.requires.at_most_eight small
     ∙ ap (λ xs. replicate (8 - count) 0 ++ xs) (take-map (λ b. bit_xor b 48) count bytes)

@@ -2,8 +2,8 @@ use Rattle.std.proofs.Common.{◌≡◌, ◌-◌, ◌++◌, ◌∙◌, ℕ, ap, 
 use Rattle.std.proofs.lemmas.List.{take-append-le, take_all}
 use Rattle.dimacs_lines.proofs.reader.grow.Goals as goal
 
-pub returns-clause-kept : goal.returns-clause-kept
-returns-clause-kept c =
+pub returns-clause-held_unchanged : goal.returns-clause-held_unchanged
+returns-clause-held_unchanged c =
     let old = c.args.buffer.now.items in
     let zeros = replicate {A = ℕ} (c.min.result - vec_len c.args.buffer.now) 0 in
     let grown : c.resize.new.self.items ≡ take c.min.result old ++ zeros = c.in_ok-resize.ensures.items in

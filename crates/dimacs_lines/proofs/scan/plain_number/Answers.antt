@@ -23,7 +23,7 @@ returns-in_ok-count-clause-number c =
     let n = c.in_ok-count.count in
     let found = c.in_ok-count.ensures in
     let digits = take n (drop (start + 1) line) in
-    let some : 0 < length digits = omega (arith, found.some, found.within, length-take n (drop (start + 1) line), length-drop (start + 1) line) in
+    let some : 0 < length digits = omega (arith, found.positive, found.within, length-take n (drop (start + 1) line), length-drop (start + 1) line) in
     let spelled = spells_minus digits some found.digits in
     rw (minus_in_front line start n c.requires c.if-line-start-eq45.true) (spelled.0, read_minus c.from.result c.in_ok-count.size (place_sum digits) c.from.ensures found.value c.from.type_inv)
 
@@ -34,6 +34,6 @@ returns-in_ok-count-2-clause-number c =
     let n = c.in_ok-count-2.count in
     let found = c.in_ok-count-2.ensures in
     let digits = take n (drop start line) in
-    let some : 0 < length digits = omega (arith, found.some, found.within, length-take n (drop start line), length-drop start line) in
+    let some : 0 < length digits = omega (arith, found.positive, found.within, length-take n (drop start line), length-drop start line) in
     let spelled = spells_digits digits some found.digits in
     (spelled.0, read_back c.from-else-line-start-eq45.result c.in_ok-count-2.size (place_sum digits) c.from-else-line-start-eq45.ensures found.value c.from-else-line-start-eq45.type_inv ∙ spelled.1)

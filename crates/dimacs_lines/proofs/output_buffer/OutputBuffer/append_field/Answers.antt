@@ -15,5 +15,5 @@ pub returns-clause-short : goal.returns-clause-short
 returns-clause-short c =
     let n = c.args.n in
     let before = c.args.self.now.kept in
-    rw (c.append_number.ensures.kept, c.append.ensures.kept, to_z-of_z w64 n c.ranges.n)
+    rw (c.append_number.ensures.appended, c.append.ensures.appended, to_z-of_z w64 n c.ranges.n)
     (omega (arith, length-append before (32 ∷ []), length-append (before ++ 32 ∷ []) (signed_decimal n), length-signed n c.ranges.n))

@@ -9,4 +9,4 @@ returns-clause-written g c =
     let kept = take c.self.inside.length c.self.inside.bytes in
     λ start text h.
     let was : IsWrittenBy c.self.inside.failed start text old kept = subst (IsWritten start text old) (sym c.self.view_is) h in
-    IsWritten-put c.self.inside.failed c.put_unless-self-inside.result start old _ text kept c.put_unless-self-inside.ensures was
+    IsWritten-put c.self.inside.failed c.put_unless_failed-self-inside.result start old _ text kept c.put_unless_failed-self-inside.ensures was

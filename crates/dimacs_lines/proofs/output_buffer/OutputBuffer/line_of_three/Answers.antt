@@ -6,5 +6,5 @@ use Rattle.dimacs_lines.proofs.output_buffer.OutputBuffer.line_of_three.Goals as
 pub returns : goal.returns
 returns g c = λ start text h.
     let roomy = c.make_room.new.self in
-    rw (c.append_line_of_three.ensures.kept, c.append_line_of_three.ensures.failed, to_z-of_z w64 c.args.first c.ranges.first, to_z-of_z w64 c.args.second c.ranges.second, to_z-of_z w64 c.args.third c.ranges.third)
+    rw (c.append_line_of_three.ensures.appended, c.append_line_of_three.ensures.failed, to_z-of_z w64 c.args.first c.ranges.first, to_z-of_z w64 c.args.second c.ranges.second, to_z-of_z w64 c.args.third c.ranges.third)
     (IsWritten-kept roomy.failed start (g.S.Sink.seen c.make_room.new.sink) text roomy.kept _ (c.make_room.ensures.written start text h))

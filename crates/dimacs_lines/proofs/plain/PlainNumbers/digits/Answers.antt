@@ -10,12 +10,12 @@ returns-clause-digits c =
     let count = c.in_ok-count.count in
     let left = c.args.self.now in
     let same : c.self.inside.bytes.now ≡ left.bytes = ap (λ (l : NumbersLeft). l.bytes) c.self.view_is ∙ found.bytes in
-    let says : c.few_digits.result ≡ place_sum (take count (drop left.at left.bytes)) = rw (same, c.at-at.ensures) at c.few_digits.ensures in
-    let stand = digits_stand left.bytes left.at c.args.stop count c.few_digits.result (omega (arith, found.run.passed, found.run.within)) (omega (arith, found.length)) (omega (arith, found.length)) found.run.each says found.run.stops in
+    let says : c.digits_value.result ≡ place_sum (take count (drop left.at left.bytes)) = rw (same, c.at-at.ensures) at c.digits_value.ensures in
+    let stand = digits_stand left.bytes left.at c.args.stop count c.digits_value.result (omega (arith, found.run.passed, found.run.within)) (omega (arith, found.length)) (omega (arith, found.length)) found.run.each says found.run.stops in
     rw found.run.passed stand
 
 pub returns-clause-range : goal.returns-clause-range
 returns-clause-range c =
     let found = c.in_ok-count.ensures in
     let same : c.self.inside.bytes.now ≡ c.args.self.now.bytes = ap (λ (left : NumbersLeft). left.bytes) c.self.view_is ∙ found.bytes in
-    rw (c.few_digits.ensures, same, c.at-at.ensures) (few_below c.in_ok-count.count (drop c.args.self.now.at c.args.self.now.bytes) (omega (arith, found.length)) found.run.each)
+    rw (c.digits_value.ensures, same, c.at-at.ensures) (few_below c.in_ok-count.count (drop c.args.self.now.at c.args.self.now.bytes) (omega (arith, found.length)) found.run.each)

@@ -51,6 +51,6 @@ returns-in-Ok-clause-more g c =
       piece = take count (drop (end - start) pulled);
       size = length-piece pulled (end - start) count c.in-Ok.ensures.within;
       held = ap (λ xs. slice_range xs 0 (end - start + count)) (with_items_is c.grow.new.buffer pulled (omega (arith, c.pull_after.auto.buffer, c.deref_mut.ensures.len))) ∙ held_and_piece c.self.inside.buffer.items c.move_to_front.new.buffer.items c.grow.new.buffer.items pulled start end count
-          c.move_to_front.ensures.moved c.grow.ensures.kept (c.in-Ok.ensures.kept ∙ ap (take (end - start)) c.deref_mut.ensures.value);
+          c.move_to_front.ensures.moved c.grow.ensures.held_unchanged (c.in-Ok.ensures.held_unchanged ∙ ap (take (end - start)) c.deref_mut.ensures.value);
       given = c.in-Ok.ensures.given;
     })

@@ -14,9 +14,9 @@ pub returns-then-start-line-clause-none : goal.returns-then-start-line-clause-no
 returns-then-start-line-clause-none c =
     let line = c.self.inside.line.now in
     let at = c.self.inside.at in
-    let n = c.blanks.result in
+    let n = c.leading_blanks.result in
     let inside : at ≤ length line = c.self.invariant in
-    let blanks : n ≡ position_or_len (λ b. not (is_blank b)) (drop at line) = rw (between_to_end line at (length line) (omega arith)) at c.blanks.ensures.length in
+    let blanks : n ≡ position_or_len (λ b. not (is_blank b)) (drop at line) = rw (between_to_end line at (length line) (omega arith)) at c.leading_blanks.ensures.length in
     let end : length line ≤ at + n = omega (arith, c.if-start-line.true) in
     (rw (← c.self.view_is) (runs_none line at n blanks end), ap (runs_from (at + n)) (drop_of_length-le line end))
 
@@ -24,12 +24,12 @@ pub returns-clause-some : goal.returns-clause-some
 returns-clause-some c =
     let line = c.self.inside.line.now in
     let at = c.self.inside.at in
-    let n = c.blanks.result in
+    let n = c.leading_blanks.result in
     let token = c.token_at-token.result in
     let r = position_or_len is_blank (drop (at + n) line) in
     let inside : at ≤ length line = c.self.invariant in
-    let blanks : n ≡ position_or_len (λ b. not (is_blank b)) (drop at line) = rw (between_to_end line at (length line) (omega arith)) at c.blanks.ensures.length in
-    let most : n ≤ length line - at = rw (between_to_end line at (length line) (omega arith), length-drop at line) at c.blanks.ensures.within in
+    let blanks : n ≡ position_or_len (λ b. not (is_blank b)) (drop at line) = rw (between_to_end line at (length line) (omega arith)) at c.leading_blanks.ensures.length in
+    let most : n ≤ length line - at = rw (between_to_end line at (length line) (omega arith), length-drop at line) at c.leading_blanks.ensures.within in
     let some : at + n < length line = omega (arith, c.if-start-line.false) in
     let text : token.field.text.now ≡ take r (drop (at + n) line) = c.token_at-token.ensures.text in
     let start : token.field.start ≡ at + n = c.token_at-token.ensures.start in

@@ -12,11 +12,11 @@ invariant_of-self-2 g c =
     let few = rw (← c.self.view_is) at c.requires in
     let room : length ends < most_count = omega (arith, few, long) in
     let longer : length c.push.new.self ≡ length numbers + 1 = ap length c.in_ok-push.ensures.pushed ∙ length_push numbers _ in
-    let more : length c.push_reserved.new.self.items ≡ length ends + 1 = ap length c.push_reserved.ensures.items ∙ length_push _ c.parts-numbers.result.0 ∙ ap (λ items. length items + 1) c.in_ok-reserve.ensures.items in
+    let more : length c.push_reserved.new.self.items ≡ length ends + 1 = ap length c.push_reserved.ensures.items ∙ length_push _ c.into_parts-numbers.result.0 ∙ ap (λ items. length items + 1) c.in_ok-reserve.ensures.items in
     (omega (arith, room, more), omega (arith, longer, more, c.self.invariant.1))
 
 pub returns-clause-pushed : goal.returns-clause-pushed
 returns-clause-pushed g c =
     let ends = c.self.inside.ends.items in
     let numbers = c.self.inside.numbers in
-    rw (← c.self.view_is, c.in_ok-push.ensures.pushed, c.push_reserved.ensures.items, c.in_ok-reserve.ensures.items, kept_push g.A.KeptArc.arc_of ends numbers c.self.invariant.1 _ _, c.parts-numbers.ensures) refl
+    rw (← c.self.view_is, c.in_ok-push.ensures.pushed, c.push_reserved.ensures.items, c.in_ok-reserve.ensures.items, kept_push g.A.KeptArc.arc_of ends numbers c.self.invariant.1 _ _, c.into_parts-numbers.ensures) refl

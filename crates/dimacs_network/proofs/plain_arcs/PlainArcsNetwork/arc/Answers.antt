@@ -25,4 +25,4 @@ returns g c =
     let long = kept_long g.A.KeptArc.arc_of ends numbers c.self.invariant.1 in
     let inside = rw (← c.self.view_is) at c.requires in
     let within : c.args.i < length ends = omega (arith, inside, long) in
-    rw (← c.self.view_is, c.whole.ensures, c.index.ensures, c.at.ensures) (kept_get g.A.KeptArc.arc_of ends numbers c.self.invariant.1 c.args.i c.index.result.now _ within)
+    rw (← c.self.view_is, c.from_parts.ensures, c.index.ensures, c.at.ensures) (kept_get g.A.KeptArc.arc_of ends numbers c.self.invariant.1 c.args.i c.index.result.now _ within)

@@ -11,8 +11,8 @@ returns-clause-within g c =
     let len : vec_len table.directory ≡ length table.directory.items = search rules in
     omega (arith, len, c.len.ensures, table.numbered.short)
 
-pub returns-clause-blank : goal.returns-clause-blank
-returns-clause-blank g c =
+pub returns-clause-blank_after : goal.returns-clause-blank_after
+returns-clause-blank_after g c =
     let table = c.args.self.now in
     let len : vec_len table.directory ≡ length table.directory.items = search rules in
     λ id past. slot_value-no_page table.blank table.directory.items table.slots.items id table.numbered (get_or_past table.directory.items (id / 64) NO_PAGE (omega (arith, past, len, c.len.ensures)))

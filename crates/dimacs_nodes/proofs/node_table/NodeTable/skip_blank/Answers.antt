@@ -4,8 +4,8 @@ use Rattle.dimacs_nodes.specs.Slots.{place_of}
 use Rattle.dimacs_nodes.proofs.SlotLemmas.{slot_value-same_page}
 use Rattle.dimacs_nodes.proofs.node_table.NodeTable.skip_blank.Goals as goal
 
-pub returns-else-place-len-clause-blank : goal.returns-else-place-len-clause-blank
-returns-else-place-len-clause-blank g c =
+pub returns-else-place-len-clause-blank_between : goal.returns-else-place-len-clause-blank_between
+returns-else-place-len-clause-blank_between g c =
     let table = c.args.self.now in
     let directory = table.directory.items in
     let values = table.slots.items in

@@ -1,5 +1,5 @@
 use Rattle.std.proofs.Common.{rules}
-use Rattle.dimacs_lines.proofs.numbers.within.Goals as goal
+use Rattle.dimacs_lines.proofs.numbers.number_in_range.Goals as goal
 
 -- written out, since what is tried without an answer takes longer
 pub returns-then-n-low : goal.returns-then-n-low

@@ -2,7 +2,7 @@ use Rattle.std.proofs.Common.{sym, ap, arith, length}
 use Rattle.std.specs.Prelude.{not}
 use Rattle.std.proofs.lemmas.List.Sums.{position_or_len_is}
 use Rattle.dimacs_lines.specs.Fields.{is_blank}
-use Rattle.dimacs_lines.proofs.scan.blanks.Goals as goal
+use Rattle.dimacs_lines.proofs.scan.leading_blanks.Goals as goal
 
 pub returns-then-not-is_blank-clause-length : goal.returns-then-not-is_blank-clause-length
 returns-then-not-is_blank-clause-length c =

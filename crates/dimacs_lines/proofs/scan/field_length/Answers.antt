@@ -1,7 +1,7 @@
 use Rattle.std.proofs.Common.{sym, arith, length}
 use Rattle.std.proofs.lemmas.List.Sums.{position_or_len_is}
 use Rattle.dimacs_lines.specs.Fields.{is_blank}
-use Rattle.dimacs_lines.proofs.scan.run.Goals as goal
+use Rattle.dimacs_lines.proofs.scan.field_length.Goals as goal
 
 pub returns-then-is_blank-clause-length : goal.returns-then-is_blank-clause-length
 returns-then-is_blank-clause-length c =

@@ -4,7 +4,7 @@ use Rattle.std.proofs.lemmas.List.{take_all}
 use Rattle.dimacs_nodes.specs.declared.node_table.TheConstants.{NO_PAGE}
 use Rattle.dimacs_nodes.specs.Slots.{place_of}
 use Rattle.dimacs_nodes.proofs.SlotLemmas.{same_directory, place_of-same, slot_value-same, page_values, page_place, replicate_blank}
-use Rattle.dimacs_nodes.proofs.node_table.NodeTable.take_page.Goals as goal
+use Rattle.dimacs_nodes.proofs.node_table.NodeTable.allocate_page.Goals as goal
 
 pub returns-in_err-extend_directory-clause-same : goal.returns-in_err-extend_directory-clause-same
 returns-in_err-extend_directory-clause-same g c =

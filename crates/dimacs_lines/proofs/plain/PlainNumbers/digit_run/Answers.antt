@@ -4,7 +4,7 @@ use Rattle.std.specs.List.{slice_index}
 use Rattle.std.proofs.lemmas.Nat.{trailing_le}
 use Rattle.dimacs_lines.specs.inside.Plain.{ends_from}
 use Rattle.dimacs_lines.proofs.EndMarks.{digits_left, end_is, ends_after, left_digits}
-use Rattle.dimacs_lines.proofs.plain.PlainNumbers.run.Goals as goal
+use Rattle.dimacs_lines.proofs.plain.PlainNumbers.digit_run.Goals as goal
 
 pub invariant_of-self : goal.invariant_of-self
 invariant_of-self c =
@@ -13,7 +13,7 @@ invariant_of-self c =
     let at = c.self.inside.at in
     let ends = c.self.inside.ends in
     let room : start + 32 ≤ length bytes = omega (arith, c.self.invariant.0) in
-    let early : at ≤ 32 = omega (arith, c.self.invariant.1, c.if-count-least-ge8.false, trailing_le 32 ends, c.requires.few) in
+    let early : at ≤ 32 = omega (arith, c.self.invariant.1, c.if-count-least-ge8.false, trailing_le 32 ends, c.requires.at_most_nine) in
     let is = c.self.invariant.2 in
     let end : count_trailing_zeros 32 ends ≡ at + digits_left bytes start at = ap (count_trailing_zeros 32) is ∙ end_is bytes start at room early in
     let next : at + digits_left bytes start at + 1 ≡ count_trailing_zeros 32 ends + 1 = omega (arith, end) in
@@ -27,7 +27,7 @@ returns-clause-run c =
     let ends = c.self.inside.ends in
     let room : start + 32 ≤ length bytes = omega (arith, c.self.invariant.0) in
     let late = trailing_le 32 ends in
-    let early : at ≤ 32 = omega (arith, c.self.invariant.1, c.if-count-least-ge8.false, late, c.requires.few) in
+    let early : at ≤ 32 = omega (arith, c.self.invariant.1, c.if-count-least-ge8.false, late, c.requires.at_most_nine) in
     let end : count_trailing_zeros 32 ends ≡ at + digits_left bytes start at = ap (count_trailing_zeros 32) c.self.invariant.2 ∙ end_is bytes start at room early in
     let count : (count_trailing_zeros 32 ends + (18446744073709551616 - at)) % 18446744073709551616 ≡ digits_left bytes start at = omega (arith, end, early, late) in
     let reached : start + count_trailing_zeros 32 ends ≡ start + at + digits_left bytes start at = omega (arith, end) in
@@ -36,5 +36,5 @@ returns-clause-run c =
       stops = ap (λ n. slice_index bytes n) (sym reached) ∙ c.if-self-end.false;
       passed = omega (arith, end);
       within = omega (arith, late, c.self.invariant.0);
-      room = omega (arith, c.self.invariant.0, c.if-count-least-ge8.false, late, c.requires.some);
+      room = omega (arith, c.self.invariant.0, c.if-count-least-ge8.false, late, c.requires.positive);
     })

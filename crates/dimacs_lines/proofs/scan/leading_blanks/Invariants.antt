@@ -1,6 +1,6 @@
 use Rattle.std.proofs.Common.{◌≡◌, ◌<◌, ℕ, true, get_or}
 use Rattle.dimacs_lines.specs.Fields.{is_blank}
-use Rattle.dimacs_lines.proofs.scan.blanks.Given as goal
+use Rattle.dimacs_lines.proofs.scan.leading_blanks.Given as goal
 
 abbrev pub invariant-loop-i : goal.invariant-loop-i
 invariant-loop-i l = (k : ℕ) → k < l.i → is_blank (get_or l.bytes k 0) ≡ true
