@@ -1,4 +1,4 @@
-//! Traits for input and output: where bytes come from and where they go, piece by piece.
+//! Traits for input and output, piece by piece, and their errors.
 
 ghost use Rattle.std.specs.Prelude.{◌≡◌, ◌<◌, ◌≤◌, [], ℕ, List, Option, take, length, IfOk, IfSome, OnErr, Ok};
 ghost use Rattle.dimacs_lines.specs.Devices.{before_piece, after_piece, CountsFault, CountsPut, Written};
@@ -6,7 +6,7 @@ ghost use Rattle.dimacs_lines.specs.Puts.{Puts};
 
 use std::alloc::{AllocError, AllocFailed};
 
-/// An I/O error: the system refused a read or a write, or a sink accepted nothing of some bytes.
+/// An I/O error: a read or a write failed, or a sink accepted nothing of some bytes.
 #[derive(Clone, Copy, Debug, PartialEq, Eq)]
 pub struct DeviceFault;
 
@@ -26,16 +26,16 @@ impl<T: Drop> From<AllocFailed<T>> for Memory {
     }
 }
 
-/// Input: gives the bytes of a text, piece by piece.
+/// Input: the bytes of a text, piece by piece.
 pub trait Source {
-    /// The bytes still to come; `None` if the source doesn't reveal them, as files don't.
+    /// The bytes still to come; `None` if they aren't known, as those of files.
     ghost coming: { Self → Option (List ℕ) };
 
     /// How many calls have failed, modulo 2^64.
     ghost faults: { Self → ℕ };
 
-    /// Fills the front of `into` with the next bytes, and returns how many they are. If `into` has room, `Ok(0)` comes
-    /// only at the end. A call that fails takes no bytes, and may be repeated.
+    /// Fills the front of `into` with the next bytes, and returns their count. If `into` isn't empty, 0 means the end.
+    /// A call that fails takes no bytes, and may be repeated.
     fn pull(&mut self, into: &mut [u8]) -> Result<usize, DeviceFault>
         ensures room { IfOk result (λ k. k ≤ length into.old) }
         ensures given { IfOk result (λ k. coming self.old ≡ before_piece (take k into.new) (coming self.new)) }
@@ -49,8 +49,8 @@ pub trait Sink {
     /// The bytes accepted so far, and how many calls have failed.
     ghost seen: { Self → Written };
 
-    /// Accepts some of the first bytes, and returns how many. A call that fails accepts none. `Ok(0)` for a piece that
-    /// isn't empty counts as a fault too: a caller that tries again would never end.
+    /// Accepts some of the first bytes, and returns how many; a call that fails, none. `Ok(0)` for a piece that isn't
+    /// empty counts as a fault too: a caller that tries again might never end.
     fn put(&mut self, bytes: &[u8]) -> Result<usize, DeviceFault>
         ensures room { IfOk result (λ k. k ≤ length bytes.now) }
         ensures taken { IfOk result (λ k. (seen self.new).accepted ≡ after_piece (seen self.old).accepted (take k bytes.now)) }
@@ -58,8 +58,7 @@ pub trait Sink {
         ensures fault { CountsPut result bytes.now (seen self.old).faults (seen self.new).faults };
 }
 
-/// Puts all of the bytes, in as many calls as it takes. After an error the sink has accepted the first of them, or
-/// none.
+/// Writes all bytes, in as many calls as it takes. After an error the sink has accepted the first of them, or none.
 pub fn put_all<S: Sink>(sink: &mut S, bytes: &[u8]) -> Result<(), DeviceFault>
     ensures { Puts result (S.seen sink.old) bytes.now (S.seen sink.new) }
 {

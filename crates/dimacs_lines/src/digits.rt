@@ -8,9 +8,8 @@ ghost use Rattle.std.specs.List.{All, prefix_len};
 ghost use Rattle.dimacs_lines.specs.Number.{place_sum};
 ghost use Rattle.dimacs_lines.specs.inside.Plain.{has_sixteen};
 
-/// Reads up to eight digits at `at`: their count and their value. Returns none if no digit stands there, or if fewer
-/// than eight digits are followed by another byte that has the bit of 16 set. Blanks, signs and line ends don't have
-/// it.
+/// Reads up to eight digits at `at`: their count and value. None if there is no digit, or if after fewer than eight
+/// comes another byte with the bit of 16 set. Blanks, signs and line ends don't have it.
 #[inline(always)]
 pub fn digits_at(line: &[u8], at: usize) -> Option<(usize, u32)>
     requires { at ≤ length line.now }
@@ -51,7 +50,7 @@ fn word_at(line: &[u8], at: usize) -> u64
     if line.len() - at >= 8 {
         load(&line[at..])
     } else if line.len() >= 8 {
-        // Together the two shifts may move all 64 bits out.
+        // Two shifts, since together they may be by 64 bits.
         let back = line.len() - 8;
         let half = 4 * (at - back) as u32;
         (load(&line[back..]) >> half) >> half
@@ -72,7 +71,7 @@ fn load(bytes: &[u8]) -> u64
     }
 }
 
-/// Fewer than eight bytes, the first one lowest, with zeros after them.
+/// As `load`, of fewer than eight bytes, with zeros after them.
 #[inline(never)]
 fn short_word(bytes: &[u8]) -> u64
     requires { length bytes.now < 8 }
@@ -83,8 +82,8 @@ fn short_word(bytes: &[u8]) -> u64
     u64::from_le_bytes(padded)
 }
 
-/// Counts the lowest bytes of the word that have the bit of 16 set. Reading waits until the end of a number is known,
-/// so this one bit finds it; `are_digits` then tests that all of these bytes were digits.
+/// Counts the lowest bytes with the bit of 16 set, as digits have: a fast way to find the end of a number. `are_digits`
+/// then tests them.
 #[inline(always)]
 fn count_to_end(word: u64) -> u32
     ensures count { result ≡ prefix_len has_sixteen (to_le_bytes w64 word) }
@@ -94,8 +93,8 @@ fn count_to_end(word: u64) -> u32
     ends.trailing_zeros() / 8
 }
 
-/// The values of the `count` lowest bytes, moved to the top of the word, with zeros below. A byte that is no digit
-/// gives ten or more.
+/// The values of the `count` lowest bytes, at the top of the word, with zeros below. A byte that is no digit gives ten
+/// or more.
 #[inline(always)]
 fn values_on_top(word: u64, count: u32) -> u64
     requires positive { 0 < count }
@@ -115,7 +114,7 @@ fn are_digits(word: u64) -> bool
     (word + 0x0606060606060606) & 0xf0f0f0f0f0f0f0f0 == 0
 }
 
-/// The number with these eight digit values, its first digit in the lowest byte.
+/// The number with these eight digit values, the first one lowest.
 #[inline(always)]
 fn eight_digits(word: u64) -> u32
     requires { AllBelowBase 10 (to_le_bytes w64 word) }

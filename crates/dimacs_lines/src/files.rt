@@ -1,5 +1,5 @@
 //! Files and the standard output. No contract knows their contents: `coming` and `accepted` are `None`. The clauses
-//! `bytes` of `pull` and `put` describe readers and writers whose bytes are known, as those in memory.
+//! `bytes` are for readers and writers whose bytes are known.
 
 ghost use Rattle.std.specs.Prelude.{◌≡◌, ◌≢◌, ◌≤◌, None, Some, length, IfOk};
 ghost use Rattle.std.specs.Io.KnownBytes.{ReadConsumes, WriteAppends};
@@ -13,18 +13,17 @@ use std::marker::Model;
 /// Input from an opened file, or from any reader.
 pub type FileSource<R> = FileDevice<R>;
 
-/// Output to a created file, or to any writer. It isn't buffered: each put writes.
+/// Output to a created file, or to any writer, without a buffer.
 pub type FileSink<W> = FileDevice<W>;
 
 /// Output to the standard output: `FileSink::new(io::writer(rt))`.
 pub type StdoutSink<'a, P> = FileSink<Printer<'a, P>>;
 
-/// Input or output by a file, a reader or a writer, which counts errors and keeps the last one.
+/// A file, reader or writer as a source or sink. It counts errors and keeps the last one.
 #[derive(Drop)]
 pub struct FileDevice<F> {
     file: F,
     faults: u64,
-    /// The error of the last call that failed.
     reason: Option<io::Error>,
 }
 
@@ -37,7 +36,7 @@ impl<F> Model for FileDevice<F> {
 }
 
 impl<F> FileDevice<F> {
-    /// Wraps a file that is open already. No error is counted yet.
+    /// Wraps an open file.
     pub fn new(file: F) -> FileDevice<F>
         ensures { result ≡ record { file = file; faults = 0; reason = None } }
     {
@@ -48,7 +47,7 @@ impl<F> FileDevice<F> {
         }
     }
 
-    /// The system's error of the last call that failed; none if none failed.
+    /// The system's error of the last call that failed, if any failed.
     pub fn reason(&self) -> Option<io::Error>
         ensures { result ≡ self.now.reason }
     {
@@ -62,7 +61,7 @@ impl<F> FileDevice<F> {
         self.faults
     }
 
-    /// Keeps the error of a call, and counts it.
+    /// Counts and keeps an error.
     fn fail(&mut self, error: io::Error) -> DeviceFault
         ensures { self.new ≡ record { file = self.old.file; faults = one_more self.old.faults; reason = Some error } }
     {
@@ -90,7 +89,7 @@ impl<R: Read> Source for FileDevice<R> {
     }
 }
 
-/// Reads once. If a signal interrupts the read, reads again.
+/// Reads once, and again after an interrupt by a signal.
 fn read_some<R: Read>(reader: &mut R, into: &mut [u8]) -> io::Result<usize>
     ensures room { IfOk result (λ count. count ≤ length into.old) }
     ensures bytes { ReadConsumes (R.remaining reader.old) (R.remaining reader.new) result into.new }
@@ -121,7 +120,7 @@ impl<W: Write> Sink for FileDevice<W> {
     }
 }
 
-/// Writes once. If a signal interrupts the write, writes again. It is an error to write nothing of some bytes.
+/// Writes once, and again after an interrupt by a signal. To write nothing of some bytes is an error.
 fn write_some<W: Write>(writer: &mut W, bytes: &[u8]) -> io::Result<usize>
     ensures room { IfOk result (λ count. count ≤ length bytes.now) }
     ensures progress { IfOk result (λ count. count ≡ 0 → length bytes.now ≡ 0) }

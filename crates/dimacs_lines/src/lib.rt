@@ -1,9 +1,7 @@
-//! Input and output: sources and sinks that may fail, the lines of a text, the fields of a line, the numbers in fields,
-//! and buffered output.
+//! Input and output: sources and sinks that may fail, lines, their fields, the numbers in fields, and buffered output.
 //!
-//! All other crates of `dimacs` read and write through this one. It promises: the lines of a text come in order, with
-//! their numbers, however the source cuts the text into pieces; each field and each number is the one that the bytes
-//! spell.
+//! All other crates of `dimacs` read and write texts through this one. Lines come in order, with their numbers, however
+//! the source cuts the text into pieces.
 #![tactic(auto)]
 
 mod decimals;

@@ -1,4 +1,4 @@
-//! The numbers that fields spell: an optional sign, then any number of digits.
+//! Numbers in fields: an optional sign, then one or more digits.
 
 ghost use Rattle.std.specs.Prelude.{◌≡◌, ◌≤◌, ◌^◌, ◌-◌, ◌↔◌, ℤ, pos, neg_ℤ, ◌≤ℤ◌, min, length, IsTrue, ◌<◌};
 ghost use Rattle.std.specs.List.{All};
@@ -20,7 +20,7 @@ pub const WIDE: i128 = 1_000_000_000_000_000_000_000_000_000_000;
 /// One more than `WIDE`.
 const PAST_WIDE: u128 = 1_000_000_000_000_000_000_000_000_000_001;
 
-/// Reads a 64-bit number: from -2^63 to 2^63 - 1, with any number of digits.
+/// Reads a 64-bit number, from -2^63 to 2^63 - 1.
 pub fn number(text: &[u8]) -> Result<i64, NumberFault>
     ensures { ReadsNumber (neg_ℤ (pos (2 ^ 63))) (pos (2 ^ 63 - 1)) text.now result }
 {
@@ -30,15 +30,13 @@ pub fn number(text: &[u8]) -> Result<i64, NumberFault>
     }
 }
 
-/// Reads a 128-bit number: from -10^30 to 10^30, with any number of digits. Values, costs, potentials and distances are
-/// such numbers.
+/// Reads a 128-bit number, from -10^30 to 10^30, as values, costs, potentials and distances are.
 pub fn wide(text: &[u8]) -> Result<i128, NumberFault>
     ensures { ReadsNumber (neg_ℤ (pos (10 ^ 30))) (pos (10 ^ 30)) text.now result }
 {
     number_in_range(text, -WIDE, WIDE)
 }
 
-/// Reads a number from `low` to `high`.
 fn number_in_range(text: &[u8], low: i128, high: i128) -> Result<i128, NumberFault>
     requires low { neg_ℤ (pos (10 ^ 30)) ≤ℤ low }
     requires high { high ≤ℤ pos (10 ^ 30) }
@@ -99,7 +97,7 @@ fn short_size(digits: &[u8]) -> u64
     total
 }
 
-/// The value of any number of digits, or `PAST_WIDE` if it is greater.
+/// As `size`, for any number of digits.
 fn long_size(digits: &[u8]) -> u128
     requires { All IsAsciiDigit digits.now }
     ensures { result ≡ min (place_sum digits.now) 1000000000000000000000000000001 }

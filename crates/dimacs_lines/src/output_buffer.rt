@@ -22,10 +22,9 @@ const LONGEST: usize = 20;
 /// The most bytes of a line with a letter and up to five numbers.
 const LONGEST_LINE: usize = 107;
 
-/// A buffer in front of a sink: what was written and not yet put.
+/// A buffer in front of a sink. Each call takes the sink; pass the same one each time.
 ///
-/// After an I/O error nothing more is put, and `finish` reports the error. Each call takes the sink; pass the same one
-/// each time.
+/// After an I/O error nothing more is written, and `finish` reports the error.
 pub struct OutputBuffer {
     bytes: [u8; 16_384],
     length: usize,
@@ -87,7 +86,7 @@ impl OutputBuffer {
         self.append_number(n);
     }
 
-    /// Appends a line: a letter, then up to five numbers with a blank before each. It tests only once for room.
+    /// Appends a line: a letter, then up to five numbers with a blank before each. It tests once for room.
     pub fn line<S: Sink>(&mut self, sink: &mut S, letter: u8, numbers: &[i64])
         requires at_most_five { length numbers.now ≤ 5 }
         ensures { Appends (numbers_line letter numbers.now) (S.seen sink.old) self.old (S.seen sink.new) self.new }
@@ -96,8 +95,8 @@ impl OutputBuffer {
         self.append_line(letter, numbers);
     }
 
-    /// Appends a line of a letter and three numbers, as most kinds of text have for arcs. Without a loop the processor
-    /// predicts the branches of each number separately.
+    /// As `line`, of three numbers, as arcs of most kinds have. Without a loop the processor predicts the branches of
+    /// each number separately.
     pub fn line_of_three<S: Sink>(
         &mut self,
         sink: &mut S,
@@ -120,7 +119,7 @@ impl OutputBuffer {
         self.write(sink, digits.format(n).as_bytes());
     }
 
-    /// Puts what is left in the buffer. Reports whether any put failed since the buffer was made.
+    /// Writes the rest. Fails if any write since `new` failed.
     pub fn finish<S: Sink>(mut self, sink: &mut S) -> Result<(), DeviceFault>
         ensures { (start : Written) (text : List ℕ) → IsWritten start text (S.seen sink.old) self
             → Puts result start text (S.seen sink.new) }
@@ -132,7 +131,7 @@ impl OutputBuffer {
         Ok(())
     }
 
-    /// Appends the bytes if the buffer has no room for them: puts what it holds first.
+    /// Appends bytes for which there is no room: empties the buffer first.
     #[inline(never)]
     fn flush_and_append<S: Sink>(&mut self, sink: &mut S, bytes: &[u8])
         ensures { Appends bytes.now (S.seen sink.old) self.old (S.seen sink.new) self.new }
@@ -145,7 +144,7 @@ impl OutputBuffer {
         }
     }
 
-    /// Empties the buffer if it has no room for so many bytes more.
+    /// Empties the buffer if so many bytes more don't fit.
     #[inline(always)]
     fn make_room<S: Sink>(&mut self, sink: &mut S, bytes: usize)
         requires { bytes ≤ 16384 }
@@ -158,7 +157,7 @@ impl OutputBuffer {
         }
     }
 
-    /// Puts what the buffer holds, and empties it.
+    /// Writes what the buffer holds, and empties it.
     fn flush<S: Sink>(&mut self, sink: &mut S)
         ensures written { (start : Written) (text : List ℕ)
             → IsWritten start text (S.seen sink.old) self.old → IsWritten start text (S.seen sink.new) self.new }
@@ -231,8 +230,8 @@ impl OutputBuffer {
         self.append_digits(n.unsigned_abs());
     }
 
-    /// Writes up to eight digits in place, two at a time, and copies longer numbers. It needs room for the longest
-    /// number: a byte may be written past the digits.
+    /// Writes up to eight digits in place, two at a time, and copies longer numbers. It may write a byte past the
+    /// digits.
     #[inline(always)]
     fn append_digits(&mut self, n: u64)
         requires short { length (decimal n) ≤ 19 }
@@ -250,7 +249,7 @@ impl OutputBuffer {
         }
     }
 
-    /// Apart from `append_digits`, since long numbers are rare and the code of lines stays short without them.
+    /// Not inlined, since long numbers are rare and the code of lines stays short.
     #[inline(never)]
     fn append_long(&mut self, n: u64)
         requires { length self.old.kept + length (decimal n) ≤ 16384 }
@@ -289,8 +288,7 @@ impl OutputBuffer {
         self.append(&two_digits(n % 100));
     }
 
-    /// Appends a number of one or two digits without a branch: it writes two bytes, and keeps as many as the number has
-    /// digits.
+    /// Appends one or two digits without a branch: it writes two bytes, and counts those of the number.
     #[inline(always)]
     fn append_first(&mut self, n: u64)
         requires short { n < 100 }
@@ -305,7 +303,7 @@ impl OutputBuffer {
     }
 }
 
-/// Puts the bytes, unless a put failed before. Returns whether one has failed by now.
+/// Writes the bytes, unless a write failed before. Returns whether one has failed by now.
 fn put_unless_failed<S: Sink>(failed: bool, sink: &mut S, bytes: &[u8]) -> bool
     ensures { IsPut failed (S.seen sink.old) bytes.now result (S.seen sink.new) }
 {

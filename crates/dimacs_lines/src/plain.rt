@@ -1,5 +1,5 @@
-//! Fast reading of the numbers of a line in their most common form, straight from the buffer of a reader: right after
-//! each stands one given byte, a blank or the line's end. Everything else is left to `Scan`.
+//! Fast reading of numbers in their most common form, from the buffer of a reader: right after each stands a given
+//! byte, a blank or the line's end. `Scan` reads all other lines.
 
 ghost use Rattle.std.specs.Prelude.{◌≡◌, ◌≤◌, ◌<◌, ◌+◌, ◌∷◌, pos, length, take, drop, IfSome, IfNone};
 ghost use Rattle.dimacs_lines.specs.Plain.{StandsAt};
@@ -9,7 +9,7 @@ use crate::digits::digits_value;
 use std::marker::Model;
 use std::simd::prelude::*;
 
-/// How many bytes there must be from the start of the 32 on: a number that starts in them is read as eight bytes.
+/// The 32 bytes and eight more: a number that starts in the 32 is read as eight bytes.
 const ROOM: usize = 40;
 
 /// The numbers of a line, from left to right. The ends of all numbers in 32 bytes are found at once.
@@ -37,7 +37,7 @@ impl<'a> Model for PlainNumbers<'a> {
 }
 
 impl<'a> PlainNumbers<'a> {
-    /// The numbers after a letter and a blank. Returns none if the bytes begin otherwise, or are few.
+    /// The numbers after a letter and a blank; none if the bytes begin otherwise, or are fewer than 42.
     #[inline(always)]
     pub fn after(letter: u8, bytes: &'a [u8]) -> Option<PlainNumbers<'a>>
         ensures begins { IfSome result (λ numbers. bytes.now ≡ letter ∷ 32 ∷ drop 2 bytes.now) }
@@ -49,7 +49,6 @@ impl<'a> PlainNumbers<'a> {
         Some(PlainNumbers::from(bytes, 2))
     }
 
-    /// The numbers from `start` on.
     #[inline(always)]
     fn from(bytes: &'a [u8], start: usize) -> PlainNumbers<'a>
         requires { start + 40 ≤ length bytes.now }
@@ -72,8 +71,7 @@ impl<'a> PlainNumbers<'a> {
         self.start + self.at
     }
 
-    /// Takes an ID with `stop` right after it: one to eight digits with a value above 0. Returns none if the bytes have
-    /// another form.
+    /// Takes an ID of one to eight digits with `stop` right after it. None if it is 0, or the bytes have another form.
     #[inline(always)]
     pub fn id(&mut self, stop: u8) -> Option<u32>
         ensures stands { IfSome result (λ id. StandsAt self.old.bytes self.old.at stop (pos id) self.new.at) }
@@ -87,8 +85,8 @@ impl<'a> PlainNumbers<'a> {
         Some(id)
     }
 
-    /// Takes a number with `stop` right after it: one to sixteen digits, perhaps after a minus. Returns none if the bytes
-    /// have another form. One to eight digits are the fast case.
+    /// Takes a number of one to sixteen digits, perhaps after a minus, with `stop` right after it. None if the bytes
+    /// have another form. Up to eight digits without a minus are the fast case.
     #[inline(always)]
     pub fn whole(&mut self, stop: u8) -> Option<i64>
         ensures stands { IfSome result (λ n. StandsAt self.old.bytes self.old.at stop n self.new.at) }
@@ -103,7 +101,7 @@ impl<'a> PlainNumbers<'a> {
         Some(if minus { -size } else { size })
     }
 
-    /// Looks for the ends of numbers from `start` on.
+    /// Finds the ends of numbers from `start` on.
     #[inline(always)]
     fn restart(&mut self, start: usize) -> Option<()>
         requires { start ≤ length self.old.bytes }
@@ -117,7 +115,7 @@ impl<'a> PlainNumbers<'a> {
         Some(())
     }
 
-    /// Takes one to eight digits with `stop` right after them. Takes nothing if the bytes have another form.
+    /// Takes one to eight digits with `stop` right after them, or nothing.
     #[inline(always)]
     fn digits(&mut self, stop: u8) -> Option<u32>
         ensures digits { IfSome result (λ n. DigitsAt self.old.bytes self.old.at stop n self.new.at) }
@@ -147,8 +145,7 @@ impl<'a> PlainNumbers<'a> {
         Some(u64::from(high) * 100_000_000 + u64::from(low))
     }
 
-    /// Takes a run of `least` to `least + 7` digits with `stop` right after it, and returns its length. Takes nothing if
-    /// the bytes have another form.
+    /// Takes a run of `least` to `least + 7` digits with `stop` right after it, or nothing. Returns its length.
     #[inline(always)]
     fn digit_run(&mut self, least: usize, stop: u8) -> Option<usize>
         requires positive { 0 < least }

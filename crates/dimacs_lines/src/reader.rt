@@ -24,7 +24,7 @@ pub const MAX_LINES: u64 = 1_000_000_000_000;
 /// The most bytes that a reader of lines holds: a line of full length and one piece.
 pub const MAX_HELD: usize = 1_114_112;
 
-/// The most bytes that one call pulls.
+/// The most bytes that one call reads.
 const PIECE: usize = 65_536;
 
 /// Why there is no next line. The number is the line's, counted from 1.
@@ -34,7 +34,7 @@ pub enum LinesError {
     TooMany(u64),
     /// The line has more than `MAX_LINE` bytes.
     TooLong(u64),
-    /// I/O error: a pull failed.
+    /// An I/O error.
     Device,
     /// Out of memory: the buffer couldn't grow.
     Memory,
@@ -51,7 +51,7 @@ pub enum Progress {
     Failed(LinesError),
 }
 
-/// Gives the lines of a text in order. It holds a part of the text in one buffer, and gives each line as a part of it.
+/// A reader of lines. It holds a part of the text in one buffer, and gives each line as a slice of it.
 #[derive(Drop)]
 pub struct Lines {
     buffer: Vec<u8>,
@@ -77,7 +77,7 @@ impl Model for Lines {
 }
 
 impl Lines {
-    /// A reader at the start of a text. It allocates two pieces; the buffer grows only for longer lines.
+    /// A reader at the start of a text. It allocates 128 KiB, and more only for longer lines.
     pub fn new(alloc: Global) -> Result<Lines, Memory>
         ensures { IfOk result (λ lines. lines ≡ record { held = []; given = 0; line = []; progress = Open }) }
     {
@@ -92,15 +92,15 @@ impl Lines {
         })
     }
 
-    /// The line that was given last, without its end. It is empty before the first line, after `skip`, after the end
-    /// and after an error.
+    /// The line that was given last, without its end. Empty before the first line, and after `skip`, the end or an
+    /// error.
     pub fn line(&self) -> &[u8]
         ensures { result.now ≡ self.now.line }
     {
         &self.buffer[self.line_start..self.line_end]
     }
 
-    /// The bytes that were pulled and aren't given yet.
+    /// The bytes that were read and aren't given yet.
     #[inline(always)]
     pub fn ahead(&self) -> &[u8]
         ensures held { result.now ≡ self.now.held }
@@ -117,7 +117,7 @@ impl Lines {
         self.given
     }
 
-    /// Skips the first `bytes` bytes of `ahead`, which are `lines` whole lines with their ends. They count as given.
+    /// Skips the first `bytes` of `ahead`, which are `lines` whole lines with their ends. They count as given.
     #[inline(always)]
     pub fn skip(&mut self, bytes: usize, lines: u64)
         requires within { bytes ≤ length self.old.held }
@@ -131,7 +131,7 @@ impl Lines {
         self.given += lines;
     }
 
-    /// How many bytes were pulled and aren't given yet.
+    /// The length of `ahead`.
     pub fn held(&self) -> usize
         ensures value { result ≡ length self.now.held }
         ensures bounded { result ≤ most_held }
@@ -139,14 +139,14 @@ impl Lines {
         self.end - self.next
     }
 
-    /// Goes to the next line. Returns its number, counted from 1, and `line` then has its bytes; returns none after the
-    /// last line. After an error, calls return the same error for ever.
+    /// Goes to the next line, whose bytes `line` then has. Returns its number, counted from 1; none after the last
+    /// line. After an error, each call returns the same error.
     pub fn next_line<S: Source>(&mut self, source: &mut S) -> Result<Option<u64>, LinesError>
         ensures answer { self.old.progress ≡ Open → NextLine self.old self.new
             (text_left self.old (S.coming source.old)) (text_left self.new (S.coming source.new)) result }
         ensures device { self.old.progress ≡ Open → CountsDevice result (S.faults source.old) (S.faults source.new) }
 
-        // After the end there is no line for ever; after an error, the same error. Nothing is pulled.
+        // After the end or an error each call returns the same, and reads nothing.
         ensures ended { self.old.progress ≡ Ended → (result ≡ Ok None) × (self.new ≡ self.old) }
         ensures failed { (error : LinesError) → self.old.progress ≡ Failed error → (result ≡ Err error) × (self.new ≡ self.old) }
         ensures idle { self.old.progress ≢ Open → (S.coming source.new ≡ S.coming source.old) × (S.faults source.new ≡ S.faults source.old) }
@@ -162,7 +162,7 @@ impl Lines {
         }
     }
 
-    /// Pulls until the first line is whole, too long or the last. Returns its length.
+    /// Reads until the first line is whole, too long or the last. Returns its length.
     fn find_end<S: Source>(&mut self, source: &mut S) -> Result<usize, LinesError>
         ensures length { IfOk result (λ length. length ≡ position_or_len is_end self.new.held) }
         ensures left { OnOk result (text_left self.old (S.coming source.old) ≡ text_left self.new (S.coming source.new)) }
@@ -194,7 +194,7 @@ impl Lines {
         line_length(&self.buffer[self.end - count..self.end])
     }
 
-    /// Pulls a piece and appends it to what is held. Returns its size; 0 means the end of the text.
+    /// Reads a piece and appends it to the held bytes. Returns its size; 0 means the end.
     fn pull_more<S: Source>(&mut self, source: &mut S) -> Result<usize, LinesError>
         requires { length self.old.held ≤ longest_line }
         ensures more { IfOk result (λ count. PullsMore self.old self.new (S.coming source.old) (S.coming source.new) count) }
@@ -256,7 +256,7 @@ impl Lines {
         error
     }
 
-    /// Ends the reading: there is no current line any more.
+    /// Ends the reading, without a current line.
     fn close(&mut self, progress: Progress)
         ensures { self.new ≡ record self.old { line = []; progress = progress } }
     {
@@ -266,7 +266,6 @@ impl Lines {
     }
 }
 
-/// The length of the first line: up to its end, or to the end of the bytes.
 fn line_length(bytes: &[u8]) -> usize
     ensures length { result ≡ position_or_len is_end bytes.now }
     ensures within { result ≤ length bytes.now }
@@ -274,7 +273,6 @@ fn line_length(bytes: &[u8]) -> usize
     memchr(b'\n', bytes).unwrap_or(bytes.len())
 }
 
-/// Moves a part of the buffer to its front.
 fn move_to_front(buffer: &mut Vec<u8>, start: usize, end: usize)
     requires ordered { start ≤ end }
     requires within { end ≤ length buffer.old.items }
@@ -286,7 +284,7 @@ fn move_to_front(buffer: &mut Vec<u8>, start: usize, end: usize)
     }
 }
 
-/// Ensures that there is room after what is held. A full buffer grows to twice its size and a piece, up to `MAX_HELD`.
+/// Makes room after the held bytes. A full buffer grows to twice its size and a piece, up to `MAX_HELD`.
 fn grow(buffer: &mut Vec<u8>, held: usize) -> Result<(), Memory>
     requires short { held ≤ longest_line }
     requires held { held ≤ length buffer.old.items }
@@ -303,7 +301,7 @@ fn grow(buffer: &mut Vec<u8>, held: usize) -> Result<(), Memory>
     Ok(())
 }
 
-/// Pulls a piece to the place right after what is held. Returns its size.
+/// Reads a piece to right after the held bytes. Returns its size.
 fn pull_after<S: Source>(
     buffer: &mut [u8],
     held: usize,

@@ -1,4 +1,4 @@
-//! The fields of a line from left to right, and their numbers if finding the field's end shows them already.
+//! The fields of a line, from left to right.
 
 ghost use Rattle.std.specs.Prelude.{◌≡◌, ◌≤◌, ◌<◌, ◌+◌, ◌-◌, ◌^◌, [], ◌∷◌, ℤ, pos, neg_ℤ, Some, not, true, length, take, drop, slice_index, IsTrue, ◌↔◌, IfNone, IfSome};
 ghost use Rattle.std.specs.List.{position_or_len, All};
@@ -104,7 +104,6 @@ impl<'a> Scan<'a> {
     }
 }
 
-/// The field that starts at `start`.
 #[inline(always)]
 fn token_at(line: &[u8], start: usize) -> Token<'_>
     requires { start < length line.now }
@@ -125,14 +124,14 @@ fn token_at(line: &[u8], start: usize) -> Token<'_>
     }
 }
 
-/// A number of a few digits, and its length in bytes.
+/// A number, and its length in bytes.
 #[derive(Clone, Copy)]
 struct Plain {
     length: usize,
     number: i64,
 }
 
-/// The field that starts at `start`, if it is one to eight digits, perhaps after a minus.
+/// The field at `start`, if it is one to eight digits, perhaps after a minus.
 #[inline(always)]
 fn plain_number(line: &[u8], start: usize) -> Option<Plain>
     requires { start < length line.now }
@@ -155,7 +154,7 @@ fn plain_number(line: &[u8], start: usize) -> Option<Plain>
     }
 }
 
-/// One to eight digits at `at`, if a blank or the end of the line follows them: their count and their value.
+/// The count and value of one to eight digits at `at`, if a blank or the line's end follows.
 #[inline(always)]
 fn plain_digits(line: &[u8], at: usize) -> Option<(usize, u32)>
     requires { at ≤ length line.now }
@@ -173,7 +172,7 @@ fn plain_digits(line: &[u8], at: usize) -> Option<(usize, u32)>
     }
 }
 
-/// Whether a field ends before `at`: a blank stands there, or the line ends.
+/// Whether a blank or the line's end is at `at`.
 #[inline(always)]
 fn ends_at(line: &[u8], at: usize) -> bool
     requires { at ≤ length line.now }
@@ -189,7 +188,6 @@ fn is_blank(b: u8) -> bool
     b == b' ' || b == b'\t' || b == b'\r'
 }
 
-/// How many blanks the bytes begin with.
 #[inline(always)]
 fn leading_blanks(bytes: &[u8]) -> usize
     ensures length { result ≡ position_or_len (λ b. not (is_blank b)) bytes.now }
@@ -203,7 +201,6 @@ fn leading_blanks(bytes: &[u8]) -> usize
     bytes.len()
 }
 
-/// How many bytes stand before the first blank.
 #[inline(always)]
 fn field_length(bytes: &[u8]) -> usize
     ensures length { result ≡ position_or_len is_blank bytes.now }

@@ -1,4 +1,4 @@
-//! Sinks in memory: one that keeps all bytes, and one for tests that accepts pieces and fails on demand.
+//! Sinks in memory, one of them for tests.
 
 ghost use Rattle.std.specs.Prelude.{◌≡◌, ◌≤◌, [], List, ℕ, Some, IfOk, OnErr, IsErr, IsTrue, take, length};
 ghost use Rattle.dimacs_lines.specs.Devices.{InMemory, Flaky, after_piece, CountsPut, cut_by, next_call, fails_next, sizes_left};
@@ -22,7 +22,7 @@ impl Model for MemorySink {
 }
 
 impl MemorySink {
-    /// An empty sink. It allocates with the first put.
+    /// An empty sink. The first put allocates.
     pub fn new(alloc: Global) -> MemorySink
         ensures { result ≡ record { bytes = []; faults = 0 } }
     {
@@ -62,8 +62,8 @@ impl Sink for MemorySink {
     }
 }
 
-/// A `MemorySink` for tests. Each put accepts at most the next size of `sizes` (a 0 counts as 1); after the list, the
-/// whole piece. The puts listed in `fails`, counted from 1, fail: they use up no size, and the sink goes on after them.
+/// A `MemorySink` for tests. Each put accepts at most the next of `sizes` (a 0 counts as 1); after the list, all bytes.
+/// The puts listed in `fails`, counted from 1, fail, and use up no size.
 #[derive(Drop)]
 pub struct FlakySink<'a> {
     memory: MemorySink,
@@ -79,7 +79,7 @@ impl<'a> Model for FlakySink<'a> {
 }
 
 impl<'a> FlakySink<'a> {
-    /// An empty sink; `sizes` and `fails` as the type describes.
+    /// An empty sink.
     pub fn new(alloc: Global, sizes: &'a [usize], fails: &'a [u64]) -> FlakySink<'a>
         ensures { result ≡ record { bytes = []; faults = 0; sizes = sizes.now; fails = fails.now; calls = 0 } }
     {

@@ -1,4 +1,4 @@
-//! Sources in memory: one that gives all that fits, and two for tests that cut the text and fail on demand.
+//! Sources in memory, two of them for tests.
 
 ghost use Rattle.std.specs.Prelude.{◌≡◌, ◌↔◌, ◌≤◌, ◌<◌, [], List, ℕ, Some, Ok, IfOk, OnErr, IsErr, IsTrue, drop, take, length, min};
 ghost use Rattle.dimacs_lines.specs.Devices.{InPieces, Flaky, before_piece, CountsFault, cut_by, next_call, fails_next, sizes_left};
@@ -6,7 +6,7 @@ ghost use Rattle.dimacs_lines.specs.Devices.{InPieces, Flaky, before_piece, Coun
 use crate::device::{DeviceFault, Source};
 use std::marker::Model;
 
-/// Gives bytes in memory, as many as fit.
+/// Bytes in memory. Each pull gives as many as fit.
 #[derive(Drop)]
 pub struct MemorySource<'a> {
     rest: &'a [u8],
@@ -50,8 +50,8 @@ impl<'a> Source for MemorySource<'a> {
     }
 }
 
-/// Gives bytes in memory in pieces: each pull gives at most the next size of `sizes` (a 0 counts as 1); after the list,
-/// as many as fit.
+/// Bytes in memory, in pieces. Each pull gives at most the next of `sizes` (a 0 counts as 1); after the list, as many
+/// as fit.
 #[derive(Drop)]
 pub struct CutSource<'a> {
     text: MemorySource<'a>,
@@ -65,7 +65,7 @@ impl<'a> Model for CutSource<'a> {
 }
 
 impl<'a> CutSource<'a> {
-    /// A source of these bytes, cut by these sizes. It never fails.
+    /// A source of these bytes. It never fails.
     pub fn new(bytes: &'a [u8], sizes: &'a [usize]) -> CutSource<'a>
         ensures { result ≡ record { bytes = bytes.now; sizes = sizes.now } }
     {
@@ -95,7 +95,7 @@ impl<'a> Source for CutSource<'a> {
     }
 }
 
-/// The size of the next piece of up to `most` bytes: at most the next listed size, which it uses up. A 0 counts as 1.
+/// The size of the next piece: up to `most`, and to the next of `sizes`, which it uses up. A 0 counts as 1.
 pub(crate) fn next_piece<'a>(sizes: &mut &'a [usize], most: usize) -> usize
     ensures cut { result ≡ cut_by sizes.old.now most }
     ensures used { sizes.new.now ≡ drop 1 sizes.old.now }
@@ -109,8 +109,7 @@ pub(crate) fn next_piece<'a>(sizes: &mut &'a [usize], most: usize) -> usize
     }
 }
 
-/// A `CutSource` whose pulls fail if they are listed, counted from 1. A pull that fails uses up no size, and the source
-/// goes on after it.
+/// A `CutSource` for tests. The pulls listed in `fails`, counted from 1, fail, and use up no size.
 #[derive(Drop)]
 pub struct FlakySource<'a> {
     text: CutSource<'a>,
@@ -126,7 +125,7 @@ impl<'a> Model for FlakySource<'a> {
 }
 
 impl<'a> FlakySource<'a> {
-    /// A source of these bytes; `sizes` and `fails` as the type describes.
+    /// A source of these bytes.
     pub fn new(bytes: &'a [u8], sizes: &'a [usize], fails: &'a [u64]) -> FlakySource<'a>
         ensures { result ≡ record { bytes = bytes.now; faults = 0; sizes = sizes.now; fails = fails.now; calls = 0 } }
     {

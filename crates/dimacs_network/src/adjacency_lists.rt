@@ -1,4 +1,4 @@
-//! Adjacency lists: the arcs of a network by one of their ends.
+//! The arcs of each tail or head, linked.
 
 ghost use Rattle.std.specs.Prelude.{◌≡◌, ◌<◌, length, slice_index, IfOk};
 ghost use Rattle.dimacs_nodes.specs.Tables.{value_of};
@@ -40,8 +40,8 @@ impl Side {
     }
 }
 
-/// Adjacency lists by one end. Each node leads to its last arc, and each arc to the one before it at the same node, by
-/// 1 + the index of the arc; 0 ends the list.
+/// Linked lists of arcs by one end. Each node leads to its last arc, each arc to the one before it at its node, by 1 +
+/// the index of the arc; 0 ends the list.
 #[derive(Drop)]
 pub struct AdjacencyLists {
     last: NodeTable<u32>,
@@ -49,8 +49,7 @@ pub struct AdjacencyLists {
 }
 
 impl AdjacencyLists {
-    /// Makes the lists in one pass over the arcs. They take 4 bytes for each arc, and 4 for each node that has one, by
-    /// pages of 64 nodes.
+    /// Makes the lists in one pass. They take 4 bytes an arc, and 256 for each page of 64 nodes with arcs.
     pub fn new<N: Network>(alloc: Global, network: &N, side: Side) -> Result<AdjacencyLists, Memory>
         ensures { IfOk result (AreAdjacencyLists side (N.list network.now)) }
     {

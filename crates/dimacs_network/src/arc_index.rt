@@ -12,15 +12,15 @@ use crate::tail_starts::TailStarts;
 use dimacs_lines::Memory;
 use std::alloc::Global;
 
-/// A forward star that is kept apart from its network: the arcs ordered by tail, then head.
+/// A forward star apart from its network: the arcs ordered by tail, then head.
 ///
-/// `room` allocates all of its memory: at most 16 bytes an arc, 12 for the order and 4 for the starts. The system
-/// assigns a page of it only when `fill` writes it; `fill` allocates nothing.
+/// `room` allocates all memory: at most 16 bytes an arc, 12 for the order and 4 for the starts. The system assigns a
+/// page only when `fill` writes it; `fill` allocates nothing.
 #[derive(Drop)]
 pub struct ArcIndex {
     /// All arcs by tail, then head, then index.
     pub(crate) outs: Vec<OutArc>,
-    /// Roughly where the arcs of each group of tails begin. No result depends on it, only the time.
+    /// A guess where the arcs of each group of tails begin. Only the time depends on it.
     pub(crate) starts: TailStarts,
 }
 
@@ -58,8 +58,8 @@ impl ArcIndex {
         }
     }
 
-    /// The first place whose arc doesn't come before all arcs with these ends. A guess is tested before it is used: a
-    /// wrong one costs only time.
+    /// The first place whose arc doesn't come before all arcs with these ends. A guess is tested: a wrong one costs
+    /// only time.
     #[inline(always)]
     fn first(&self, tail: u32, head: u32) -> usize
         ensures inside { result ≤ length self.now.outs.items }
@@ -105,8 +105,7 @@ impl ArcIndex {
     }
 }
 
-/// How many of these arcs come before all arcs with these ends. With so few arcs, to compare all is faster than a
-/// binary search.
+/// How many of these arcs come before all arcs with these ends. For few arcs this is faster than a binary search.
 #[inline(always)]
 fn count_before(outs: &[OutArc], tail: u32, head: u32) -> usize
     ensures { result ≤ length outs.now }

@@ -8,8 +8,8 @@ ghost use Rattle.dimacs_network.specs.KeptArcs.{capacity_arc, cost_arc, weight_a
 use crate::network::ArcView;
 use dimacs_nodes::ShortForm;
 
-/// An arc of a kind of instance. Its ends are stored apart from its numbers, since many passes over the arcs read only
-/// the ends. Numbers that are the same for all arcs of the kind aren't stored.
+/// An arc of a kind of instance. Its ends are stored apart, since many passes read only them. Numbers that are the same
+/// for all arcs of the kind aren't stored.
 pub trait KeptArc: Copy {
     /// The numbers in 32 bits each.
     type Short: ShortForm;
@@ -34,7 +34,7 @@ pub struct ArcEnds {
     pub head: u32,
 }
 
-/// An arc of a graph. It takes 12 bytes while all weights fit into 32 bits, otherwise 16.
+/// An arc of a graph: 12 bytes while all weights fit into 32 bits, otherwise 16.
 #[derive(Clone, Copy)]
 pub struct WeightArc {
     pub tail: u32,
@@ -78,7 +78,7 @@ impl KeptArc for WeightArc {
     }
 }
 
-/// An arc of a maximum flow. It takes 12 bytes while all capacities fit into 32 bits, otherwise 16.
+/// An arc of a maximum flow: 12 bytes while all capacities fit into 32 bits, otherwise 16.
 #[derive(Clone, Copy)]
 pub struct CapacityArc {
     pub tail: u32,
@@ -163,7 +163,7 @@ impl ShortForm for ShortBoundsAndCost {
     }
 }
 
-/// An arc of a minimum cost flow has all numbers. It takes 20 bytes while all of them fit into 32 bits, otherwise 32.
+/// An arc of a minimum cost flow: 20 bytes while all numbers fit into 32 bits, otherwise 32.
 impl KeptArc for ArcView {
     type Short = ShortBoundsAndCost;
 

@@ -45,7 +45,7 @@ impl<A: KeptArc> ForwardStar<A> {
         Ok(ForwardStar { arcs, index })
     }
 
-    /// Builds the index. If there is no memory for it, the arcs are dropped.
+    /// As `build`, but drops the arcs if memory runs out.
     pub fn of(alloc: Global, arcs: PlainArcs<A>) -> Result<ForwardStar<A>, Memory>
         ensures { IfOk result (λ star. star ≡ arcs) }
     {

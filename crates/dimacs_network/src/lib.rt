@@ -1,7 +1,7 @@
-//! Networks: their arcs, how arcs are stored, and how they are found by their ends.
+//! Networks: how arcs are stored, and found by their ends.
 //!
-//! A network is a list of arcs in the order of the text. Judges use it only through the trait `Network`, so an
-//! implementation may store its arcs as it likes.
+//! A network is a list of arcs in the order of the text. Judges use only the trait `Network`, whose implementations may
+//! store arcs as they like.
 #![tactic(auto)]
 
 mod adjacency_lists;

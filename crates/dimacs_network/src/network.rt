@@ -21,11 +21,11 @@ pub trait Network {
 
     ghost list: { Self → List ArcView };
 
-    /// How many nodes there are; they are 1 up to this number.
+    /// The number of nodes, and the greatest ID.
     fn nodes(&self) -> u32
         ensures { result ≡ node_count self.now };
 
-    /// How many arcs there are.
+    /// The number of arcs.
     fn arcs(&self) -> u32
         ensures { result ≡ length (list self.now) };
 
@@ -34,7 +34,7 @@ pub trait Network {
         requires { i < length (list self.now) }
         ensures { slice_get (list self.now) i ≡ Some result };
 
-    /// Whether `find` uses an index instead of a pass over all arcs. A hint for speed: no result depends on it.
+    /// Whether `find` uses an index instead of a pass over all arcs. No result depends on it.
     fn is_indexed(&self) -> bool {
         false
     }

@@ -1,4 +1,4 @@
-//! Making networks of the arcs of a text, for each kind of arc.
+//! Making networks of arcs, for each kind of arc.
 
 ghost use Rattle.std.specs.Prelude.{◌≡◌, IfOk};
 
@@ -9,7 +9,7 @@ use crate::plain_arcs::PlainArcs;
 use dimacs_lines::Memory;
 use std::alloc::Global;
 
-/// A network that can be made of the arcs of a maximum flow instance.
+/// Networks of the arcs of a maximum flow instance.
 pub trait OfCapacityArcs: Network {
     /// Makes the network of these arcs.
     fn of_arcs(alloc: Global, arcs: PlainArcs<CapacityArc>) -> Result<Self, Memory>
@@ -35,7 +35,7 @@ impl OfCapacityArcs for ForwardStar<CapacityArc> {
     }
 }
 
-/// A network that can be made of the arcs of a minimum cost flow instance.
+/// Networks of the arcs of a minimum cost flow instance.
 pub trait OfCostArcs: Network {
     /// Makes the network of these arcs.
     fn of_arcs(alloc: Global, arcs: PlainArcs<ArcView>) -> Result<Self, Memory>
@@ -55,7 +55,7 @@ impl OfCostArcs for ForwardStar<ArcView> {
     }
 }
 
-/// A network that can be made of the arcs of a graph.
+/// Networks of the arcs of a graph.
 pub trait OfWeightArcs: Network {
     /// Makes the network of these arcs.
     fn of_arcs(alloc: Global, arcs: PlainArcs<WeightArc>) -> Result<Self, Memory>

@@ -1,8 +1,7 @@
-//! Values by node, sets of nodes, and lists.
+//! Values by node, sets of nodes, and a list whose items are short while they fit.
 //!
-//! The lines of many texts name nodes by their IDs. Here the values of such nodes are kept in pages of 64 IDs. Memory
-//! is allocated only for pages that hold a value, and for a list of pages up to the greatest ID that was set: never for
-//! a count that a text merely declares. Beside them stands a list whose items are short while they fit.
+//! Values are kept in pages of 64 IDs. Memory is allocated only for pages in use, and for a directory up to the
+//! greatest of them: never for a count that a text merely declares.
 #![tactic(auto)]
 
 mod list_iter;

@@ -1,4 +1,4 @@
-//! Iterating over the items of a list.
+//! Iterating over lists.
 
 ghost use Rattle.std.specs.Prelude.{◌≡◌};
 ghost use Rattle.dimacs_nodes.specs.Lists.{items_left};

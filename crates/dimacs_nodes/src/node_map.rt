@@ -49,7 +49,7 @@ impl<T: Copy> NodeMap<T> {
         self.values.get(id)
     }
 
-    /// Sets the value of a node. Only the first value of a node may allocate; to replace one never fails.
+    /// Sets the value of a node. Only its first value may allocate; to replace one never fails.
     #[inline]
     pub fn set(&mut self, id: u32, value: T) -> Result<(), Memory>
         ensures set { OnOk result (self.new ≡ map.insert self.old id value) }

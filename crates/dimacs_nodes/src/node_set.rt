@@ -38,7 +38,7 @@ impl NodeSet {
         }
     }
 
-    /// Whether the set has this node. Allocates nothing.
+    /// Whether the set has this node.
     #[inline]
     pub fn contains(&self, id: u32) -> bool
         ensures { result ≡ set.contains self.now id }
@@ -46,7 +46,7 @@ impl NodeSet {
         self.nodes.get(id).is_some()
     }
 
-    /// Adds a node. If it is in the set already, nothing is allocated, and the call can't fail.
+    /// Adds a node. To repeat one allocates nothing, and can't fail.
     #[inline]
     pub fn insert(&mut self, id: u32) -> Result<(), Memory>
         ensures inserted { OnOk result (self.new ≡ set.insert self.old id) }

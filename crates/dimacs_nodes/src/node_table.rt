@@ -13,10 +13,10 @@ const PAGE: usize = 64;
 /// Stands in the directory for a page that isn't allocated.
 const NO_PAGE: u32 = u32::MAX;
 
-/// A table of values by node ID. All are the same blank value until they are set.
+/// Values by node ID, all the same blank value until they are set.
 ///
-/// One list has the slots of all pages, in the order in which the pages were allocated. The directory has 4 bytes for
-/// each page up to that of the greatest ID that was set. A slot holds a value and nothing else.
+/// One list has the slots of all pages, in the order of their allocation. The directory has 4 bytes for each page up to
+/// the last one in use.
 #[derive(Drop)]
 pub struct NodeTable<T> {
     blank: T,
@@ -25,7 +25,7 @@ pub struct NodeTable<T> {
     ghost numbered: { IsDirectory directory.items (length slots.items) },
 }
 
-/// A value with a slot, and the index of this slot in the table.
+/// A value, and the index of its slot.
 #[derive(Clone, Copy)]
 pub struct Slot<T> {
     pub value: T,
@@ -48,7 +48,7 @@ impl<T: Copy> NodeTable<T> {
         }
     }
 
-    /// The value of a node: the blank one until it is set. Allocates nothing.
+    /// The value of a node; blank until it is set.
     #[inline]
     pub fn get(&self, id: u32) -> T
         ensures value { result ≡ value_of self.now id }
@@ -59,7 +59,7 @@ impl<T: Copy> NodeTable<T> {
         }
     }
 
-    /// The value of a node whose page is allocated, and the index of its slot. The value may be blank.
+    /// The value of a node, which may be blank, and its slot; none if its page isn't allocated.
     #[inline]
     pub fn get_slot(&self, id: u32) -> Option<Slot<T>>
         ensures { MatchOption result ((value_of self.now id ≡ blank_of self.now) × (¬ HasSlot self.now id))
@@ -90,7 +90,7 @@ impl<T: Copy> NodeTable<T> {
         Ok(())
     }
 
-    /// The index of a node's slot; allocates its page if it has none. The value stays as it is.
+    /// The index of a node's slot. Allocates its page if it has none.
     #[inline]
     pub fn reserve(&mut self, id: u32) -> Result<usize, Memory>
         ensures same { SameValues self.old self.new }
@@ -127,8 +127,7 @@ impl<T: Copy> NodeTable<T> {
         self.directory.len() * PAGE
     }
 
-    /// `id` itself if its page is allocated, otherwise the first ID of the next page: all IDs from `id` to just before
-    /// the result are blank.
+    /// `id` if its page is allocated, otherwise the first ID of the next page: the IDs from `id` up to there are blank.
     #[inline]
     pub fn skip_blank(&self, id: u32) -> usize
         ensures from { id ≤ result }
@@ -174,7 +173,6 @@ fn place(directory: &[u32], id: u32) -> usize
     number as usize * PAGE + id as usize % PAGE
 }
 
-/// Extends the directory up to the page of an ID.
 fn extend_directory(directory: &mut Vec<u32>, id: u32) -> Result<(), Memory>
     ensures same { SameNumbers directory.old.items directory.new.items }
     ensures reached { OnOk result (id / 64 < length directory.new.items) }

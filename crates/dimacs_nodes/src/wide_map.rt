@@ -10,12 +10,12 @@ use std::alloc::Global;
 use std::marker::Model;
 
 /// A map from node IDs to 128-bit numbers. A number takes 16 bytes if it fits into 64 bits, otherwise 32. The two sorts
-/// have separate pages, each of 64 nodes.
+/// have separate pages.
 #[derive(Drop)]
 pub struct WideMap {
     /// The numbers that fit into 64 bits.
     narrow: NodeMap<i64>,
-    /// The numbers that don't, and later ones of the same nodes. If a node is in both maps, this one counts.
+    /// The others, and later numbers of the same nodes. If a node is in both maps, this one counts.
     wide: NodeMap<i128>,
 }
 
@@ -56,8 +56,7 @@ impl WideMap {
         Some(i128::from(number))
     }
 
-    /// Sets the number of a node. The first number of a node may allocate, and so may one that doesn't fit into 64
-    /// bits.
+    /// Sets the number of a node. May allocate if it is the node's first, or doesn't fit into 64 bits.
     #[inline]
     pub fn set(&mut self, id: u32, number: i128) -> Result<(), Memory>
         ensures set { OnOk result (self.new ≡ map.insert self.old id number) }

@@ -6,14 +6,14 @@ use dimacs_lines::Memory;
 use std::alloc::Global;
 use std::marker::Model;
 
-/// A form of an item that takes less memory, for those items whose numbers fit.
+/// A form that takes less memory, of items whose numbers fit.
 pub trait ShortForm: Copy {
     /// The item itself.
     type Long: Copy;
 
     ghost widened: { Self → Self.Long };
 
-    /// Stands past the end of a list, in clauses alone.
+    /// Past the end of a list, in contracts only.
     ghost no_item: { Self.Long };
 
     /// The short form of an item; none if some number doesn't fit.
@@ -25,7 +25,7 @@ pub trait ShortForm: Copy {
         ensures { result ≡ widened self };
 }
 
-/// Numbers of 32 bits are the short form of those of 64.
+/// 32-bit numbers are the short form of 64-bit ones.
 impl ShortForm for i32 {
     type Long = i64;
 
@@ -91,8 +91,8 @@ impl<T: Copy> Items<T> for Vec<T> {
     }
 }
 
-/// Items in the order in which they were added: in their short form while it holds all of them, otherwise in `L`. The
-/// first item that doesn't fit copies all.
+/// A list of items in their short form while it holds all of them, otherwise in `L`. The first item that doesn't fit
+/// copies all.
 #[derive(Drop)]
 pub struct WideningList<S: ShortForm, L: Items<S::Long>> {
     short: Vec<S>,
@@ -162,14 +162,14 @@ impl<S: ShortForm, L: Items<S::Long>> WideningList<S, L> {
         }
     }
 
-    /// Whether there is no item.
+    /// Whether the list is empty.
     pub fn is_empty(&self) -> bool
         ensures { IsTrue result ↔ (self.now ≡ []) }
     {
         self.len() == 0
     }
 
-    /// The item that was added first; none in an empty list.
+    /// The first item, if any.
     pub fn first(&self) -> Option<S::Long>
         ensures { result ≡ slice_get self.now 0 }
     {
