@@ -1,4 +1,4 @@
--- The limits of a text, and of what a line reader holds and pulls, as numbers.
+-- The limits of a text, and of what a line reader holds and reads at once, as numbers.
 use Rattle.std.specs.Prelude.{ℕ, ◌≤◌}
 
 -- the most bytes of a line, without its end
@@ -25,6 +25,6 @@ most_count = 268435456
 abbrev pub most_held : ℕ
 most_held = 1114112
 
--- the most bytes that one call pulls
+-- the most bytes that one call reads
 abbrev pub greatest_piece : ℕ
 greatest_piece = 65536

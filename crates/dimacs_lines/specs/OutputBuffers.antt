@@ -5,7 +5,7 @@ use Rattle.std.specs.Fmt.{signed_decimal}
 use Rattle.dimacs_lines.specs.Devices.{Written, after_piece, one_more}
 use Rattle.dimacs_lines.specs.Puts.{AcceptsFront}
 
--- what the buffer holds, and whether a put has failed
+-- the bytes in the buffer, and whether a write has failed
 pub record PageState : Type 0 where
   pub kept : List ℕ
   pub failed : Bool

@@ -9,7 +9,7 @@ use Rattle.dimacs_lines.specs.Devices.{before_piece, one_more}
 use Rattle.dimacs_lines.specs.Lines.{lines}
 
 pub record State : Type 0 where
-  -- the bytes that were pulled and aren't given yet
+  -- the bytes that were read and aren't given yet
   pub held : List ℕ
   -- how many lines were given
   pub given : ℕ
@@ -17,7 +17,7 @@ pub record State : Type 0 where
   pub line : List ℕ
   pub progress : Progress
 
--- the text still to be given: what the reader holds, then what the source has to come
+-- the text still to be given: the bytes held, then those to come from the source
 abbrev pub text_left : State → Option (List ℕ) → Option (List ℕ)
 text_left reader coming = before_piece reader.held coming
 
@@ -39,7 +39,9 @@ pub record AtEnd (new : State) (left : Option (List ℕ)) : Type 0 where
 -- when each error comes; `TooMany` comes before `TooLong` if both apply
 abbrev pub ComesAt : State → Option (List ℕ) → LinesError → Type 0
 ComesAt old left (TooMany number) = (number ≡ old.given + 1) × (most_lines < number) × ((text : List ℕ) → left ≡ Some text → lines text ≢ [])
-ComesAt old left (TooLong number) = (number ≡ old.given + 1) × (number ≤ most_lines) × ((text : List ℕ) → left ≡ Some text → (line : List ℕ) × (rest : List (List ℕ)) × (lines text ≡ line ∷ rest) × (longest_line < length line))
+ComesAt old left (TooLong number) =
+    (number ≡ old.given + 1) × (number ≤ most_lines)
+    × ((text : List ℕ) → left ≡ Some text → (line : List ℕ) × (rest : List (List ℕ)) × (lines text ≡ line ∷ rest) × (longest_line < length line))
 ComesAt old left Device = Unit {0}
 ComesAt old left Memory = Unit {0}
 

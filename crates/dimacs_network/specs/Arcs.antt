@@ -9,7 +9,8 @@ joins tail head a = (a.tail == tail) && (a.head == head)
 -- the index of the arc from tail to head that comes after k such arcs; none if there are no more than k
 abbrev pub IsKthBetween : List ArcView → ℕ → ℕ → ℕ → Option ℕ → Type 0
 IsKthBetween arcs tail head k None = count_by (joins tail head) arcs ≤ k
-IsKthBetween arcs tail head k (Some i) = (i < length arcs) × IfSome (slice_get arcs i) (λ a. joins tail head a ≡ true) × (count_by (joins tail head) (take i arcs) ≡ k)
+IsKthBetween arcs tail head k (Some i) =
+    (i < length arcs) × IfSome (slice_get arcs i) (λ a. joins tail head a ≡ true) × (count_by (joins tail head) (take i arcs) ≡ k)
 
 -- both ends are nodes
 abbrev pub JoinsNodes : ℕ → ArcView → Type 0

@@ -18,7 +18,9 @@ pub record PullsMore (old new : State) (before after : Option (List ℕ)) (count
 
 -- what is held has a whole first line, or is all that is left, or its first line is too long already
 abbrev pub IsEnough : List ℕ → Option (List ℕ) → Type 0
-IsEnough held coming = (position_or_len is_end held < length held) ⊎ (((bytes : List ℕ) → coming ≡ Some bytes → bytes ≡ []) ⊎ (longest_line < position_or_len is_end held))
+IsEnough held coming =
+    (position_or_len is_end held < length held)
+    ⊎ (((bytes : List ℕ) → coming ≡ Some bytes → bytes ≡ []) ⊎ (longest_line < position_or_len is_end held))
 
 -- an error that doesn't depend on the text
 abbrev pub IsInterruption : LinesError → Type 0
