@@ -14,10 +14,10 @@ use itoa::Buffer;
 use std::marker::Model;
 
 /// The size of the buffer in bytes.
-const PAGE: usize = 16_384;
+const CAPACITY: usize = 16_384;
 
 /// The most bytes of a 64-bit number in decimal, with its sign.
-const LONGEST: usize = 20;
+const LONGEST_NUMBER: usize = 20;
 
 /// The most bytes of a line with a letter and up to five numbers.
 const LONGEST_LINE: usize = 107;
@@ -70,7 +70,7 @@ impl OutputBuffer {
     pub fn write<S: Sink>(&mut self, sink: &mut S, bytes: &[u8])
         ensures { Appends bytes.now (S.seen sink.old) self.old (S.seen sink.new) self.new }
     {
-        if PAGE - self.length < bytes.len() {
+        if CAPACITY - self.length < bytes.len() {
             self.flush_and_append(sink, bytes);
         } else {
             self.append(bytes);
@@ -82,7 +82,7 @@ impl OutputBuffer {
     pub fn number<S: Sink>(&mut self, sink: &mut S, n: i64)
         ensures { Appends (signed_decimal n) (S.seen sink.old) self.old (S.seen sink.new) self.new }
     {
-        self.make_room(sink, LONGEST);
+        self.make_room(sink, LONGEST_NUMBER);
         self.append_number(n);
     }
 
@@ -137,7 +137,7 @@ impl OutputBuffer {
         ensures { Appends bytes.now (S.seen sink.old) self.old (S.seen sink.new) self.new }
     {
         self.flush(sink);
-        if PAGE < bytes.len() {
+        if CAPACITY < bytes.len() {
             self.failed = put_unless_failed(self.failed, sink, bytes);
         } else {
             self.append(bytes);
@@ -152,7 +152,7 @@ impl OutputBuffer {
             → IsWritten start text (S.seen sink.old) self.old → IsWritten start text (S.seen sink.new) self.new }
         ensures room { length self.new.kept + bytes ≤ 16384 }
     {
-        if PAGE - self.length < bytes {
+        if CAPACITY - self.length < bytes {
             self.flush(sink);
         }
     }

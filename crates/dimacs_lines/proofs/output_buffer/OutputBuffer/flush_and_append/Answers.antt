@@ -3,8 +3,8 @@ use Rattle.dimacs_lines.specs.OutputBuffers.{PageState, IsWrittenBy, IsWritten}
 use Rattle.dimacs_lines.proofs.PageLemmas.{IsWritten-kept, IsWritten-put}
 use Rattle.dimacs_lines.proofs.output_buffer.OutputBuffer.flush_and_append.Goals as goal
 
-pub returns-then-bytes-gt-PAGE : goal.returns-then-bytes-gt-PAGE
-returns-then-bytes-gt-PAGE g c =
+pub returns-then-bytes-gt-CAPACITY : goal.returns-then-bytes-gt-CAPACITY
+returns-then-bytes-gt-CAPACITY g c =
     let mid = g.S.Sink.seen c.flush.new.sink in
     let failed = c.self.inside.failed in
     let after = c.put_unless_failed-self-inside.result in
