@@ -41,7 +41,7 @@ pub trait Source {
         ensures given { IfOk result (λ k. coming self.old ≡ before_piece (take k into.new) (coming self.new)) }
         ensures end { 0 < length into.old → result ≡ Ok 0 → IfSome (coming self.old) (λ bytes. bytes ≡ []) }
         ensures unchanged { OnErr result (coming self.new ≡ coming self.old) }
-        ensures fault { CountsFault result (faults self.old) (faults self.new) };
+        ensures faults { CountsFault result (faults self.old) (faults self.new) };
 }
 
 /// Output: accepts the bytes of a text, piece by piece.
@@ -55,7 +55,7 @@ pub trait Sink {
         ensures room { IfOk result (λ k. k ≤ length bytes.now) }
         ensures taken { IfOk result (λ k. (seen self.new).accepted ≡ after_piece (seen self.old).accepted (take k bytes.now)) }
         ensures unchanged { OnErr result ((seen self.new).accepted ≡ (seen self.old).accepted) }
-        ensures fault { CountsPut result bytes.now (seen self.old).faults (seen self.new).faults };
+        ensures faults { CountsPut result bytes.now (seen self.old).faults (seen self.new).faults };
 }
 
 /// Writes all bytes, in as many calls as it takes. After an error the sink has accepted the first of them, or none.

@@ -79,7 +79,7 @@ impl<R: Read> Source for FileDevice<R> {
     fn pull(&mut self, into: &mut [u8]) -> Result<usize, DeviceFault>
         ensures room { IfOk result (λ count. count ≤ length into.old) }
         ensures bytes { ReadConsumes (R.remaining self.old.file) (R.remaining self.new.file) result into.new }
-        ensures fault { CountsFault result self.old.faults self.new.faults }
+        ensures faults { CountsFault result self.old.faults self.new.faults }
         ensures reason { NamesReason result self.old.reason self.new.reason }
     {
         match read_some(&mut self.file, into) {
@@ -110,7 +110,7 @@ impl<W: Write> Sink for FileDevice<W> {
     fn put(&mut self, bytes: &[u8]) -> Result<usize, DeviceFault>
         ensures room { IfOk result (λ count. count ≤ length bytes.now) }
         ensures bytes { WriteAppends (W.contents self.old.file) (W.contents self.new.file) result bytes.now }
-        ensures fault { CountsPut result bytes.now self.old.faults self.new.faults }
+        ensures faults { CountsPut result bytes.now self.old.faults self.new.faults }
         ensures reason { NamesReason result self.old.reason self.new.reason }
     {
         match write_some(&mut self.file, bytes) {

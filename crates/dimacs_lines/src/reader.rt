@@ -144,7 +144,7 @@ impl Lines {
     pub fn next_line<S: Source>(&mut self, source: &mut S) -> Result<Option<u64>, LinesError>
         ensures answer { self.old.progress ≡ Open → NextLine self.old self.new
             (text_left self.old (S.coming source.old)) (text_left self.new (S.coming source.new)) result }
-        ensures device { self.old.progress ≡ Open → CountsDevice result (S.faults source.old) (S.faults source.new) }
+        ensures faults { self.old.progress ≡ Open → CountsDevice result (S.faults source.old) (S.faults source.new) }
 
         // After the end or an error each call returns the same, and reads nothing.
         ensures ended { self.old.progress ≡ Ended → (result ≡ Ok None) × (self.new ≡ self.old) }
@@ -170,7 +170,7 @@ impl Lines {
         ensures given { self.new.given ≡ self.old.given }
         ensures progress { self.new.progress ≡ self.old.progress }
         ensures interruption { IfErr result IsInterruption }
-        ensures device { CountsDevice result (S.faults source.old) (S.faults source.new) }
+        ensures faults { CountsDevice result (S.faults source.old) (S.faults source.new) }
     {
         let mut length = self.last_length(self.held());
         loop {
@@ -204,7 +204,7 @@ impl Lines {
         ensures given { self.new.given ≡ self.old.given }
         ensures progress { self.new.progress ≡ self.old.progress }
         ensures interruption { IfErr result IsInterruption }
-        ensures device { CountsDevice result (S.faults source.old) (S.faults source.new) }
+        ensures faults { CountsDevice result (S.faults source.old) (S.faults source.new) }
     {
         let held = self.end - self.next;
         move_to_front(&mut self.buffer, self.next, self.end);
@@ -313,7 +313,7 @@ fn pull_after<S: Source>(
     ensures given { IfOk result (λ count. S.coming source.old ≡ before_piece (take count (drop held buffer.new)) (S.coming source.new)) }
     ensures end { result ≡ Ok 0 → IfSome (S.coming source.old) (λ bytes. bytes ≡ []) }
     ensures held_unchanged { take held buffer.new ≡ take held buffer.old }
-    ensures device { CountsFault result (S.faults source.old) (S.faults source.new) }
+    ensures faults { CountsFault result (S.faults source.old) (S.faults source.new) }
 {
     let room = buffer.len().min(held + PIECE);
     source.pull(&mut buffer[held..room])

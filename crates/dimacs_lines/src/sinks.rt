@@ -50,7 +50,7 @@ impl Sink for MemorySink {
         ensures room { IfOk result (λ count. count ≤ length bytes.now) }
         ensures taken { IfOk result (λ count. Some self.new.bytes ≡ after_piece (Some self.old.bytes) (take count bytes.now)) }
         ensures unchanged { OnErr result (Some self.new.bytes ≡ Some self.old.bytes) }
-        ensures fault { CountsPut result bytes.now self.old.faults self.new.faults }
+        ensures faults { CountsPut result bytes.now self.old.faults self.new.faults }
     {
         match self.bytes.extend_from_slice(bytes) {
             Ok(()) => Ok(bytes.len()),
@@ -120,7 +120,7 @@ impl<'a> Sink for FlakySink<'a> {
         ensures room { IfOk result (λ count. count ≤ length bytes.now) }
         ensures taken { IfOk result (λ count. Some self.new.bytes ≡ after_piece (Some self.old.bytes) (take count bytes.now)) }
         ensures unchanged { OnErr result (Some self.new.bytes ≡ Some self.old.bytes) }
-        ensures fault { CountsPut result bytes.now self.old.faults self.new.faults }
+        ensures faults { CountsPut result bytes.now self.old.faults self.new.faults }
     {
         self.puts = self.puts.saturating_add(1);
         if self.fails.contains(&self.puts) {

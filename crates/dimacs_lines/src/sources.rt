@@ -40,7 +40,7 @@ impl<'a> Source for MemorySource<'a> {
         ensures given { IfOk result (λ count. Some self.old ≡ before_piece (take count into.new) (Some self.new)) }
         ensures end { 0 < length into.old → result ≡ Ok 0 → self.old ≡ [] }
         ensures unchanged { OnErr result (Some self.new ≡ Some self.old) }
-        ensures fault { CountsFault result 0 0 }
+        ensures faults { CountsFault result 0 0 }
     {
         let count = into.len().min(self.rest.len());
         let (front, back) = self.rest.split_at(count);
@@ -88,7 +88,7 @@ impl<'a> Source for CutSource<'a> {
         ensures given { IfOk result (λ count. Some self.old.bytes ≡ before_piece (take count into.new) (Some self.new.bytes)) }
         ensures end { 0 < length into.old → result ≡ Ok 0 → self.old.bytes ≡ [] }
         ensures unchanged { OnErr result (Some self.new.bytes ≡ Some self.old.bytes) }
-        ensures fault { CountsFault result 0 0 }
+        ensures faults { CountsFault result 0 0 }
     {
         let count = next_piece(&mut self.sizes, into.len());
         self.text.pull(&mut into[..count])
@@ -162,7 +162,7 @@ impl<'a> Source for FlakySource<'a> {
         ensures given { IfOk result (λ count. Some self.old.bytes ≡ before_piece (take count into.new) (Some self.new.bytes)) }
         ensures end { 0 < length into.old → result ≡ Ok 0 → self.old.bytes ≡ [] }
         ensures unchanged { OnErr result (Some self.new.bytes ≡ Some self.old.bytes) }
-        ensures fault { CountsFault result self.old.faults self.new.faults }
+        ensures faults { CountsFault result self.old.faults self.new.faults }
     {
         self.pulls = self.pulls.saturating_add(1);
         if self.fails.contains(&self.pulls) {

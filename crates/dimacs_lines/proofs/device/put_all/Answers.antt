@@ -23,7 +23,7 @@ returns-in_err-count g c =
     let p = err_from_is_err_and c.from_residual.result c.from_residual.ensures.1 in
     rw p.1 (record {
       accepted = AcceptsFront-take _ _ c.loop-done.done c.args.bytes.now (c.in_err-count.ensures.unchanged ∙ c.loop-done.invariant.taken);
-      fault = c.in_err-count.ensures.fault ∙ ap one_more c.loop-done.invariant.sound;
+      fault = c.in_err-count.ensures.faults ∙ ap one_more c.loop-done.invariant.sound;
     })
 
 pub returns-then-count-eq0 : goal.returns-then-count-eq0

@@ -62,5 +62,5 @@ loop-length-preserved g c =
       left = left_goes_on _ _ _ c.loop-length.self.held more.piece _ so_far.left more.given more.held;
       given = c.in_ok-count.ensures.given ∙ so_far.given;
       progress = c.in_ok-count.ensures.progress ∙ so_far.progress;
-      sound = c.in_ok-count.ensures.device ∙ so_far.sound;
+      sound = c.in_ok-count.ensures.faults ∙ so_far.sound;
     }

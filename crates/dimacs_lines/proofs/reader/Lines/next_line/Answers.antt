@@ -9,11 +9,11 @@ returns-in-Ok-clause-answer g c = λ is_open.
     answers_left c.give_line.result c.args.self.now c.find_end.new.self c.give_line.new.self _ _ found.given (found.progress ∙ is_open) found.left found.enough c.give_line.ensures.given
 
 -- written out, since what is tried without an answer takes longer
-pub returns-in-Ok-clause-device : goal.returns-in-Ok-clause-device
-returns-in-Ok-clause-device g c = search rules
+pub returns-in-Ok-clause-faults : goal.returns-in-Ok-clause-faults
+returns-in-Ok-clause-faults g c = search rules
 
 pub returns-in-Err-clause-answer : goal.returns-in-Err-clause-answer
 returns-in-Err-clause-answer g c = search rules
 
-pub returns-in-Err-clause-device : goal.returns-in-Err-clause-device
-returns-in-Err-clause-device g c = search rules
+pub returns-in-Err-clause-faults : goal.returns-in-Err-clause-faults
+returns-in-Err-clause-faults g c = search rules
