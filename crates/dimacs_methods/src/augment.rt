@@ -1,8 +1,8 @@
 //! Minimum cost flow by successive shortest paths.
 //!
-//! Excess goes to the nearest deficit, again and again. Prices keep the reduced costs of residual arcs from being
-//! negative, so each search settles nodes by distance, and ends at the first deficit. That is quick if few nodes have
-//! an excess, and each search moves much of it.
+//! Each search is Dijkstra's: it settles nodes by distance, ends at the nearest deficit, and excess moves there. Prices
+//! keep the reduced costs of residual arcs from being negative. This is fast if few nodes have an excess, and each
+//! search moves much of it.
 
 use crate::problem::Problem;
 use crate::residual::{Half, Residual};
@@ -13,34 +13,34 @@ use std::alloc::Global;
 use std::cmp::Reverse;
 use std::collections::BinaryHeap;
 
-/// How many half-arcs may be looked at for each arc before any excess has moved, and how many more until all of it has.
-/// From one node alone, paths soon become long.
-const FIRST_LOOKS: i128 = 1;
+/// How many half-arcs may be scanned for each arc before any excess has moved, and how many more until all of it has.
+/// With one source, paths soon become long.
+const FIRST_SCANS: i128 = 1;
 
-const LOOKS: i128 = 20;
+const SCANS: i128 = 20;
 
-const LOOKS_FROM_ONE: i128 = 1;
+const SCANS_FROM_ONE: i128 = 1;
 
-/// A node that was reached: its distance, and the place of the half-arc by which it was.
+/// A node that was reached: its distance, and the place of its parent arc.
 #[derive(Clone, Copy)]
 struct Label {
     distance: i64,
-    via: u32,
-    /// The search that reached it, or settled it.
-    reached: u32,
-    settled: u32,
+    parent_arc: u32,
+    /// The last searches that reached it and settled it.
+    reached_in: u32,
+    settled_in: u32,
 }
 
 const NO_LABEL: Label = Label {
     distance: 0,
-    via: 0,
-    reached: 0,
-    settled: 0,
+    parent_arc: 0,
+    reached_in: 0,
+    settled_in: 0,
 };
 
-/// A node in the queue.
+/// A node in the queue, ordered by distance.
 #[derive(Clone, Copy, PartialEq, Eq, PartialOrd, Ord)]
-struct Reach {
+struct QueueEntry {
     distance: i64,
     node: u32,
 }
@@ -49,31 +49,29 @@ struct Reach {
 pub(crate) struct Augmenting {
     pub residual: Residual<i64>,
     labels: Vec<Label>,
-    queue: BinaryHeap<Reverse<Reach>>,
+    queue: BinaryHeap<Reverse<QueueEntry>>,
     settled: Vec<u32>,
-    /// The number of the search.
+    /// The number of the current search.
     search: u32,
-    /// How many half-arcs were looked at.
-    looked: i128,
-    /// How much excess has moved, and how much there was.
+    scans: i128,
+    /// How much excess has moved, and how much there was at first.
     moved: i128,
-    all: i128,
-    /// The number of arcs.
-    arcs: i128,
-    /// `LOOKS` or `LOOKS_FROM_ONE`.
-    looks: i128,
+    total_excess: i128,
+    arc_count: i128,
+    /// `SCANS` or `SCANS_FROM_ONE`.
+    scans_per_arc: i128,
 }
 
 impl Augmenting {
-    /// At the start each arc carries its lower bound. No cost may be negative.
+    /// Starts from the lower bounds. No cost may be negative.
     pub(crate) fn new<N: Network>(
         alloc: Global,
         problem: &Problem<'_, N>,
     ) -> Result<Augmenting, Memory> {
-        let looks = if problem.sources() == 1 {
-            LOOKS_FROM_ONE
+        let scans_per_arc = if problem.sources() == 1 {
+            SCANS_FROM_ONE
         } else {
-            LOOKS
+            SCANS
         };
         Ok(Augmenting {
             residual: Residual::new(alloc, problem, 0)?,
@@ -81,15 +79,15 @@ impl Augmenting {
             queue: BinaryHeap::new(alloc),
             settled: Vec::new(alloc),
             search: 0,
-            looked: 0,
+            scans: 0,
             moved: 0,
-            all: problem.imbalance() / 2,
-            arcs: i128::from(problem.network().arcs()),
-            looks,
+            total_excess: problem.total_imbalance() / 2,
+            arc_count: i128::from(problem.network().arcs()),
+            scans_per_arc,
         })
     }
 
-    /// Moves all excess. False if that seems to take long, or isn't possible.
+    /// Moves all excess. False if it can't, or if that seems to take long.
     pub(crate) fn run(&mut self) -> Result<bool, Memory> {
         for source in 0..count_of(&self.residual.nodes) {
             if !self.drain(source)? {
@@ -99,10 +97,10 @@ impl Augmenting {
         Ok(true)
     }
 
-    /// Moves the excess of a node.
+    /// The same for the excess of one node.
     fn drain(&mut self, source: u32) -> Result<bool, Memory> {
         for _ in 0..u64::MAX {
-            if self.residual.node(source).excess <= 0 {
+            if self.residual.node(source).imbalance <= 0 {
                 return Ok(true);
             }
             let Some(sink) = self.search(source)? else {
@@ -118,16 +116,16 @@ impl Augmenting {
         Ok(false)
     }
 
-    /// Whether the searches look at many half-arcs for what they move.
+    /// Whether the searches scan many half-arcs for what they move.
     fn lags(&self) -> bool {
-        let worth = FIRST_LOOKS
-            .wrapping_mul(self.all)
-            .wrapping_add(self.looks.wrapping_mul(self.moved));
-        self.looked.wrapping_mul(self.all) > self.arcs.wrapping_mul(worth)
+        let allowed = FIRST_SCANS
+            .wrapping_mul(self.total_excess)
+            .wrapping_add(self.scans_per_arc.wrapping_mul(self.moved));
+        self.scans.wrapping_mul(self.total_excess) > self.arc_count.wrapping_mul(allowed)
     }
 
-    /// Settles nodes by their distance from this one, until it comes to a deficit. Then prices of the settled nodes fall
-    /// by how much nearer they are, and the node with the deficit is returned.
+    /// Returns the nearest node with a deficit, and lowers the price of each settled node by how much nearer it is.
+    /// None if no deficit can be reached.
     fn search(&mut self, source: u32) -> Result<Option<u32>, Memory> {
         self.search = self.search.wrapping_add(1);
         self.settled.clear();
@@ -138,10 +136,10 @@ impl Augmenting {
                 break;
             };
             let label = self.label(nearest.node);
-            if label.settled == self.search {
+            if label.settled_in == self.search {
                 continue;
             }
-            if self.residual.node(nearest.node).excess < 0 {
+            if self.residual.node(nearest.node).imbalance < 0 {
                 self.lower_settled(nearest.distance);
                 return Ok(Some(nearest.node));
             }
@@ -150,15 +148,15 @@ impl Augmenting {
         Ok(None)
     }
 
-    /// Settles a node, and reaches its neighbours.
-    fn settle(&mut self, at: Reach) -> Result<(), Memory> {
+    /// Settles a node, and relaxes its arcs.
+    fn settle(&mut self, at: QueueEntry) -> Result<(), Memory> {
         self.settled.push(at.node)?;
         if let Some(label) = self.labels.get_mut(at.node as usize) {
-            label.settled = self.search;
+            label.settled_in = self.search;
         }
         let node = self.residual.node(at.node);
-        self.looked = self
-            .looked
+        self.scans = self
+            .scans
             .wrapping_add(i128::from(node.end.wrapping_sub(node.start)));
         for place in node.start..node.end {
             let half = self.residual.half(place);
@@ -170,21 +168,21 @@ impl Augmenting {
         Ok(())
     }
 
-    /// Puts a node into the queue, if it isn't as near already.
+    /// Labels and queues a node, unless it has a label of at most this distance.
     #[inline(always)]
-    fn reach(&mut self, node: u32, distance: i64, via: u32) -> Result<(), Memory> {
+    fn reach(&mut self, node: u32, distance: i64, parent_arc: u32) -> Result<(), Memory> {
         let label = self.label(node);
-        if label.reached == self.search && label.distance <= distance {
+        if label.reached_in == self.search && label.distance <= distance {
             return Ok(());
         }
         let label = Label {
             distance,
-            via,
-            reached: self.search,
-            settled: label.settled,
+            parent_arc,
+            reached_in: self.search,
+            settled_in: label.settled_in,
         };
         set_member(&mut self.labels, node, label);
-        self.queue.push(Reverse(Reach { distance, node }))?;
+        self.queue.push(Reverse(QueueEntry { distance, node }))?;
         Ok(())
     }
 
@@ -193,7 +191,6 @@ impl Augmenting {
         member(&self.labels, node, NO_LABEL)
     }
 
-    /// Lowers the prices of the settled nodes by how much nearer they are than this.
     fn lower_settled(&mut self, distance: i64) {
         for node in &self.settled {
             let own = member(&self.labels, *node, NO_LABEL).distance;
@@ -201,32 +198,31 @@ impl Augmenting {
         }
     }
 
-    /// How much the path to a deficit allows.
+    /// The least of the path's residual capacity, the excess and the deficit.
     fn most_on_path(&self, source: u32, sink: u32) -> i64 {
-        let deficit = self.residual.node(sink).excess.wrapping_neg();
-        let mut amount = self.residual.node(source).excess.min(deficit);
+        let deficit = self.residual.node(sink).imbalance.wrapping_neg();
+        let mut amount = self.residual.node(source).imbalance.min(deficit);
         let mut at = sink;
         for _ in 0..self.labels.len() {
             if at == source {
                 break;
             }
-            let via = self.label(at).via;
-            amount = amount.min(self.residual.half(via).residual_capacity);
-            at = self.residual.at(via);
+            let parent_arc = self.label(at).parent_arc;
+            amount = amount.min(self.residual.half(parent_arc).residual_capacity);
+            at = self.residual.at(parent_arc);
         }
         amount
     }
 
-    /// Sends an amount along the path.
     fn send_on_path(&mut self, source: u32, sink: u32, amount: i64) {
         let mut at = sink;
         for _ in 0..self.labels.len() {
             if at == source {
                 break;
             }
-            let via = self.label(at).via;
-            at = self.residual.at(via);
-            self.residual.send(at, via, amount);
+            let parent_arc = self.label(at).parent_arc;
+            at = self.residual.at(parent_arc);
+            self.residual.send(at, parent_arc, amount);
         }
     }
 }

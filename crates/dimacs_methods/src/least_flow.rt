@@ -13,7 +13,7 @@ use dimacs_lines::Memory;
 use dimacs_network::Network;
 use std::alloc::Global;
 
-/// An amount for each arc, and a potential for each node.
+/// The amounts, in the order of the arcs, and potentials.
 #[derive(Drop)]
 pub struct LeastFlow {
     pub amounts: Vec<i64>,
@@ -22,8 +22,8 @@ pub struct LeastFlow {
 
 /// Finds a flow of least cost, and potentials that show it. If no flow is feasible, the result leaves the least excess.
 ///
-/// The network simplex is quicker on most instances. If few nodes have an excess, successive shortest paths are tried
-/// first. If the simplex takes long, the instance goes to cost scaling.
+/// Successive shortest paths come first, if few nodes have an excess and no cost is negative. Then comes the network
+/// simplex, the fastest on most instances. If that takes long, cost scaling follows.
 pub fn make_least_flow<N: Network>(
     alloc: Global,
     instance: &MinInstance<N>,
@@ -50,17 +50,17 @@ pub fn make_least_flow<N: Network>(
     }
 }
 
-/// Up to this many nodes with an excess are few.
-const FEW: usize = 128;
+/// Successive shortest paths are tried for at most this many nodes with an excess.
+const MOST_SOURCES: usize = 128;
 
-/// Successive shortest paths; none if they aren't tried, or take too much work.
+/// Successive shortest paths. None if they aren't tried, take too much work, or can't move all excess.
 fn by_paths<N: Network>(
     alloc: Global,
     problem: &Problem<'_, N>,
 ) -> Result<Option<LeastFlow>, Memory> {
     let sources = problem.sources();
     let is_fit = problem.is_narrow() && problem.least_cost >= 0;
-    if !is_fit || sources > FEW {
+    if !is_fit || sources > MOST_SOURCES {
         return Ok(None);
     }
     let mut augmenting = Augmenting::new(alloc, problem)?;
@@ -71,16 +71,16 @@ fn by_paths<N: Network>(
     Ok(Some(flow))
 }
 
-/// Prices fit into 64 bits if a cost and twice the number of nodes have at most this many bits together. In the first
-/// phase prices fall by a few times the tolerance for each node, later by less.
+/// Prices fit into 64 bits if the bits of the greatest cost, and twice those of the number of nodes, are at most this.
+/// In the first phase prices fall by a few times the tolerance for each node, later by less.
 const PRICE_BITS: u32 = 60;
 
-/// The work that the simplex may do, counted in arcs and nodes looked at: for each arc and node, and in all.
+/// The simplex may scan arcs and walk over nodes this often: for each arc and node, and in addition.
 const WORK_FOR_EACH: u64 = 500;
 
 const WORK_FOR_ALL: u64 = 1073741824;
 
-/// Runs the simplex with numbers of this width; none if it takes too much work.
+/// The network simplex with numbers of this width. None if it takes too much work.
 fn by_simplex<N: Network, V: Number>(
     alloc: Global,
     problem: &Problem<'_, N>,
@@ -99,7 +99,6 @@ fn by_simplex<N: Network, V: Number>(
     Ok(Some(flow))
 }
 
-/// Runs cost scaling with numbers of this width.
 fn by_scaling<N: Network, V: Number>(
     alloc: Global,
     problem: &Problem<'_, N>,
@@ -120,7 +119,8 @@ fn of_residual<N: Network, V: Number>(
     least_flow(alloc, problem, &values, amounts)
 }
 
-/// These amounts, with potentials by node number, which get the judge's sign. Potentials out of range become 0.
+/// The result for these amounts. `values` are potentials by node number; the judge's have the opposite sign. Those out
+/// of range become 0.
 fn least_flow<N: Network>(
     alloc: Global,
     problem: &Problem<'_, N>,

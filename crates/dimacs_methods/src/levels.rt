@@ -1,4 +1,4 @@
-//! Nodes by level.
+//! Nodes by level, as buckets.
 
 use crate::tables::{count_of, member, set_member};
 use dimacs_lines::Memory;
@@ -7,7 +7,7 @@ use std::alloc::Global;
 /// No node.
 pub(crate) const NONE: u32 = u32::MAX;
 
-/// The nodes before and after a node on its level.
+/// A node's neighbours on its level.
 #[derive(Clone, Copy)]
 struct Link {
     before: u32,
@@ -28,7 +28,7 @@ pub(crate) struct Levels {
 }
 
 impl Levels {
-    /// Without nodes. Numbers of levels and nodes are below these.
+    /// Without nodes. Levels and nodes have numbers below these.
     pub(crate) fn new(alloc: Global, levels: usize, nodes: usize) -> Result<Levels, Memory> {
         Ok(Levels {
             first: vec![in alloc; NONE; levels]?,
@@ -37,12 +37,10 @@ impl Levels {
         })
     }
 
-    /// The number of levels.
     pub(crate) fn count(&self) -> u32 {
         count_of(&self.first)
     }
 
-    /// Removes all nodes.
     pub(crate) fn clear(&mut self) {
         self.first.fill(NONE);
         self.highest = 0;
@@ -53,13 +51,13 @@ impl Levels {
         self.highest
     }
 
-    /// The first node of a level.
+    /// The first node of a level, or `NONE`.
     #[inline(always)]
     pub(crate) fn first(&self, level: u32) -> u32 {
         member(&self.first, level, NONE)
     }
 
-    /// The next node of the same level.
+    /// The next node of the same level, or `NONE`.
     pub(crate) fn after(&self, node: u32) -> u32 {
         member(&self.links, node, ALONE).after
     }
@@ -90,7 +88,7 @@ impl Levels {
         }
     }
 
-    /// Takes any node of a level.
+    /// Removes any node of a level.
     pub(crate) fn take(&mut self, level: u32) -> Option<u32> {
         let node = self.first(level);
         if node == NONE {

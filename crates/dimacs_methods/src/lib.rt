@@ -1,7 +1,7 @@
-//! Heuristics that find flows and potentials quickly. Nothing about their results is proved; callers check them.
+//! Heuristics that find flows and potentials. Nothing about their results is proved: callers test them.
 //!
-//! It is proved only that a call is safe and returns: accesses beyond the end of a table do nothing, sums may wrap, and
-//! each loop is bounded independently of what the method computes.
+//! Only this is proved: a call is safe and returns. Accesses beyond the end of a table do nothing, sums may wrap, and
+//! the bound of a loop doesn't depend on what the method computes.
 #![tactic(auto)]
 
 mod augment;

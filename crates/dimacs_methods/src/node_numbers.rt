@@ -7,14 +7,13 @@ use dimacs_network::Network;
 use dimacs_nodes::NodeMap;
 use std::alloc::Global;
 
-/// A number for each node with an arc or a supply, from 0. Tables by node number grow with the text, not with the
+/// Numbers from 0 for the nodes with an arc or a supply. Tables by node number then grow with the text, not with the
 /// declared number of nodes.
 #[derive(Drop)]
 pub(crate) struct NodeNumbers {
-    /// The numbers by ID, in the order in which the nodes occur. None if each ID is its own number, and 0 that of no
-    /// node: that is quicker, and there are at most so many IDs as arcs have ends, and a few.
+    /// The numbers by ID, in the order in which nodes occur. None if each ID is its own number, and 0 is the number of
+    /// no node: that is faster, and is done if nodes are at most twice the arcs and a few.
     numbers: Option<NodeMap<u32>>,
-    /// The ID of each number.
     ids: Vec<u32>,
 }
 
@@ -54,7 +53,6 @@ impl NodeNumbers {
         Ok(numbers)
     }
 
-    /// Numbers a node, if it has no number yet.
     fn add(&mut self, id: u32) -> Result<(), Memory> {
         let number = self.count();
         if let Some(numbers) = &mut self.numbers
@@ -66,7 +64,6 @@ impl NodeNumbers {
         Ok(())
     }
 
-    /// How many nodes have a number.
     pub(crate) fn count(&self) -> u32 {
         count_of(&self.ids)
     }
@@ -85,7 +82,7 @@ impl NodeNumbers {
         member(&self.ids, number, 0)
     }
 
-    /// The IDs by node number.
+    /// The IDs in the order of the numbers.
     pub(crate) fn ids(&self) -> &[u32] {
         &self.ids
     }

@@ -4,10 +4,10 @@
 pub(crate) trait Number: Copy {
     fn of(value: i64) -> Self;
 
-    /// The number with this value; 0 if it doesn't fit.
+    /// 0 if the value doesn't fit.
     fn of_wide(value: i128) -> Self;
 
-    /// The value in 64 bits; 0 if it doesn't fit.
+    /// 0 if the value doesn't fit into 64 bits.
     fn narrow(self) -> i64;
 
     fn wide(self) -> i128;
@@ -47,7 +47,6 @@ pub(crate) trait Number: Copy {
         Self::of(0).minus(self)
     }
 
-    /// The lesser of the two.
     #[inline(always)]
     final fn lesser(self, other: Self) -> Self {
         if other.is_below(self) { other } else { self }

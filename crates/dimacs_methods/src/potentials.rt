@@ -1,18 +1,16 @@
 //! Potentials that show that a flow costs least, or a cycle of residual arcs that makes it cheaper.
 //!
-//! A residual arc leads along an arc that can carry more, at the arc's cost, or back along one that can carry less, at
-//! the negated cost. Distances, negated, are slack potentials if no residual arc can lower one. They are computed in
-//! four stages, any of which may be the last:
+//! A residual arc leads along an arc that can carry more, at its cost, or back along one that can carry less, at the
+//! negated cost. Distances, negated, are slack potentials if no residual arc can lower one. They are computed in four
+//! stages, any of which may be the last:
 //!
 //! 1. An arc that can carry both more and less fixes the difference of its ends' distances. Nodes joined by such arcs
-//!    form a group: within it each node has a shift, and the group has a distance.
-//! 2. What remains are links, residual arcs between groups. Rounds over all links, forth and back, lower the distances.
-//! 3. If that would take many rounds, a group with only one link in, or out, is joined to the other end of the link.
-//! 4. All groups wait in a queue, later those that were lowered, and the links out of each are relaxed in turn. The
-//!    tree of the links that lowered last is kept: if a group is lowered, its subtree is lowered with it, or leaves the
-//!    tree until it is reached again. A link that would lower a group from within its own subtree closes a cycle.
-//!
-//! Nothing about the result is proved: callers test the potentials, or the cycle.
+//!    form a group. A node has a shift in its group, and the group has a distance.
+//! 2. The other residual arcs are links between groups. Rounds over all links, forth and back, lower the distances.
+//! 3. If that would take many rounds, a group with only one link in, or out, is joined to the link's other end.
+//! 4. Label correcting: all groups are queued, later those that were lowered, and the links out of each are relaxed.
+//!    The tree of the links that lowered last is kept. If a group is lowered, its subtree is lowered with it, or leaves
+//!    the tree until it is reached again. A link that would lower a group from within its own subtree closes a cycle.
 
 mod claim;
 mod cycle;
@@ -20,12 +18,12 @@ mod groups;
 mod join;
 mod links;
 mod listing;
+mod queue;
 mod rounds;
 mod search;
 mod step;
 mod tight;
 mod tree;
-mod waiting;
 
 use crate::number::Number;
 use crate::potentials::claim::Claim;
@@ -34,7 +32,7 @@ use crate::potentials::groups::{Groups, Places};
 use crate::potentials::join::joints;
 use crate::potentials::links::{Link, all_links, joined_links};
 use crate::potentials::listing::Listing;
-use crate::potentials::rounds::settled_by_rounds;
+use crate::potentials::rounds::rounds_suffice;
 use crate::potentials::search::{End, lower_all};
 use crate::potentials::tree::Tree;
 use crate::tables::member;
@@ -50,21 +48,21 @@ use std::alloc::Global;
 pub enum Guess {
     /// It costs least: these potentials are slack.
     Least(Potentials),
-    /// It doesn't: these residual arcs form a cycle of negative cost. Each begins where the one before it ends, and the
+    /// It doesn't: these residual arcs form a cycle of negative cost. Each begins where the one before it ends, the
     /// first where the last ends.
     Cycle(Vec<ResidualArc>),
     /// It took too long. These potentials are a start for another method.
     GaveUp(Potentials),
 }
 
-/// How many links and groups the search may look at, for each arc and each node.
+/// How many links and groups the search may visit, for each arc and each node.
 const BUDGET: u64 = 256;
 
-/// Sums over a few walks fit into 64 bits if all costs, without their signs, sum to less than this: 2^57.
+/// If the sum of all absolute costs is less than this, 2^57, then sums over a few walks fit into 64 bits.
 const NARROW: u128 = 144115188075855872;
 
-/// Looks for potentials that are slack for a flow, or for a cycle that makes it cheaper. `amounts` has the arcs'
-/// amounts in the order of the arcs, within their bounds. Takes memory for the arcs and for the nodes that have one.
+/// Looks for potentials that are slack for a flow, or for a cycle that makes it cheaper. `amounts` are in the order of
+/// the arcs, within their bounds. Takes memory for the arcs and for the nodes that have one.
 pub fn guess_potentials<N: Network>(
     alloc: Global,
     instance: &MinInstance<N>,
@@ -93,34 +91,34 @@ fn tie_and_link<N: Network, V: Number>(
         return cycle_within(alloc, claim, &places);
     };
     let mut distances = vec![in alloc; V::of(0); places.groups as usize]?;
-    if settled_by_rounds(&links, &mut distances) {
+    if rounds_suffice(&links, &mut distances) {
         let potentials = potentials(alloc, claim, &places, &distances)?;
         return Ok(Guess::Least(potentials));
     }
     drop(distances);
-    join_and_settle(alloc, claim, places, links)
+    join_and_correct(alloc, claim, places, links)
 }
 
 /// Stage 3.
-fn join_and_settle<N: Network, V: Number>(
+fn join_and_correct<N: Network, V: Number>(
     alloc: Global,
     claim: &Claim<'_, N>,
     places: Places<V>,
     links: Vec<Link<V>>,
 ) -> Result<Guess, Memory> {
     let Some(joints) = joints(alloc, &links, places.groups)? else {
-        return settle(alloc, claim, &places, links);
+        return correct_labels(alloc, claim, &places, links);
     };
     let mut places = places;
     places.join(&joints);
     match joined_links(links, &joints) {
-        Some(links) => settle(alloc, claim, &places, links),
+        Some(links) => correct_labels(alloc, claim, &places, links),
         None => cycle_within(alloc, claim, &places),
     }
 }
 
 /// Stage 4.
-fn settle<N: Network, V: Number>(
+fn correct_labels<N: Network, V: Number>(
     alloc: Global,
     claim: &Claim<'_, N>,
     places: &Places<V>,
@@ -133,7 +131,7 @@ fn settle<N: Network, V: Number>(
     let end = lower_all(alloc, &listing, &mut tree, size * BUDGET)?;
     drop(listing);
     match end {
-        End::Settled => {
+        End::Optimal => {
             let potentials = potentials(alloc, claim, places, &tree.distances)?;
             Ok(Guess::Least(potentials))
         }
@@ -145,7 +143,7 @@ fn settle<N: Network, V: Number>(
     }
 }
 
-/// The potentials of the nodes: their distances, negated.
+/// The distances, negated.
 fn potentials<N: Network, V: Number>(
     alloc: Global,
     claim: &Claim<'_, N>,
@@ -162,7 +160,7 @@ fn potentials<N: Network, V: Number>(
     Ok(potentials)
 }
 
-/// Sets a potential that is 0 so far. Ignores an ID that is no node, and a value out of range.
+/// Sets a potential that is 0 until now. Ignores an ID that is no node, and a value out of range.
 pub(crate) fn set_potential(
     potentials: &mut Potentials,
     id: u32,

@@ -1,45 +1,44 @@
-//! Preflows: excess is pushed to deficits, highest label first, with global relabelling and gaps, as Goldberg and
-//! Cherkassky describe it. It is pushed along paths of two arcs, as in Goldberg's partial augmentation: only to nodes
-//! from which it can be pushed on.
+//! Preflow-push: highest label first, with global relabelling and gaps, as Goldberg and Cherkassky describe it. Excess
+//! is pushed along paths of two arcs, as in Goldberg's partial augmentation: only to nodes from which it can be pushed
+//! on.
 
+mod active;
 mod residual;
-mod waiting;
 
 use crate::levels::{Levels, NONE};
+use crate::preflow::active::ActiveNodes;
 use crate::preflow::residual::{Half, Residual};
-use crate::preflow::waiting::Waiting;
 use crate::tables::{member, set_member};
 use dimacs_instance::{MaxInstance, MinInstance};
 use dimacs_lines::Memory;
 use dimacs_network::Network;
 use std::alloc::Global;
 
-/// The height of a node from which no deficit can be reached.
+/// The height of a node that reaches no deficit.
 const CUT_OFF: u32 = u32::MAX;
 
 /// A deficit that no flow fills: -2^120.
 const ENDLESS_DEFICIT: i128 = -1329227995784915872903807060280344576;
 
-/// A flow that leaves excess and deficits at nodes. Excess is pushed from higher to lower nodes: a node's height is at
-/// most one more than its distance to a deficit.
+/// A flow that leaves excess and deficits at nodes. Excess is pushed to lower nodes: a node's height is at most one
+/// more than its distance to a deficit.
 #[derive(Drop)]
 struct Preflow {
     residual: Residual,
-    /// The excess of each node: its inflow and supply, less its outflow. A negative one is a deficit.
+    /// By node: supply plus inflow minus outflow.
     imbalance: Vec<i128>,
     height: Vec<u32>,
-    /// For each node, no half-arc before this place leads down.
+    /// By node: no half-arc before this place is admissible.
     cursor: Vec<u32>,
     levels: Levels,
-    /// The nodes with excess.
-    waiting: Waiting,
-    /// The work since the last global relabelling, and how much work brings on the next one.
+    active: ActiveNodes,
+    /// The work since the last global relabelling, and how much brings on the next one.
     work: u64,
-    enough: u64,
+    work_limit: u64,
 }
 
-/// Finds a maximum flow from a feasible one. `amounts` has the amounts in the order of the arcs. Takes some 60 bytes
-/// for each node, of at most two for each arc, and 44 for each arc.
+/// Finds a maximum flow from a feasible one. `amounts` are in the order of the arcs. Takes some 60 bytes for each node,
+/// of at most two for each arc and a few, and 44 for each arc.
 pub fn raise_value<N: Network>(
     alloc: Global,
     instance: &MaxInstance<N>,
@@ -49,13 +48,13 @@ pub fn raise_value<N: Network>(
     let mut preflow = Preflow::new(alloc, network, amounts)?;
     let source = preflow.residual.numbers.of(instance.source());
     let sink = preflow.residual.numbers.of(instance.sink());
-    preflow.flood(source);
+    preflow.saturate_from(source);
     preflow.drain_to(sink, source);
     preflow.drain_to(source, sink);
     preflow.residual.amounts(alloc, network)
 }
 
-/// Finds a flow that leaves as little excess as possible, from one within the bounds. Takes as much memory.
+/// Finds a flow that leaves the least excess, from one within the bounds. Takes as much memory.
 pub fn send_excess<N: Network>(
     alloc: Global,
     instance: &MinInstance<N>,
@@ -63,14 +62,14 @@ pub fn send_excess<N: Network>(
 ) -> Result<Vec<i64>, Memory> {
     let network = instance.network();
     let mut preflow = Preflow::new(alloc, network, amounts)?;
-    preflow.supply(instance);
-    preflow.carry(network, amounts);
+    preflow.set_supplies(instance);
+    preflow.add_flow(network, amounts);
     preflow.drain();
     preflow.residual.amounts(alloc, network)
 }
 
 impl Preflow {
-    /// The residual network of these amounts, with excess 0 everywhere.
+    /// With imbalance 0 everywhere.
     fn new<N: Network>(alloc: Global, network: &N, amounts: &[i64]) -> Result<Preflow, Memory> {
         let residual = Residual::new(alloc, network, amounts)?;
         let count = residual.numbers.count();
@@ -81,21 +80,21 @@ impl Preflow {
             height: vec![in alloc; 0u32; nodes]?,
             cursor: vec![in alloc; 0u32; nodes]?,
             levels: Levels::new(alloc, nodes + 1, nodes)?,
-            waiting: Waiting::new(alloc, nodes)?,
+            active: ActiveNodes::new(alloc, nodes)?,
             work: 0,
-            enough: 24 * u64::from(count) + u64::from(network.arcs()),
+            work_limit: 24 * u64::from(count) + u64::from(network.arcs()),
         })
     }
 
-    /// Sets the excesses to the supplies.
-    fn supply<N: Network>(&mut self, instance: &MinInstance<N>) {
+    /// Sets the imbalances to the supplies.
+    fn set_supplies<N: Network>(&mut self, instance: &MinInstance<N>) {
         for (imbalance, id) in self.imbalance.iter_mut().zip(self.residual.numbers.ids()) {
             *imbalance = i128::from(instance.supply(*id));
         }
     }
 
-    /// Adds inflow less outflow to the excesses.
-    fn carry<N: Network>(&mut self, network: &N, amounts: &[i64]) {
+    /// Adds inflow minus outflow to the imbalances.
+    fn add_flow<N: Network>(&mut self, network: &N, amounts: &[i64]) {
         for i in 0..network.arcs() {
             let arc = network.arc(i);
             let amount = i128::from(member(amounts, i, 0));
@@ -106,8 +105,7 @@ impl Preflow {
         }
     }
 
-    /// Saturates all residual arcs out of a node.
-    fn flood(&mut self, node: u32) {
+    fn saturate_from(&mut self, node: u32) {
         for place in self.residual.starts.first(node)..self.residual.starts.end(node) {
             let half = self.residual.half(place);
             if half.residual_capacity > 0 {
@@ -116,7 +114,7 @@ impl Preflow {
         }
     }
 
-    /// Pushes excess to one terminal, until the rest can't reach it. The other one has neither excess nor a deficit.
+    /// Pushes excess to one terminal, until the rest can't reach it. The other one counts as balanced.
     fn drain_to(&mut self, terminal: u32, other: u32) {
         set_member(&mut self.imbalance, other, 0);
         set_member(&mut self.imbalance, terminal, ENDLESS_DEFICIT);
@@ -125,27 +123,27 @@ impl Preflow {
 
     /// Pushes excess to deficits, until the rest can't reach any.
     fn drain(&mut self) {
-        self.measure();
+        self.global_relabel();
         for _ in 0..u64::MAX {
-            let Some(node) = self.waiting.pop() else {
+            let Some(node) = self.active.pop() else {
                 return;
             };
             self.serve(node);
-            if self.work > self.enough {
-                self.measure();
+            if self.work > self.work_limit {
+                self.global_relabel();
             }
         }
     }
 
-    /// Global relabelling: heights become distances to the nodes with a deficit, which have height 1.
-    fn measure(&mut self) {
+    /// A node's height becomes its distance to a deficit, plus 1. Nodes with excess are queued again.
+    fn global_relabel(&mut self) {
         self.height.fill(CUT_OFF);
         self.levels.clear();
-        self.waiting.clear();
+        self.active.clear();
         self.work = 0;
         for node in 0..self.residual.numbers.count() {
             if self.imbalance(node) < 0 {
-                self.raise_to(node, 1);
+                self.set_height(node, 1);
             }
         }
         for height in 1..u32::MAX {
@@ -153,12 +151,12 @@ impl Preflow {
             if first == NONE {
                 return;
             }
-            self.measure_from(first, height);
+            self.relabel_from(first, height);
         }
     }
 
-    /// Relabels from the nodes of one height, from this one on in its list.
-    fn measure_from(&mut self, first: u32, height: u32) {
+    /// Relabels from the nodes of one height, from `first` on in its list.
+    fn relabel_from(&mut self, first: u32, height: u32) {
         let mut node = first;
         for _ in 0..u32::MAX {
             if node == NONE {
@@ -166,53 +164,53 @@ impl Preflow {
             }
             self.reach_back(node, height);
             if self.imbalance(node) > 0 {
-                self.waiting.push(node, height);
+                self.active.push(node, height);
             }
             node = self.levels.after(node);
         }
     }
 
-    /// Gives the next height to nodes without a height from which a residual arc leads to this one.
+    /// Gives the next height to nodes without one that have a residual arc to this node.
     fn reach_back(&mut self, node: u32, height: u32) {
         for place in self.residual.starts.first(node)..self.residual.starts.end(node) {
             let half = self.residual.half(place);
             if self.height(half.to) == CUT_OFF
                 && self.residual.half(half.back).residual_capacity > 0
             {
-                self.raise_to(half.to, height.wrapping_add(1));
+                self.set_height(half.to, height.wrapping_add(1));
             }
         }
     }
 
-    /// Discharges a node from the queue, unless it was lifted since and higher ones come first.
+    /// Discharges a node from the queue, or queues it again if it was relabelled since.
     fn serve(&mut self, node: u32) {
         if self.imbalance(node) <= 0 {
             return;
         }
         let height = self.height(node);
-        if height == self.waiting.highest() {
+        if height == self.active.highest() {
             self.discharge(node);
         } else if height != CUT_OFF {
-            self.waiting.push(node, height);
+            self.active.push(node, height);
         }
     }
 
-    /// Pushes the excess of a node down and lifts the node, until no excess is left or no deficit can be reached.
+    /// Pushes a node's excess and relabels the node, until no excess is left or no deficit can be reached.
     fn discharge(&mut self, node: u32) {
         for _ in 0..u64::MAX {
             self.push_down(node);
-            if self.imbalance(node) <= 0 || !self.lift(node) {
+            if self.imbalance(node) <= 0 || !self.relabel(node) {
                 return;
             }
         }
     }
 
-    /// Pushes excess along half-arcs that lead one level down, and from their ends on, as long as there is some.
+    /// Pushes excess along admissible half-arcs, and from their heads on, as long as there is some.
     fn push_down(&mut self, node: u32) {
         let height = self.height(node);
         for place in member(&self.cursor, node, 0)..self.residual.starts.end(node) {
             let half = self.residual.half(place);
-            if self.leads_down(half, height) && self.leads_on(half.to) {
+            if self.is_admissible(half, height) && self.leads_on(half.to) {
                 self.push(node, place, half);
                 self.push_on(half.to);
                 if self.imbalance(node) <= 0 {
@@ -225,11 +223,11 @@ impl Preflow {
 
     /// Whether a half-arc of a node with this height has residual capacity and leads one level down.
     #[inline(always)]
-    fn leads_down(&self, half: Half, height: u32) -> bool {
+    fn is_admissible(&self, half: Half, height: u32) -> bool {
         half.residual_capacity > 0 && self.height(half.to).wrapping_add(1) == height
     }
 
-    /// Whether a node has a deficit or a half-arc that leads down; its cursor then points to that. Otherwise lifts it.
+    /// Whether a node has a deficit or an admissible half-arc; its cursor then points to that. Otherwise relabels it.
     #[inline(always)]
     fn leads_on(&mut self, node: u32) -> bool {
         if self.imbalance(node) < 0 {
@@ -237,16 +235,16 @@ impl Preflow {
         }
         let height = self.height(node);
         for place in member(&self.cursor, node, 0)..self.residual.starts.end(node) {
-            if self.leads_down(self.residual.half(place), height) {
+            if self.is_admissible(self.residual.half(place), height) {
                 set_member(&mut self.cursor, node, place);
                 return true;
             }
         }
-        self.lift(node);
+        self.relabel(node);
         false
     }
 
-    /// Pushes excess along the half-arc at a node's cursor, if it leads down. Nodes that keep some go into the queue.
+    /// Pushes excess along the half-arc at a node's cursor, if it is admissible. Queues the ends that keep some.
     #[inline(always)]
     fn push_on(&mut self, node: u32) {
         if self.imbalance(node) <= 0 {
@@ -255,19 +253,19 @@ impl Preflow {
         let height = self.height(node);
         let place = member(&self.cursor, node, 0);
         let half = self.residual.half(place);
-        if self.leads_down(half, height) {
+        if self.is_admissible(half, height) {
             self.push(node, place, half);
-            self.wait(half.to);
+            self.queue(half.to);
         }
-        self.wait(node);
+        self.queue(node);
     }
 
-    /// Puts a node into the queue, if it has excess.
+    /// Queues a node if it has excess.
     #[inline(always)]
-    fn wait(&mut self, node: u32) {
+    fn queue(&mut self, node: u32) {
         if self.imbalance(node) > 0 {
             let height = self.height(node);
-            self.waiting.push(node, height);
+            self.active.push(node, height);
         }
     }
 
@@ -278,7 +276,6 @@ impl Preflow {
         self.move_along(from, place, half, half.residual_capacity.min(excess));
     }
 
-    /// Sends an amount along a half-arc.
     #[inline(always)]
     fn move_along(&mut self, from: u32, place: u32, half: Half, amount: i64) {
         self.residual.send(place, amount);
@@ -286,9 +283,9 @@ impl Preflow {
         self.add_imbalance(half.to, i128::from(amount));
     }
 
-    /// Lifts a node to one above the lowest node that it has a residual arc to. False if there is none, or if no other
-    /// node has its old height: then no deficit can be reached.
-    fn lift(&mut self, node: u32) -> bool {
+    /// Raises a node to one above the lowest head of its residual arcs. False if it has none, or if no other node has
+    /// its old height: then no deficit can be reached.
+    fn relabel(&mut self, node: u32) -> bool {
         let old = self.height(node);
         if old == CUT_OFF {
             return false;
@@ -299,16 +296,15 @@ impl Preflow {
             self.cut_off_above(old);
             return false;
         }
-        let lowest = self.lowest_after(node);
+        let lowest = self.lowest_head(node);
         if lowest == CUT_OFF {
             return false;
         }
-        self.raise_to(node, lowest.wrapping_add(1));
+        self.set_height(node, lowest.wrapping_add(1));
         true
     }
 
-    /// The least height of a node to which a residual arc leads.
-    fn lowest_after(&mut self, node: u32) -> u32 {
+    fn lowest_head(&mut self, node: u32) -> u32 {
         let halves = self.residual.halves_of(node);
         let mut lowest = CUT_OFF;
         for half in halves {
@@ -321,15 +317,15 @@ impl Preflow {
         lowest
     }
 
-    /// Gives a node this height.
-    fn raise_to(&mut self, node: u32, height: u32) {
+    /// Sets a node's height, and its cursor to the first half-arc.
+    fn set_height(&mut self, node: u32, height: u32) {
         let first = self.residual.starts.first(node);
         set_member(&mut self.height, node, height);
         set_member(&mut self.cursor, node, first);
         self.levels.insert(node, height);
     }
 
-    /// Gap: no deficit can be reached from the nodes above a height without nodes.
+    /// Gap: nodes above a height without nodes reach no deficit.
     fn cut_off_above(&mut self, height: u32) {
         for above in height..self.levels.highest() {
             self.cut_off(above.wrapping_add(1));
@@ -337,7 +333,6 @@ impl Preflow {
         self.levels.forget_above(height);
     }
 
-    /// Cuts off the nodes of a height.
     fn cut_off(&mut self, height: u32) {
         for _ in 0..u32::MAX {
             let Some(node) = self.levels.take(height) else {

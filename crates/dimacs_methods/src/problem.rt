@@ -6,26 +6,23 @@ use dimacs_lines::Memory;
 use dimacs_network::Network;
 use std::alloc::Global;
 
-/// A minimum cost flow instance, and the size of its numbers.
+/// A minimum cost flow instance, and bounds on its numbers.
 #[derive(Drop)]
 pub(crate) struct Problem<'a, N: Network> {
     pub instance: &'a MinInstance<N>,
-    /// The numbers of the nodes that occur.
     pub numbers: NodeNumbers,
-    /// The excess of each node, by number, if each arc carries its lower bound: its supply and inflow, less its
-    /// outflow. A negative one is a deficit.
+    /// By node number: the imbalance if each arc carries its lower bound.
     pub excess: Vec<i128>,
-    /// The greatest cost, without its sign, and the least.
-    greatest: i128,
+    /// The greatest absolute cost; the least cost, or 0 if none is negative.
+    greatest_cost: i128,
     pub least_cost: i64,
-    /// The sum of all capacities.
-    capacity: i128,
+    total_capacity: i128,
 }
 
-/// Potentials and prices for unscaled costs fit into 64 bits if no path costs as much: 2^60.
-const LONGEST: i128 = 1152921504606846976;
+/// If every path costs less than this, 2^60, then potentials and prices for unscaled costs fit into 64 bits.
+const PATH_COST_LIMIT: i128 = 1152921504606846976;
 
-/// Amounts fit into 64 bits if all that may be moved is less: 2^62.
+/// If less than this, 2^62, can move, then amounts fit into 64 bits.
 pub(crate) const MOST_MOVED: i128 = 4611686018427387904;
 
 impl<'a, N: Network> Problem<'a, N> {
@@ -42,20 +39,20 @@ impl<'a, N: Network> Problem<'a, N> {
             instance,
             numbers,
             excess,
-            greatest: 0,
+            greatest_cost: 0,
             least_cost: 0,
-            capacity: 0,
+            total_capacity: 0,
         };
-        problem.look_at_arcs(instance.network());
+        problem.add_arcs(instance.network());
         Ok(problem)
     }
 
-    fn look_at_arcs(&mut self, network: &N) {
+    fn add_arcs(&mut self, network: &N) {
         for i in 0..network.arcs() {
             let arc = network.arc(i);
-            self.greatest = self.greatest.max(i128::from(arc.cost).wrapping_abs());
+            self.greatest_cost = self.greatest_cost.max(i128::from(arc.cost).wrapping_abs());
             self.least_cost = self.least_cost.min(arc.cost);
-            self.capacity = self.capacity.wrapping_add(i128::from(arc.cap));
+            self.total_capacity = self.total_capacity.wrapping_add(i128::from(arc.cap));
             if arc.low > 0 {
                 let low = i128::from(arc.low);
                 self.add_excess(arc.tail, low.wrapping_neg());
@@ -75,14 +72,14 @@ impl<'a, N: Network> Problem<'a, N> {
         self.instance.network()
     }
 
-    /// A bound above the cost of any path.
+    /// Greater than the cost of any path.
     pub(crate) fn longest_path(&self) -> i128 {
         let nodes = i128::from(self.numbers.count());
-        self.greatest.wrapping_mul(nodes).wrapping_add(1)
+        self.greatest_cost.wrapping_mul(nodes).wrapping_add(1)
     }
 
-    /// The sum of all excesses and deficits, without their signs.
-    pub(crate) fn imbalance(&self) -> i128 {
+    /// The sum of all excesses and deficits.
+    pub(crate) fn total_imbalance(&self) -> i128 {
         let mut sum: i128 = 0;
         for amount in &self.excess {
             sum = sum.wrapping_add(amount.wrapping_abs());
@@ -90,33 +87,31 @@ impl<'a, N: Network> Problem<'a, N> {
         sum
     }
 
-    /// Whether the numbers of a method that doesn't scale costs fit into 64 bits.
+    /// Whether 64 bits hold the numbers of a method that doesn't scale costs.
     pub(crate) fn is_narrow(&self) -> bool {
-        self.longest_path() < LONGEST && self.imbalance() < MOST_MOVED
+        self.longest_path() < PATH_COST_LIMIT && self.total_imbalance() < MOST_MOVED
     }
 
-    /// How many nodes have an excess.
+    /// The number of nodes with an excess.
     pub(crate) fn sources(&self) -> usize {
         self.excess.iter().filter(|excess| **excess > 0).count()
     }
 
-    /// A bound on the excess or deficit of any node, whatever the arcs carry.
+    /// A bound on any excess or deficit, whatever the arcs carry.
     pub(crate) fn greatest_excess(&self) -> i128 {
-        self.imbalance().wrapping_add(self.capacity)
+        self.total_imbalance().wrapping_add(self.total_capacity)
     }
 
-    /// The number of arcs and nodes together.
+    /// The number of arcs and nodes.
     pub(crate) fn size(&self) -> u64 {
         u64::from(self.network().arcs()) + u64::from(self.numbers.count())
     }
 
-    /// The number of bits of the number of nodes.
     pub(crate) fn node_bits(&self) -> u32 {
         u32::BITS - self.numbers.count().leading_zeros()
     }
 
-    /// The number of bits of the greatest cost.
     pub(crate) fn cost_bits(&self) -> u32 {
-        i128::BITS - self.greatest.leading_zeros()
+        i128::BITS - self.greatest_cost.leading_zeros()
     }
 }

@@ -1,15 +1,14 @@
 //! Minimum cost flow by cost scaling with partial augmentation, as Goldberg and Tarjan, and Kovács, describe it.
 //!
-//! Costs are scaled up, so that a flow that costs least within a tolerance of 1 costs least. A phase starts from a flow
-//! that costs least within some tolerance, and makes it so within a sixteenth of that: it saturates arcs with negative
-//! reduced cost, and moves the excess that this leaves to deficits along short paths of such arcs. If a path can't be
-//! extended from a node, the node's price is lowered until it can.
+//! Costs are scaled up: then a flow that costs least within a tolerance of 1 costs least. A phase makes the tolerance a
+//! sixteenth: it saturates arcs with negative reduced cost, and moves the excess that this leaves to deficits along
+//! short paths of such arcs. If a path can't be extended from a node, the node's price is lowered until it can.
 //!
 //! From time to time a global update lowers all prices by the nodes' distances to a deficit. If an excess reaches none,
-//! no flow is feasible, and the excess is left where it is.
+//! no flow is feasible, and the excess stays where it is.
 //!
 //! A phase leaves out arcs whose reduced cost is far from 0: most keep their flow. If some excess reaches no deficit
-//! without them, they are taken back for good, and the phase begins again. In the end all arcs are tested.
+//! without them, they are taken back for good, and the phase begins again. At the end all arcs are tested.
 
 mod paths;
 mod update;
@@ -24,17 +23,17 @@ use dimacs_network::Network;
 use std::alloc::Global;
 use std::collections::VecDeque;
 
-/// The greatest number of arcs on a path.
-const LONGEST: usize = 4;
+/// The most arcs on a path.
+const PATH_LENGTH: usize = 4;
 
 /// Each phase halves the tolerance this many times.
 const HALVINGS: u32 = 4;
 
-/// Arcs are left out if their reduced cost is beyond the tolerance, times 2 to this power, times the root of the number
-/// of nodes.
+/// Arcs are left out if their absolute reduced cost is above the tolerance, times 2 to this power, times the root of
+/// the number of nodes.
 const FAR: u32 = 6;
 
-/// The number of ranks for each node.
+/// Ranks for each node.
 const RANKS: usize = 16;
 
 #[derive(Drop)]
@@ -42,20 +41,20 @@ pub(crate) struct Scaling<V: Number> {
     pub residual: Residual<V>,
     /// The nodes with excess.
     active: VecDeque<u32>,
-    /// The half-arcs of a path, by their places.
+    /// The half-arcs of the path, by place.
     path: Vec<u32>,
-    /// The nodes by rank: the distance to a deficit, as the update under way has found it.
+    /// The nodes by rank, their distance to a deficit in the current update.
     ranks: Levels,
     /// The tolerance is 2 to this power.
     level: u32,
-    /// How many prices may be lowered before the next global update.
-    left: u64,
+    /// How many relabels may follow before the next global update.
+    relabels_left: u64,
     /// Whether arcs with a reduced cost far from 0 are left out.
     leaves_out: bool,
 }
 
 impl<V: Number> Scaling<V> {
-    /// At the start each arc carries its lower bound.
+    /// Starts from the lower bounds.
     pub(crate) fn new<N: Network>(
         alloc: Global,
         problem: &Problem<'_, N>,
@@ -63,7 +62,7 @@ impl<V: Number> Scaling<V> {
         let nodes = problem.excess.len();
         let node_bits = problem.node_bits();
         let residual = Residual::new(alloc, problem, node_bits)?;
-        let path = Vec::with_capacity(alloc, LONGEST)?;
+        let path = Vec::with_capacity(alloc, PATH_LENGTH)?;
         let ranks = Levels::new(alloc, nodes.saturating_mul(RANKS), nodes)?;
         Ok(Scaling {
             residual,
@@ -71,12 +70,12 @@ impl<V: Number> Scaling<V> {
             path,
             ranks,
             level: problem.cost_bits().saturating_add(node_bits),
-            left: 0,
+            relabels_left: 0,
             leaves_out: true,
         })
     }
 
-    /// Runs phase after phase, until the flow costs least, or an excess can't be moved.
+    /// Runs phases until the flow costs least, or an excess can't be moved.
     pub(crate) fn run(&mut self) -> Result<(), Memory> {
         for _ in 0..u32::MAX {
             self.level = self.level.saturating_sub(HALVINGS);
@@ -92,11 +91,12 @@ impl<V: Number> Scaling<V> {
         Ok(())
     }
 
-    /// One phase, which begins with the arcs whose reduced cost is below this. Returns whether an excess is left.
+    /// One phase, which first saturates the arcs whose reduced cost is below `bound`. Returns whether an excess reaches
+    /// no deficit.
     fn refine(&mut self, bound: V) -> Result<bool, Memory> {
         self.saturate(bound);
         self.gather_active()?;
-        let mut is_short = self.update_or_park()?;
+        let mut is_short = self.update_or_discard()?;
         for _ in 0..u64::MAX {
             let Some(node) = self.active.pop_front() else {
                 break;
@@ -106,7 +106,7 @@ impl<V: Number> Scaling<V> {
         Ok(is_short)
     }
 
-    /// Saturates all arcs with a reduced cost below this, and chooses the arcs of the phase.
+    /// Saturates all arcs with a reduced cost below `bound`, and chooses the arcs of the phase.
     fn saturate(&mut self, bound: V) {
         let nodes = count_of(&self.residual.nodes);
         let far = V::of(i64::from(nodes.isqrt())).doubled(self.level.wrapping_add(FAR));
@@ -119,7 +119,6 @@ impl<V: Number> Scaling<V> {
         }
     }
 
-    /// Saturates the arcs from a node with a reduced cost below this.
     fn saturate_at(&mut self, number: u32, bound: V) {
         let node = self.residual.node(number);
         for place in node.start..node.end {
@@ -127,10 +126,9 @@ impl<V: Number> Scaling<V> {
         }
     }
 
-    /// Puts the nodes with excess into the queue.
     fn gather_active(&mut self) -> Result<(), Memory> {
         for number in 0..count_of(&self.residual.nodes) {
-            if self.residual.node(number).excess.is_positive() {
+            if self.residual.node(number).imbalance.is_positive() {
                 self.active.push_back(number)?;
             }
         }
@@ -138,8 +136,8 @@ impl<V: Number> Scaling<V> {
     }
 
     /// Updates all prices. Returns whether an excess reaches no deficit.
-    fn update_or_park(&mut self) -> Result<bool, Memory> {
-        self.left = u64::from(count_of(&self.residual.nodes)).max(1);
+    fn update_or_discard(&mut self) -> Result<bool, Memory> {
+        self.relabels_left = u64::from(count_of(&self.residual.nodes)).max(1);
         if self.update() {
             return Ok(false);
         }
@@ -151,28 +149,27 @@ impl<V: Number> Scaling<V> {
                 return Ok(false);
             }
         }
-        Ok(self.park())
+        Ok(self.discard_excess())
     }
 
-    /// Moves the excess of a node on. Returns whether some is left.
+    /// Moves a node's excess on. Returns whether some excess reaches no deficit.
     fn drain(&mut self, node: u32) -> Result<bool, Memory> {
         let mut is_short = false;
         for _ in 0..u64::MAX {
-            if !self.residual.node(node).excess.is_positive() {
+            if !self.residual.node(node).imbalance.is_positive() {
                 break;
             }
             self.find_path(node)?;
             self.send_along(node)?;
-            if self.left == 0 {
-                is_short |= self.update_or_park()?;
+            if self.relabels_left == 0 {
+                is_short |= self.update_or_discard()?;
             }
         }
         Ok(is_short)
     }
 
-    /// Sets a node's cursor.
     #[inline(always)]
-    fn look_from(&mut self, number: u32, place: u32) {
+    fn set_cursor(&mut self, number: u32, place: u32) {
         if let Some(node) = self.residual.nodes.get_mut(number as usize) {
             node.cursor = place;
         }

@@ -1,14 +1,13 @@
 //! Minimum cost flow by the primal network simplex.
 //!
-//! A spanning tree over the nodes and a root holds all arcs that carry more than their lower bound and less than their
-//! capacity; every other arc carries one of the two. Potentials make the reduced cost of each tree arc 0: its cost,
-//! plus the potential of its tail, minus that of its head. A pivot takes an arc whose reduced cost shows that it should
-//! carry the other bound, moves flow round the cycle that it closes with the tree, and exchanges it for an arc of the
-//! cycle that came to a bound. When no such arc is left, the flow costs least.
+//! A spanning tree over the nodes and a root holds all arcs between their bounds; every other arc carries one of its
+//! bounds. Potentials make the reduced cost of each tree arc 0: its cost, plus its tail's potential, minus its head's.
+//! A pivot takes an arc whose reduced cost shows that it should carry the other bound, moves flow round the cycle that
+//! it closes with the tree, and exchanges it for an arc of the cycle that came to a bound. If no such arc is left, the
+//! flow costs least.
 //!
-//! At first each node is joined to the root by an artificial arc. Artificial arcs that fill a deficit have a price
-//! above the cost of any path, so they leave the tree as soon as there is a path. If one carries something at the end,
-//! no path is left.
+//! At first an artificial arc joins each node to the root. Those that fill a deficit have a price above the cost of any
+//! path: they leave the tree once there is a path. If one carries flow at the end, no path is left.
 
 mod arcs;
 mod cycle;
@@ -27,14 +26,14 @@ use dimacs_lines::Memory;
 use dimacs_network::Network;
 use std::alloc::Global;
 
-/// Nodes are numbered again after this many moves of nodes for each arc and node.
+/// Nodes are numbered again after this many moves for each arc and node.
 const MOVES_PER_NUMBERING: u64 = 32;
 
-/// The least number of arcs that are compared at once.
+/// The fewest arcs that a search compares at once.
 const LEAST_BLOCK: u32 = 10;
 
-/// The method lags if it has done more than this work, and if during so many pivots for each node it walked over more
-/// nodes than this many times the arcs that it looked at: then subtrees are large, and many more pivots follow.
+/// The method lags if its work is above `EARLY_WORK`, and if in the last `PIVOTS` pivots for each node it walked over
+/// more than `WALKS` nodes for each arc scanned: then subtrees are large, and many more pivots follow.
 const EARLY_WORK: u64 = 134217728;
 
 const PIVOTS: u64 = 2;
@@ -47,11 +46,10 @@ pub(crate) struct Simplex<V: Number> {
     arcs: Arcs<V>,
     /// The number of arcs.
     count: u32,
-    /// The place where the next search begins, and how many arcs it compares at once.
+    /// Where the next search begins, and how many arcs it compares at once.
     at: u32,
     block: u32,
-    /// The work before the last test whether the method lags, and since then how many arcs were looked at, and how many
-    /// nodes walked over.
+    /// The work before the last test for lagging. Since then: the arcs scanned, and the nodes walked over.
     work: u64,
     looked: u64,
     walked: u64,
@@ -60,7 +58,7 @@ pub(crate) struct Simplex<V: Number> {
 }
 
 impl<V: Number> Simplex<V> {
-    /// At the start each arc carries its lower bound. Deficits are filled at a price above the cost of any path.
+    /// Starts from the lower bounds. Deficits are filled at a price above the cost of any path.
     pub(crate) fn new<N: Network>(
         alloc: Global,
         problem: &Problem<'_, N>,
@@ -82,7 +80,7 @@ impl<V: Number> Simplex<V> {
         })
     }
 
-    /// Pivots until no arc should change its state. False if that takes more than this work, or seems to.
+    /// Pivots until no arc should change its state. False if that takes more than `work`, or seems to.
     pub(crate) fn run(&mut self, alloc: Global, work: u64) -> Result<bool, Memory> {
         let pivots = u64::from(self.tree.root()).wrapping_mul(PIVOTS);
         let mut left = pivots;
@@ -105,7 +103,6 @@ impl<V: Number> Simplex<V> {
         Ok(false)
     }
 
-    /// Whether the method has done more than this work, or is slow so far.
     fn lags(&mut self, work: u64) -> bool {
         let walks = self.walked > self.looked.wrapping_mul(WALKS);
         self.work = self
@@ -117,7 +114,7 @@ impl<V: Number> Simplex<V> {
         self.work > work || walks && self.work > EARLY_WORK
     }
 
-    /// An arc that should change its state: the best one of the first block that has any, after the last block.
+    /// Block search: the best arc that should change its state, in the first block that has one, after the last block.
     fn entering(&mut self) -> Option<u32> {
         let mut left = self.count;
         for _ in 0..self.count {
@@ -138,7 +135,7 @@ impl<V: Number> Simplex<V> {
         None
     }
 
-    /// Lets an arc enter the tree.
+    /// Lets an arc enter the tree, or come to its other bound.
     fn pivot(&mut self, entering: u32) {
         let price = self.arcs.price(entering);
         let state = self.arcs.state(entering);
@@ -173,7 +170,7 @@ impl<V: Number> Simplex<V> {
         }
     }
 
-    /// Removes the arc between `out` and its parent from the tree, and joins what was cut off by the hook at `top`.
+    /// Removes the arc between `out` and its parent, and joins what that cuts off by the hook at `top`.
     fn exchange(&mut self, out: u32, top: u32, hook: Hook<V>) {
         let price = self.arcs.price(hook.arc);
         let reduced = price.reduced(&self.tree.potentials);
@@ -189,7 +186,7 @@ impl<V: Number> Simplex<V> {
         self.moves = self.moves.saturating_sub(moved);
     }
 
-    /// Removes the arc between a node and its parent from the tree. It carries one of its bounds.
+    /// Removes the arc between a node and its parent, which carries one of its bounds.
     fn leave(&mut self, out: u32) {
         let node = self.tree.node(out);
         let is_empty = self.arcs.flow(out, &node).is_zero();
@@ -218,7 +215,6 @@ impl<V: Number> Simplex<V> {
         }
     }
 
-    /// The amounts of the arcs.
     pub(crate) fn amounts<N: Network>(
         &mut self,
         alloc: Global,

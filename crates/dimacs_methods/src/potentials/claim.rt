@@ -6,7 +6,7 @@ use dimacs_lines::Memory;
 use dimacs_network::{ArcView, Network, Side};
 use std::alloc::Global;
 
-/// A residual arc: it leads along an arc from its tail, or back from its head.
+/// It leads along an arc from its tail, or back from its head.
 #[derive(Clone, Copy)]
 pub struct ResidualArc {
     /// The index of the arc, from 0.
@@ -15,20 +15,18 @@ pub struct ResidualArc {
     pub side: Side,
 }
 
-/// Whether an arc can carry more, and whether it can carry less.
+/// Whether an arc can carry more, and less.
 #[derive(Clone, Copy)]
 pub(crate) struct ResidualCapacity {
     pub more: bool,
     pub less: bool,
 }
 
-/// A flow that is claimed to cost least.
 #[derive(Drop)]
 pub(crate) struct Claim<'a, N: Network> {
     pub instance: &'a MinInstance<N>,
-    /// The amounts, in the order of the arcs.
+    /// In the order of the arcs.
     amounts: &'a [i64],
-    /// The numbers of the nodes that have an arc.
     pub numbers: NodeNumbers,
 }
 
@@ -51,7 +49,7 @@ impl<'a, N: Network> Claim<'a, N> {
         self.instance.network()
     }
 
-    /// Whether the arc with this index can carry more, and less.
+    /// Whether arc `i` can carry more, and less; neither if it has no amount.
     #[inline(always)]
     pub(crate) fn residual_capacity(&self, i: u32, arc: ArcView) -> ResidualCapacity {
         match self.amounts.get(i as usize) {
@@ -66,7 +64,7 @@ impl<'a, N: Network> Claim<'a, N> {
         }
     }
 
-    /// The sum of all costs, without their signs.
+    /// The sum of all absolute costs.
     pub(crate) fn cost_sum(&self) -> u128 {
         let network = self.network();
         let mut sum: u128 = 0;

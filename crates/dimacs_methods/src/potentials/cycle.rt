@@ -51,7 +51,7 @@ pub(crate) fn cycle_over<N: Network, V: Number>(
     close(alloc, steps, places, &chosen)
 }
 
-/// A cycle with one step that costs less than the difference of its ends' shifts within a group. Empty if there is
+/// A cycle with one step within a group that costs less than the difference of its ends' shifts. Empty if there is
 /// none.
 pub(crate) fn cycle_within<N: Network, V: Number>(
     alloc: Global,
@@ -61,7 +61,7 @@ pub(crate) fn cycle_within<N: Network, V: Number>(
     let steps = Step::all(alloc, claim)?;
     let mut chosen = Vec::new(alloc);
     for step in &steps {
-        if step.link(places).is_torn() {
+        if step.link(places).is_negative_loop() {
             chosen.push(*step)?;
             break;
         }
@@ -69,7 +69,6 @@ pub(crate) fn cycle_within<N: Network, V: Number>(
     close(alloc, steps, places, &chosen)
 }
 
-/// Sets for each group of a cycle which group is next.
 fn set_next<V: Number>(cheapest: &mut [Cheapest<V>], groups: &[u32], none: Cheapest<V>) {
     let mut before = groups.last().copied().unwrap_or(0);
     for group in groups {
@@ -82,7 +81,6 @@ fn set_next<V: Number>(cheapest: &mut [Cheapest<V>], groups: &[u32], none: Cheap
     }
 }
 
-/// Keeps the cheapest of the steps from each group to the next.
 fn keep_cheapest<V: Number>(cheapest: &mut [Cheapest<V>], steps: &[Step<V>], places: &Places<V>) {
     for step in steps {
         let link = step.link(places);

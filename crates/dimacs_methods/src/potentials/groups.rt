@@ -7,10 +7,9 @@ use dimacs_lines::Memory;
 use dimacs_network::Network;
 use std::alloc::Global;
 
-/// The place of a node in its group.
 #[derive(Clone, Copy)]
 pub(crate) struct Place<V> {
-    /// The node's distance less the group's.
+    /// The node's distance minus the group's.
     pub shift: V,
     pub group: u32,
 }
@@ -23,26 +22,23 @@ pub(crate) struct Places<V> {
     pub groups: u32,
 }
 
-/// Groups while they are being joined, as trees: each node has its parent and the shift from it; a root is its own
-/// parent.
+/// Groups while they are joined, as trees. Each node has its parent and the shift from it; a root is its own parent.
 #[derive(Drop)]
 pub(crate) struct Groups<V> {
-    above: Vec<Place<V>>,
+    parents: Vec<Place<V>>,
 }
 
 impl<V: Number> Places<V> {
-    /// The place of a node.
     #[inline(always)]
     pub(crate) fn of(&self, node: u32) -> Place<V> {
         place_of(&self.places, node)
     }
 
-    /// The number of nodes.
     pub(crate) fn nodes(&self) -> u32 {
         count_of(&self.places)
     }
 
-    /// Replaces groups by the groups of groups that they were joined to.
+    /// Replaces each group by the one that it was joined to.
     pub(crate) fn join(&mut self, joints: &Places<V>) {
         for place in self.places.iter_mut() {
             let joint = joints.of(place.group);
@@ -58,22 +54,22 @@ impl<V: Number> Places<V> {
 impl<V: Number> Groups<V> {
     /// A group for each node.
     pub(crate) fn apart(alloc: Global, nodes: u32) -> Result<Groups<V>, Memory> {
-        let mut above = Vec::with_capacity(alloc, nodes as usize)?;
+        let mut parents = Vec::with_capacity(alloc, nodes as usize)?;
         for node in 0..nodes {
-            above.push(place_at(node))?;
+            parents.push(place_at(node))?;
         }
-        Ok(Groups { above })
+        Ok(Groups { parents })
     }
 
-    /// The root of a node's group, and the node's shift from it. On the way every second node is attached to its
+    /// The root of a node's group, and the node's shift from it. Halves the path: every second node is attached to its
     /// grandparent.
     #[inline(always)]
     pub(crate) fn find(&mut self, node: u32) -> Place<V> {
         let mut at = node;
         let mut sum = V::of(0);
         for _ in 0..u32::MAX {
-            let first = place_of(&self.above, at);
-            let second = place_of(&self.above, first.group);
+            let first = place_of(&self.parents, at);
+            let second = place_of(&self.parents, first.group);
             if second.group == first.group {
                 return Place {
                     shift: sum.plus(first.shift),
@@ -84,7 +80,7 @@ impl<V: Number> Groups<V> {
                 shift: first.shift.plus(second.shift),
                 group: second.group,
             };
-            set_member(&mut self.above, at, both);
+            set_member(&mut self.parents, at, both);
             at = both.group;
             sum = sum.plus(both.shift);
         }
@@ -94,10 +90,9 @@ impl<V: Number> Groups<V> {
         }
     }
 
-    /// Whether the node is a root.
     #[inline(always)]
     pub(crate) fn is_root(&self, node: u32) -> bool {
-        place_of(&self.above, node).group == node
+        place_of(&self.parents, node).group == node
     }
 
     /// Fixes the distance of `to` at that of `from` plus `cost`. False if another difference is known.
@@ -112,12 +107,11 @@ impl<V: Number> Groups<V> {
             shift,
             group: here.group,
         };
-        set_member(&mut self.above, there.group, below);
+        set_member(&mut self.parents, there.group, below);
         true
     }
 
-    /// Ties the ends of all arcs that can carry both more and less. Stops with false at an arc that contradicts earlier
-    /// ones.
+    /// Ties the ends of all arcs that can carry both more and less. False if one contradicts earlier ones.
     pub(crate) fn tie_all<N: Network>(&mut self, claim: &Claim<'_, N>) -> bool {
         let network = claim.network();
         for i in 0..network.arcs() {
@@ -134,9 +128,8 @@ impl<V: Number> Groups<V> {
         true
     }
 
-    /// Numbers the groups.
     pub(crate) fn places(mut self, alloc: Global) -> Result<Places<V>, Memory> {
-        let nodes = count_of(&self.above);
+        let nodes = count_of(&self.parents);
         let mut places = vec![in alloc; place_at(0); nodes as usize]?;
         let groups = self.number_roots(&mut places);
         for node in 0..nodes {
@@ -153,7 +146,7 @@ impl<V: Number> Groups<V> {
     /// Numbers the groups at their roots. Returns how many there are.
     fn number_roots(&self, places: &mut [Place<V>]) -> u32 {
         let mut groups: u32 = 0;
-        for node in 0..count_of(&self.above) {
+        for node in 0..count_of(&self.parents) {
             if self.is_root(node) {
                 set_member(places, node, place_at(groups));
                 groups = groups.wrapping_add(1);
@@ -163,7 +156,7 @@ impl<V: Number> Groups<V> {
     }
 }
 
-/// The place of a node; beyond the end, a group of its own.
+/// Beyond the end, a node is a group of its own.
 #[inline(always)]
 fn place_of<V: Number>(places: &[Place<V>], node: u32) -> Place<V> {
     member(places, node, place_at(node))

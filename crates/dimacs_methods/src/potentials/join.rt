@@ -7,17 +7,18 @@ use crate::tables::{member, set_member};
 use dimacs_lines::Memory;
 use std::alloc::Global;
 
-/// The number of links into a group, or out of it, and the exclusive or of their indices: with one link, that is its
-/// index.
+/// The number of links into a group, or out of it, and the exclusive or of their indices: of one link, its index.
 #[derive(Clone, Copy)]
 struct Degree {
     count: u32,
-    mix: u32,
+    index_xor: u32,
 }
 
-const NO_DEGREE: Degree = Degree { count: 0, mix: 0 };
+const NO_DEGREE: Degree = Degree {
+    count: 0,
+    index_xor: 0,
+};
 
-/// Groups while they are joined along links.
 #[derive(Drop)]
 struct Joining<'a, V> {
     links: &'a [Link<V>],
@@ -29,8 +30,8 @@ struct Joining<'a, V> {
     joined: u32,
 }
 
-/// Joins each group with only one link in, or out, to the other end of this link: if slack potentials exist, there are
-/// also some that make the link tight. None if only few groups can be joined.
+/// Joins each group with only one link in, or out, to the link's other end. If slack potentials exist, then some of
+/// them make the link tight. None if less than an eighth of the groups can be joined.
 pub(crate) fn joints<V: Number>(
     alloc: Global,
     links: &[Link<V>],
@@ -75,20 +76,20 @@ impl<'a, V: Number> Joining<'a, V> {
         }
     }
 
-    /// The index of the only link into a group, or otherwise of the only one out of it.
+    /// The only link into a group, or otherwise the only one out of it.
     fn only_link(&self, group: u32) -> Option<u32> {
         let into = member(&self.into, group, NO_DEGREE);
         let out = member(&self.out, group, NO_DEGREE);
         if into.count == 1 {
-            Some(into.mix)
+            Some(into.index_xor)
         } else if out.count == 1 {
-            Some(out.mix)
+            Some(out.index_xor)
         } else {
             None
         }
     }
 
-    /// Joins a group to the other end of its only link, if it has such a link and wasn't joined to another group.
+    /// Joins a group to the other end of its only link, unless it was joined to another group.
     fn join(&mut self, group: u32) -> Result<(), Memory> {
         let Some(number) = self.only_link(group) else {
             return Ok(());
@@ -107,7 +108,7 @@ impl<'a, V: Number> Joining<'a, V> {
         merge(&mut self.into, from, to, root);
         merge(&mut self.out, from, to, root);
         self.leave_out(root, number);
-        if back != number && self.is_within(back) {
+        if back != number && self.is_loop(back) {
             self.leave_out(root, back);
         }
         self.joined = self.joined.wrapping_add(1);
@@ -115,48 +116,46 @@ impl<'a, V: Number> Joining<'a, V> {
         Ok(())
     }
 
-    /// The other link of a group with exactly one link in and one out; otherwise this one.
+    /// The other link of a group with one link in and one out; otherwise this one.
     fn other_link(&self, group: u32, number: u32) -> u32 {
         let into = member(&self.into, group, NO_DEGREE);
         let out = member(&self.out, group, NO_DEGREE);
         if into.count == 1 && out.count == 1 {
-            into.mix ^ out.mix ^ number
+            into.index_xor ^ out.index_xor ^ number
         } else {
             number
         }
     }
 
-    /// Whether a link leads from a group to itself.
-    fn is_within(&mut self, number: u32) -> bool {
+    fn is_loop(&mut self, number: u32) -> bool {
         match self.links.get(number as usize) {
             Some(&link) => self.groups.find(link.from).group == self.groups.find(link.to).group,
             None => false,
         }
     }
 
-    /// Stops counting a link from a group to itself.
+    /// Stops counting a loop.
     fn leave_out(&mut self, group: u32, number: u32) {
         count(&mut self.into, group, -1, number);
         count(&mut self.out, group, -1, number);
     }
 }
 
-/// Counts a link, or stops counting one if `change` is -1.
+/// Counts a link, or stops counting it if `change` is -1.
 #[inline(always)]
 fn count(degrees: &mut [Degree], group: u32, change: i32, link: u32) {
     if let Some(degree) = degrees.get_mut(group as usize) {
         degree.count = degree.count.wrapping_add_signed(change);
-        degree.mix ^= link;
+        degree.index_xor ^= link;
     }
 }
 
-/// Adds the degrees of two groups that are joined.
 fn merge(degrees: &mut [Degree], one: u32, other: u32, root: u32) {
     let a = member(degrees, one, NO_DEGREE);
     let b = member(degrees, other, NO_DEGREE);
     let sum = Degree {
         count: a.count.wrapping_add(b.count),
-        mix: a.mix ^ b.mix,
+        index_xor: a.index_xor ^ b.index_xor,
     };
     set_member(degrees, root, sum);
 }

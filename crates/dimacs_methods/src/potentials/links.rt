@@ -9,7 +9,7 @@ use dimacs_lines::Memory;
 use dimacs_network::{ArcView, Network};
 use std::alloc::{AllocError, Global};
 
-/// A residual arc from one group to another: the distance of `to` is at most that of `from` plus `cost`.
+/// The distance of `to` is at most that of `from` plus `cost`.
 pub(crate) struct Link<V> {
     pub cost: V,
     pub from: u32,
@@ -32,7 +32,7 @@ impl<V: Number> Listed for Link<V> {
 }
 
 impl<V: Number> Link<V> {
-    /// The link of an arc that can carry either more or less, but not both.
+    /// None if the arc can carry both more and less, or neither.
     #[inline(always)]
     pub(crate) fn of<N: Network>(
         claim: &Claim<'_, N>,
@@ -54,7 +54,6 @@ impl<V: Number> Link<V> {
         }
     }
 
-    /// The link between these places.
     #[inline(always)]
     pub(crate) fn between(near: Place<V>, cost: V, far: Place<V>) -> Link<V> {
         Link {
@@ -70,26 +69,25 @@ impl<V: Number> Link<V> {
         Link::between(joints.of(self.from), self.cost, joints.of(self.to))
     }
 
-    /// Whether it leads from a group to itself.
     #[inline(always)]
-    pub(crate) fn is_within(&self) -> bool {
+    pub(crate) fn is_loop(&self) -> bool {
         self.from == self.to
     }
 
-    /// Whether it is within a group, at the difference of its ends' shifts.
+    /// Whether it is a loop that costs the difference of its ends' shifts.
     pub(crate) fn is_tight(&self) -> bool {
-        self.is_within() && self.cost.is_zero()
+        self.is_loop() && self.cost.is_zero()
     }
 
-    /// Whether it is within a group, and costs less than that: then it closes a cycle of negative cost.
+    /// Whether it closes a cycle of negative cost within a group.
     #[inline(always)]
-    pub(crate) fn is_torn(&self) -> bool {
-        self.is_within() && self.cost.is_negative()
+    pub(crate) fn is_negative_loop(&self) -> bool {
+        self.is_loop() && self.cost.is_negative()
     }
 
-    /// Relaxes the link. Returns whether that lowered the distance of `to`.
+    /// Returns whether that lowered the distance of `to`.
     #[inline(always)]
-    fn lower(&self, distances: &mut [V]) -> bool {
+    fn relax(&self, distances: &mut [V]) -> bool {
         let distance = member(distances, self.from, V::of(0)).plus(self.cost);
         if !distance.is_below(member(distances, self.to, distance)) {
             return false;
@@ -99,7 +97,7 @@ impl<V: Number> Link<V> {
     }
 }
 
-/// The links between groups. None if a residual arc within a group costs too little.
+/// The links between groups. None if one within a group closes a cycle of negative cost.
 pub(crate) fn all_links<N: Network, V: Number>(
     alloc: Global,
     claim: &Claim<'_, N>,
@@ -111,29 +109,29 @@ pub(crate) fn all_links<N: Network, V: Number>(
         let Some(link) = Link::of(claim, places, i, network.arc(i)) else {
             continue;
         };
-        if link.is_torn() {
+        if link.is_negative_loop() {
             return Ok(None);
         }
-        if !link.is_within() {
+        if !link.is_loop() {
             links.push(link)?;
         }
     }
     Ok(Some(links))
 }
 
-/// The links between groups that were joined, likewise.
+/// The same after groups were joined.
 pub(crate) fn joined_links<V: Number>(
     links: Vec<Link<V>>,
     joints: &Places<V>,
 ) -> Option<Vec<Link<V>>> {
     let mut links = links;
-    let mut torn = false;
+    let mut has_negative_loop = false;
     links.retain_mut(|link| {
         *link = link.joined(joints);
-        torn = torn || link.is_torn();
-        !link.is_within()
+        has_negative_loop = has_negative_loop || link.is_negative_loop();
+        !link.is_loop()
     });
-    if torn {
+    if has_negative_loop {
         return None;
     }
     Some(links)
@@ -143,18 +141,18 @@ pub(crate) fn joined_links<V: Number>(
 pub(crate) fn round_forth<V: Number>(links: &[Link<V>], distances: &mut [V]) -> usize {
     let mut lowered: usize = 0;
     for link in links {
-        if link.lower(distances) {
+        if link.relax(distances) {
             lowered = lowered.wrapping_add(1);
         }
     }
     lowered
 }
 
-/// The same, from the last link to the first.
+/// The same from the last link to the first.
 pub(crate) fn round_back<V: Number>(links: &[Link<V>], distances: &mut [V]) -> usize {
     let mut lowered: usize = 0;
     for link in links.iter().rev() {
-        if link.lower(distances) {
+        if link.relax(distances) {
             lowered = lowered.wrapping_add(1);
         }
     }

@@ -3,13 +3,12 @@
 use crate::number::Number;
 use crate::potentials::links::{Link, round_back, round_forth};
 
-/// The greatest number of rounds.
 const ROUNDS: u32 = 24;
 
-/// Relaxes all links in rounds, forth and back by turns, as long as each round lowers at most half as many distances as
-/// the round two before, or hardly any. Returns whether no link lowers a distance any more. If it returns false, the
+/// Relaxes all links in rounds, forth and back by turns. Returns whether no link lowers a distance any more. Stops with
+/// false if a round lowers more than half as many distances as the round two before, unless these are few. Then the
 /// distances are a bad start for the search: it would find a long cycle late.
-pub(crate) fn settled_by_rounds<V: Number>(links: &[Link<V>], distances: &mut [V]) -> bool {
+pub(crate) fn rounds_suffice<V: Number>(links: &[Link<V>], distances: &mut [V]) -> bool {
     let few = links.len() / 64;
     let mut last = usize::MAX;
     let mut before = usize::MAX;

@@ -7,13 +7,13 @@ use crate::potentials::tree::Tree;
 use dimacs_lines::Memory;
 use std::alloc::Global;
 
-/// The end of a search.
+/// How a search ends.
 #[derive(Drop)]
 pub(crate) enum End {
-    Settled,
-    /// The groups of a cycle with negative cost. A link leads from each to the next, and from the last to the first.
+    Optimal,
+    /// The groups of a cycle of negative cost, in the order of its links.
     Cycle(Vec<u32>),
-    /// The search would exceed its budget.
+    /// The budget is used up.
     TooLong,
 }
 
@@ -25,36 +25,36 @@ pub(crate) fn lower_all<V: Number>(
     budget: u64,
 ) -> Result<End, Memory> {
     for _ in 0..u64::MAX {
-        let Some(group) = tree.waiting.pop() else {
-            return Ok(End::Settled);
+        let Some(group) = tree.queue.pop() else {
+            return Ok(End::Optimal);
         };
         if tree.work() > budget {
             break;
         }
-        if let Some(first) = tree.look(links, group) {
-            let cycle = way(alloc, tree, first, group)?;
+        if let Some(first) = tree.relax_links(links, group) {
+            let cycle = tree_path(alloc, tree, first, group)?;
             return Ok(End::Cycle(cycle));
         }
     }
     Ok(End::TooLong)
 }
 
-/// The groups on the path down the tree from one group to another.
-fn way<V: Number>(
+/// From `first` down to `last`.
+fn tree_path<V: Number>(
     alloc: Global,
     tree: &Tree<V>,
     first: u32,
     last: u32,
 ) -> Result<Vec<u32>, Memory> {
-    let mut way = Vec::new(alloc);
+    let mut path = Vec::new(alloc);
     let mut at = last;
     for _ in 0..tree.groups() {
-        way.push(at)?;
+        path.push(at)?;
         if at == first {
             break;
         }
         at = tree.parent(at);
     }
-    way.reverse();
-    Ok(way)
+    path.reverse();
+    Ok(path)
 }

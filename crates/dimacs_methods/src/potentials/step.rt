@@ -1,4 +1,4 @@
-//! Steps: residual arcs with their ends and costs.
+//! Steps: residual arcs between nodes, with their costs.
 
 use crate::number::Number;
 use crate::potentials::claim::{Claim, ResidualArc};
@@ -9,7 +9,6 @@ use dimacs_lines::Memory;
 use dimacs_network::{Network, Side};
 use std::alloc::{AllocError, Global};
 
-/// A residual arc between nodes, by their numbers.
 pub(crate) struct Step<V> {
     pub cost: V,
     pub from: u32,
@@ -25,7 +24,7 @@ impl<V: Copy> Clone for Step<V> {
 
 impl<V: Copy> Copy for Step<V> {}
 
-/// Steps are grouped by the node that they lead to.
+/// Steps are grouped by their heads.
 impl<V: Number> Listed for Step<V> {
     #[inline(always)]
     fn key(&self) -> u32 {
@@ -63,7 +62,6 @@ impl<V: Number> Step<V> {
         Ok(steps)
     }
 
-    /// The step back along an arc, from its head.
     fn reversed(self) -> Step<V> {
         Step {
             cost: self.cost.negated(),

@@ -8,17 +8,17 @@ use crate::tables::{member, set_member};
 use dimacs_lines::Memory;
 use std::alloc::Global;
 
-/// The tight steps, whose cost is the difference of their ends' shifts within a group, and the paths found over them.
+/// The tight steps within groups, whose cost is the difference of their ends' shifts, and the paths found over them.
 #[derive(Drop)]
 pub(crate) struct Tight<V> {
     steps: Listing<Step<V>>,
-    /// For each node that was found, the step by which its path goes on.
+    /// The next step of the path from each node that was found.
     onward: Vec<Option<Step<V>>>,
     queue: Vec<u32>,
 }
 
 impl<V: Number> Tight<V> {
-    /// No paths yet, over these steps between nodes with numbers below `nodes`.
+    /// No paths yet. Nodes have numbers below `nodes`.
     pub(crate) fn new(alloc: Global, steps: &[Step<V>], nodes: u32) -> Result<Tight<V>, Memory> {
         Ok(Tight {
             steps: Listing::new(alloc, steps, nodes)?,
@@ -49,7 +49,7 @@ impl<V: Number> Tight<V> {
         Ok(())
     }
 
-    /// Searches backwards from `to` until it finds `from`.
+    /// Searches backwards from `to`, breadth first, until it finds `from`.
     fn search(&mut self, from: u32, to: u32) -> Result<(), Memory> {
         self.queue.clear();
         self.queue.push(to)?;
@@ -65,7 +65,6 @@ impl<V: Number> Tight<V> {
         Ok(())
     }
 
-    /// Finds the nodes with a step to this one.
     fn find_before(&mut self, node: u32, to: u32) -> Result<(), Memory> {
         for step in self.steps.of(node) {
             let found = member(&self.onward, step.from, Some(*step)).is_some();

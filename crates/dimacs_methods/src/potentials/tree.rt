@@ -3,7 +3,7 @@
 use crate::number::Number;
 use crate::potentials::links::Link;
 use crate::potentials::listing::Listing;
-use crate::potentials::waiting::Waiting;
+use crate::potentials::queue::GroupQueue;
 use crate::tables::{count_of, member, set_member};
 use dimacs_lines::Memory;
 use std::alloc::Global;
@@ -14,11 +14,10 @@ struct Node {
     parent: u32,
     before: u32,
     after: u32,
-    /// The number of children, or `OUT`.
+    /// The number of children; `OUT` if the group isn't in the tree.
     children: u32,
 }
 
-/// Stands for the number of children if a group isn't in the tree.
 const OUT: u32 = u32::MAX;
 
 /// A part of the ring: a group and its subtree.
@@ -38,23 +37,21 @@ enum Subtree<V> {
     Leaves,
 }
 
-/// Subtrees are lowered with their roots while the groups walked over are at most this many times the links looked at.
+/// Subtrees are lowered with their roots while the groups walked over are at most this many times the links scanned.
 /// Without this limit, deep trees are walked over again and again.
 const WALKS: u64 = 2;
 
-/// The distances of groups, and the link by which each was lowered last.
+/// The distances of groups, and the tree of the links that lowered them last.
 #[derive(Drop)]
 pub(crate) struct Tree<V> {
     pub distances: Vec<V>,
     nodes: Vec<Node>,
-    pub waiting: Waiting,
-    /// How many links were looked at.
-    looked: u64,
-    /// How many groups were walked over.
-    walked: u64,
+    pub queue: GroupQueue,
+    scanned_links: u64,
+    walked_groups: u64,
 }
 
-/// A ring of this many groups in the order of their numbers, then a root, which is the parent of all.
+/// The groups in the order of their numbers, then a root, the parent of all.
 fn ring(alloc: Global, groups: u32) -> Result<Vec<Node>, Memory> {
     let mut nodes = Vec::with_capacity(alloc, groups as usize + 1)?;
     let mut before = groups;
@@ -77,32 +74,30 @@ fn ring(alloc: Global, groups: u32) -> Result<Vec<Node>, Memory> {
 }
 
 impl<V: Number> Tree<V> {
-    /// All groups are children of one root, whose number is the number of groups, and all wait in the queue.
+    /// All groups are queued, and are children of one root, whose number is the number of groups.
     pub(crate) fn new(alloc: Global, groups: u32) -> Result<Tree<V>, Memory> {
         let nodes = ring(alloc, groups)?;
         let distances = vec![in alloc; V::of(0); groups as usize]?;
-        let mut waiting = Waiting::new(alloc, groups)?;
+        let mut queue = GroupQueue::new(alloc, groups)?;
         for group in 0..groups {
-            waiting.push(group);
+            queue.push(group);
         }
         Ok(Tree {
             distances,
             nodes,
-            waiting,
-            looked: 0,
-            walked: 0,
+            queue,
+            scanned_links: 0,
+            walked_groups: 0,
         })
     }
 
-    /// The number of groups.
     pub(crate) fn groups(&self) -> u32 {
         count_of(&self.distances)
     }
 
-    /// The work so far: links looked at, and groups walked over.
     #[inline(always)]
     pub(crate) fn work(&self) -> u64 {
-        self.looked.wrapping_add(self.walked)
+        self.scanned_links.wrapping_add(self.walked_groups)
     }
 
     #[inline(always)]
@@ -110,21 +105,20 @@ impl<V: Number> Tree<V> {
         member(&self.distances, group, V::of(0))
     }
 
-    /// The parent of a group.
     #[inline(always)]
     pub(crate) fn parent(&self, group: u32) -> u32 {
         self.node(group).parent
     }
 
-    /// Relaxes the links out of a group. Returns the group to which a link leads that closes a cycle.
+    /// Relaxes the links out of a group. Returns the head of a link that closes a cycle.
     #[inline(always)]
-    pub(crate) fn look(&mut self, links: &Listing<Link<V>>, from: u32) -> Option<u32> {
+    pub(crate) fn relax_links(&mut self, links: &Listing<Link<V>>, from: u32) -> Option<u32> {
         if self.node(from).children == OUT {
             return None;
         }
         let start = self.distance(from);
         let links = links.of(from);
-        self.looked = self.looked.wrapping_add(links.len() as u64);
+        self.scanned_links = self.scanned_links.wrapping_add(links.len() as u64);
         let mut at = 0usize;
         for _ in 0..links.len() {
             at = next_lowering(links, &self.distances, start, at);
@@ -143,7 +137,7 @@ impl<V: Number> Tree<V> {
     fn lower(&mut self, group: u32, parent: u32, change: V) -> bool {
         let node = self.node(group);
         if node.children != OUT {
-            let moves = self.walked <= self.looked.wrapping_mul(WALKS);
+            let moves = self.walked_groups <= self.scanned_links.wrapping_mul(WALKS);
             let part = if moves {
                 self.walk(group, parent, &Subtree::Moves(change))
             } else {
@@ -164,7 +158,7 @@ impl<V: Number> Tree<V> {
         true
     }
 
-    /// Walks over the subtree of a group. None if `other` is in it.
+    /// Lowers the subtree of a group, or removes it. None if `other` is in it.
     #[inline(always)]
     fn walk(&mut self, group: u32, other: u32, subtree: &Subtree<V>) -> Option<Part> {
         let mut last = group;
@@ -178,7 +172,7 @@ impl<V: Number> Tree<V> {
             open = open.wrapping_add(node.children).wrapping_sub(1);
             last = at;
             at = node.after;
-            self.walked = self.walked.wrapping_add(1);
+            self.walked_groups = self.walked_groups.wrapping_add(1);
             match subtree {
                 Subtree::Moves(change) => self.change(last, *change),
                 Subtree::Leaves => self.set_children(last, OUT),
@@ -190,15 +184,15 @@ impl<V: Number> Tree<V> {
         Some(Part { last, after: at })
     }
 
-    /// Changes the distance of a group, and puts it into the queue.
+    /// Changes the distance of a group, and queues it.
     #[inline(always)]
     fn change(&mut self, group: u32, change: V) {
         let distance = self.distance(group).plus(change);
         set_member(&mut self.distances, group, distance);
-        self.waiting.push(group);
+        self.queue.push(group);
     }
 
-    /// Removes the part of the ring that begins with this node's group.
+    /// Removes this part, which begins with the node's group, from the ring.
     #[inline(always)]
     fn cut(&mut self, node: Node, part: Part) {
         self.neighbour(node.before, part.after);
@@ -206,7 +200,7 @@ impl<V: Number> Tree<V> {
         self.set_children(node.parent, children.wrapping_sub(1));
     }
 
-    /// Inserts a part of the ring, from `first` to `last`, after `parent`, and makes `first` a child of it.
+    /// Inserts the part from `first` to `last` after `parent`, and makes `first` a child of it.
     #[inline(always)]
     fn hang(&mut self, first: u32, last: u32, parent: u32) {
         let after = self.node(parent).after;
@@ -219,7 +213,6 @@ impl<V: Number> Tree<V> {
         }
     }
 
-    /// Makes one group follow another in the ring.
     #[inline(always)]
     fn neighbour(&mut self, before: u32, after: u32) {
         if let Some(node) = self.nodes.get_mut(before as usize) {
@@ -249,7 +242,7 @@ impl<V: Number> Tree<V> {
     }
 }
 
-/// The place of the first link from here on that lowers a distance; otherwise the end.
+/// The index of the first link from `from` on that lowers a distance; otherwise the number of links.
 #[inline(never)]
 fn next_lowering<V: Number>(links: &[Link<V>], distances: &[V], start: V, from: usize) -> usize {
     let mut at = from;

@@ -9,9 +9,9 @@ use std::alloc::Global;
 impl<V: Number> Residual<V> {
     /// The prices less a residue, divided by the scale of the costs and rounded down.
     ///
-    /// If the scaled reduced cost of a residual arc isn't negative, its reduced cost isn't either, whatever the residue
-    /// is. If it is -1, the same holds unless the residue is that of its head's price. There are more residues than
-    /// nodes, so some residue is free of such heads.
+    /// If a residual arc's scaled reduced cost isn't negative, its reduced cost isn't either, for any residue. If it is
+    /// -1, the same holds unless the residue is that of its head's price. Cost scaling has more residues than nodes:
+    /// one is free of such heads.
     pub(crate) fn potentials(&self, alloc: Global) -> Result<Vec<i128>, Memory> {
         let residue = self.free_residue(alloc)?;
         let mut potentials = Vec::with_capacity(alloc, self.nodes.len())?;
@@ -22,7 +22,7 @@ impl<V: Number> Residual<V> {
         Ok(potentials)
     }
 
-    /// A residue of no price of the head of an arc with negative reduced cost.
+    /// A residue that no price of the head of an arc with negative reduced cost has.
     fn free_residue(&self, alloc: Global) -> Result<i128, Memory> {
         let residues = usize::try_from(1i128.doubled(self.doublings)).unwrap_or(0);
         let mut taken = vec![in alloc; false; residues]?;
@@ -33,7 +33,6 @@ impl<V: Number> Residual<V> {
         Ok(i128::try_from(free.unwrap_or(0)).unwrap_or(0))
     }
 
-    /// Marks the residues of the prices of heads of arcs with negative reduced cost out of this node.
     fn take_residues(&self, node: &Node<V>, taken: &mut [bool]) {
         for half in self.between(node.start, node.end) {
             if half.residual_capacity > 0 && self.reduced(node.price, half).is_negative() {

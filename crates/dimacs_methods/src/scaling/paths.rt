@@ -2,10 +2,10 @@
 
 use crate::number::Number;
 use crate::residual::Node;
-use crate::scaling::{LONGEST, Scaling};
+use crate::scaling::{PATH_LENGTH, Scaling};
 use dimacs_lines::Memory;
 
-/// The half-arcs of a node, from its cursor on.
+/// What a scan of a node's half-arcs finds, from its cursor on.
 #[derive(Drop)]
 enum Scan<V> {
     /// The place of the first with negative reduced cost.
@@ -15,20 +15,21 @@ enum Scan<V> {
 }
 
 impl<V: Number> Scaling<V> {
-    /// Finds a path from a node with excess to a deficit, or as long as paths may be. If no half-arc leads on from a
-    /// node, the node's price is lowered.
+    /// Finds a path from a node with excess. It ends at a deficit, after `PATH_LENGTH` arcs, at an arc that it has
+    /// already, or if a global update is due. If no half-arc leads on from a node, the node is relabelled, and the path
+    /// goes back.
     pub(crate) fn find_path(&mut self, start: u32) -> Result<(), Memory> {
         self.path.clear();
         let mut tip = start;
         for _ in 0..u64::MAX {
             let node = self.residual.node(tip);
-            let is_done = self.path.len() >= LONGEST || self.left == 0;
-            if is_done || node.excess.is_negative() {
+            let is_done = self.path.len() >= PATH_LENGTH || self.relabels_left == 0;
+            if is_done || node.imbalance.is_negative() {
                 break;
             }
             match self.scan(&node) {
                 Scan::Negative(place) => {
-                    self.look_from(tip, place);
+                    self.set_cursor(tip, place);
                     let closes_cycle = self.path.contains(&place);
                     self.path.push(place)?;
                     if closes_cycle {
@@ -64,9 +65,8 @@ impl<V: Number> Scaling<V> {
         Scan::Least(least)
     }
 
-    /// Lowers a node's price, so that an arc gets a negative reduced cost: the best one before the cursor, the one by
-    /// which the path came, or one with the reduced cost `least`. If there is none, the next global update finds that
-    /// out.
+    /// Lowers a node's price, to make the least reduced cost of its arcs negative. `least` is that from the cursor on.
+    /// The arc back along the path counts too. If the node has no arc, the next global update finds that out.
     fn relabel(&mut self, number: u32, least: V) {
         let node = self.residual.node(number);
         let least = least
@@ -76,8 +76,8 @@ impl<V: Number> Scaling<V> {
             let lowering = least.plus(V::of(1).doubled(self.level));
             self.residual.lower(number, lowering);
         }
-        self.look_from(number, node.start);
-        self.left = self.left.saturating_sub(1);
+        self.set_cursor(number, node.start);
+        self.relabels_left = self.relabels_left.saturating_sub(1);
     }
 
     /// The least reduced cost of a residual arc before the cursor; the greatest number if there is none.
@@ -92,8 +92,8 @@ impl<V: Number> Scaling<V> {
         least
     }
 
-    /// The reduced cost of going back along the last arc of the path, to a node with this price; the greatest number if
-    /// the path is empty.
+    /// The reduced cost of going back along the last arc of the path, which leads to a node with this price; the
+    /// greatest number if the path is empty.
     fn reduced_back(&self, price: V) -> V {
         match self.path.last() {
             Some(place) => {
@@ -105,15 +105,15 @@ impl<V: Number> Scaling<V> {
         }
     }
 
-    /// Moves excess along the path, as much as each arc's residual capacity allows.
+    /// Moves excess along the path, as much as each residual capacity allows. Queues nodes that had none before.
     pub(crate) fn send_along(&mut self, start: u32) -> Result<(), Memory> {
         let mut from = start;
         for place in &self.path {
             let half = self.residual.half(*place);
-            let excess = self.residual.node(from).excess;
+            let excess = self.residual.node(from).imbalance;
             let amount = V::of(half.residual_capacity).lesser(excess).narrow();
             self.residual.send(from, *place, amount);
-            let after = self.residual.node(half.to).excess;
+            let after = self.residual.node(half.to).imbalance;
             if after.is_positive() && !V::of(amount).is_below(after) {
                 self.active.push_back(half.to)?;
             }

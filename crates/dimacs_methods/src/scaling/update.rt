@@ -9,17 +9,17 @@ use crate::scaling::Scaling;
 const ANY_COST: u32 = 127;
 
 impl<V: Number> Scaling<V> {
-    /// Lowers the price of each node by the tolerance times its rank, its distance to a deficit. False if some excess
-    /// reaches no deficit within the ranks.
+    /// Lowers each node's price by the tolerance times its rank. False if some excess reaches no deficit within the
+    /// ranks.
     pub(crate) fn update(&mut self) -> bool {
         let most = self.rank_all(self.level);
         lower(&mut self.residual.nodes, self.level, most);
         most < self.ranks.count()
     }
 
-    /// Ranks the nodes by their distance to a deficit, until all excess is found, and returns the greatest rank that
-    /// this takes; the number of ranks if some isn't found. A half-arc counts once, and again for each 2 to the power of
-    /// `level` in its reduced cost.
+    /// Ranks the nodes by their distance to a deficit, until all excess is reached. Returns the greatest rank that this
+    /// takes; the number of ranks if some excess isn't reached. A half-arc has length 1, and 1 more for each 2 to the
+    /// power of `level` in its reduced cost.
     fn rank_all(&mut self, level: u32) -> u32 {
         let count = self.ranks.count();
         let mut left = rank_deficits(&mut self.residual.nodes, &mut self.ranks);
@@ -32,7 +32,7 @@ impl<V: Number> Scaling<V> {
         count
     }
 
-    /// Settles the nodes of a rank, until the excess found at them reaches `left`. Returns how much was found.
+    /// Settles the nodes of a rank, until their excess is at least `left`. Returns how much they have.
     fn settle(&mut self, rank: u32, level: u32, left: V) -> V {
         let mut found = V::of(0);
         for _ in 0..u64::MAX {
@@ -47,14 +47,14 @@ impl<V: Number> Scaling<V> {
                 let half = self.residual.half(place);
                 self.reach(&node, &half, level);
             }
-            if node.excess.is_positive() {
-                found = found.plus(node.excess);
+            if node.imbalance.is_positive() {
+                found = found.plus(node.imbalance);
             }
         }
         found
     }
 
-    /// Ranks the node at the other end, if an arc from it makes it nearer.
+    /// Lowers the rank of the other end, if an arc from it makes it nearer.
     #[inline(always)]
     fn reach(&mut self, node: &Node<V>, half: &Half<V>, level: u32) {
         let other = self.residual.node(half.to);
@@ -79,20 +79,20 @@ impl<V: Number> Scaling<V> {
         }
     }
 
-    /// Gives up the excess of nodes that reach no deficit. Returns whether there is some.
+    /// Discards the excess of nodes that reach no deficit. Returns whether there is some.
     ///
-    /// No flow can leave these nodes any more, so they stay cut off.
-    pub(crate) fn park(&mut self) -> bool {
+    /// No flow can leave these nodes any more: they stay cut off.
+    pub(crate) fn discard_excess(&mut self) -> bool {
         let none = self.ranks.count();
         self.rank_all(ANY_COST);
-        let mut parked = false;
+        let mut has_discarded = false;
         for node in &mut self.residual.nodes {
-            if node.rank >= none && node.excess.is_positive() {
-                node.excess = V::of(0);
-                parked = true;
+            if node.rank >= none && node.imbalance.is_positive() {
+                node.imbalance = V::of(0);
+                has_discarded = true;
             }
         }
-        parked
+        has_discarded
     }
 }
 
@@ -104,18 +104,18 @@ fn rank_deficits<V: Number>(nodes: &mut [Node<V>], ranks: &mut Levels) -> V {
     let mut number: u32 = 0;
     for node in nodes.iter_mut() {
         node.rank = none;
-        if node.excess.is_negative() {
+        if node.imbalance.is_negative() {
             node.rank = 0;
             ranks.insert(number, 0);
         } else {
-            sum = sum.plus(node.excess);
+            sum = sum.plus(node.imbalance);
         }
         number = number.wrapping_add(1);
     }
     sum
 }
 
-/// Lowers prices by ranks, up to `most`.
+/// Lowers prices by ranks, up to `most`, and resets cursors.
 fn lower<V: Number>(nodes: &mut [Node<V>], level: u32, most: u32) {
     for node in nodes.iter_mut() {
         let rank = node.rank.min(most);

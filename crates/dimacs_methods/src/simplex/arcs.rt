@@ -9,7 +9,7 @@ use dimacs_lines::Memory;
 use dimacs_network::Network;
 use std::alloc::{AllocError, Global};
 
-/// What the search for an entering arc needs to know of an arc.
+/// What the search for an entering arc needs.
 pub(crate) struct Price<V> {
     pub cost: V,
     pub tail: u32,
@@ -24,25 +24,23 @@ impl<V: Copy> Clone for Price<V> {
 
 impl<V: Copy> Copy for Price<V> {}
 
-/// The state of an arc: the bound that it carries, or that it is in the tree. If the product of state and reduced cost
-/// is negative, the state should change.
+/// The state of an arc: the bound that it carries, or that it is in the tree. It should change if the product of state
+/// and reduced cost is negative.
 pub(crate) const AT_LOW: i8 = 1;
 
 pub(crate) const IN_TREE: i8 = 0;
 
 pub(crate) const AT_CAP: i8 = -1;
 
-/// The arcs, by position.
 #[derive(Drop)]
 pub(crate) struct Arcs<V: Number> {
     pub prices: Vec<Price<V>>,
     states: Vec<i8>,
-    /// The capacity less the lower bound; at the end the amount less the lower bound, if it isn't 0.
+    /// The capacity minus the lower bound; at the end the amount minus the lower bound, if it isn't 0.
     residual_capacities: Vec<i64>,
 }
 
 impl<V: Number> Price<V> {
-    /// The reduced cost.
     #[inline(always)]
     pub(crate) fn reduced(&self, potentials: &[V]) -> V {
         self.cost
@@ -52,7 +50,6 @@ impl<V: Number> Price<V> {
 }
 
 impl<V: Number> Arcs<V> {
-    /// At the start each arc carries its lower bound.
     pub(crate) fn new<N: Network>(
         alloc: Global,
         problem: &Problem<'_, N>,
@@ -106,12 +103,12 @@ impl<V: Number> Arcs<V> {
         member(&self.residual_capacities, position, 0)
     }
 
-    /// Sets the capacity less the lower bound; at the end, for a tree arc, the amount less the lower bound.
+    /// At the end, a tree arc gets the amount minus the lower bound.
     pub(crate) fn set_residual_capacity(&mut self, position: u32, residual_capacity: i64) {
         set_member(&mut self.residual_capacities, position, residual_capacity);
     }
 
-    /// The flow of the arc between a node and its parent, less the lower bound.
+    /// The amount minus the lower bound of the arc between a node and its parent.
     #[inline(always)]
     pub(crate) fn flow(&self, number: u32, node: &Node<V>) -> V {
         if self.price(node.arc).tail == number {
@@ -121,7 +118,7 @@ impl<V: Number> Arcs<V> {
         }
     }
 
-    /// The amount less the lower bound, after `settle`.
+    /// The amount minus the lower bound, after `settle`.
     pub(crate) fn above_low(&self, position: u32) -> i64 {
         if self.state(position) == AT_LOW {
             return 0;
@@ -129,7 +126,8 @@ impl<V: Number> Arcs<V> {
         self.residual_capacity(position)
     }
 
-    /// Of the arcs from `start` to `end` that should change their state, the one with the least reduced cost.
+    /// Of the arcs from `start` to `end` that should change their state, the one with the greatest absolute reduced
+    /// cost.
     pub(crate) fn best(&self, potentials: &[V], start: u32, end: u32) -> Option<u32> {
         let prices = self.prices.get(start as usize..end as usize)?;
         let states = self.states.get(start as usize..end as usize)?;
@@ -148,7 +146,7 @@ impl<V: Number> Arcs<V> {
     }
 }
 
-/// Stands for an arc if there is none.
+/// Stands for an arc beyond the end.
 fn nowhere<V: Number>() -> Price<V> {
     Price {
         cost: V::of(0),

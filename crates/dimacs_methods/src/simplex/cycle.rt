@@ -3,7 +3,7 @@
 use crate::number::Number;
 use crate::simplex::tree::Tree;
 
-/// Flow moves round the cycle from `join` down to `first`, along the arc, and from `second` up to `join`.
+/// Flow moves from `join` down to `first`, along the arc to `second`, and up to `join`.
 #[derive(Drop)]
 pub(crate) struct Cycle<V> {
     pub first: u32,
@@ -15,7 +15,7 @@ pub(crate) struct Cycle<V> {
     pub steps: u64,
 }
 
-/// The arc that leaves the tree: that of a node on the path to `first` or from `second`, or the entering arc itself.
+/// The arc that leaves the tree: the parent arc of a node on the path to `first` or from `second`, or the entering arc.
 #[derive(Clone, Copy)]
 pub(crate) enum Leaving {
     OnFirst(u32),
@@ -28,7 +28,7 @@ pub(crate) enum Leaving {
 struct Climb<V> {
     at: u32,
     depth: u32,
-    /// The least residual capacity so far, and the node whose arc has it.
+    /// The least residual capacity so far, and the node whose parent arc has it.
     residual_capacity: V,
     narrow: Option<u32>,
 }
@@ -36,9 +36,10 @@ struct Climb<V> {
 impl<V: Number> Cycle<V> {
     /// The cycle of an arc from `first` to `second` with this residual capacity.
     ///
-    /// If several arcs come to a bound, the last one on the cycle leaves, seen from the join in the direction of the
-    /// flow: the first one on the path up from `first`, the last one on the path up from `second`. That keeps residual
-    /// capacity towards the root everywhere in the tree, so that pivots without flow don't cycle for ever.
+    /// If several arcs come to a bound, the last one on the cycle leaves, from the join on in the direction of the
+    /// flow: the first one on the path up from `first`, the last one on the path up from `second`. This keeps the tree
+    /// strongly feasible: everywhere in it there is residual capacity towards the root. Then pivots without flow don't
+    /// cycle for ever.
     pub(crate) fn find(tree: &Tree<V>, first: u32, second: u32, residual_capacity: V) -> Cycle<V> {
         let mut down = Climb::start(tree, first, residual_capacity);
         let mut up = Climb::start(tree, second, residual_capacity);
@@ -76,7 +77,7 @@ impl<V: Number> Climb<V> {
         }
     }
 
-    /// Goes one step up, against the flow.
+    /// One step up, against the flow.
     #[inline(always)]
     fn climb_against(&mut self, tree: &Tree<V>) {
         let node = tree.node(self.at);
@@ -88,7 +89,7 @@ impl<V: Number> Climb<V> {
         self.depth = self.depth.wrapping_sub(1);
     }
 
-    /// Goes one step up, with the flow.
+    /// One step up, with the flow.
     #[inline(always)]
     fn climb_along(&mut self, tree: &Tree<V>) {
         let node = tree.node(self.at);
@@ -101,8 +102,8 @@ impl<V: Number> Climb<V> {
     }
 }
 
-/// The arc with the least residual capacity. Among equals, those on the path from `second` come before the entering
-/// arc, and it before those on the path to `first`.
+/// The arc with the least residual capacity. Among equals, those on the path from `second` come first, then the
+/// entering arc, then those on the path to `first`.
 fn narrowest<V: Number>(down: &Climb<V>, up: &Climb<V>) -> Leaving {
     if let Some(node) = up.narrow
         && !down.residual_capacity.is_below(up.residual_capacity)

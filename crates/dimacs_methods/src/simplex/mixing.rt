@@ -1,8 +1,8 @@
 //! The order in which arcs are searched.
 
-/// The positions of the arcs, in the order of the text, mixed: the text fills a table column by column, and positions
-/// count row by row. A block of positions, some eight rows, thus has eight successive arcs from each of many parts of
-/// the text. The last row may be short.
+/// The positions of the arcs, mixed: the order of the text fills a table column by column, and positions count row by
+/// row. A block of positions, some eight rows, then has eight successive arcs from each of many parts of the text. The
+/// last row may be short.
 #[derive(Clone, Copy)]
 pub(crate) struct Mixing {
     arcs: u32,
@@ -22,7 +22,6 @@ impl Mixing {
         }
     }
 
-    /// The position of the next arc.
     #[inline(always)]
     pub(crate) fn next(&mut self) -> u32 {
         let position = self.next;

@@ -42,7 +42,6 @@ impl<V: Number> Tree<V> {
     }
 }
 
-/// Numbers the nodes from 0, in this order.
 fn number_in_order(numbers: &mut [u32], order: &[u32]) {
     let mut number: u32 = 0;
     for node in order {
@@ -51,7 +50,6 @@ fn number_in_order(numbers: &mut [u32], order: &[u32]) {
     }
 }
 
-/// Puts the members of a table into this order.
 fn arrange<T: Copy>(alloc: Global, table: &mut Vec<T>, order: &[u32]) -> Result<(), Memory> {
     let mut arranged = Vec::with_capacity(alloc, table.len())?;
     for place in order {

@@ -6,16 +6,16 @@ use crate::tables::{count_of, member};
 use dimacs_lines::Memory;
 use std::alloc::{AllocError, Global};
 
-/// The position of an artificial arc, which is in no table.
+/// Stands for the position of an artificial arc.
 pub(crate) const ARTIFICIAL: u32 = u32::MAX;
 
-/// A node of the tree, with the arc between it and its parent.
+/// A node of the tree, with its parent arc.
 pub(crate) struct Node<V> {
-    /// The residual capacity to the parent, and from the parent.
+    /// The residual capacities to the parent and from it.
     pub up: V,
     pub down: V,
     pub parent: u32,
-    /// The position of the arc.
+    /// The position of the parent arc.
     pub arc: u32,
     /// The node before this one in preorder.
     pub before: u32,
@@ -29,7 +29,7 @@ impl<V: Copy> Clone for Node<V> {
 
 impl<V: Copy> Copy for Node<V> {}
 
-/// What changes in every node of a subtree that moves, apart from its potential.
+/// What changes in every node of a moved subtree, apart from its potential.
 #[derive(Clone, Copy)]
 pub(crate) struct Place {
     /// The node after this one in preorder; the root after the last.
@@ -37,7 +37,7 @@ pub(crate) struct Place {
     pub depth: u32,
 }
 
-/// The arc that joins a subtree to a parent: its position, and its residual capacity to the parent and from it.
+/// The arc that joins a subtree to a parent: its position, and its residual capacities to the parent and from it.
 #[derive(Drop)]
 pub(crate) struct Hook<V> {
     pub parent: u32,
@@ -58,7 +58,7 @@ pub(crate) struct Tree<V: Number> {
 
 impl<V: Number> Tree<V> {
     /// Each node is a child of the root, by an artificial arc that takes its excess at no cost, or fills its deficit at
-    /// this price. A node without either has an arc to the root, so that flow can go to the root from everywhere.
+    /// `price`. The arc of other nodes leads to the root: flow can go there from everywhere.
     pub(crate) fn star(alloc: Global, excess: &[i128], price: V) -> Result<Tree<V>, Memory> {
         let root = count_of(excess);
         let size = excess.len().saturating_add(1);
@@ -83,7 +83,6 @@ impl<V: Number> Tree<V> {
         Ok(tree)
     }
 
-    /// Adds the next child of the root.
     fn add_leaf(&mut self, excess: V, price: V) -> Result<(), Memory> {
         let root = self.root();
         let number = count_of(&self.nodes);
@@ -110,7 +109,6 @@ impl<V: Number> Tree<V> {
         Ok(())
     }
 
-    /// The root.
     pub(crate) fn root(&self) -> u32 {
         count_of(&self.names)
     }
@@ -132,7 +130,7 @@ impl<V: Number> Tree<V> {
         member(&self.places, node, Place { after: 0, depth: 0 })
     }
 
-    /// Moves flow along the tree's part of a cycle.
+    /// Moves flow along the tree arcs of a cycle.
     pub(crate) fn augment(&mut self, cycle: &Cycle<V>) {
         if cycle.amount.is_zero() {
             return;
@@ -208,8 +206,7 @@ impl<V: Number> Tree<V> {
         part
     }
 
-    /// Raises the potentials of the nodes from `top` on, and adds to their depths, until one comes that isn't deeper
-    /// than `top` was.
+    /// Raises the potentials and depths of the nodes from `top` on, until one comes that isn't deeper than `top` was.
     fn shift_part(&mut self, top: u32, old: u32, deeper: u32, raise: V) -> Part {
         let mut part = Part {
             last: top,

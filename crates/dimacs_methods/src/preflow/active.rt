@@ -1,4 +1,4 @@
-//! The queue of nodes with excess, the highest first.
+//! The queue of active nodes, those with excess, the highest first.
 
 use crate::levels::NONE;
 use crate::tables::{count_of, member, set_member};
@@ -7,41 +7,41 @@ use std::alloc::Global;
 
 /// A linked list of the queued nodes of each height.
 #[derive(Drop)]
-pub(crate) struct Waiting {
+pub(crate) struct ActiveNodes {
     first: Vec<u32>,
     after: Vec<u32>,
-    waits: Vec<bool>,
+    is_queued: Vec<bool>,
     highest: u32,
 }
 
-impl Waiting {
-    /// The empty queue; heights are at most the number of nodes. Takes 9 bytes for each node.
-    pub(crate) fn new(alloc: Global, nodes: usize) -> Result<Waiting, Memory> {
-        Ok(Waiting {
+impl ActiveNodes {
+    /// The empty queue, for heights up to the number of nodes. Takes 9 bytes for each node.
+    pub(crate) fn new(alloc: Global, nodes: usize) -> Result<ActiveNodes, Memory> {
+        Ok(ActiveNodes {
             first: vec![in alloc; NONE; nodes.saturating_add(1)]?,
             after: vec![in alloc; NONE; nodes]?,
-            waits: vec![in alloc; false; nodes]?,
+            is_queued: vec![in alloc; false; nodes]?,
             highest: 0,
         })
     }
 
     pub(crate) fn clear(&mut self) {
         self.first.fill(NONE);
-        self.waits.fill(false);
+        self.is_queued.fill(false);
         self.highest = 0;
     }
 
-    /// The greatest height of a queued node, after one was taken.
+    /// Right after `pop`, the height at which the node was queued.
     pub(crate) fn highest(&self) -> u32 {
         self.highest
     }
 
-    /// Queues a node at a height in the table's range. A node that is queued keeps its place.
+    /// Queues a node, unless it is queued already or the height is out of range.
     pub(crate) fn push(&mut self, node: u32, height: u32) {
-        if member(&self.waits, node, true) || height >= count_of(&self.first) {
+        if member(&self.is_queued, node, true) || height >= count_of(&self.first) {
             return;
         }
-        set_member(&mut self.waits, node, true);
+        set_member(&mut self.is_queued, node, true);
         set_member(&mut self.after, node, member(&self.first, height, NONE));
         set_member(&mut self.first, height, node);
         self.highest = self.highest.max(height);
@@ -59,11 +59,10 @@ impl Waiting {
             self.highest,
             member(&self.after, node, NONE),
         );
-        set_member(&mut self.waits, node, false);
+        set_member(&mut self.is_queued, node, false);
         Some(node)
     }
 
-    /// Goes down to the greatest height of a queued node.
     fn descend(&mut self) {
         for _ in 0..self.highest {
             if member(&self.first, self.highest, NONE) != NONE {

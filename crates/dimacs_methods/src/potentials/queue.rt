@@ -1,26 +1,24 @@
-//! The queue of groups whose links have to be relaxed.
+//! The queue of groups whose links are to be relaxed.
 
 use crate::tables::{count_of, member, set_member};
 use dimacs_lines::Memory;
 use std::alloc::Global;
 
-/// Groups, each at most once. They are taken by number, 64 at a time, round and round.
+/// Each group at most once. They are taken by number, 64 at a time, round and round.
 #[derive(Drop)]
-pub(crate) struct Waiting {
-    /// A bit for each group, 64 in a word.
+pub(crate) struct GroupQueue {
+    /// A bit for each group.
     words: Vec<u64>,
     /// The word from which groups are taken.
     at: u32,
 }
 
-impl Waiting {
-    /// The empty queue.
-    pub(crate) fn new(alloc: Global, groups: u32) -> Result<Waiting, Memory> {
+impl GroupQueue {
+    pub(crate) fn new(alloc: Global, groups: u32) -> Result<GroupQueue, Memory> {
         let words = vec![in alloc; 0u64; groups as usize / 64 + 1]?;
-        Ok(Waiting { words, at: 0 })
+        Ok(GroupQueue { words, at: 0 })
     }
 
-    /// Adds a group.
     #[inline(always)]
     pub(crate) fn push(&mut self, group: u32) {
         if let Some(word) = self.words.get_mut(group as usize / 64) {
@@ -28,7 +26,6 @@ impl Waiting {
         }
     }
 
-    /// Takes the next group.
     #[inline(always)]
     pub(crate) fn pop(&mut self) -> Option<u32> {
         self.advance();
