@@ -20,18 +20,18 @@ use Rattle.dimacs_optimality.specs.PathsJudge.{PassesPaths}
 use Rattle.dimacs_optimality.proofs.BlockNumbers.{block_found}
 use Rattle.dimacs_optimality.specs.QueryTests.{HasBlock, HasFullBlock, IsServed, ends_of, nodes_asked, sources_asked}
 use Rattle.dimacs_solve.specs.declared.adjacency.Adjacency.{Adjacency}
-use Rattle.dimacs_solve.specs.declared.adjacency.Hop.{Hop}
+use Rattle.dimacs_solve.specs.declared.adjacency.OutArc.{OutArc}
 use Rattle.dimacs_solve.specs.Adjacency.{out}
-use Rattle.dimacs_solve.specs.inside.Adjacency.{hop_to, IsHopOf, IsAdjacencyOf}
+use Rattle.dimacs_solve.specs.inside.Adjacency.{out_arc_to, IsOutArcOf, IsAdjacencyOf}
 use Rattle.dimacs_solve.specs.inside.Blocks.{AddsBlock, AreSolved}
 use Rattle.dimacs_solve.specs.Paths.{AreProduced, IsNearestFirst, block_source, distinct_after, noted}
-use Rattle.dimacs_solve.specs.inside.Search.{IsMade, IsPathTree}
+use Rattle.dimacs_solve.specs.inside.Search.{HasTightOutArc, IsPathTree}
 
 -- ---- the labels of one search pass
 module _ (g : NetworkValue) (a : Adjacency) (by : IsAdjacencyOf g.nodes g.arcs a) (b : BlockValue) (tree : IsPathTree a b.source b) where
-  made_tight : (l : Label) → IsMade a b l → HasTightArc g.arcs b l
-  made_tight l is =
-      let arc : IsHopOf g.arcs l.pred (hop_to l.id is.weight) = All-contains (IsHopOf g.arcs l.pred) (out a l.pred) (hop_to l.id is.weight) (by.leaving l.pred).sound is.hop in
+  out_arc_tight : (l : Label) → HasTightOutArc a b l → HasTightArc g.arcs b l
+  out_arc_tight l is =
+      let arc : IsOutArcOf g.arcs l.pred (out_arc_to l.id is.weight) = All-contains (IsOutArcOf g.arcs l.pred) (out a l.pred) (out_arc_to l.id is.weight) (by.leaving l.pred).sound is.out_arc in
       let sum : (pos is.base +ℤ arc.arc.cost) ≡ l.dist = ap (λ c. pos is.base +ℤ c) arc.weighs ∙ (pos-+ℤ-pos is.base is.weight ∙ sym is.adds) in
       (pos is.base, is.pred, record { arc = arc.arc; present = arc.present; from = arc.from; to = arc.to; adds = sum })
 
@@ -40,13 +40,13 @@ module _ (g : NetworkValue) (a : Adjacency) (by : IsAdjacencyOf g.nodes g.arcs a
       let arc = arc_at g.arcs k in
       let at = tree.positive arc.tail d h in
       let among = (by.leaving arc.tail).complete k inside refl in
-      let next = All-contains (λ (hop : Hop). (e : ℕ) × (label b hop.head ≡ Some (pos e)) × (e ≤ at.0 + hop.weight)) (out a arc.tail) (hop_to arc.head among.0) (tree.closed arc.tail at.0 (h ∙ ap (λ (z : ℤ). Some z) at.1)) among.2 in
+      let next = All-contains (λ (out_arc : OutArc). (e : ℕ) × (label b out_arc.head ≡ Some (pos e)) × (e ≤ at.0 + out_arc.weight)) (out a arc.tail) (out_arc_to arc.head among.0) (tree.closed arc.tail at.0 (h ∙ ap (λ (z : ℤ). Some z) at.1)) among.2 in
       inl (pos next.0, next.1, omega (arith, ints, next.2, at.1, among.1))
 
   tree_passes : LabelsOk g.arcs b
   tree_passes = record {
     weights = subst (λ radius. HasWeights radius g.arcs) (sym tree.unbounded) tt;
-    tight = All-weaker (IsMade a b) (HasTightArc g.arcs b) made_tight b.labels tree.made;
+    tight = All-weaker (HasTightOutArc a b) (HasTightArc g.arcs b) out_arc_tight b.labels tree.tight;
     relaxed = All-from_get_or (IsRelaxed b) g.arcs no_arc closed_relaxed;
   }
 

@@ -6,8 +6,8 @@ use Rattle.std.specs.declared.cmp.Ordering.{Ordering}
 use Rattle.std.specs.declared.cmp.Reverse.{Reverse}
 use Rattle.std.proofs.lemmas.List.Elements.{All-nil, All-cons, All-head}
 use Rattle.std.proofs.lemmas.List.Sorted.{first_le_from_greatest}
-use Rattle.dimacs_solve.specs.declared.frontier.Reach.{Reach}
-use Rattle.dimacs_solve.specs.Frontiers.{reach_cmp, way_in}
+use Rattle.dimacs_solve.specs.declared.frontier.Walk.{Walk}
+use Rattle.dimacs_solve.specs.Frontiers.{walk_cmp, walk_in}
 use Rattle.dimacs_solve.specs.inside.Frontiers.{IsNearest}
 
 -- the order by end and predecessor
@@ -15,11 +15,11 @@ abbrev ends_cmp : ℕ × ℕ → ℕ × ℕ → Ordering
 ends_cmp a b = ordering_then (nat_cmp a.0 b.0) (nat_cmp a.1 b.1)
 
 module _ {D : Type 0} (value : D → ℕ) (cmp : D → D → Ordering) (in_order : (a b : D) → cmp a b ≡ nat_cmp (value a) (value b)) where
-  no_nearer : (x y : Reverse (Reach D)) → lt_by_cmp (λ (a b : Reverse (Reach D)). reach_cmp cmp b.0 a.0) x y ≡ false → value x.0.dist ≤ value y.0.dist
+  no_nearer : (x y : Reverse (Walk D)) → lt_by_cmp (λ (a b : Reverse (Walk D)). walk_cmp cmp b.0 a.0) x y ≡ false → value x.0.dist ≤ value y.0.dist
   no_nearer x y h =
       let at = rw (in_order y.0.dist x.0.dist) at h in
       All-head (λ (z : ℕ × (ℕ × ℕ)). z.0 ≤ value y.0.dist) (value x.0.dist, (x.0.node, x.0.pred)) [] (first_le_from_greatest ends_cmp (value y.0.dist, (y.0.node, y.0.pred)) ((value x.0.dist, (x.0.node, x.0.pred)) ∷ []) (at, tt))
 
-  pub nearest : (x : Reverse (Reach D)) (xs : List (Reverse (Reach D))) → IsUpperBound (λ (a b : Reverse (Reach D)). reach_cmp cmp b.0 a.0) x xs → IsNearest (way_in value x) (map (way_in value) xs)
-  nearest x [] h = All-nil (λ (o : Reach ℕ). value x.0.dist ≤ o.dist)
-  nearest x (y ∷ ys) h = All-cons (λ (o : Reach ℕ). value x.0.dist ≤ o.dist) (way_in value y) (map (way_in value) ys) (no_nearer x y h.0) (nearest x ys h.1)
+  pub nearest : (x : Reverse (Walk D)) (xs : List (Reverse (Walk D))) → IsUpperBound (λ (a b : Reverse (Walk D)). walk_cmp cmp b.0 a.0) x xs → IsNearest (walk_in value x) (map (walk_in value) xs)
+  nearest x [] h = All-nil (λ (o : Walk ℕ). value x.0.dist ≤ o.dist)
+  nearest x (y ∷ ys) h = All-cons (λ (o : Walk ℕ). value x.0.dist ≤ o.dist) (walk_in value y) (map (walk_in value) ys) (no_nearer x y h.0) (nearest x ys h.1)

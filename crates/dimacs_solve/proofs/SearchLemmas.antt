@@ -13,13 +13,13 @@ use Rattle.dimacs_lines.specs.Limits.{most_count, most_nodes, IsNode}
 use Rattle.dimacs_claims.specs.declared.block.Label.{Label}
 use Rattle.dimacs_claims.specs.Labels.{BlockValue, IsBlock, IsLabel, label, with_label}
 use Rattle.dimacs_solve.specs.declared.adjacency.Adjacency.{Adjacency}
-use Rattle.dimacs_solve.specs.declared.adjacency.Hop.{Hop}
-use Rattle.dimacs_solve.specs.declared.frontier.Reach.{Reach}
-use Rattle.dimacs_solve.specs.Adjacency.{AreByNode, IsHop, out}
-use Rattle.dimacs_solve.specs.inside.Adjacency.{hop_to}
+use Rattle.dimacs_solve.specs.declared.adjacency.OutArc.{OutArc}
+use Rattle.dimacs_solve.specs.declared.frontier.Walk.{Walk}
+use Rattle.dimacs_solve.specs.Adjacency.{AreByNode, IsOutArc, out}
+use Rattle.dimacs_solve.specs.inside.Adjacency.{out_arc_to}
 use Rattle.dimacs_solve.specs.inside.NodeStates.{Known, AreUnknown, IsSettled, IsReachedWithin, Sets, reached, settled}
 use Rattle.dimacs_solve.specs.Paths.{IsNearestFirst}
-use Rattle.dimacs_solve.specs.inside.Search.{is_settled, settled_count, settled_label, IsWay, IsWayWaiting, IsPending, IsFront, Lowers, Offers, IsHopPassed, IsReady, Relaxes, IsMade, IsPathSearch, IsPopped, IsClosed, IsPathTree, work}
+use Rattle.dimacs_solve.specs.inside.Search.{is_settled, settled_count, settled_label, IsWalk, IsQueuedWalk, IsPending, IsFront, Lowers, Offers, IsArcRelaxed, IsReady, Relaxes, HasTightOutArc, IsPathSearch, IsPopped, IsClosed, IsPathTree, work}
 
 -- ---- lists
 true_or_false : (b : Bool) → (b ≡ true) ⊎ (b ≡ false)
@@ -43,14 +43,14 @@ lt_or_le : (m n : ℕ) → (m ≤ n) ⊎ (n < m)
 lt_or_le m n = elim (cases_order m n) [ inl l ↦ inl (omega (arith, l)) | inr h ↦ elim h [ inl l ↦ inl (omega (arith, l)) | inr l ↦ inr l ] ]
 
 -- ---- the queue with one walk more or less
-module _ (e : Reach ℕ) (few more : List (Reach ℕ)) (moved : IsPermutation (e ∷ few) more) where
+module _ (e : Walk ℕ) (few more : List (Walk ℕ)) (moved : IsPermutation (e ∷ few) more) where
   has_new : Contains more e
   has_new = Contains-permutation (e ∷ few) more e moved (cons_first e few)
 
-  has_old : (o : Reach ℕ) → Contains few o → Contains more o
+  has_old : (o : Walk ℕ) → Contains few o → Contains more o
   has_old o h = Contains-permutation (e ∷ few) more o moved (cons_more e o few h)
 
-  has_cases : (o : Reach ℕ) → Contains more o → (e ≡ o) ⊎ Contains few o
+  has_cases : (o : Walk ℕ) → Contains more o → (e ≡ o) ⊎ Contains few o
   has_cases o h = cons_cases e o few (Contains-permutation more (e ∷ few) o (IsPermutation-sym (e ∷ few) more moved) h)
 
 -- ---- whether a node is settled
@@ -135,32 +135,32 @@ lowers_count : (old new : ℕ → Known) (n : ℕ) → Lowers old new → settle
 lowers_count old new n l = settled_count-same old new n (λ v low high. lowers_settled old new l v)
 
 -- ---- what stays when marks fall
-way_stays : (a : Adjacency) (old new : ℕ → Known) → ((v : ℕ) → IsSettled (old v) → new v ≡ old v) → (o : Reach ℕ) → IsWay a old o → IsWay a new o
-way_stays a old new kept o w = record {
+walk_stays : (a : Adjacency) (old new : ℕ → Known) → ((v : ℕ) → IsSettled (old v) → new v ≡ old v) → (o : Walk ℕ) → IsWalk a old o → IsWalk a new o
+walk_stays a old new kept o w = record {
   weight = w.weight;
   node = w.node;
   pred = subst IsSettled (sym (kept o.pred w.pred)) w.pred;
-  hop = w.hop;
+  out_arc = w.out_arc;
   adds = w.adds ∙ ap (λ (k : Known). k.dist + w.weight) (sym (kept o.pred w.pred));
 }
 
-waiting_stays : (a : Adjacency) (floor : ℕ) (old new : ℕ → Known) → Lowers old new → (o : Reach ℕ) → IsWayWaiting a floor old o → IsWayWaiting a floor new o
+waiting_stays : (a : Adjacency) (floor : ℕ) (old new : ℕ → Known) → Lowers old new → (o : Walk ℕ) → IsQueuedWalk a floor old o → IsQueuedWalk a floor new o
 waiting_stays a floor old new l o w = record {
-  way = way_stays a old new l.kept o w.way;
+  walk = walk_stays a old new l.kept o w.walk;
   beyond = w.beyond;
   within = l.within o.node o.dist w.within;
   bound = subst (λ n. o.dist ≤ a.greatest * n) (sym (lowers_count old new a.nodes l)) w.bound;
 }
 
 -- ---- the marks and the queue after an offer
-record IsOffered (a : Adjacency) (floor : ℕ) (e : Reach ℕ) (node_states : ℕ → Known) (front : List (Reach ℕ)) (node_states' : ℕ → Known) (front' : List (Reach ℕ)) : Type 0 where
+record IsOffered (a : Adjacency) (floor : ℕ) (e : Walk ℕ) (node_states : ℕ → Known) (front : List (Walk ℕ)) (node_states' : ℕ → Known) (front' : List (Walk ℕ)) : Type 0 where
   waits : IsFront a floor node_states' front'
   lowers : Lowers node_states node_states'
   within : IsReachedWithin (node_states' e.node) e.dist
-  few : length front' ≤ length front + 1
+  queue_bounded : length front' ≤ length front + 1
 
-module _ (a : Adjacency) (floor : ℕ) (e : Reach ℕ) (node_states node_states' : ℕ → Known) (front front' : List (Reach ℕ)) (is : IsFront a floor node_states front) (beyond : floor ≤ e.dist) (off : ¬ IsReachedWithin (node_states e.node) e.dist)
-    (sets : Sets node_states e.node (reached e.dist) node_states') (moved : IsPermutation (e ∷ front) front') (way : IsWay a node_states e) (bound : e.dist ≤ a.greatest * settled_count node_states a.nodes) where
+module _ (a : Adjacency) (floor : ℕ) (e : Walk ℕ) (node_states node_states' : ℕ → Known) (front front' : List (Walk ℕ)) (is : IsFront a floor node_states front) (beyond : floor ≤ e.dist) (off : ¬ IsReachedWithin (node_states e.node) e.dist)
+    (sets : Sets node_states e.node (reached e.dist) node_states') (moved : IsPermutation (e ∷ front) front') (walk : IsWalk a node_states e) (bound : e.dist ≤ a.greatest * settled_count node_states a.nodes) where
   unsettled : ¬ IsSettled (node_states e.node)
   unsettled s = off (s.0, omega (arith, is.below e.node s, beyond))
 
@@ -185,9 +185,9 @@ module _ (a : Adjacency) (floor : ℕ) (e : Reach ℕ) (node_states node_states'
     ];
   }
 
-  taken_waits : IsWayWaiting a floor node_states' e
+  taken_waits : IsQueuedWalk a floor node_states' e
   taken_waits = record {
-    way = way_stays a node_states node_states' taken_lowers.kept e way;
+    walk = walk_stays a node_states node_states' taken_lowers.kept e walk;
     beyond = beyond;
     within = subst (λ k. IsReachedWithin k e.dist) (sym sets.here) (refl, omega arith);
     bound = subst (λ n. e.dist ≤ a.greatest * n) (sym (lowers_count node_states node_states' a.nodes taken_lowers)) bound;
@@ -197,7 +197,7 @@ module _ (a : Adjacency) (floor : ℕ) (e : Reach ℕ) (node_states node_states'
   taken_front = record {
     adjacent = is.adjacent;
     waiting = λ o h. elim (has_cases e front front' moved o h) [
-      | inl same ↦ subst (IsWayWaiting a floor node_states') same taken_waits
+      | inl same ↦ subst (IsQueuedWalk a floor node_states') same taken_waits
       | inr old ↦ waiting_stays a floor node_states node_states' taken_lowers o (is.waiting o old)
     ];
     pending = λ v f n. elim (cases_eq v e.node) [
@@ -215,73 +215,73 @@ module _ (a : Adjacency) (floor : ℕ) (e : Reach ℕ) (node_states node_states'
     waits = taken_front;
     lowers = taken_lowers;
     within = taken_waits.within;
-    few = omega (arith, length_permutation (e ∷ front) front' moved);
+    queue_bounded = omega (arith, length_permutation (e ∷ front) front' moved);
   }
 
-offered : (a : Adjacency) (floor : ℕ) (e : Reach ℕ) (node_states : ℕ → Known) (front : List (Reach ℕ)) (node_states' : ℕ → Known) (front' : List (Reach ℕ)) → IsFront a floor node_states front → floor ≤ e.dist
-    → IsWay a node_states e → e.dist ≤ a.greatest * settled_count node_states a.nodes → Offers e node_states front node_states' front' → IsOffered a floor e node_states front node_states' front'
-offered a floor e node_states front node_states' front' is beyond way bound o = elim o [
-  | inl same ↦ rw (same.1, same.2) record { waits = is; lowers = lowers_none node_states; within = same.0; few = omega arith }
-  | inr new ↦ taken_offered a floor e node_states node_states' front front' is beyond new.0 new.1 new.2 way bound
+offered : (a : Adjacency) (floor : ℕ) (e : Walk ℕ) (node_states : ℕ → Known) (front : List (Walk ℕ)) (node_states' : ℕ → Known) (front' : List (Walk ℕ)) → IsFront a floor node_states front → floor ≤ e.dist
+    → IsWalk a node_states e → e.dist ≤ a.greatest * settled_count node_states a.nodes → Offers e node_states front node_states' front' → IsOffered a floor e node_states front node_states' front'
+offered a floor e node_states front node_states' front' is beyond walk bound o = elim o [
+  | inl same ↦ rw (same.1, same.2) record { waits = is; lowers = lowers_none node_states; within = same.0; queue_bounded = omega arith }
+  | inr new ↦ taken_offered a floor e node_states node_states' front front' is beyond new.0 new.1 new.2 walk bound
 ]
 
--- ---- the hops of a node
-out_hops : (a : Adjacency) (v : ℕ) → AreByNode a → All (IsHop a.nodes a.greatest) (out a v)
+-- ---- the arcs of a node
+out_lawful : (a : Adjacency) (v : ℕ) → AreByNode a → All (IsOutArc a.nodes a.greatest) (out a v)
 unfolding out
-out_hops a v is = All-take (IsHop a.nodes a.greatest) _ _ (All-drop (IsHop a.nodes a.greatest) _ a.hops.items is.lawful)
+out_lawful a v is = All-take (IsOutArc a.nodes a.greatest) _ _ (All-drop (IsOutArc a.nodes a.greatest) _ a.out_arcs.items is.lawful)
 
-out_few : (a : Adjacency) (v : ℕ) → length (out a v) ≤ length a.hops.items
+out_few : (a : Adjacency) (v : ℕ) → length (out a v) ≤ length a.out_arcs.items
 unfolding out
 out_few a v = simp (length-take, length-drop) (omega arith)
 
-pub hop_at : (a : Adjacency) (node : ℕ) (hops : List Hop) (i : ℕ) (d : Hop) → AreByNode a → hops ≡ out a node → i < length hops → IsHop a.nodes a.greatest (get_or hops i d)
-hop_at a node hops i d is from inside = All-get_or (IsHop a.nodes a.greatest) hops i d inside (rw from (out_hops a node is))
+pub out_arc_at : (a : Adjacency) (node : ℕ) (out_arcs : List OutArc) (i : ℕ) (d : OutArc) → AreByNode a → out_arcs ≡ out a node → i < length out_arcs → IsOutArc a.nodes a.greatest (get_or out_arcs i d)
+out_arc_at a node out_arcs i d is from inside = All-get_or (IsOutArc a.nodes a.greatest) out_arcs i d inside (rw from (out_lawful a node is))
 
 -- ---- one step of relaxing a node
-pub record IsRelaxing (a : Adjacency) (dist : ℕ) (old : ℕ → Known) (ways : List (Reach ℕ)) (hops : List Hop) (i : ℕ) (node_states : ℕ → Known) (front : List (Reach ℕ)) : Type 0 where
+pub record IsRelaxing (a : Adjacency) (dist : ℕ) (old : ℕ → Known) (walks : List (Walk ℕ)) (out_arcs : List OutArc) (i : ℕ) (node_states : ℕ → Known) (front : List (Walk ℕ)) : Type 0 where
   pub waits : IsFront a dist node_states front
   pub lowers : Lowers old node_states
-  pub passed : All (IsHopPassed node_states dist) (take i hops)
-  pub few : length front ≤ length ways + i
+  pub relaxed : All (IsArcRelaxed node_states dist) (take i out_arcs)
+  pub queue_bounded : length front ≤ length walks + i
 
-pub relaxing_none : (a : Adjacency) (node dist : ℕ) (old : ℕ → Known) (ways : List (Reach ℕ)) (hops : List Hop) → IsReady a node dist old ways → IsRelaxing a dist old ways hops 0 old ways
-relaxing_none a node dist old ways hops ready = record { waits = ready.waits; lowers = lowers_none old; passed = All-nil (IsHopPassed old dist); few = omega arith }
+pub relaxing_none : (a : Adjacency) (node dist : ℕ) (old : ℕ → Known) (walks : List (Walk ℕ)) (out_arcs : List OutArc) → IsReady a node dist old walks → IsRelaxing a dist old walks out_arcs 0 old walks
+relaxing_none a node dist old walks out_arcs ready = record { waits = ready.waits; lowers = lowers_none old; relaxed = All-nil (IsArcRelaxed old dist); queue_bounded = omega arith }
 
-pub relaxing_more : (a : Adjacency) (dist node : ℕ) (old : ℕ → Known) (ways : List (Reach ℕ)) (hops : List Hop) (i : ℕ) (d : Hop) (node_states : ℕ → Known) (front : List (Reach ℕ)) (node_states' : ℕ → Known) (front' : List (Reach ℕ))
-    → IsReady a node dist old ways → hops ≡ out a node → i < length hops → IsRelaxing a dist old ways hops i node_states front
-    → Offers (record { dist = dist + (get_or hops i d).weight; node = (get_or hops i d).head; pred = node }) node_states front node_states' front' → IsRelaxing a dist old ways hops (i + 1) node_states' front'
-relaxing_more a dist node old ways hops i d node_states front node_states' front' ready from inside so_far offers =
-    let hop = get_or hops i d in
-    let e : Reach ℕ = record { dist = dist + hop.weight; node = hop.head; pred = node } in
-    let lawful : IsHop a.nodes a.greatest hop = hop_at a node hops i d so_far.waits.adjacent from inside in
+pub relaxing_more : (a : Adjacency) (dist node : ℕ) (old : ℕ → Known) (walks : List (Walk ℕ)) (out_arcs : List OutArc) (i : ℕ) (d : OutArc) (node_states : ℕ → Known) (front : List (Walk ℕ)) (node_states' : ℕ → Known) (front' : List (Walk ℕ))
+    → IsReady a node dist old walks → out_arcs ≡ out a node → i < length out_arcs → IsRelaxing a dist old walks out_arcs i node_states front
+    → Offers (record { dist = dist + (get_or out_arcs i d).weight; node = (get_or out_arcs i d).head; pred = node }) node_states front node_states' front' → IsRelaxing a dist old walks out_arcs (i + 1) node_states' front'
+relaxing_more a dist node old walks out_arcs i d node_states front node_states' front' ready from inside so_far offers =
+    let out_arc = get_or out_arcs i d in
+    let e : Walk ℕ = record { dist = dist + out_arc.weight; node = out_arc.head; pred = node } in
+    let lawful : IsOutArc a.nodes a.greatest out_arc = out_arc_at a node out_arcs i d so_far.waits.adjacent from inside in
     let same = so_far.lowers.kept node ready.settled in
-    let way : IsWay a node_states e = record {
-      weight = hop.weight;
+    let walk : IsWalk a node_states e = record {
+      weight = out_arc.weight;
       node = ready.node;
       pred = subst IsSettled (sym same) ready.settled;
-      hop = subst (λ hs. Contains hs hop) from (Contains-get_or hops i d inside);
-      adds = ap (λ n. n + hop.weight) (sym ready.at ∙ ap (λ (k : Known). k.dist) (sym same));
+      out_arc = subst (λ hs. Contains hs out_arc) from (Contains-get_or out_arcs i d inside);
+      adds = ap (λ n. n + out_arc.weight) (sym ready.at ∙ ap (λ (k : Known). k.dist) (sym same));
     } in
-    let short : dist + hop.weight ≤ a.greatest * settled_count node_states a.nodes = subst (λ n. dist + hop.weight ≤ a.greatest * n) (sym (lowers_count old node_states a.nodes so_far.lowers)) (omega (arith, lawful.weight, ready.bound)) in
-    let new = offered a dist e node_states front node_states' front' so_far.waits (omega arith) way short offers in
+    let short : dist + out_arc.weight ≤ a.greatest * settled_count node_states a.nodes = subst (λ n. dist + out_arc.weight ≤ a.greatest * n) (sym (lowers_count old node_states a.nodes so_far.lowers)) (omega (arith, lawful.weight, ready.bound)) in
+    let new = offered a dist e node_states front node_states' front' so_far.waits (omega arith) walk short offers in
     record {
       waits = new.waits;
       lowers = lowers_more old node_states node_states' so_far.lowers new.lowers;
-      passed = All-more (IsHopPassed node_states' dist) hops i d inside (All-weaker (IsHopPassed node_states dist) (IsHopPassed node_states' dist) (λ h p. new.lowers.within h.head (dist + h.weight) p) (take i hops) so_far.passed) new.within;
-      few = omega (arith, new.few, so_far.few);
+      relaxed = All-more (IsArcRelaxed node_states' dist) out_arcs i d inside (All-weaker (IsArcRelaxed node_states dist) (IsArcRelaxed node_states' dist) (λ h p. new.lowers.within h.head (dist + h.weight) p) (take i out_arcs) so_far.relaxed) new.within;
+      queue_bounded = omega (arith, new.queue_bounded, so_far.queue_bounded);
     }
 
-pub relaxing_all : (a : Adjacency) (dist node : ℕ) (old : ℕ → Known) (ways : List (Reach ℕ)) (hops : List Hop) (i : ℕ) (node_states : ℕ → Known) (front : List (Reach ℕ)) → hops ≡ out a node → length hops ≡ i → IsRelaxing a dist old ways hops i node_states front → Relaxes a node dist old ways node_states front
-relaxing_all a dist node old ways hops i node_states front from all is = record {
+pub relaxing_all : (a : Adjacency) (dist node : ℕ) (old : ℕ → Known) (walks : List (Walk ℕ)) (out_arcs : List OutArc) (i : ℕ) (node_states : ℕ → Known) (front : List (Walk ℕ)) → out_arcs ≡ out a node → length out_arcs ≡ i → IsRelaxing a dist old walks out_arcs i node_states front → Relaxes a node dist old walks node_states front
+relaxing_all a dist node old walks out_arcs i node_states front from all is = record {
   waits = is.waits;
   lowers = is.lowers;
-  passed = subst (All (IsHopPassed node_states dist)) (take_all i hops (omega (arith, all)) ∙ from) is.passed;
-  few = omega (arith, is.few, all, ap length from, out_few a node);
+  relaxed = subst (All (IsArcRelaxed node_states dist)) (take_all i out_arcs (omega (arith, all)) ∙ from) is.relaxed;
+  queue_bounded = omega (arith, is.queue_bounded, all, ap length from, out_few a node);
 }
 
--- the distance after one more hop from a settled node stays below the limit
-pub hop_within : (a : Adjacency) (node dist limit : ℕ) (node_states : ℕ → Known) (front : List (Reach ℕ)) (hop : Hop) → IsReady a node dist node_states front → a.nodes * a.greatest < limit → IsHop a.nodes a.greatest hop → dist + hop.weight < limit
-hop_within a node dist limit node_states front hop ready bounded lawful =
+-- the distance after one more arc from a settled node stays below the limit
+pub out_arc_within : (a : Adjacency) (node dist limit : ℕ) (node_states : ℕ → Known) (front : List (Walk ℕ)) (out_arc : OutArc) → IsReady a node dist node_states front → a.nodes * a.greatest < limit → IsOutArc a.nodes a.greatest out_arc → dist + out_arc.weight < limit
+out_arc_within a node dist limit node_states front out_arc ready bounded lawful =
     let most : a.greatest * settled_count node_states a.nodes ≤ a.greatest * a.nodes = mul-le-mul_left a.greatest (settled_count-le node_states a.nodes) in
     omega (arith, bounded, ready.bound, lawful.weight, most)
 
@@ -309,8 +309,8 @@ module _ (b : BlockValue) (l : Label) (fresh : label b l.id ≡ None) (adds : Ad
     | inr apart ↦ label_other v apart ∙ h
   ]
 
-  made_stays : (a : Adjacency) (m : Label) → IsMade a b m → IsMade a (with_label b l) m
-  made_stays a m is = record { base = is.base; weight = is.weight; pred = label_stays m.pred (pos is.base) is.pred; hop = is.hop; adds = is.adds }
+  tight_stays : (a : Adjacency) (m : Label) → HasTightOutArc a b m → HasTightOutArc a (with_label b l) m
+  tight_stays a m is = record { base = is.base; weight = is.weight; pred = label_stays m.pred (pos is.base) is.pred; out_arc = is.out_arc; adds = is.adds }
 
 -- ---- the label of a settled node
 label_of_settled : (k : Known) → IsSettled k → settled_label k ≡ Some (pos k.dist)
@@ -339,24 +339,24 @@ nearest_first_more ls l is low k d h = elim (cases_lt (k + 1) (length ls)) [
 ]
 
 -- ---- the walk that was removed from the queue
-module _ (a : Adjacency) (b : BlockValue) (node_states : ℕ → Known) (e : Reach ℕ) (front : List (Reach ℕ)) (p : IsPopped a b node_states e front) where
+module _ (a : Adjacency) (b : BlockValue) (node_states : ℕ → Known) (e : Walk ℕ) (front : List (Walk ℕ)) (p : IsPopped a b node_states e front) where
   abbrev is : IsPathSearch a b node_states p.before
   is = p.search
 
   abbrev moved : IsPermutation (e ∷ front) p.before
   moved = IsPermutation-sym p.before (e ∷ front) p.moved
 
-  pub popped_waits : IsWayWaiting a is.floor node_states e
+  pub popped_waits : IsQueuedWalk a is.floor node_states e
   popped_waits = is.waits.waiting e (has_new e front p.before moved)
 
-  pub popped_lawful : IsHop a.nodes a.greatest (hop_to e.node popped_waits.way.weight)
-  popped_lawful = All-contains (IsHop a.nodes a.greatest) (out a e.pred) (hop_to e.node popped_waits.way.weight) (out_hops a e.pred is.waits.adjacent) popped_waits.way.hop
+  pub popped_lawful : IsOutArc a.nodes a.greatest (out_arc_to e.node popped_waits.walk.weight)
+  popped_lawful = All-contains (IsOutArc a.nodes a.greatest) (out a e.pred) (out_arc_to e.node popped_waits.walk.weight) (out_lawful a e.pred is.waits.adjacent) popped_waits.walk.out_arc
 
   popped_known : (v : ℕ) → (node_states v).found ≡ true → (node_states v).final ≡ false → v ≢ e.node → IsPending front v (node_states v).dist
   popped_known v f n other =
       let q = is.waits.pending v f n in
       elim (has_cases e front p.before moved (record { dist = (node_states v).dist; node = v; pred = q.0 }) q.1) [
-        | inl same ↦ absurd (other (sym (ap (λ (o : Reach ℕ). o.node) same)))
+        | inl same ↦ absurd (other (sym (ap (λ (o : Walk ℕ). o.node) same)))
         | inr old ↦ (q.0, old)
       ]
 
@@ -374,10 +374,10 @@ module _ (a : Adjacency) (b : BlockValue) (node_states : ℕ → Known) (e : Rea
     counted = is.counted;
     unbounded = is.unbounded;
     lawful = is.lawful;
-    made = is.made;
+    tight = is.tight;
     low = is.low;
     nearest_first = is.nearest_first;
-    passed = is.passed;
+    relaxed = is.relaxed;
   }
 
   popped_few : settled_count node_states a.nodes ≤ a.nodes
@@ -385,8 +385,8 @@ module _ (a : Adjacency) (b : BlockValue) (node_states : ℕ → Known) (e : Rea
 
   pub popped_small : e.dist < 2 ^ 90
   popped_small =
-      let few : a.nodes ≤ most_nodes = is.waits.adjacent.few in
-      let less : a.greatest * settled_count node_states a.nodes ≤ a.greatest * most_nodes = mul-le-mul_left a.greatest (omega (arith, popped_few, few)) in
+      let nodes_few : a.nodes ≤ most_nodes = is.waits.adjacent.nodes_few in
+      let less : a.greatest * settled_count node_states a.nodes ≤ a.greatest * most_nodes = mul-le-mul_left a.greatest (omega (arith, popped_few, nodes_few)) in
       omega (arith, popped_waits.bound, less, is.waits.adjacent.small)
 
   module _ (not_before : ¬ IsSettled (node_states e.node)) where
@@ -400,10 +400,10 @@ module _ (a : Adjacency) (b : BlockValue) (node_states : ℕ → Known) (e : Rea
     nearest_known : e.dist ≤ (node_states e.node).dist
     nearest_known =
         let q = is.waits.pending e.node popped_waits.within.0 fresh in
-        let o : Reach ℕ = record { dist = (node_states e.node).dist; node = e.node; pred = q.0 } in
+        let o : Walk ℕ = record { dist = (node_states e.node).dist; node = e.node; pred = q.0 } in
         elim (has_cases e front p.before moved o q.1) [
-          | inl same ↦ let s = ap (λ (o : Reach ℕ). o.dist) same in omega (arith, s)
-          | inr old ↦ All-contains (λ (o : Reach ℕ). e.dist ≤ o.dist) front o p.nearest old
+          | inl same ↦ let s = ap (λ (o : Walk ℕ). o.dist) same in omega (arith, s)
+          | inr old ↦ All-contains (λ (o : Walk ℕ). e.dist ≤ o.dist) front o p.nearest old
         ]
 
     module _ (marked : ℕ → Known) (sets : Sets node_states e.node (settled e.dist) marked) where
@@ -424,12 +424,12 @@ module _ (a : Adjacency) (b : BlockValue) (node_states : ℕ → Known) (e : Rea
         | inr apart ↦ subst (λ k. IsReachedWithin k d) (sym (sets.there v apart)) w
       ]
 
-      marked_waiting : (o : Reach ℕ) → Contains front o → IsWayWaiting a e.dist marked o
+      marked_waiting : (o : Walk ℕ) → Contains front o → IsQueuedWalk a e.dist marked o
       marked_waiting o h =
           let w = is.waits.waiting o (has_old e front p.before moved o h) in
           record {
-            way = way_stays a node_states marked marked_kept o w.way;
-            beyond = All-contains (λ (o : Reach ℕ). e.dist ≤ o.dist) front o p.nearest h;
+            walk = walk_stays a node_states marked marked_kept o w.walk;
+            beyond = All-contains (λ (o : Walk ℕ). e.dist ≤ o.dist) front o p.nearest h;
             within = marked_within o.node o.dist w.within;
             bound = subst (λ n. o.dist ≤ a.greatest * n) (sym marked_count) (omega (arith, w.bound));
           }
@@ -462,7 +462,7 @@ module _ (a : Adjacency) (b : BlockValue) (node_states : ℕ → Known) (e : Rea
         waits = marked_front;
       }
 
-      module _ (node_states' : ℕ → Known) (front' : List (Reach ℕ)) (r : Relaxes a e.node e.dist marked front node_states' front') where
+      module _ (node_states' : ℕ → Known) (front' : List (Walk ℕ)) (r : Relaxes a e.node e.dist marked front node_states' front') where
         count_after : settled_count node_states' a.nodes ≡ settled_count node_states a.nodes + 1
         count_after = lowers_count marked node_states' a.nodes r.lowers ∙ marked_count
 
@@ -472,33 +472,33 @@ module _ (a : Adjacency) (b : BlockValue) (node_states : ℕ → Known) (e : Rea
             let k = a.nodes - (c + 1) in
             let below : c + 1 ≤ a.nodes = omega (arith, settled_count-le node_states' a.nodes, count_after) in
             let left : a.nodes - c ≡ k + 1 = omega (arith, below) in
-            rw (count_after, left, times_more k (length a.hops.items + 1)) (omega (arith, r.few))
+            rw (count_after, left, times_more k (length a.out_arcs.items + 1)) (omega (arith, r.queue_bounded))
 
       abbrev pub added : Label
       added = record { dist = pos e.dist; id = e.node; pred = e.pred }
 
       pub added_pred : label b e.pred ≡ Some (pos (node_states e.pred).dist)
-      added_pred = is.labelled e.pred ∙ label_of_settled (node_states e.pred) popped_waits.way.pred
+      added_pred = is.labelled e.pred ∙ label_of_settled (node_states e.pred) popped_waits.walk.pred
 
       pub added_label : IsLabel a.nodes added
       added_label =
           let wide : e.dist ≤ 10 ^ 30 = omega (arith, popped_small) in
-          record { id = popped_lawful.node; dist = (omega (arith, ints), omega (arith, ints, wide)); pred = popped_waits.way.node }
+          record { id = popped_lawful.node; dist = (omega (arith, ints), omega (arith, ints, wide)); pred = popped_waits.walk.node }
 
       pub added_few : length b.labels < most_count
-      added_few = omega (arith, is.counted, popped_few, is.waits.adjacent.few)
+      added_few = omega (arith, is.counted, popped_few, is.waits.adjacent.nodes_few)
 
       module _ (adds : AddsLabel b added) where
-        added_made : IsMade a (with_label b added) added
-        added_made = record {
+        added_tight : HasTightOutArc a (with_label b added) added
+        added_tight = record {
           base = (node_states e.pred).dist;
-          weight = popped_waits.way.weight;
+          weight = popped_waits.walk.weight;
           pred = label_stays b added has_none adds e.pred (pos (node_states e.pred).dist) added_pred;
-          hop = popped_waits.way.hop;
-          adds = ap pos popped_waits.way.adds;
+          out_arc = popped_waits.walk.out_arc;
+          adds = ap pos popped_waits.walk.adds;
         }
 
-        module _ (lawful : IsBlock a.nodes (with_label b added)) (node_states' : ℕ → Known) (front' : List (Reach ℕ)) (r : Relaxes a e.node e.dist marked front node_states' front') where
+        module _ (lawful : IsBlock a.nodes (with_label b added)) (node_states' : ℕ → Known) (front' : List (Walk ℕ)) (r : Relaxes a e.node e.dist marked front node_states' front') where
           abbrev lowers : Lowers marked node_states'
           lowers = r.lowers
 
@@ -509,18 +509,18 @@ module _ (a : Adjacency) (b : BlockValue) (node_states : ℕ → Known) (e : Rea
             | inr apart ↦ label_other b added has_none adds u apart ∙ (is.labelled u ∙ sym (lowers_label marked node_states' lowers u ∙ ap settled_label (sets.there u (λ same. apart (sym same)))))
           ]
 
-          passed_after : (u : ℕ) → IsSettled (node_states' u) → All (IsHopPassed node_states' (node_states' u).dist) (out a u)
-          passed_after u s =
+          relaxed_after : (u : ℕ) → IsSettled (node_states' u) → All (IsArcRelaxed node_states' (node_states' u).dist) (out a u)
+          relaxed_after u s =
               let same_node_state = lowers.none u s in
               elim (cases_eq u e.node) [
                 | inl same ↦
                     let at : node_states' e.node ≡ settled e.dist = subst (λ w. node_states' w ≡ marked w) same same_node_state ∙ sets.here in
-                    subst (λ w. All (IsHopPassed node_states' (node_states' w).dist) (out a w)) (sym same) (subst (λ (k : Known). All (IsHopPassed node_states' k.dist) (out a e.node)) (sym at) r.passed)
+                    subst (λ w. All (IsArcRelaxed node_states' (node_states' w).dist) (out a w)) (sym same) (subst (λ (k : Known). All (IsArcRelaxed node_states' k.dist) (out a e.node)) (sym at) r.relaxed)
                 | inr apart ↦
                     let at : node_states' u ≡ node_states u = same_node_state ∙ sets.there u apart in
                     let d = (node_states u).dist in
-                    subst (λ (k : Known). All (IsHopPassed node_states' k.dist) (out a u)) (sym at)
-                    (All-weaker (IsHopPassed node_states d) (IsHopPassed node_states' d) (λ h q. lowers.within h.head (d + h.weight) (marked_within h.head (d + h.weight) q)) (out a u) (is.passed u (subst IsSettled at s)))
+                    subst (λ (k : Known). All (IsArcRelaxed node_states' k.dist) (out a u)) (sym at)
+                    (All-weaker (IsArcRelaxed node_states d) (IsArcRelaxed node_states' d) (λ h q. lowers.within h.head (d + h.weight) (marked_within h.head (d + h.weight) q)) (out a u) (is.relaxed u (subst IsSettled at s)))
               ]
 
           nearer_before : All (λ (l : Label). l.dist ≤ℤ pos e.dist) b.labels
@@ -534,10 +534,10 @@ module _ (a : Adjacency) (b : BlockValue) (node_states : ℕ → Known) (e : Rea
             counted = omega (arith, count_after node_states' front' r, is.counted, length-append b.labels (added ∷ []));
             unbounded = is.unbounded;
             lawful = lawful;
-            made = All-push (IsMade a (with_label b added)) b.labels added (All-weaker (IsMade a b) (IsMade a (with_label b added)) (made_stays b added has_none adds a) b.labels is.made) added_made;
+            tight = All-push (HasTightOutArc a (with_label b added)) b.labels added (All-weaker (HasTightOutArc a b) (HasTightOutArc a (with_label b added)) (tight_stays b added has_none adds a) b.labels is.tight) added_tight;
             low = All-push (λ (l : Label). l.dist ≤ℤ pos e.dist) b.labels added nearer_before (omega (arith, ints));
             nearest_first = nearest_first_more b.labels added is.nearest_first nearer_before;
-            passed = passed_after;
+            relaxed = relaxed_after;
           }
 
 -- ---- the start of a search
@@ -583,7 +583,7 @@ module _ (a : Adjacency) (source : ℕ) (node_states started : ℕ → Known) (i
   abbrev bare : BlockValue
   bare = record { source = source; radius = None; labels = [] }
 
-  module _ (lawful : IsBlock a.nodes bare) (node_states' : ℕ → Known) (front' : List (Reach ℕ)) (r : Relaxes a source 0 started [] node_states' front') where
+  module _ (lawful : IsBlock a.nodes bare) (node_states' : ℕ → Known) (front' : List (Walk ℕ)) (r : Relaxes a source 0 started [] node_states' front') where
     abbrev fallen : Lowers started node_states'
     fallen = r.lowers
 
@@ -601,14 +601,14 @@ module _ (a : Adjacency) (source : ℕ) (node_states started : ℕ → Known) (i
       counted = omega (arith, lowers_count started node_states' a.nodes fallen, start_count);
       unbounded = refl;
       lawful = lawful;
-      made = All-nil (IsMade a bare);
+      tight = All-nil (HasTightOutArc a bare);
       low = All-nil (λ (l : Label). l.dist ≤ℤ pos 0);
       nearest_first = nearest_first_none;
-      passed = λ u s.
+      relaxed = λ u s.
           let at : node_states' u ≡ started u = fallen.none u s in
           let same = only_source u (subst IsSettled at s) in
           let node_state : node_states' source ≡ settled 0 = subst (λ w. node_states' w ≡ started w) same at ∙ sets.here in
-          subst (λ w. All (IsHopPassed node_states' (node_states' w).dist) (out a w)) (sym same) (subst (λ (k : Known). All (IsHopPassed node_states' k.dist) (out a source)) (sym node_state) r.passed);
+          subst (λ w. All (IsArcRelaxed node_states' (node_states' w).dist) (out a w)) (sym same) (subst (λ (k : Known). All (IsArcRelaxed node_states' k.dist) (out a source)) (sym node_state) r.relaxed);
     }
 
 -- ---- the end of a search
@@ -630,10 +630,10 @@ module _ (a : Adjacency) (b : BlockValue) (node_states : ℕ → Known) (is : Is
     | inl on ↦
         let e : Some (pos d) ≡ Some (pos (node_states u).dist) = sym h ∙ (is.labelled u ∙ label_of_settled (node_states u) on.1) in
         let same : d ≡ (node_states u).dist = cc in
-        All-weaker (IsHopPassed node_states (node_states u).dist) (λ hop. (e : ℕ) × (label b hop.head ≡ Some (pos e)) × (e ≤ d + hop.weight))
-        (λ hop w. ((node_states hop.head).dist, is.labelled hop.head ∙ label_of_settled (node_states hop.head) (over_settled hop.head w.0), omega (arith, w.1, same))) (out a u) (is.passed u on.1)
+        All-weaker (IsArcRelaxed node_states (node_states u).dist) (λ out_arc. (e : ℕ) × (label b out_arc.head ≡ Some (pos e)) × (e ≤ d + out_arc.weight))
+        (λ out_arc w. ((node_states out_arc.head).dist, is.labelled out_arc.head ∙ label_of_settled (node_states out_arc.head) (over_settled out_arc.head w.0), omega (arith, w.1, same))) (out a u) (is.relaxed u on.1)
     | inr off ↦ absurd (let e = sym h ∙ (is.labelled u ∙ label_of_other (node_states u) off.1) in cc)
   ]
 
   pub over_tree : (source : ℕ) → b.source ≡ source → IsPathTree a source b
-  over_tree source from = record { from = from; unbounded = is.unbounded; lawful = is.lawful; made = is.made; nearest_first = is.nearest_first; positive = over_positive; closed = over_closed }
+  over_tree source from = record { from = from; unbounded = is.unbounded; lawful = is.lawful; tight = is.tight; nearest_first = is.nearest_first; positive = over_positive; closed = over_closed }

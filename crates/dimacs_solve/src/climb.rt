@@ -1,4 +1,4 @@
-//! Finding a maximum flow by successive improvements.
+//! Maximum flow by successive improvements.
 
 ghost use Rattle.std.specs.Prelude.{IfOk};
 ghost use Rattle.dimacs_solve.specs.Climbing.{Climbs};
@@ -12,17 +12,17 @@ use dimacs_lines::Memory;
 use dimacs_network::Network;
 use std::alloc::Global;
 
-/// The end of a climb.
+/// The answer of `solve_max_flow`.
 #[derive(Drop)]
 pub enum MaxFlowAnswer {
-    /// A maximum flow, with a cut that is tight for it.
+    /// A maximum flow, with a tight cut.
     Optimal(Flow, Cut),
-    /// The limit was reached: so many flows were tested, and none of them is maximum.
+    /// As many flows as the limit were tested, and none is maximum.
     GaveUp,
 }
 
-/// Starts at the zero flow, and goes to a flow of greater value until it is maximum. It tests at most `limit` flows for
-/// being maximum; with `limit` 0 it gives up at once. Between two tests a heuristic may improve the flow further.
+/// Starts at the zero flow, and goes to flows of greater value until one is maximum. At most `limit` flows are tested
+/// for being maximum. Between two tests a heuristic may improve the flow further.
 pub fn solve_max_flow<N: Network>(
     alloc: Global,
     instance: &MaxInstance<N>,

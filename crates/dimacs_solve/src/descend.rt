@@ -1,4 +1,4 @@
-//! Finding a flow of least cost by successive improvements.
+//! Minimum cost flow by successive improvements.
 
 ghost use Rattle.std.specs.Prelude.{◌≡◌, ◌+◌, length, map, take, IfOk};
 ghost use Rattle.dimacs_solve.specs.Descending.{start_amount, start_flow};
@@ -14,19 +14,19 @@ use dimacs_lines::Memory;
 use dimacs_network::{ArcView, Network};
 use std::alloc::Global;
 
-/// The end of a descent.
+/// The answer of `solve_min_flow`.
 #[derive(Drop)]
 pub enum MinFlowAnswer {
-    /// A flow of least cost, with potentials that are slack for it.
+    /// A flow of least cost, with slack potentials.
     Optimal(Flow, Potentials),
     /// No flow is feasible; the set shows it.
     Infeasible(Cut),
-    /// The limit was reached: after so many steps, each to a better flow, the flow still isn't least.
+    /// After as many steps as the limit, each to a better flow, the flow still isn't least.
     GaveUp,
 }
 
-/// Goes from the start flow to a flow of least cost. If `limit` allows a step, it first tries a heuristic, which may
-/// reach the end in one step; otherwise `descend_by_steps`.
+/// Goes from the start flow to a flow of least cost. If `limit` allows a step, a heuristic comes first, which may get
+/// there in one.
 pub fn solve_min_flow<N: Network>(
     alloc: Global,
     instance: &MinInstance<N>,
@@ -42,7 +42,7 @@ pub fn solve_min_flow<N: Network>(
     descend_by_steps(alloc, instance, limit)
 }
 
-/// Starts at the start flow, and goes to a better flow until it is least, in at most `limit` steps.
+/// Goes from the start flow to better flows until one is least, in at most `limit` steps.
 fn descend_by_steps<N: Network>(
     alloc: Global,
     instance: &MinInstance<N>,
@@ -52,7 +52,7 @@ fn descend_by_steps<N: Network>(
 {
     let network = instance.network();
     let incidence = Incidence::new(alloc, network)?;
-    let mut flow = started(alloc, network)?;
+    let mut flow = make_start_flow(alloc, network)?;
     for _step in 0..limit {
         match ask_over(alloc, instance, &incidence, &flow)? {
             Reply::Optimal(slack) => return Ok(MinFlowAnswer::Optimal(flow, slack)),
@@ -67,19 +67,17 @@ fn descend_by_steps<N: Network>(
     }
 }
 
-/// The start flow: each arc carries its capacity if its cost is negative, otherwise its lower bound.
-fn started<N: Network>(alloc: Global, network: &N) -> Result<Flow, Memory>
+fn make_start_flow<N: Network>(alloc: Global, network: &N) -> Result<Flow, Memory>
     ensures { IfOk result (λ flow. flow ≡ start_flow (N.list network.now)) }
 {
     let mut flow = Flow::zero(alloc, network.arcs())?;
     for i in 0..network.arcs() {
-        flow.set(i as usize, started_at(network.arc(i)));
+        flow.set(i as usize, start_amount_on(network.arc(i)));
     }
     Ok(flow)
 }
 
-/// The amount on an arc in the start flow.
-fn started_at(arc: ArcView) -> i64
+fn start_amount_on(arc: ArcView) -> i64
     ensures { result ≡ start_amount arc }
 {
     if arc.cost < 0 { arc.cap } else { arc.low }

@@ -3,23 +3,20 @@
 ghost use Rattle.std.specs.Prelude.{◌≡◌, ◌<◌, ◌+◌, ◌^◌, ℕ, pos};
 ghost use Rattle.std.specs.Ordering.{nat_cmp};
 
-/// An unsigned number that holds the distances of a search: of 64 bits if all of them fit, otherwise of 128.
+/// An unsigned number for the distances of a search: of 64 bits if all of them fit, otherwise of 128.
 pub(crate) trait Distance: Copy + Ord {
     ghost value: { Self → ℕ };
 
     /// Sums of distances and weights have to stay below it.
     ghost limit: { ℕ };
 
-    /// The distance 0.
     fn zero() -> Self
         ensures { value result ≡ 0 };
 
-    /// The distance after an arc of this weight.
     fn plus(self, weight: u64) -> Self
         requires { value self + weight < limit }
         ensures { value result ≡ value self + weight };
 
-    /// The distance as a signed number of 128 bits.
     fn to_i128(self) -> i128
         requires { value self < 2 ^ 127 }
         ensures { result ≡ pos (value self) };

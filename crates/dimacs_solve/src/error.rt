@@ -7,7 +7,7 @@ use dimacs_records::Reason;
 /// Why a solver returns no answer.
 #[derive(Clone, Copy, Debug, PartialEq, Eq)]
 pub enum SolveError {
-    /// A weight is negative; the number is that of the first such arc, from 1. Only `solve_paths` refuses it.
+    /// The number of the first arc with a negative weight, from 1. Only `solve_paths` refuses it.
     NegativeWeight(u32),
     /// A query names a node above the number of nodes; the place is the first such node.
     Refused(Where, Reason),

@@ -9,8 +9,8 @@ use dimacs_methods::raise_value;
 use dimacs_network::Network;
 use std::alloc::Global;
 
-/// Returns a feasible flow with at least the value of this one. The preflow method proposes one; it is tested. If it
-/// fails the test, or memory runs out, the flow itself is returned.
+/// Returns a feasible flow with at least the value of this one. The preflow method proposes it. If that fails the test,
+/// or memory runs out, the flow itself is returned.
 pub fn improve_max<N: Network>(alloc: Global, instance: &MaxInstance<N>, flow: Flow) -> Flow
     requires { FeasibleMax instance.now flow }
     ensures feasible { FeasibleMax instance.now result }
@@ -25,7 +25,7 @@ pub fn improve_max<N: Network>(alloc: Global, instance: &MaxInstance<N>, flow: F
     flow
 }
 
-/// Whether `other` is feasible and has at least the value of `flow`. False, too, if there is no memory for the test.
+/// False, too, if there is no memory for the test.
 fn is_no_worse<N: Network>(
     alloc: Global,
     instance: &MaxInstance<N>,

@@ -1,4 +1,4 @@
-//! Reaching the end of a descent in one step, by a heuristic.
+//! The end of a descent in one step, by a heuristic.
 
 ghost use Rattle.std.specs.Prelude.{◌<◌, ℕ, IfOk, IfSome};
 ghost use Rattle.dimacs_decide.specs.Bounds.{KeepsBounds};
@@ -15,23 +15,23 @@ use dimacs_methods::make_least_flow;
 use dimacs_network::Network;
 use std::alloc::Global;
 
-/// The end that one step reaches, if the heuristic's flow is least or shows that no flow is feasible; otherwise none.
+/// None if the heuristic's flow is neither least nor shows that no flow is feasible.
 pub(crate) fn jump<N: Network>(
     alloc: Global,
     instance: &MinInstance<N>,
 ) -> Result<Option<MinFlowAnswer>, Memory>
     ensures { IfOk result (λ found. IfSome found (λ end. (limit : ℕ) → 0 < limit → Descends instance.now limit end)) }
 {
-    let made = make_least_flow(alloc, instance)?;
-    let flow = Flow::from_vec(made.amounts);
+    let least_flow = make_least_flow(alloc, instance)?;
+    let flow = Flow::from_vec(least_flow.amounts);
     if !keeps_bounds(instance.network(), &flow) {
         return Ok(None);
     }
-    settled(alloc, instance, flow, made.potentials)
+    end_at(alloc, instance, flow, least_flow.potentials)
 }
 
 /// The end of the descent, if the reply about this flow is one.
-fn settled<N: Network>(
+fn end_at<N: Network>(
     alloc: Global,
     instance: &MinInstance<N>,
     flow: Flow,

@@ -22,14 +22,15 @@ pub enum MinAnswer {
     Optimal(Solution, Potentials),
     /// No feasible flow; the set of nodes shows it.
     Infeasible(Cut),
-    /// Neither was found within the limit, or the least cost is out of range.
+    /// Neither was found within the limit, or a sum of costs is out of range.
     GaveUp,
 }
 
 /// Finds a flow of least cost in at most `limit` steps, each to a better flow.
 ///
 /// The start flow gives each arc its lower bound, or its capacity if its cost is negative. `GaveUp` comes if more than
-/// `limit` steps would be needed, or if the least cost is outside -10^30 to 10^30. `Memory` is the only error.
+/// `limit` steps would be needed, or if the least cost, summed up arc by arc, leaves the range from -10^30 to 10^30.
+/// `Memory` is the only error.
 pub fn solve_min<N: Network>(
     alloc: Global,
     instance: &MinInstance<N>,
@@ -44,7 +45,7 @@ pub fn solve_min<N: Network>(
     }
 }
 
-/// The answer for a flow of least cost; `GaveUp` if its cost is out of range.
+/// `GaveUp` if the cost, summed up arc by arc, leaves its range.
 fn outcome<N: Network>(
     alloc: Global,
     instance: &MinInstance<N>,

@@ -1,4 +1,4 @@
-//! Solvers: they make answers to flow and shortest path instances that pass the judge's tests.
+//! Solvers of flow and shortest path instances. Their answers pass the judge's tests.
 #![tactic(auto)]
 
 mod adjacency;

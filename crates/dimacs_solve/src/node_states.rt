@@ -1,4 +1,4 @@
-//! The table of a search: what it knows about the nodes.
+//! What a search knows about the nodes.
 
 ghost use Rattle.std.specs.Prelude.{◌≡◌, ◌≤◌, ◌<◌, ◌+◌, ℕ, IsTrue, OnOk, ◌↔◌};
 ghost use Rattle.dimacs_nodes.specs.Tables.{value_of};
@@ -8,7 +8,7 @@ use dimacs_lines::Memory;
 use dimacs_nodes::NodeTable;
 use std::alloc::Global;
 
-/// What a search knows about a node. A state from an earlier round counts as none.
+/// A state from an earlier round counts as none.
 #[derive(Clone, Copy)]
 struct NodeState<D> {
     dist: D,
@@ -16,7 +16,7 @@ struct NodeState<D> {
     settled: bool,
 }
 
-/// What the current search knows about the nodes. A new round takes no time and keeps the memory.
+/// A new round takes no time and keeps the memory.
 #[derive(Drop)]
 pub(crate) struct NodeStates<D> {
     round: u32,
@@ -27,7 +27,7 @@ pub(crate) struct NodeStates<D> {
 impl<D: Distance> NodeStates<D> {
     ghost use Rattle.dimacs_solve.specs.inside.NodeStates.{AreUnknown, IsSettled, IsReachedWithin, Sets, known, reached, settled};
 
-    /// Round 0, without states. Allocates nothing.
+    /// Allocates nothing.
     pub(crate) fn new(alloc: Global) -> NodeStates<D>
         ensures { result.round ≡ 0 }
     {
@@ -42,7 +42,6 @@ impl<D: Distance> NodeStates<D> {
         }
     }
 
-    /// Begins a new round: forgets all nodes.
     pub(crate) fn next_round(&mut self)
         requires { self.old.round + 1 < 4294967296 }
         ensures round { self.new.round ≡ self.old.round + 1 }
@@ -51,7 +50,6 @@ impl<D: Distance> NodeStates<D> {
         self.round += 1;
     }
 
-    /// Whether a walk of at most this length to the node was found.
     #[inline]
     pub(crate) fn is_within(&self, node: u32, dist: D) -> bool
         ensures { IsTrue result ↔ IsReachedWithin (known D.value self.now node) (D.value dist) }
@@ -60,7 +58,6 @@ impl<D: Distance> NodeStates<D> {
         node_state.round == self.round && node_state.dist <= dist
     }
 
-    /// Whether the node's distance is final.
     #[inline]
     pub(crate) fn is_settled(&self, node: u32) -> bool
         ensures { IsTrue result ↔ IsSettled (known D.value self.now node) }
@@ -69,7 +66,6 @@ impl<D: Distance> NodeStates<D> {
         node_state.round == self.round && node_state.settled
     }
 
-    /// Notes the length of a walk to the node.
     #[inline]
     pub(crate) fn reach(&mut self, node: u32, dist: D) -> Result<(), Memory>
         ensures round { OnOk result (self.new.round ≡ self.old.round) }
@@ -85,7 +81,6 @@ impl<D: Distance> NodeStates<D> {
         Ok(())
     }
 
-    /// Notes the distance of the node, as final.
     #[inline]
     pub(crate) fn settle(&mut self, node: u32, dist: D) -> Result<(), Memory>
         ensures round { OnOk result (self.new.round ≡ self.old.round) }

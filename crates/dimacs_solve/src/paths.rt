@@ -1,4 +1,4 @@
-//! Making labels for queries.
+//! Labels for queries.
 
 ghost use Rattle.std.specs.Prelude.{◌≡◌, ◌<◌, ◌≤◌, ◌*◌, [], ℕ, All, length, IfOk, OnOk, MatchOption};
 ghost use Rattle.dimacs_lines.specs.Limits.{most_count, IsNode};
@@ -24,14 +24,13 @@ use dimacs_nodes::NodeSet;
 use std::alloc::Global;
 
 /// Makes labels that pass the judge's tests, by Dijkstra's algorithm: a block for each source that is asked for, in the
-/// order of first use, with its labels the nearest first. It never gives up, and no sum overflows.
+/// order of first use, its nearest labels first. It never gives up, and no sum overflows.
 ///
-/// `Refused` comes exactly if a query names a node above the number of nodes, and names the first such node, FROM
-/// before TO. Otherwise `NegativeWeight` comes exactly if a weight is negative, and names the first such arc. Otherwise
-/// the result is labels, unless memory runs out.
+/// `Refused` comes if a query names a node above the number of nodes, and names the first one, FROM before TO.
+/// Otherwise `NegativeWeight` comes if a weight is negative.
 ///
-/// The adjacency lists are made once. A block then takes time and memory for what it reaches, however many nodes there
-/// are. Distances have 64 bits if the greatest weight times the number of nodes fits, otherwise 128.
+/// A block takes time and memory for what it reaches, however many nodes there are. Distances have 64 bits if the
+/// greatest weight times the number of nodes fits, otherwise 128.
 pub fn solve_paths<N: Network>(
     alloc: Global,
     graph: &Graph<N>,
@@ -55,7 +54,6 @@ pub fn solve_paths<N: Network>(
     Ok(labels)
 }
 
-/// The first arc with a negative weight, counted from 1.
 fn first_negative<N: Network>(network: &N) -> Option<u32>
     ensures { MatchOption result (All HasNoNegativeWeight (N.list network.now)) (IsFirstNegative (N.list network.now)) }
 {
@@ -67,7 +65,6 @@ fn first_negative<N: Network>(network: &N) -> Option<u32>
     None
 }
 
-/// Makes a block for each source that is asked for.
 fn solve_all<D: Distance>(
     alloc: Global,
     adjacency: &Adjacency,
@@ -75,9 +72,9 @@ fn solve_all<D: Distance>(
 ) -> Result<Labels, Memory>
     requires adjacent { AreByNode adjacency.now }
     requires bounded { adjacency.now.nodes * adjacency.now.greatest < D.limit }
-    requires few { length (sources_asked (asked queries.now)) ≤ most_count }
+    requires sources_few { length (sources_asked (asked queries.now)) ≤ most_count }
     requires sources { All (IsNode adjacency.now.nodes) (sources_asked (asked queries.now)) }
-    requires same { length (query_lines (asked queries.now)) ≡ length (sources_asked (asked queries.now)) }
+    requires one_source_each { length (query_lines (asked queries.now)) ≡ length (sources_asked (asked queries.now)) }
     ensures { IfOk result (AreSolved adjacency.now (sources_asked (asked queries.now))) }
 {
     let mut node_states: NodeStates<D> = NodeStates::new(alloc);
@@ -101,7 +98,6 @@ fn solve_all<D: Distance>(
     Ok(labels)
 }
 
-/// Adds the block of a source that has none yet.
 fn solve_one<D: Distance>(
     alloc: Global,
     adjacency: &Adjacency,
@@ -115,7 +111,7 @@ fn solve_one<D: Distance>(
     requires nodes { labels.old.nodes ≡ adjacency.now.nodes }
     requires source { IsNode adjacency.now.nodes source }
     requires new { (b : BlockValue) → b.source ≡ source → IsNewSource labels.old.blocks b }
-    requires few { length labels.old.blocks < most_count }
+    requires blocks_few { length labels.old.blocks < most_count }
     requires rounds { node_states.old.round ≡ length labels.old.blocks }
     requires empty { frontier.old ≡ [] }
     ensures block { OnOk result (AddsBlock adjacency.now source labels.old labels.new) }

@@ -1,5 +1,5 @@
-//! Testing whether a flow within its bounds costs least: first whether it is feasible, then whether a feasible flow
-//! costs less.
+//! Tests whether a flow within its bounds costs least: first whether it is feasible, then whether a feasible flow costs
+//! less.
 
 ghost use Rattle.std.specs.Prelude.{IfOk};
 ghost use Rattle.dimacs_optimality.specs.Feasible.{FeasibleMin};
@@ -30,7 +30,7 @@ pub(crate) enum Reply {
     Better(Flow),
 }
 
-/// Replies about a flow. `potentials` are a hint, used if the flow is feasible: good ones make the test fast.
+/// `potentials` are a hint, used if the flow is feasible: good ones make the test fast.
 pub(crate) fn ask<N: Network>(
     alloc: Global,
     instance: &MinInstance<N>,
@@ -41,10 +41,10 @@ pub(crate) fn ask<N: Network>(
     ensures { IfOk result (IsReply instance.now flow.now) }
 {
     let decision = decide_feasible(alloc, instance, flow)?;
-    answered(alloc, instance, flow, decision, potentials)
+    reply_to(alloc, instance, flow, decision, potentials)
 }
 
-/// Replies about a flow. `incidence` has the arcs of the network by their ends; several questions can share it.
+/// `incidence` has the arcs of the network by their ends; several questions can share it.
 pub(crate) fn ask_over<N: Network>(
     alloc: Global,
     instance: &MinInstance<N>,
@@ -57,11 +57,11 @@ pub(crate) fn ask_over<N: Network>(
 {
     let decision = decide_feasible_over(alloc, instance, incidence, flow)?;
     let nothing_known = Potentials::new(alloc, instance.network().nodes());
-    answered(alloc, instance, flow, decision, nothing_known)
+    reply_to(alloc, instance, flow, decision, nothing_known)
 }
 
 /// The reply, once it is known whether the flow is feasible.
-fn answered<N: Network>(
+fn reply_to<N: Network>(
     alloc: Global,
     instance: &MinInstance<N>,
     flow: &Flow,
@@ -78,7 +78,6 @@ fn answered<N: Network>(
     }
 }
 
-/// Replies about a feasible flow.
 fn ask_cost<N: Network>(
     alloc: Global,
     instance: &MinInstance<N>,

@@ -3,20 +3,20 @@
 ghost use Rattle.std.specs.Prelude.{◌≡◌, ◌<◌, ◌≤◌, ◌+◌, ◌*◌, [], IfOk, OnOk};
 ghost use Rattle.dimacs_lines.specs.Limits.{IsNode};
 ghost use Rattle.dimacs_solve.specs.Adjacency.{AreByNode};
-ghost use Rattle.dimacs_solve.specs.Frontiers.{way_of};
+ghost use Rattle.dimacs_solve.specs.Frontiers.{walk_of};
 ghost use Rattle.dimacs_solve.specs.inside.NodeStates.{known};
 ghost use Rattle.dimacs_solve.specs.inside.Search.{IsPopped, IsReady, IsPathSearch, IsPathTree, Offers, Relaxes, work};
 
 use crate::adjacency::Adjacency;
 use crate::distance::Distance;
-use crate::frontier::{Frontier, Reach};
+use crate::frontier::{Frontier, Walk};
 use crate::node_states::NodeStates;
 use dimacs_claims::{Block, Label};
 use dimacs_lines::Memory;
 use std::alloc::Global;
 
-/// Labels all nodes that can be reached from a source, in the order in which they are settled. The nearest entry of the
-/// queue settles its node, and the arcs from this node are relaxed. Takes time and memory for what it reaches.
+/// Labels all nodes that can be reached from a source, in the order in which they are settled. Takes time and memory
+/// for what it reaches.
 pub(crate) fn search<D: Distance>(
     alloc: Global,
     adjacency: &Adjacency,
@@ -37,41 +37,41 @@ pub(crate) fn search<D: Distance>(
     let mut block = Block::new(alloc, source);
     node_states.settle(source, D::zero())?;
     relax(adjacency, source, D::zero(), node_states, frontier)?;
-    while let Some(reach) = frontier.pop() {
-        visit(adjacency, reach, node_states, frontier, &mut block)?;
+    while let Some(walk) = frontier.pop() {
+        visit(adjacency, walk, node_states, frontier, &mut block)?;
     }
     Ok(block)
 }
 
-/// Settles the node of the nearest entry, unless it is settled already, and relaxes its arcs.
+/// Settles the node of the nearest walk, unless it is settled already, and relaxes its arcs.
 fn visit<D: Distance>(
     adjacency: &Adjacency,
-    reach: Reach<D>,
+    walk: Walk<D>,
     node_states: &mut NodeStates<D>,
     frontier: &mut Frontier<D>,
     block: &mut Block,
 ) -> Result<(), Memory>
     requires bounded { adjacency.now.nodes * adjacency.now.greatest < D.limit }
-    requires popped { IsPopped adjacency.now block.old (known D.value node_states.old) (way_of D.value reach) frontier.old }
+    requires popped { IsPopped adjacency.now block.old (known D.value node_states.old) (walk_of D.value walk) frontier.old }
     ensures search { OnOk result (IsPathSearch adjacency.now block.new (known D.value node_states.new) frontier.new) }
-    ensures less { OnOk result (work adjacency.now (known D.value node_states.new) frontier.new ≤ work adjacency.now (known D.value node_states.old) frontier.old) }
+    ensures less { OnOk result (work adjacency.now (known D.value node_states.new) frontier.new
+        ≤ work adjacency.now (known D.value node_states.old) frontier.old) }
     ensures source { OnOk result (block.new.source ≡ block.old.source) }
     ensures round { OnOk result (node_states.new.round ≡ node_states.old.round) }
 {
-    if node_states.is_settled(reach.node) {
+    if node_states.is_settled(walk.node) {
         return Ok(());
     }
     block.add(Label {
-        dist: reach.dist.to_i128(),
-        id: reach.node,
-        pred: reach.pred,
+        dist: walk.dist.to_i128(),
+        id: walk.node,
+        pred: walk.pred,
     })?;
-    node_states.settle(reach.node, reach.dist)?;
-    relax(adjacency, reach.node, reach.dist, node_states, frontier)?;
+    node_states.settle(walk.node, walk.dist)?;
+    relax(adjacency, walk.node, walk.dist, node_states, frontier)?;
     Ok(())
 }
 
-/// Relaxes the arcs from a settled node.
 fn relax<D: Distance>(
     adjacency: &Adjacency,
     node: u32,
@@ -81,34 +81,35 @@ fn relax<D: Distance>(
 ) -> Result<(), Memory>
     requires bounded { adjacency.now.nodes * adjacency.now.greatest < D.limit }
     requires ready { IsReady adjacency.now node (D.value dist) (known D.value node_states.old) frontier.old }
-    ensures relaxes { OnOk result (Relaxes adjacency.now node (D.value dist) (known D.value node_states.old) frontier.old (known D.value node_states.new) frontier.new) }
+    ensures relaxes { OnOk result (Relaxes adjacency.now node (D.value dist) (known D.value node_states.old) frontier.old
+        (known D.value node_states.new) frontier.new) }
     ensures round { OnOk result (node_states.new.round ≡ node_states.old.round) }
 {
-    let hops = adjacency.leaving(node);
-    for hop in hops {
-        let reach = Reach {
-            dist: dist.plus(hop.weight),
-            node: hop.head,
+    let out_arcs = adjacency.leaving(node);
+    for out_arc in out_arcs {
+        let walk = Walk {
+            dist: dist.plus(out_arc.weight),
+            node: out_arc.head,
             pred: node,
         };
-        offer(reach, node_states, frontier)?;
+        offer(walk, node_states, frontier)?;
     }
     Ok(())
 }
 
-/// Puts a walk into the queue, if it is shorter than those found to its node before.
+/// Queues a walk that is shorter than those found to its node before.
 #[inline(always)]
 fn offer<D: Distance>(
-    reach: Reach<D>,
+    walk: Walk<D>,
     node_states: &mut NodeStates<D>,
     frontier: &mut Frontier<D>,
 ) -> Result<(), Memory>
-    ensures offers { OnOk result (Offers (way_of D.value reach) (known D.value node_states.old) frontier.old (known D.value node_states.new) frontier.new) }
+    ensures offers { OnOk result (Offers (walk_of D.value walk) (known D.value node_states.old) frontier.old (known D.value node_states.new) frontier.new) }
     ensures round { OnOk result (node_states.new.round ≡ node_states.old.round) }
 {
-    if node_states.is_within(reach.node, reach.dist) {
+    if node_states.is_within(walk.node, walk.dist) {
         return Ok(());
     }
-    node_states.reach(reach.node, reach.dist)?;
-    frontier.push(reach)
+    node_states.reach(walk.node, walk.dist)?;
+    frontier.push(walk)
 }

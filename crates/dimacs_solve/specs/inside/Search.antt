@@ -4,10 +4,10 @@ use Rattle.dimacs_lines.specs.Limits.{IsNode}
 use Rattle.dimacs_claims.specs.declared.block.Label.{Label}
 use Rattle.dimacs_claims.specs.Labels.{BlockValue, IsBlock, label}
 use Rattle.dimacs_solve.specs.declared.adjacency.Adjacency.{Adjacency}
-use Rattle.dimacs_solve.specs.declared.adjacency.Hop.{Hop}
-use Rattle.dimacs_solve.specs.declared.frontier.Reach.{Reach}
+use Rattle.dimacs_solve.specs.declared.adjacency.OutArc.{OutArc}
+use Rattle.dimacs_solve.specs.declared.frontier.Walk.{Walk}
 use Rattle.dimacs_solve.specs.Adjacency.{AreByNode, out}
-use Rattle.dimacs_solve.specs.inside.Adjacency.{hop_to}
+use Rattle.dimacs_solve.specs.inside.Adjacency.{out_arc_to}
 use Rattle.dimacs_solve.specs.inside.Frontiers.{IsNearest}
 use Rattle.dimacs_solve.specs.inside.NodeStates.{Known, IsSettled, IsReachedWithin, Sets, reached}
 use Rattle.dimacs_solve.specs.Paths.{IsNearestFirst}
@@ -24,29 +24,29 @@ settled_count node_states (suc n) = settled_count node_states n + cond (is_settl
 abbrev pub settled_label : Known → Option ℤ
 settled_label k = if is_settled k then Some (pos k.dist) else None
 
--- the walk ends with a hop from a settled node
-pub record IsWay (a : Adjacency) (node_states : ℕ → Known) (e : Reach ℕ) : Type 0 where
+-- the walk ends with an arc from a settled node
+pub record IsWalk (a : Adjacency) (node_states : ℕ → Known) (e : Walk ℕ) : Type 0 where
   pub weight : ℕ
   pub node : IsNode a.nodes e.pred
   pub pred : IsSettled (node_states e.pred)
-  pub hop : Contains (out a e.pred) (hop_to e.node weight)
+  pub out_arc : Contains (out a e.pred) (out_arc_to e.node weight)
   pub adds : e.dist ≡ (node_states e.pred).dist + weight
 
--- a walk in the queue: at least as long as the floor, and as the way noted for its node
-pub record IsWayWaiting (a : Adjacency) (floor : ℕ) (node_states : ℕ → Known) (e : Reach ℕ) : Type 0 where
-  pub way : IsWay a node_states e
+-- a walk in the queue: at least as long as the floor, and as what is noted for its node
+pub record IsQueuedWalk (a : Adjacency) (floor : ℕ) (node_states : ℕ → Known) (e : Walk ℕ) : Type 0 where
+  pub walk : IsWalk a node_states e
   pub beyond : floor ≤ e.dist
   pub within : IsReachedWithin (node_states e.node) e.dist
   pub bound : e.dist ≤ a.greatest * settled_count node_states a.nodes
 
 -- the queue has a walk to v of this length
-abbrev pub IsPending : List (Reach ℕ) → ℕ → ℕ → Type 0
+abbrev pub IsPending : List (Walk ℕ) → ℕ → ℕ → Type 0
 IsPending front v d = (p : ℕ) × Contains front (record { dist = d; node = v; pred = p })
 
 -- the states and the queue agree, and no settled node is farther than the floor
-pub record IsFront (a : Adjacency) (floor : ℕ) (node_states : ℕ → Known) (front : List (Reach ℕ)) : Type 0 where
+pub record IsFront (a : Adjacency) (floor : ℕ) (node_states : ℕ → Known) (front : List (Walk ℕ)) : Type 0 where
   pub adjacent : AreByNode a
-  pub waiting : (e : Reach ℕ) → Contains front e → IsWayWaiting a floor node_states e
+  pub waiting : (e : Walk ℕ) → Contains front e → IsQueuedWalk a floor node_states e
   pub pending : (v : ℕ) → (node_states v).found ≡ true → (node_states v).final ≡ false → IsPending front v (node_states v).dist
   pub below : (v : ℕ) → IsSettled (node_states v) → (node_states v).dist ≤ floor
 
@@ -57,72 +57,74 @@ pub record Lowers (old new : ℕ → Known) : Type 0 where
   pub within : (v d : ℕ) → IsReachedWithin (old v) d → IsReachedWithin (new v) d
 
 -- a walk is put into the queue if it is shorter than what is noted for its node
-abbrev pub Offers : Reach ℕ → (ℕ → Known) → List (Reach ℕ) → (ℕ → Known) → List (Reach ℕ) → Type 0
+abbrev pub Offers : Walk ℕ → (ℕ → Known) → List (Walk ℕ) → (ℕ → Known) → List (Walk ℕ) → Type 0
 Offers e node_states front node_states' front' =
     (IsReachedWithin (node_states e.node) e.dist × (node_states' ≡ node_states) × (front' ≡ front))
     ⊎ ((¬ IsReachedWithin (node_states e.node) e.dist) × Sets node_states e.node (reached e.dist) node_states' × IsPermutation (e ∷ front) front')
 
--- for the head of the hop, at most d plus the weight is noted
-abbrev pub IsHopPassed : (ℕ → Known) → ℕ → Hop → Type 0
-IsHopPassed node_states d hop = IsReachedWithin (node_states hop.head) (d + hop.weight)
+-- at most d plus the weight is noted for the head of the arc
+abbrev pub IsArcRelaxed : (ℕ → Known) → ℕ → OutArc → Type 0
+IsArcRelaxed node_states d out_arc = IsReachedWithin (node_states out_arc.head) (d + out_arc.weight)
 
--- the node was settled at this distance, no settled node is farther, and one more hop stays below the limit
-pub record IsReady (a : Adjacency) (v dist : ℕ) (node_states : ℕ → Known) (front : List (Reach ℕ)) : Type 0 where
+-- the node was settled at this distance, no settled node is farther, and one more arc stays below the limit
+pub record IsReady (a : Adjacency) (v dist : ℕ) (node_states : ℕ → Known) (front : List (Walk ℕ)) : Type 0 where
   pub node : IsNode a.nodes v
   pub settled : IsSettled (node_states v)
   pub at : (node_states v).dist ≡ dist
   pub bound : dist + a.greatest ≤ a.greatest * settled_count node_states a.nodes
   pub waits : IsFront a dist node_states front
 
--- all hops from the node were relaxed
-pub record Relaxes (a : Adjacency) (v dist : ℕ) (old : ℕ → Known) (ways : List (Reach ℕ)) (new : ℕ → Known) (front : List (Reach ℕ)) : Type 0 where
+-- all arcs from the node were relaxed
+pub record Relaxes (a : Adjacency) (v dist : ℕ) (old : ℕ → Known) (walks : List (Walk ℕ)) (new : ℕ → Known) (front : List (Walk ℕ)) : Type 0 where
   pub waits : IsFront a dist new front
   pub lowers : Lowers old new
-  pub passed : All (IsHopPassed new dist) (out a v)
-  pub few : length front ≤ length ways + length a.hops.items
+  pub relaxed : All (IsArcRelaxed new dist) (out a v)
+  pub queue_bounded : length front ≤ length walks + length a.out_arcs.items
 
--- the label has a tight hop from its predecessor
-pub record IsMade (a : Adjacency) (b : BlockValue) (l : Label) : Type 0 where
+-- the label has a tight arc from its predecessor
+pub record HasTightOutArc (a : Adjacency) (b : BlockValue) (l : Label) : Type 0 where
   pub base : ℕ
   pub weight : ℕ
   pub pred : label b l.pred ≡ Some (pos base)
-  pub hop : Contains (out a l.pred) (hop_to l.id weight)
+  pub out_arc : Contains (out a l.pred) (out_arc_to l.id weight)
   pub adds : l.dist ≡ pos (base + weight)
 
 -- the state of the search between two entries of the queue
-pub record IsPathSearch (a : Adjacency) (b : BlockValue) (node_states : ℕ → Known) (front : List (Reach ℕ)) : Type 0 where
+pub record IsPathSearch (a : Adjacency) (b : BlockValue) (node_states : ℕ → Known) (front : List (Walk ℕ)) : Type 0 where
   pub floor : ℕ
   pub waits : IsFront a floor node_states front
   pub labelled : (v : ℕ) → label b v ≡ settled_label (node_states v)
   pub counted : settled_count node_states a.nodes ≡ length b.labels + 1
   pub unbounded : b.radius ≡ None
   pub lawful : IsBlock a.nodes b
-  pub made : All (IsMade a b) b.labels
+  pub tight : All (HasTightOutArc a b) b.labels
   pub low : All (λ (l : Label). l.dist ≤ℤ pos floor) b.labels
   pub nearest_first : IsNearestFirst b.labels
-  pub passed : (u : ℕ) → IsSettled (node_states u) → All (IsHopPassed node_states (node_states u).dist) (out a u)
+  pub relaxed : (u : ℕ) → IsSettled (node_states u) → All (IsArcRelaxed node_states (node_states u).dist) (out a u)
 
 -- the nearest walk was removed from the queue
-pub record IsPopped (a : Adjacency) (b : BlockValue) (node_states : ℕ → Known) (e : Reach ℕ) (front : List (Reach ℕ)) : Type 0 where
-  pub before : List (Reach ℕ)
+pub record IsPopped (a : Adjacency) (b : BlockValue) (node_states : ℕ → Known) (e : Walk ℕ) (front : List (Walk ℕ)) : Type 0 where
+  pub before : List (Walk ℕ)
   pub moved : IsPermutation before (e ∷ front)
   pub nearest : IsNearest e front
   pub search : IsPathSearch a b node_states before
 
 -- a bound on the steps left: it falls with each walk removed from the queue
-abbrev pub work : Adjacency → (ℕ → Known) → List (Reach ℕ) → ℕ
-work a node_states front = (a.nodes - settled_count node_states a.nodes) * (length a.hops.items + 1) + length front
+abbrev pub work : Adjacency → (ℕ → Known) → List (Walk ℕ) → ℕ
+work a node_states front = (a.nodes - settled_count node_states a.nodes) * (length a.out_arcs.items + 1) + length front
 
--- each hop from a labelled node leads to a node with a label, which is at most the first label plus the weight
+-- each arc from a labelled node leads to a node with a label, which is at most the first label plus the weight
 abbrev pub IsClosed : Adjacency → BlockValue → Type 0
-IsClosed a b = (u d : ℕ) → label b u ≡ Some (pos d) → All (λ hop. (e : ℕ) × (label b hop.head ≡ Some (pos e)) × (e ≤ d + hop.weight)) (out a u)
+IsClosed a b =
+    (u d : ℕ) → label b u ≡ Some (pos d)
+    → All (λ out_arc. (e : ℕ) × (label b out_arc.head ≡ Some (pos e)) × (e ≤ d + out_arc.weight)) (out a u)
 
 -- the labels at the end of a search
 pub record IsPathTree (a : Adjacency) (source : ℕ) (b : BlockValue) : Type 0 where
   pub from : b.source ≡ source
   pub unbounded : b.radius ≡ None
   pub lawful : IsBlock a.nodes b
-  pub made : All (IsMade a b) b.labels
+  pub tight : All (HasTightOutArc a b) b.labels
   pub nearest_first : IsNearestFirst b.labels
   pub positive : (v : ℕ) (z : ℤ) → label b v ≡ Some z → (d : ℕ) × (z ≡ pos d)
   pub closed : IsClosed a b

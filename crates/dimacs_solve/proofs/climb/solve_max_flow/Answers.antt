@@ -1,4 +1,4 @@
-use Rattle.dimacs_solve.proofs.Rising.{first_flow, next_flow}
+use Rattle.dimacs_solve.proofs.ClimbingLemmas.{first_flow, next_flow}
 use Rattle.dimacs_solve.proofs.climb.solve_max_flow.Goals as goal
 
 pub loop-turn-init : goal.loop-turn-init

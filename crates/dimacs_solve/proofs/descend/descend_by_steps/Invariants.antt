@@ -1,4 +1,4 @@
-use Rattle.dimacs_solve.proofs.Falling.{IsAtStep}
+use Rattle.dimacs_solve.proofs.DescendingLemmas.{IsAtStep}
 use Rattle.dimacs_solve.proofs.descend.descend_by_steps.Given as goal
 
 abbrev pub invariant-loop-step : goal.invariant-loop-step

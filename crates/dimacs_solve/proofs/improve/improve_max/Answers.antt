@@ -1,4 +1,4 @@
-use Rattle.dimacs_solve.proofs.Rising.{one_each}
+use Rattle.dimacs_solve.proofs.ClimbingLemmas.{one_each}
 use Rattle.dimacs_solve.proofs.improve.improve_max.Goals as goal
 
 pub is_no_worse-requires : goal.is_no_worse-requires

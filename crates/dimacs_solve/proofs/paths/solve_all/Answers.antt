@@ -17,7 +17,7 @@ pub solve_one-requires-clause-source : goal.solve_one-requires-clause-source
 solve_one-requires-clause-source g c =
     let sources = sources_asked (asked c.args.queries.now) in
     let i = c.loop-i.i in
-    let inside : i < length sources = omega (arith, c.loop-i-test.true, c.len-i-end.ensures, c.requires.same) in
+    let inside : i < length sources = omega (arith, c.loop-i-test.true, c.len-i-end.ensures, c.requires.one_source_each) in
     let is : get_or sources i 0 ≡ c.source_asked-source.result = get_or_from_slice_get sources i c.source_asked-source.result 0 c.source_asked-source.ensures in
     rw (← is) (All-get_or (IsNode c.args.adjacency.now.nodes) sources i 0 inside c.requires.sources)
 
@@ -36,7 +36,7 @@ loop-i-init g c =
       solved = solved_none c.args.adjacency.now c.new-labels.result (rw c.nodes.ensures at made) c.new-labels.ensures.lawful;
       rounds = c.new-node_states.ensures ∙ sym (ap length blocks);
       done = rw (blocks, c.new-done.ensures) (λ id. contains-empty nat_cmp id);
-      few = omega (arith, ap length blocks);
+      blocks_bounded = omega (arith, ap length blocks);
       empty = c.new-frontier.ensures;
     }
 
@@ -46,7 +46,7 @@ loop-i-preserved g c =
     let i = c.loop-i.i in
     let source = c.source_asked-source.result in
     let a = c.args.adjacency.now in
-    let inside : i < length sources = omega (arith, c.loop-i-test.true, c.len-i-end.ensures, c.requires.same) in
+    let inside : i < length sources = omega (arith, c.loop-i-test.true, c.len-i-end.ensures, c.requires.one_source_each) in
     let is : get_or sources i 0 ≡ source = get_or_from_slice_get sources i source 0 c.source_asked-source.ensures in
     let taken : take (i + 1) sources ≡ take i sources ++ source ∷ [] = take_more sources i 0 inside ∙ ap (λ s. take i sources ++ s ∷ []) is in
     let outcome : c.contains.result ≡ list_any (has_source source) c.loop-i.labels.blocks = c.contains.ensures ∙ c.loop-i.invariant.done source in
@@ -59,7 +59,7 @@ loop-i-preserved g c =
             solved = rw (taken, w.labels-is) (solved_more a (take i sources) source c.loop-i.labels w.solve_one.new.labels fresh e.block c.loop-i.invariant.solved);
             rounds = rw (w.labels-is, w.node_states-is) e.rounds;
             done = rw (w.done-is, w.labels-is, w.in_ok-insert.ensures.inserted) (e.block.sources c.loop-i.done c.loop-i.invariant.done);
-            few = rw w.labels-is (omega (arith, c.loop-i.invariant.few, ap length blocks, length-append c.loop-i.labels.blocks (e.block.block ∷ [])));
+            blocks_bounded = rw w.labels-is (omega (arith, c.loop-i.invariant.blocks_bounded, ap length blocks, length-append c.loop-i.labels.blocks (e.block.block ∷ [])));
             empty = w.frontier-is ∙ e.empty;
           }
       | else-not-contains w ↦
@@ -68,7 +68,7 @@ loop-i-preserved g c =
             solved = rw (taken, w.labels-is) (solved_again a (take i sources) source c.loop-i.labels there c.loop-i.invariant.solved);
             rounds = rw (w.labels-is, w.node_states-is) c.loop-i.invariant.rounds;
             done = rw (w.done-is, w.labels-is) c.loop-i.invariant.done;
-            few = rw w.labels-is (omega (arith, c.loop-i.invariant.few));
+            blocks_bounded = rw w.labels-is (omega (arith, c.loop-i.invariant.blocks_bounded));
             empty = w.frontier-is ∙ c.loop-i.invariant.empty;
           }
     ]

@@ -10,6 +10,6 @@ invariant-loop-i g l = record {
   solved : AreSolved l.adjacency (take l.i (sources_asked (asked l.queries))) l.labels;
   rounds : l.node_states.round ≡ length l.labels.blocks;
   done : AreSources l.done l.labels.blocks;
-  few : length l.labels.blocks ≤ l.i;
+  blocks_bounded : length l.labels.blocks ≤ l.i;
   empty : l.frontier ≡ [];
 }

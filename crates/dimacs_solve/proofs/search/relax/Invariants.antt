@@ -3,9 +3,9 @@ use Rattle.dimacs_solve.specs.inside.NodeStates.{known}
 use Rattle.dimacs_solve.proofs.SearchLemmas.{IsRelaxing}
 use Rattle.dimacs_solve.proofs.search.relax.Given as goal
 
--- the hops so far are relaxed
-abbrev pub invariant-loop-hop : goal.invariant-loop-hop
-invariant-loop-hop g l = record {
-  relaxing : IsRelaxing l.adjacency (g.D.Distance.value l.dist) (known g.D.Distance.value l.initial.node_states) l.initial.frontier l.hops l.hop-index (known g.D.Distance.value l.node_states) l.frontier;
+-- the arcs so far are relaxed
+abbrev pub invariant-loop-out_arc : goal.invariant-loop-out_arc
+invariant-loop-out_arc g l = record {
+  relaxing : IsRelaxing l.adjacency (g.D.Distance.value l.dist) (known g.D.Distance.value l.initial.node_states) l.initial.frontier l.out_arcs l.out_arc-index (known g.D.Distance.value l.node_states) l.frontier;
   round : l.node_states.round ≡ l.initial.node_states.round;
 }

@@ -14,8 +14,8 @@ relax-requires-clause-ready g c =
     let sets : Sets node_states c.args.source (settled 0) started = rw c.zero.ensures at c.in_ok-settle.ensures.settled in
     rw (c.zero-2.ensures, c.requires.empty) (start_ready c.args.adjacency.now c.args.source node_states started c.requires.adjacent c.requires.source c.next_round.ensures.unknown sets)
 
-pub loop-reach-init : goal.loop-reach-init
-loop-reach-init g c =
+pub loop-walk-init : goal.loop-walk-init
+loop-walk-init g c =
     let value = g.D.Distance.value in
     let a = c.args.adjacency.now in
     let source = c.args.source in
@@ -32,21 +32,21 @@ loop-reach-init g c =
       round = c.in_ok-relax.ensures.round ∙ (c.in_ok-settle.ensures.round ∙ c.next_round.ensures.round);
     }
 
-pub loop-reach-preserved : goal.loop-reach-preserved
-loop-reach-preserved g c = record {
+pub loop-walk-preserved : goal.loop-walk-preserved
+loop-walk-preserved g c = record {
   search = c.in_ok-visit.ensures.search;
-  from = c.in_ok-visit.ensures.source ∙ c.loop-reach.invariant.from;
-  round = c.in_ok-visit.ensures.round ∙ c.loop-reach.invariant.round;
+  from = c.in_ok-visit.ensures.source ∙ c.loop-walk.invariant.from;
+  round = c.in_ok-visit.ensures.round ∙ c.loop-walk.invariant.round;
 }
 
-pub loop-reach-smaller : goal.loop-reach-smaller
-loop-reach-smaller g c =
+pub loop-walk-smaller : goal.loop-walk-smaller
+loop-walk-smaller g c =
     let popped = c.in-Some.ensures in
     let shorter = length_permutation _ _ (IsPermutation-sym _ _ popped.0) in
     omega (arith, shorter, c.in_ok-visit.ensures.less)
 
 pub returns-clause-tree : goal.returns-clause-tree
 returns-clause-tree g c =
-    let node_states = known g.D.Distance.value c.loop-reach.node_states in
-    let is : IsPathSearch c.args.adjacency.now c.loop-reach.block node_states [] = rw c.in_default.ensures.0 at c.loop-reach.invariant.search in
-    over_tree c.args.adjacency.now c.loop-reach.block node_states is c.args.source c.loop-reach.invariant.from
+    let node_states = known g.D.Distance.value c.loop-walk.node_states in
+    let is : IsPathSearch c.args.adjacency.now c.loop-walk.block node_states [] = rw c.in_default.ensures.0 at c.loop-walk.invariant.search in
+    over_tree c.args.adjacency.now c.loop-walk.block node_states is c.args.source c.loop-walk.invariant.from

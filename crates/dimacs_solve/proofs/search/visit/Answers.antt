@@ -3,7 +3,7 @@ use Rattle.std.specs.Prelude.{is_some}
 use Rattle.std.specs.Int.{w128}
 use Rattle.std.proofs.lemmas.Int.{to_z-of_z}
 use Rattle.dimacs_claims.specs.Labels.{IsBlock, IsNear, with_label}
-use Rattle.dimacs_solve.specs.Frontiers.{way_of}
+use Rattle.dimacs_solve.specs.Frontiers.{walk_of}
 use Rattle.dimacs_solve.specs.inside.NodeStates.{IsSettled, known}
 use Rattle.dimacs_solve.proofs.SearchLemmas.{AddsLabel, added, added_few, added_label, added_pred, has_none, marked_ready, popped_again, popped_small, visited, visited_less}
 use Rattle.dimacs_solve.proofs.search.visit.Goals as goal
@@ -14,7 +14,7 @@ returns-then-is_settled-clause-search g c =
     let a = c.args.adjacency.now in
     let b = c.args.block.now in
     let node_states = known value c.args.node_states.now in
-    let e = way_of value c.args.reach in
+    let e = walk_of value c.args.walk in
     let front = c.args.frontier.now in
     popped_again a b node_states e front c.requires.popped (c.is_settled.ensures.0 c.if-is_settled.true)
 
@@ -24,7 +24,7 @@ to_i128-requires g c =
     let a = c.args.adjacency.now in
     let b = c.args.block.now in
     let node_states = known value c.args.node_states.now in
-    let e = way_of value c.args.reach in
+    let e = walk_of value c.args.walk in
     let front = c.args.frontier.now in
     let small : e.dist < 2 ^ 90 = popped_small a b node_states e front c.requires.popped in
     omega (arith, small)
@@ -35,7 +35,7 @@ add-requires g c =
     let a = c.args.adjacency.now in
     let b = c.args.block.now in
     let node_states = known value c.args.node_states.now in
-    let e = way_of value c.args.reach in
+    let e = walk_of value c.args.walk in
     let front = c.args.frontier.now in
     let not_before : ¬ IsSettled (node_states e.node) = λ s. let t : c.is_settled.result ≡ true = c.is_settled.ensures.1 s in let f = c.if-is_settled.false in cc in
     has_none a b node_states e front c.requires.popped not_before
@@ -46,7 +46,7 @@ relax-requires-clause-ready g c =
     let a = c.args.adjacency.now in
     let b = c.args.block.now in
     let node_states = known value c.args.node_states.now in
-    let e = way_of value c.args.reach in
+    let e = walk_of value c.args.walk in
     let front = c.args.frontier.now in
     let not_before : ¬ IsSettled (node_states e.node) = λ s. let t : c.is_settled.result ≡ true = c.is_settled.ensures.1 s in let f = c.if-is_settled.false in cc in
     let marked = known value c.settle.new.self in
@@ -59,7 +59,7 @@ returns-clause-search g c =
     let a = c.args.adjacency.now in
     let b = c.args.block.now in
     let node_states = known value c.args.node_states.now in
-    let e = way_of value c.args.reach in
+    let e = walk_of value c.args.walk in
     let front = c.args.frontier.now in
     let not_before : ¬ IsSettled (node_states e.node) = λ s. let t : c.is_settled.result ≡ true = c.is_settled.ensures.1 s in let f = c.if-is_settled.false in cc in
     let marked = known value c.settle.new.self in
@@ -79,7 +79,7 @@ returns-clause-less g c =
     let a = c.args.adjacency.now in
     let b = c.args.block.now in
     let node_states = known value c.args.node_states.now in
-    let e = way_of value c.args.reach in
+    let e = walk_of value c.args.walk in
     let front = c.args.frontier.now in
     let not_before : ¬ IsSettled (node_states e.node) = λ s. let t : c.is_settled.result ≡ true = c.is_settled.ensures.1 s in let f = c.if-is_settled.false in cc in
     let marked = known value c.settle.new.self in

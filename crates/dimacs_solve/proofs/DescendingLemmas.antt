@@ -16,7 +16,7 @@ use Rattle.dimacs_network.specs.Arcs.{arc_at}
 use Rattle.dimacs_decide.specs.Bounds.{KeepsBounds}
 use Rattle.dimacs_decide.specs.FeasibilityDecision.{imbalance_at, total_excess}
 use Rattle.dimacs_decide.proofs.ExcessLemmas.{excess_some}
-use Rattle.dimacs_solve.specs.Descending.{AreFalling, IsBetter, StartsCheap, TakesMoreSteps, start_flow}
+use Rattle.dimacs_solve.specs.Descending.{AreImproving, IsBetter, StartsCheap, TakesMoreSteps, start_flow}
 
 -- ---- excess
 sum_none : (f : ℕ → ℤ) (n : ℕ) → ((v : ℕ) → IsNode n v → f v ≡ pos 0) → sum_nodes f n ≡ pos 0
@@ -41,14 +41,14 @@ pub record IsAtStep (i : MinValue) (n : ℕ) (now : List ℤ) : Type 0 where
   pub earlier : List (List ℤ)
   pub count : length earlier ≡ n
   pub starts : StartsCheap i (earlier ++ now ∷ [])
-  pub falling : AreFalling i earlier
+  pub improving : AreImproving i earlier
   pub better : All (λ x. IsBetter i x now) earlier
   pub within : KeepsBounds i.arcs now
 
-falling_push : (i : MinValue) (flows : List (List ℤ)) (now : List ℤ) → AreFalling i flows → All (λ x. IsBetter i x now) flows → KeepsBounds i.arcs now → (¬ Least i now) → AreFalling i (flows ++ now ∷ [])
-falling_push i [] now r more w n = (w, n, All-nil _, tt)
-falling_push i (x ∷ flows) now r more w n =
-    (r.0, r.1, All-push (IsBetter i x) flows now r.2 (All-head (λ z. IsBetter i z now) x flows more), falling_push i flows now r.3 (All-tail (λ z. IsBetter i z now) x flows more) w n)
+improving_push : (i : MinValue) (flows : List (List ℤ)) (now : List ℤ) → AreImproving i flows → All (λ x. IsBetter i x now) flows → KeepsBounds i.arcs now → (¬ Least i now) → AreImproving i (flows ++ now ∷ [])
+improving_push i [] now r more w n = (w, n, All-nil _, tt)
+improving_push i (x ∷ flows) now r more w n =
+    (r.0, r.1, All-push (IsBetter i x) flows now r.2 (All-head (λ z. IsBetter i z now) x flows more), improving_push i flows now r.3 (All-tail (λ z. IsBetter i z now) x flows more) w n)
 
 starts_push : (i : MinValue) (flows : List (List ℤ)) (now next : List ℤ) → StartsCheap i (flows ++ now ∷ []) → StartsCheap i ((flows ++ now ∷ []) ++ next ∷ [])
 starts_push i [] now next s = s
@@ -59,7 +59,7 @@ next_step i n now next at below within this = record {
   earlier = at.earlier ++ now ∷ [];
   count = omega (arith, length-append at.earlier (now ∷ []), at.count);
   starts = starts_push i at.earlier now next at.starts;
-  falling = falling_push i at.earlier now at.falling at.better at.within below;
+  improving = improving_push i at.earlier now at.improving at.better at.within below;
   better = All-push (λ x. IsBetter i x next) at.earlier now (All-weaker (λ x. IsBetter i x now) (λ x. IsBetter i x next) (λ x b. better_then i x now next b this) at.earlier at.better) this;
   within = within;
 }
@@ -77,7 +77,7 @@ out_of_steps i n limit now e at below = record {
   flows = at.earlier ++ now ∷ [];
   count = omega (arith, length-append at.earlier (now ∷ []), at.count, e);
   starts = at.starts;
-  falling = falling_push i at.earlier now at.falling at.better at.within below;
+  improving = improving_push i at.earlier now at.improving at.better at.within below;
 }
 
 -- ---- the start flow
@@ -90,7 +90,7 @@ start_within [] has = tt
 start_within (a ∷ arcs) has = let h = All-head HasBounds a arcs has in (between (lt_z a.cost (pos 0)) a.low a.cap h.1, start_within arcs (All-tail HasBounds a arcs has))
 
 pub first_step : (i : MinValue) (y : List ℤ) → IsMin i → y ≡ start_flow i.arcs → IsAtStep i 0 y
-first_step i y law e = record { earlier = []; count = refl; starts = e; falling = tt; better = All-nil _; within = rw e (start_within i.arcs law.bounds) }
+first_step i y law e = record { earlier = []; count = refl; starts = e; improving = tt; better = All-nil _; within = rw e (start_within i.arcs law.bounds) }
 
 pub same_as_map : (f : ArcView → ℤ) (arcs : List ArcView) (y : List ℤ) → length y ≡ length arcs → ((k : ℕ) → k < length arcs → amount_at y k ≡ f (arc_at arcs k)) → y ≡ map f arcs
 same_as_map f [] [] same each = refl
