@@ -71,7 +71,7 @@ fn by_paths<N: Network>(
     Ok(Some(flow))
 }
 
-/// Prices fit into 64 bits if the bits of the greatest cost, and twice those of the number of nodes, are at most this.
+/// Prices fit into 64 bits if the bits of the greatest cost and twice those of the number of nodes sum to at most this.
 /// In the first phase prices fall by a few times the tolerance for each node, later by less.
 const PRICE_BITS: u32 = 60;
 

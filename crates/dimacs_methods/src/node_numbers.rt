@@ -12,7 +12,7 @@ use std::alloc::Global;
 #[derive(Drop)]
 pub(crate) struct NodeNumbers {
     /// The numbers by ID, in the order in which nodes occur. None if each ID is its own number, and 0 is the number of
-    /// no node: that is faster, and is done if nodes are at most twice the arcs and a few.
+    /// no node: that is faster, and is done if there are at most two nodes for each arc, and a few.
     numbers: Option<NodeMap<u32>>,
     ids: Vec<u32>,
 }

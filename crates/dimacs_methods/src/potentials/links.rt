@@ -3,7 +3,7 @@
 use crate::number::Number;
 use crate::potentials::claim::Claim;
 use crate::potentials::groups::{Place, Places};
-use crate::potentials::listing::Listed;
+use crate::potentials::listing::HasKey;
 use crate::tables::{member, set_member};
 use dimacs_lines::Memory;
 use dimacs_network::{ArcView, Network};
@@ -24,7 +24,7 @@ impl<V: Copy> Clone for Link<V> {
 
 impl<V: Copy> Copy for Link<V> {}
 
-impl<V: Number> Listed for Link<V> {
+impl<V: Number> HasKey for Link<V> {
     #[inline(always)]
     fn key(&self) -> u32 {
         self.from

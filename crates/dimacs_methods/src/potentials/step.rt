@@ -4,7 +4,7 @@ use crate::number::Number;
 use crate::potentials::claim::{Claim, ResidualArc};
 use crate::potentials::groups::Places;
 use crate::potentials::links::Link;
-use crate::potentials::listing::Listed;
+use crate::potentials::listing::HasKey;
 use dimacs_lines::Memory;
 use dimacs_network::{Network, Side};
 use std::alloc::{AllocError, Global};
@@ -25,7 +25,7 @@ impl<V: Copy> Clone for Step<V> {
 impl<V: Copy> Copy for Step<V> {}
 
 /// Steps are grouped by their heads.
-impl<V: Number> Listed for Step<V> {
+impl<V: Number> HasKey for Step<V> {
     #[inline(always)]
     fn key(&self) -> u32 {
         self.to

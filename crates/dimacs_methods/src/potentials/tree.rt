@@ -158,7 +158,7 @@ impl<V: Number> Tree<V> {
         true
     }
 
-    /// Lowers the subtree of a group, or removes it. None if `other` is in it.
+    /// Lowers a group's subtree, or marks it `OUT`. None if `other` is in it.
     #[inline(always)]
     fn walk(&mut self, group: u32, other: u32, subtree: &Subtree<V>) -> Option<Part> {
         let mut last = group;
