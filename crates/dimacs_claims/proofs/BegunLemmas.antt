@@ -29,30 +29,30 @@ use Rattle.dimacs_claims.specs.Labels.{AreSources, BlockValue, EachAfter, IsBloc
 use Rattle.dimacs_claims.specs.LabelTexts.{GivesLabels, label_line}
 use Rattle.dimacs_claims.specs.LabelsReading.{LabelsBegun, AreLabelled, AreLabelsBegun, lines_of_blocks, labels_begun_records, after_lines, before, before_end}
 use Rattle.dimacs_claims.proofs.BlockLemmas.{label_id, near_radius, is_some-label, is_some-push, some_if, block_empty, block_push, each_after_nil, each_after_push}
-use Rattle.dimacs_claims.proofs.LabelRecords.{source_of, opened_with, last_after, last_cases, last_is, say_taken, short_told, list_any-has_source, lines_of_blocks-push_block, lines_of_blocks-push_label, lines_of_blocks-zero, new_source, push_same}
+use Rattle.dimacs_claims.proofs.LabelRecords.{source_of, opened_with, last_after, last_cases, last_is, say_taken, short_noted, list_any-has_source, lines_of_blocks-push_block, lines_of_blocks-push_label, lines_of_blocks-zero, new_source, push_same}
 
 -- what the tests know follows from the records
 pub lines_noted : (b : LabelsBegun) → after_lines b ≡ after_records (labels_begun_records b)
 lines_noted b = ap (earlier_of (after_lines b).problem) (sym ((say_taken b).counted ∙ length-map b.blocks source_of))
 
-pub source_told : (begun : LabelsBegun) (source : ℕ) → list_any (names source) (labels_begun_records begun) ≡ list_any (has_source source) begun.blocks
-source_told begun source = (say_taken begun).named source ∙ sym (list_any-has_source source begun.blocks)
+pub source_noted : (begun : LabelsBegun) (source : ℕ) → list_any (names source) (labels_begun_records begun) ≡ list_any (has_source source) begun.blocks
+source_noted begun source = (say_taken begun).named source ∙ sym (list_any-has_source source begun.blocks)
 
-pub tells : (b : LabelsBegun) (r : Record) → kind_of r ≡ Labels → before b r ≡ noted_before (labels_begun_records b) r
-tells b (LabelsProblem nodes blocks) of_kind = lines_noted b
-tells b (LabelsBlock source count radius) of_kind = ap (λ (e : Earlier). record (before b (LabelsBlock source count radius)) { problem = e.problem; counted = e.counted }) (lines_noted b)
-tells b (LabelsNode id dist pred) of_kind = ap (λ (e : Earlier). record (before b (LabelsNode id dist pred)) { problem = e.problem; counted = e.counted }) (lines_noted b)
-tells b r of_kind = absurd (cc)
+pub before_noted : (b : LabelsBegun) (r : Record) → kind_of r ≡ Labels → before b r ≡ noted_before (labels_begun_records b) r
+before_noted b (LabelsProblem nodes blocks) of_kind = lines_noted b
+before_noted b (LabelsBlock source count radius) of_kind = ap (λ (e : Earlier). record (before b (LabelsBlock source count radius)) { problem = e.problem; counted = e.counted }) (lines_noted b)
+before_noted b (LabelsNode id dist pred) of_kind = ap (λ (e : Earlier). record (before b (LabelsNode id dist pred)) { problem = e.problem; counted = e.counted }) (lines_noted b)
+before_noted b r of_kind = absurd (cc)
 
-pub end_tells : (b : LabelsBegun) → before_end b ≡ noted_at_end Labels (labels_begun_records b)
-end_tells b = ap (λ (e : Earlier). record (before_end b) { problem = e.problem; counted = e.counted }) (lines_noted b)
+pub end_noted : (b : LabelsBegun) → before_end b ≡ noted_at_end Labels (labels_begun_records b)
+end_noted b = ap (λ (e : Earlier). record (before_end b) { problem = e.problem; counted = e.counted }) (lines_noted b)
 
 -- a complete state gives its labels
 pub gives_labels : (b : LabelsBegun) → AreLabelsBegun b → PassesEnd Labels (before_end b) → (rs : List LineRecord) → records_of rs ≡ labels_begun_records b → GivesLabels rs (record { nodes = b.nodes; blocks = b.blocks })
 gives_labels begun are passes rs is =
     let parts = or_parts (is_short_block (block_in (labels_begun_records begun))) (is_short (after_lines begun).problem (length begun.blocks)) passes.finished in
     let full : begun.declared ≡ length begun.blocks = omega (arith, ltb-false (length begun.blocks) begun.declared parts.1, are.no_more) in
-    let none : begun.missing ≡ 0 = omega (arith, ltb-false 0 begun.missing (sym (short_told begun are.none_lack) ∙ parts.0)) in (
+    let none : begun.missing ≡ 0 = omega (arith, ltb-false 0 begun.missing (sym (short_noted begun are.none_lack) ∙ parts.0)) in (
       is ∙ ap₂ (λ n rs. LabelsProblem begun.nodes n ∷ rs) full (ap (λ m. lines_of_blocks m begun.blocks) none ∙ lines_of_blocks-zero begun.blocks),
       record { nodes_few = are.nodes_few; blocks_few = omega (arith, are.no_more, are.blocks_few); blocks = are.blocks; sources = are.sources },
     )
@@ -71,7 +71,7 @@ module _ (begun : LabelsBegun) (are : AreLabelsBegun begun) (source count : ℕ)
   pub begun_block : 1 ≤ source → count ≤ most_count → IfSome radius IsRadius → AreLabelsBegun with_opened
   begun_block least few radius_within =
       let within = ltb-false begun.nodes source passes.second_within in
-      let new = sym (source_told begun source) ∙ passes.new_node in
+      let new = sym (source_noted begun source) ∙ passes.new_node in
       let room = leb-false begun.declared (length begun.blocks) passes.room in
       let longer = length-append begun.blocks (opened_block ∷ []) in
       record {
@@ -86,7 +86,7 @@ module _ (begun : LabelsBegun) (are : AreLabelsBegun begun) (source count : ℕ)
 
   pub pushed_block : labels_begun_records with_opened ≡ labels_begun_records begun ++ LabelsBlock source count radius ∷ []
   pushed_block =
-      let none : begun.missing ≡ 0 = omega (arith, ltb-false _ _ (sym (short_told begun are.none_lack) ∙ passes.full_block)) in
+      let none : begun.missing ≡ 0 = omega (arith, ltb-false _ _ (sym (short_noted begun are.none_lack) ∙ passes.full_block)) in
       ap (λ rs. LabelsProblem begun.nodes begun.declared ∷ rs) (lines_of_blocks-push_block begun.blocks source count radius ∙ ap (λ m. lines_of_blocks m begun.blocks ++ LabelsBlock source count radius ∷ []) (sym none))
 
 -- if b is the last block
@@ -94,8 +94,8 @@ module _ (begun : LabelsBegun) (front : List BlockValue) (b : BlockValue) (is : 
   pub in_last : block_in (labels_begun_records begun) ≡ Some (opened_with begun.missing b)
   in_last = (say_taken begun).block ∙ last_is begun.blocks begun.missing (front, b, is)
 
-  pub label_told : record (after_lines begun) { named = is_some (label b l.id); block_full = begun.missing == 0; pred_unknown = not (is_some (label b l.pred)); past_radius = is_past b.radius l.dist } ≡ before begun (label_line l)
-  label_told = rw (in_last, is_some-label b l.id, is_some-label b l.pred, full (length b.labels) begun.missing (length (map label_id b.labels)) (length-map b.labels label_id)) refl
+  pub label_noted : record (after_lines begun) { named = is_some (label b l.id); block_full = begun.missing == 0; pred_unknown = not (is_some (label b l.pred)); past_radius = is_past b.radius l.dist } ≡ before begun (label_line l)
+  label_noted = rw (in_last, is_some-label b l.id, is_some-label b l.pred, full (length b.labels) begun.missing (length (map label_id b.labels)) (length-map b.labels label_id)) refl
     where
       full : (n m k : ℕ) → k ≡ n → nat_le (n + m) k ≡ (m == 0)
       full n zero k same = le-leb (n + 0) k (omega (arith, same))
@@ -111,7 +111,7 @@ pub record Fits (begun : LabelsBegun) (l : Label) : Type 0 where
   pub fresh : is_some (label b l.id) ≡ false
   pub lacks : 0 < begun.missing
   pub known : is_some (label b l.pred) ≡ true
-  pub near : is_past b.radius l.dist ≡ false
+  pub within_radius : is_past b.radius l.dist ≡ false
 
 pub fits : (begun : LabelsBegun) (l : Label) → Passes (before begun (label_line l)) (label_line l) → Fits begun l
 fits begun l passes = elim (last_cases begun.blocks) [
@@ -128,7 +128,7 @@ fits begun l passes = elim (last_cases begun.blocks) [
         fresh = is_some-label b l.id ∙ (ap (λ o. is_labelled o l.id) last ∙ passes.new_node);
         lacks = omega (arith, leb-false _ _ (ap is_full_block last ∙ passes.room), length-map b.labels label_id);
         known = is_some-label b l.pred ∙ (ap (λ o. is_labelled o l.pred) last ∙ not-false _ passes.pred_known);
-        near = ap (λ o. is_past_block o l.dist) last ∙ passes.near;
+        within_radius = ap (λ o. is_past_block o l.dist) last ∙ passes.within_radius;
       }
 ]
 
@@ -163,7 +163,7 @@ module _ (begun : LabelsBegun) (l : Label) (fit : Fits begun l) where
         no_more = omega (arith, are.no_more, same_length);
         last_few = λ f c e. omega (arith, few, fit.lacks, length-append fit.b.labels (l ∷ []), ap (λ (x : BlockValue). length x.labels) (push_same fit.front f last c e));
         none_lack = λ e. absurd (omega (arith, ap length e, length-append fit.front (last ∷ [])));
-        blocks = All-push (IsBlock begun.nodes) fit.front last blocks.0 (block_push begun.nodes fit.b l blocks.1 (record { id = (id, fit.id); dist = dist; pred = (pred, fit.pred) }) (omega (arith, few, fit.lacks)) fit.fresh fit.known (near_radius fit.b.radius l.dist fit.near));
+        blocks = All-push (IsBlock begun.nodes) fit.front last blocks.0 (block_push begun.nodes fit.b l blocks.1 (record { id = (id, fit.id); dist = dist; pred = (pred, fit.pred) }) (omega (arith, few, fit.lacks)) fit.fresh fit.known (near_radius fit.b.radius l.dist fit.within_radius));
         sources = each_after_push IsNewSource fit.front last (before_last IsNewSource fit.front fit.b sources) (sources fit.front [] fit.b refl);
       }
     where

@@ -92,13 +92,13 @@ law_with_node c id law node = record { nodes_few = law.nodes_few; within = λ ot
 pub lines_noted : (b : CutBegun) (rs : List Record) → IsCutBegunBy b rs → after_lines b ≡ after_records rs
 lines_noted b rs h = rw h.records (ap (earlier_of (after_lines b).problem) (h.count ∙ sym (counted h.named)))
 
-named_told : (b : CutBegun) (rs : List Record) (id : ℕ) → IsCutBegunBy b rs → list_any (names id) rs ≡ contains b.cut.ids id
-named_told b rs id h = rw h.records (any_names id h.named ∙ sym (contains_named b.cut.ids h.named id h.ids))
+named_noted : (b : CutBegun) (rs : List Record) (id : ℕ) → IsCutBegunBy b rs → list_any (names id) rs ≡ contains b.cut.ids id
+named_noted b rs id h = rw h.records (any_names id h.named ∙ sym (contains_named b.cut.ids h.named id h.ids))
 
-pub tells : (b : CutBegun) (r : Record) → kind_of r ≡ kinds.Cut → (rs : List Record) → IsCutBegunBy b rs → before b r ≡ noted_before rs r
-tells b (CutProblem n k) of_kind rs h = lines_noted b rs h
-tells b (CutNode id) of_kind rs h = ap₂ (λ (e : Earlier) t. record e { named = t }) (lines_noted b rs h) (sym (named_told b rs id h))
-tells b r of_kind rs h = absurd (cc)
+pub before_noted : (b : CutBegun) (r : Record) → kind_of r ≡ kinds.Cut → (rs : List Record) → IsCutBegunBy b rs → before b r ≡ noted_before rs r
+before_noted b (CutProblem n k) of_kind rs h = lines_noted b rs h
+before_noted b (CutNode id) of_kind rs h = ap₂ (λ (e : Earlier) t. record e { named = t }) (lines_noted b rs h) (sym (named_noted b rs id h))
+before_noted b r of_kind rs h = absurd (cc)
 
 -- the state after a problem line
 pub begins : (n k : ℕ) → n ≤ most_nodes → IsCutBegunBy (record { declared = k; cut = empty_cut n }) (CutProblem n k ∷ [])

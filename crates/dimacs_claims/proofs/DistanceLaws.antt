@@ -155,38 +155,38 @@ distances_faultless rs d h =
     })
 
 -- ---- lines of distances determine the lines of labels, whose predecessors are the sources
-told_whole : ℕ → List Record → List Record
-told_whole source [] = []
-told_whole source (DistancesProblem nodes blocks ∷ rs) = LabelsProblem nodes blocks ∷ told_whole source rs
-told_whole source (DistancesBlock other count ∷ rs) = LabelsBlock other count None ∷ told_whole other rs
-told_whole source (DistancesNode id dist ∷ rs) = LabelsNode id dist source ∷ told_whole source rs
-told_whole source (r ∷ rs) = r ∷ told_whole source rs
+with_preds : ℕ → List Record → List Record
+with_preds source [] = []
+with_preds source (DistancesProblem nodes blocks ∷ rs) = LabelsProblem nodes blocks ∷ with_preds source rs
+with_preds source (DistancesBlock other count ∷ rs) = LabelsBlock other count None ∷ with_preds other rs
+with_preds source (DistancesNode id dist ∷ rs) = LabelsNode id dist source ∷ with_preds source rs
+with_preds source (r ∷ rs) = r ∷ with_preds source rs
 
-labels_told : (ls : List Label) (source : ℕ) (rs : List Record) → All (λ (l : Label). l.pred ≡ source) ls → told_whole source (map bare (map label_line ls ++ rs)) ≡ map label_line ls ++ told_whole source (map bare rs)
-unfolding told_whole
-labels_told [] source rs are = refl
-labels_told (l ∷ ls) source rs are =
+labels_with_preds : (ls : List Label) (source : ℕ) (rs : List Record) → All (λ (l : Label). l.pred ≡ source) ls → with_preds source (map bare (map label_line ls ++ rs)) ≡ map label_line ls ++ with_preds source (map bare rs)
+unfolding with_preds
+labels_with_preds [] source rs are = refl
+labels_with_preds (l ∷ ls) source rs are =
     let IsOf : Label → Type 0 = λ m. m.pred ≡ source in
-    ap₂ (λ pred more. LabelsNode l.id l.dist pred ∷ more) (sym (All-head IsOf l ls are)) (labels_told ls source rs (All-tail IsOf l ls are))
+    ap₂ (λ pred more. LabelsNode l.id l.dist pred ∷ more) (sym (All-head IsOf l ls are)) (labels_with_preds ls source rs (All-tail IsOf l ls are))
 
-blocks_told : (bs : List BlockValue) (source : ℕ) → All IsBare bs → told_whole source (map bare (flat_map block_lines bs)) ≡ flat_map block_lines bs
-unfolding told_whole
-blocks_told [] source are = refl
-blocks_told (b ∷ bs) source are =
+blocks_with_preds : (bs : List BlockValue) (source : ℕ) → All IsBare bs → with_preds source (map bare (flat_map block_lines bs)) ≡ flat_map block_lines bs
+unfolding with_preds
+blocks_with_preds [] source are = refl
+blocks_with_preds (b ∷ bs) source are =
     let is = All-head IsBare b bs are in
     ap₂ (λ radius more. LabelsBlock b.source (length b.labels) radius ∷ more) (sym is.whole)
-    (labels_told b.labels b.source (flat_map block_lines bs) is.preds ∙ ap (λ more. map label_line b.labels ++ more) (blocks_told bs b.source (All-tail IsBare b bs are)))
+    (labels_with_preds b.labels b.source (flat_map block_lines bs) is.preds ∙ ap (λ more. map label_line b.labels ++ more) (blocks_with_preds bs b.source (All-tail IsBare b bs are)))
 
-records_told : (d : LabelsValue) → AreBare d → told_whole 0 (distance_records d) ≡ label_records d
-unfolding told_whole
-records_told d are = ap (λ more. LabelsProblem d.nodes (length d.blocks) ∷ more) (blocks_told d.blocks 0 are)
+records_with_preds : (d : LabelsValue) → AreBare d → with_preds 0 (distance_records d) ≡ label_records d
+unfolding with_preds
+records_with_preds d are = ap (λ more. LabelsProblem d.nodes (length d.blocks) ∷ more) (blocks_with_preds d.blocks 0 are)
 
-value_told : (rs : List Record) (d : LabelsValue) → rs ≡ distance_records d → AreBare d → d ≡ labels_of (told_whole 0 rs)
-value_told rs d is are = sym (ap labels_of (ap (told_whole 0) is ∙ records_told d are) ∙ labels_of-label_records d)
+value_with_preds : (rs : List Record) (d : LabelsValue) → rs ≡ distance_records d → AreBare d → d ≡ labels_of (with_preds 0 rs)
+value_with_preds rs d is are = sym (ap labels_of (ap (with_preds 0) is ∙ records_with_preds d are) ∙ labels_of-label_records d)
 
 -- the records of distances give only one value
 pub one_distances : (rs : List LineRecord) (d others : LabelsValue) → GivesDistances rs d → GivesDistances rs others → d ≡ others
-one_distances rs d others a b = value_told (records_of rs) d a.0 a.2 ∙ sym (value_told (records_of rs) others b.0 b.2)
+one_distances rs d others a b = value_with_preds (records_of rs) d a.0 a.2 ∙ sym (value_with_preds (records_of rs) others b.0 b.2)
 
 -- ---- lines of distances can be spelled
 bare_spelled : (r : Record) → CanBeSpelled Labels r → CanBeSpelled Distances (bare r)

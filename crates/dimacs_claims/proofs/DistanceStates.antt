@@ -18,27 +18,27 @@ use Rattle.dimacs_claims.specs.DistanceTexts.{AreBare, GivesDistances, IsBare, b
 use Rattle.dimacs_claims.specs.Labels.{BlockValue, IsBlock, LabelsValue, with_block, with_label}
 use Rattle.dimacs_claims.specs.LabelTexts.{GivesLabels}
 use Rattle.dimacs_claims.specs.LabelsReading.{AreLabelsBegun, LabelsBegun, before, before_bare, before_end, labels_begun_records}
-use Rattle.dimacs_claims.proofs.BegunLemmas.{end_tells, in_last, lines_noted, tells}
+use Rattle.dimacs_claims.proofs.BegunLemmas.{end_noted, in_last, lines_noted, before_noted}
 use Rattle.dimacs_claims.proofs.DistanceLaws.{bare_counted_in, bare_full, bare_labelled, bare_misplaced, bare_named, bare_problem_in, bare_short}
 use Rattle.dimacs_claims.proofs.LabelRecords.{HasLast, last_after, last_cases, say_taken}
 
 -- what the tests know follows from the records
-pub tells_bare : (b : LabelsBegun) (r : Record) → kind_of r ≡ Distances → before_bare b r ≡ noted_before (map bare (labels_begun_records b)) r
-tells_bare b (DistancesProblem nodes blocks) is =
+pub bare_noted : (b : LabelsBegun) (r : Record) → kind_of r ≡ Distances → before_bare b r ≡ noted_before (map bare (labels_begun_records b)) r
+bare_noted b (DistancesProblem nodes blocks) is =
     let rs = labels_begun_records b in
     rw (bare_problem_in rs, bare_counted_in rs) (lines_noted b)
-tells_bare b (DistancesBlock source count) is =
+bare_noted b (DistancesBlock source count) is =
     let rs = labels_begun_records b in
-    rw (bare_problem_in rs, bare_counted_in rs, bare_named source rs, bare_short rs) (tells b (LabelsBlock source count None) refl)
-tells_bare b (DistancesNode id dist) is =
+    rw (bare_problem_in rs, bare_counted_in rs, bare_named source rs, bare_short rs) (before_noted b (LabelsBlock source count None) refl)
+bare_noted b (DistancesNode id dist) is =
     let rs = labels_begun_records b in
-    rw (bare_problem_in rs, bare_counted_in rs, bare_misplaced rs, bare_labelled id rs, bare_full rs) (ap (λ (e : Earlier). record e { pred_unknown = false; past_radius = false }) (tells b (LabelsNode id dist id) refl))
-tells_bare b r is = absurd (cc)
+    rw (bare_problem_in rs, bare_counted_in rs, bare_misplaced rs, bare_labelled id rs, bare_full rs) (ap (λ (e : Earlier). record e { pred_unknown = false; past_radius = false }) (before_noted b (LabelsNode id dist id) refl))
+bare_noted b r is = absurd (cc)
 
-pub end_tells_bare : (b : LabelsBegun) → before_end b ≡ noted_at_end Distances (map bare (labels_begun_records b))
-end_tells_bare b =
+pub bare_end_noted : (b : LabelsBegun) → before_end b ≡ noted_at_end Distances (map bare (labels_begun_records b))
+bare_end_noted b =
     let rs = labels_begun_records b in
-    rw (bare_problem_in rs, bare_counted_in rs, bare_short rs) (end_tells b)
+    rw (bare_problem_in rs, bare_counted_in rs, bare_short rs) (end_noted b)
 
 -- distances that pass the tests at the end pass them as labels
 pub whole_passes : (e : Earlier) → PassesEnd Distances e → PassesEnd Labels e
@@ -97,7 +97,7 @@ label_passes begun id dist pred are bare_ones last p =
       full_block = refl;
       one_value = refl;
       pred_known = ap (λ o. not (is_labelled o pred)) block ∙ known (b.source == pred) _ (eq-eqb b.source pred (sym source));
-      near = ap (λ o. is_past_block o dist) block ∙ ap (λ radius. is_past radius dist) whole;
+      within_radius = ap (λ o. is_past_block o dist) block ∙ ap (λ radius. is_past radius dist) whole;
     }
   where
     known : (x y : Bool) → x ≡ true → not (x || y) ≡ false

@@ -235,5 +235,5 @@ pub fit_read : (kind : TextKind) (gives : List LineRecord → LabelsValue → Ty
     → (all : List (List ℕ)) (noted : Result LabelsValue ReadError) → Reads (SpellsValue kind gives all) (Fault kind all) noted → IfOk noted FitText
 fit_read kind gives as_many all (Ok labels) h =
     let spells = h.0 in
-    omega (arith, one_a_line kind all spells.by_line 1 spells.spelled.spell, spells.spelled.few, as_many (numbered 1 spells.by_line) labels spells.given, length-map (numbered 1 spells.by_line) (λ (r : LineRecord). r.says))
+    omega (arith, one_a_line kind all spells.by_line 1 spells.spelled.spell, spells.spelled.few, as_many (numbered 1 spells.by_line) labels spells.given, length-map (numbered 1 spells.by_line) (λ (r : LineRecord). r.spells))
 fit_read kind gives as_many all (Err error) h = tt

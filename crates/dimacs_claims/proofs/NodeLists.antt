@@ -72,9 +72,9 @@ passing_below p id least =
     ∙ ap (λ n. passing p (id - 1) ++ filter p (n ∷ [])) this
 
 -- a line for each ID that passes
-pub lines_of_passing : (p : ℕ → Bool) (line : ℕ → Record) (says : ℕ → Option Record → Type 0) (n : ℕ)
-    → ((i : ℕ) (rec : Option Record) → i < n → says i rec → rec ≡ cond (p (i + 1)) (Some (line (i + 1))) None) → AreLines says n (λ i. map line (passing p i))
-lines_of_passing p line says n each = record {
+pub lines_of_passing : (p : ℕ → Bool) (line : ℕ → Record) (spells : ℕ → Option Record → Type 0) (n : ℕ)
+    → ((i : ℕ) (rec : Option Record) → i < n → spells i rec → rec ≡ cond (p (i + 1)) (Some (line (i + 1))) None) → AreLines spells n (λ i. map line (passing p i))
+lines_of_passing p line spells n each = record {
   none = refl;
   more = λ i rec within e.
       let next : passing p (i + 1) ≡ passing p i ++ filter p ((i + 1) ∷ []) = search (rules, passing_below p (i + 1) (omega arith)) in

@@ -70,13 +70,13 @@ lines_noted b rs h = rw h.records (ap (earlier_of (after_lines b).problem) (h.co
 has_named : (b : PotentialsBegun) (id : ℕ) {rs : List Record} (h : ArePotentialsBegunBy b rs) → has_line b id ≡ list_any (is_of id) h.named
 has_named b id h = ap (λ m. is_some (get m id)) h.values ∙ has-from_entries h.named id
 
-named_told : (b : PotentialsBegun) (rs : List Record) (id : ℕ) → ArePotentialsBegunBy b rs → list_any (names id) rs ≡ has_line b id
-named_told b rs id h = rw h.records (any_names id h.named ∙ sym (has_named b id h))
+named_noted : (b : PotentialsBegun) (rs : List Record) (id : ℕ) → ArePotentialsBegunBy b rs → list_any (names id) rs ≡ has_line b id
+named_noted b rs id h = rw h.records (any_names id h.named ∙ sym (has_named b id h))
 
-pub tells : (b : PotentialsBegun) (r : Record) → kind_of r ≡ kinds.Potentials → (rs : List Record) → ArePotentialsBegunBy b rs → before b r ≡ noted_before rs r
-tells b (PotentialsProblem n k) of_kind rs h = lines_noted b rs h
-tells b (PotentialsNode id v) of_kind rs h = ap₂ (λ (e : Earlier) t. record e { named = t }) (lines_noted b rs h) (sym (named_told b rs id h))
-tells b r of_kind rs h = absurd (cc)
+pub before_noted : (b : PotentialsBegun) (r : Record) → kind_of r ≡ kinds.Potentials → (rs : List Record) → ArePotentialsBegunBy b rs → before b r ≡ noted_before rs r
+before_noted b (PotentialsProblem n k) of_kind rs h = lines_noted b rs h
+before_noted b (PotentialsNode id v) of_kind rs h = ap₂ (λ (e : Earlier) t. record e { named = t }) (lines_noted b rs h) (sym (named_noted b rs id h))
+before_noted b r of_kind rs h = absurd (cc)
 
 -- the state after a problem line
 pub begins : (n k : ℕ) → ArePotentialsBegunBy (record { nodes = n; declared = k; taken = 0; values = empty }) (PotentialsProblem n k ∷ [])
@@ -255,12 +255,12 @@ potentials_round_trip p law =
     }
 
 -- a line for each node with a potential other than 0
-pub potential_lines : (p : PotentialsValue) (says : ℕ → Option Record → Type 0) (n : ℕ)
-    → ((i : ℕ) (rec : Option Record) → i < n → says i rec → rec ≡ cond (nonzero_at p (i + 1)) (Some (PotentialsNode (i + 1) (potential_of p (i + 1)))) None)
-    → AreLines says n (λ i. map node_line (with_values p (passing (nonzero_at p) i)))
-potential_lines p says n each =
+pub potential_lines : (p : PotentialsValue) (spells : ℕ → Option Record → Type 0) (n : ℕ)
+    → ((i : ℕ) (rec : Option Record) → i < n → spells i rec → rec ≡ cond (nonzero_at p (i + 1)) (Some (PotentialsNode (i + 1) (potential_of p (i + 1)))) None)
+    → AreLines spells n (λ i. map node_line (with_values p (passing (nonzero_at p) i)))
+potential_lines p spells n each =
     let value : ℕ → ℕ × ℤ = λ id. (id, potential_of p id) in
-    let h = lines_of_passing (nonzero_at p) (λ id. node_line (value id)) says n each in
+    let h = lines_of_passing (nonzero_at p) (λ id. node_line (value id)) spells n each in
     record {
       none = refl;
       more = λ i rec within e.

@@ -25,7 +25,7 @@ use Rattle.dimacs_records.specs.Texts.{AreSpelled, AreFaultless}
 use Rattle.dimacs_records.proofs.CanonicalLaws.{canonical_spelled}
 use Rattle.dimacs_records.proofs.ConditionLemmas.{is_allowed, is_complete}
 use Rattle.dimacs_records.proofs.FitLaws.{fits_of}
-use Rattle.dimacs_records.proofs.OrderLemmas.{allowed_told}
+use Rattle.dimacs_records.proofs.OrderLemmas.{allowed_noted}
 use Rattle.dimacs_records.proofs.ReadLaws.{reads_exactly, spelled_of_faultless}
 use Rattle.dimacs_records.proofs.SplitLemmas.{image_at}
 use Rattle.dimacs_claims.specs.declared.solution.Entry.{Entry}
@@ -36,7 +36,7 @@ use Rattle.dimacs_claims.specs.SolutionReading.{AreTaken, StandsForSolution, Giv
 use Rattle.dimacs_claims.specs.inside.SolutionReading.{earlier_value}
 
 abbrev IsSolutionLine : LineRecord → Type 0
-IsSolutionLine r = IsOfKind kinds.Solution r.says
+IsSolutionLine r = IsOfKind kinds.Solution r.spells
 
 abbrev value_record : ℤ → Record
 value_record value = records.SolutionValue value
@@ -57,7 +57,7 @@ entries_say (e ∷ es) = entries_say es
 -- the records of entries with a value among them
 value_says : (es : List Entry) (before after : List LineRecord) (line : ℕ) (value : ℤ) → map entry_line es ≡ before ++ after
     → Say true (records_of (before ++ on_line line (value_record value) ∷ after))
-value_says es [] after line value e = let says = rw e at (entries_say es) in (says.0, (says.1.0, refl))
+value_says es [] after line value e = let spells = rw e at (entries_say es) in (spells.0, (spells.1.0, refl))
 value_says (x ∷ es) (b ∷ before) after line value e =
     let first : b ≡ entry_line x = cc in
     rw first (value_says es before after line value (cc))
@@ -81,12 +81,12 @@ place_of es [] after line value (b ∷ earlier) more r e h =
     of_entry at.x at.y_is
 place_of (x ∷ es) (b ∷ before) after line value [] more r e h =
     let first : b ≡ entry_line x = cc in
-    let says : b.says ≡ r = cc in
-    of_entry x (sym says ∙ ap (λ (l : LineRecord). l.says) first)
+    let spells : b.spells ≡ r = cc in
+    of_entry x (sym spells ∙ ap (λ (l : LineRecord). l.spells) first)
 place_of (x ∷ es) (b ∷ before) after line value (c ∷ earlier) more r e h =
     let first : b ≡ entry_line x = cc in
-    let says : b.says ≡ c = cc in
-    let c_is : c ≡ entry_record x = sym says ∙ ap (λ (l : LineRecord). l.says) first in
+    let spells : b.spells ≡ c = cc in
+    let c_is : c ≡ entry_record x = sym spells ∙ ap (λ (l : LineRecord). l.spells) first in
     elim (place_of es before after line value earlier more r (cc) (cc)) [
       | of_entry y r_is ↦ of_entry y r_is
       | of_value v r_is none ↦ of_value v r_is (rw c_is none)
@@ -100,10 +100,10 @@ allowed_at before r (of_value value r_is none) = rw r_is (is_allowed before (val
 -- the records of a solution have no fault
 pub solution_faultless : (rs : List LineRecord) (s : SolutionValue) → GivesSolution rs s → AreFaultless kinds.Solution (records_of rs)
 solution_faultless rs s h =
-    let says : Say true (records_of rs) = rw h.all_are (value_says s.entries h.before h.after s.value_line s.value h.others_are) in
+    let spells : Say true (records_of rs) = rw h.all_are (value_says s.entries h.before h.after s.value_line s.value h.others_are) in
     record {
       allowed = λ before after r e. allowed_at before r (place_of s.entries h.before h.after s.value_line s.value before after r h.others_are (rw h.all_are at e));
-      complete = is_complete kinds.Solution (records_of rs) (rw (says.0, says.1.1) refl);
+      complete = is_complete kinds.Solution (records_of rs) (rw (spells.0, spells.1.1) refl);
     }
 
 -- records give only one solution
@@ -114,7 +114,7 @@ with_line line r s = s
 
 solution_in : List LineRecord → SolutionValue
 solution_in [] = record { value = pos 0; value_line = 0; entries = [] }
-solution_in (r ∷ rs) = with_line r.line r.says (solution_in rs)
+solution_in (r ∷ rs) = with_line r.line r.spells (solution_in rs)
 
 -- a solution with one more entry in front
 abbrev after_entry : Entry → SolutionValue → SolutionValue
@@ -277,15 +277,15 @@ module _ (holds : List Entry → Type 0) (rs : List LineRecord) where
   say None h = rw h.2 (entries_say h.0)
   say (Some v) h = rw h.2.all_are (value_says h.0 h.2.before h.2.after v.line v.value h.2.others_are)
 
-  pub value_tells : (value : Option ValueLine) (other : ℤ) → StandsForSolution value holds rs → earlier_value value ≡ noted_before (records_of rs) (value_record other)
-  value_tells value other h = let says = say value h in rw (says.0, says.1.0, says.1.1) refl
+  pub value_noted : (value : Option ValueLine) (other : ℤ) → StandsForSolution value holds rs → earlier_value value ≡ noted_before (records_of rs) (value_record other)
+  value_noted value other h = let spells = say value h in rw (spells.0, spells.1.0, spells.1.1) refl
 
-  pub end_tells : (value : Option ValueLine) → StandsForSolution value holds rs → earlier_value value ≡ noted_at_end kinds.Solution (records_of rs)
-  end_tells value h = let says = say value h in rw (says.0, says.1.0, says.1.1) refl
+  pub end_noted : (value : Option ValueLine) → StandsForSolution value holds rs → earlier_value value ≡ noted_at_end kinds.Solution (records_of rs)
+  end_noted value h = let spells = say value h in rw (spells.0, spells.1.0, spells.1.1) refl
 
   pub value_placed : (value : Option ValueLine) (line : ℕ) (number : ℤ) → Passes (earlier_value value) (value_record number) → StandsForSolution value holds rs
       → IsAllowed (records_of rs) (value_record number) × StandsForSolution (Some (record { value = number; line = line })) holds (rs ++ on_line line (value_record number) ∷ [])
-  value_placed None line number p h = (allowed_told (earlier_value None) (records_of rs) (value_record number) p (value_tells None number h), (h.0, h.1, record { before = rs; after = []; others_are = sym h.2 ∙ sym (append-nil rs); all_are = refl }))
+  value_placed None line number p h = (allowed_noted (earlier_value None) (records_of rs) (value_record number) p (value_noted None number h), (h.0, h.1, record { before = rs; after = []; others_are = sym h.2 ∙ sym (append-nil rs); all_are = refl }))
   value_placed (Some v) line number p h = absurd (cc (p.one_value))
 
   pub entry_placed : (value : Option ValueLine) (e : Entry) (more : List Entry → Type 0) → ((es : List Entry) → holds es → more (es ++ e ∷ [])) → StandsForSolution value holds rs

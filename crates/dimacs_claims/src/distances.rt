@@ -162,7 +162,7 @@ impl Begun for BegunDistances {
                 ..self.labels.before_label(Label { dist, id, pred: id })
             },
             Record::DistancesBlock { source, .. } => self.labels.before_block(source),
-            Record::DistancesProblem { .. } => self.labels.lines(),
+            Record::DistancesProblem { .. } => self.labels.after_lines(),
             _ => unreachable!(),
         }
     }
@@ -179,7 +179,7 @@ impl Begun for BegunDistances {
         }
     }
 
-    #[tactic(auto, using(crate::proofs::DistanceStates::end_tells_bare))]
+    #[tactic(auto, using(crate::proofs::DistanceStates::bare_end_noted))]
     #[inline(always)]
     fn before_end(&self) -> Earlier {
         self.labels.before_end()

@@ -3,7 +3,7 @@
 ghost use Rattle.std.specs.Prelude.{◌≡◌, ◌<◌, ◌++◌, ◌∷◌, [], ◌↔◌, length, slice_get, slice_index_or, IsTrue, OnOk, OnErr};
 ghost use Rattle.dimacs_nodes.specs.Lists.{items_left};
 ghost use Rattle.dimacs_claims.specs.Labels.{no_label};
-ghost use Rattle.dimacs_claims.specs.LabelLists.{lengthened, widened};
+ghost use Rattle.dimacs_claims.specs.LabelLists.{label_of_32, label_of_64};
 
 use crate::block::Label;
 use dimacs_lines::Memory;
@@ -118,7 +118,7 @@ pub struct Label32 {
 impl ShortForm for Label32 {
     type Long = Label;
 
-    ghost widened = { widened };
+    ghost widened = { label_of_32 };
 
     ghost no_item = { no_label };
 
@@ -151,7 +151,7 @@ pub struct Label64 {
 impl ShortForm for Label64 {
     type Long = Label;
 
-    ghost widened = { lengthened };
+    ghost widened = { label_of_64 };
 
     ghost no_item = { no_label };
 

@@ -226,7 +226,7 @@ impl BegunLabels {
 
     /// What the tests have to know for a record that concerns no block.
     #[inline(always)]
-    pub(crate) fn lines(&self) -> Earlier
+    pub(crate) fn after_lines(&self) -> Earlier
         ensures { result ≡ after_lines self.now }
     {
         let nodes = Some(self.nodes);
@@ -254,7 +254,7 @@ impl BegunLabels {
             return Earlier {
                 misplaced: true,
                 pred_unknown: true,
-                ..self.lines()
+                ..self.after_lines()
             };
         };
         let source = block.source();
@@ -263,7 +263,7 @@ impl BegunLabels {
             block_full: self.missing == 0,
             pred_unknown: !self.has_label(source, label.pred),
             past_radius: block.is_past(label.dist),
-            ..self.lines()
+            ..self.after_lines()
         }
     }
 
@@ -299,7 +299,7 @@ impl BegunLabels {
         requires pred { 1 ≤ label.pred }
         requires dist { IsWide label.dist }
         requires passes { Passes (before self.old (label_line label)) (label_line label) }
-        ensures kept { OnOk result (labels_begun_records self.new ≡ labels_begun_records self.old ++ label_line label ∷ []) }
+        ensures added { OnOk result (labels_begun_records self.new ≡ labels_begun_records self.old ++ label_line label ∷ []) }
         ensures last { OnOk result ((front : List BlockValue) (b : BlockValue) → self.old.blocks ≡ front ++ b ∷ []
             → self.new.blocks ≡ front ++ with_label b label ∷ []) }
         ensures unchanged { OnErr result (self.new ≡ self.old) }
@@ -355,7 +355,7 @@ impl Begun for BegunLabels {
         match rec {
             Record::LabelsNode { id, dist, pred } => self.before_label(Label { dist, id, pred }),
             Record::LabelsBlock { source, .. } => self.before_block(source),
-            Record::LabelsProblem { .. } => self.lines(),
+            Record::LabelsProblem { .. } => self.after_lines(),
             _ => unreachable!(),
         }
     }
@@ -377,7 +377,7 @@ impl Begun for BegunLabels {
     fn before_end(&self) -> Earlier {
         Earlier {
             block_short: self.missing > 0,
-            ..self.lines()
+            ..self.after_lines()
         }
     }
 

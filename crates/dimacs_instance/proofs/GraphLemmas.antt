@@ -54,10 +54,10 @@ first_problem n m = is_allowed [] (GraphProblem n m) refl
 pub lines_noted : (b : GraphBegun) → after_lines b ≡ after_records (graph_begun_records b)
 lines_noted b = ap (earlier_of (after_lines b).problem) (sym (counted_in-arcs b.arcs))
 
-pub tells : (b : GraphBegun) (r : Record) → kind_of r ≡ Graph → after_lines b ≡ noted_before (graph_begun_records b) r
-tells b (GraphProblem n m) of_kind = lines_noted b
-tells b (GraphArc t h w) of_kind = lines_noted b
-tells b r of_kind = absurd (cc)
+pub before_noted : (b : GraphBegun) (r : Record) → kind_of r ≡ Graph → after_lines b ≡ noted_before (graph_begun_records b) r
+before_noted b (GraphProblem n m) of_kind = lines_noted b
+before_noted b (GraphArc t h w) of_kind = lines_noted b
+before_noted b r of_kind = absurd (cc)
 
 arc_allowed : (nodes declared : ℕ) (arcs : List ArcView) (a : ArcView) (before : List Record) (r : Record) → before ≡ GraphProblem nodes declared ∷ map graph_arc arcs → r ≡ graph_arc a
     → JoinsNodes nodes a → length arcs < declared → IsAllowed before r

@@ -19,11 +19,11 @@ use Rattle.dimacs_network.specs.Arcs.{JoinsNodes}
 use Rattle.dimacs_network.specs.KeptArcs.{capacity_arc}
 use Rattle.dimacs_instance.specs.MaxFlows.{HasCapacityAlone, MaxValue}
 use Rattle.dimacs_instance.specs.MaxTexts.{GivesMax, max_arc}
-use Rattle.dimacs_instance.specs.MaxReading.{AreEnds, AreNodes, EndsAreApart, IsMaxBegun, IsMaxCountedBy, MaxBegun, MaxCount, before, before_end, count_of, end_records, max_begun_records}
+use Rattle.dimacs_instance.specs.MaxReading.{AreEnds, AreNodes, EndsAreDistinct, IsMaxBegun, IsMaxCountedBy, MaxBegun, MaxCount, before, before_end, count_of, end_records, max_begun_records}
 use Rattle.dimacs_instance.specs.Summaries.{GivesSummary, SumsUpMax}
 use Rattle.dimacs_instance.specs.declared.max.EndLines.{EndLines}
 use Rattle.dimacs_instance.specs.declared.max.EndLines.TheVariants.{Neither, One, Both}
-use Rattle.dimacs_instance.proofs.MaxLemmas.{end_tells, tells}
+use Rattle.dimacs_instance.proofs.MaxLemmas.{end_noted, before_noted}
 
 pub counted_none : (nodes declared : ℕ) → nodes ≤ most_nodes → declared ≤ most_count → IsMaxCountedBy (record { nodes = nodes; declared = declared; ends = Neither; arcs = 0 }) (MaxProblem nodes declared ∷ [])
 counted_none nodes declared nodes_few arcs_few = record {
@@ -47,10 +47,10 @@ counted_begun b is = record { begun = b; is_begun = is; records = refl; counts =
 
 module _ (c : MaxCount) (rs : List Record) (counted : IsMaxCountedBy c rs) where
   pub counted_noted : (r : Record) → kind_of r ≡ Max → before c r ≡ noted_before rs r
-  counted_noted r of_kind = rw (counted.counts, counted.records) (tells counted.begun r of_kind)
+  counted_noted r of_kind = rw (counted.counts, counted.records) (before_noted counted.begun r of_kind)
 
-  pub counted_end_told : before_end c ≡ noted_at_end Max rs
-  counted_end_told = rw (counted.counts, counted.records) (end_tells counted.begun)
+  pub counted_end_noted : before_end c ≡ noted_at_end Max rs
+  counted_end_noted = rw (counted.counts, counted.records) (end_noted counted.begun)
 
   module _ (tail head : ℕ) (cap : ℤ) (passes : Passes (before c (MaxArc tail head cap)) (MaxArc tail head cap)) where
     arc_room : c.arcs < c.declared
@@ -106,7 +106,7 @@ module _ (c : MaxCount) (rs : List Record) (counted : IsMaxCountedBy c rs) where
     no_arcs : c.arcs ≤ 0
     no_arcs = grind (arith, nat_tests, passes.placed)
 
-    pub one_more_node : (more : EndLines) → 1 ≤ id → EndsAreApart more → end_records more ≡ end_records c.ends ++ MaxNode id end ∷ []
+    pub one_more_node : (more : EndLines) → 1 ≤ id → EndsAreDistinct more → end_records more ≡ end_records c.ends ++ MaxNode id end ∷ []
         → IsMaxCountedBy (record { nodes = c.nodes; declared = c.declared; ends = more; arcs = c.arcs }) (rs ++ MaxNode id end ∷ [])
     one_more_node more least apart is =
         let b = counted.begun in

@@ -116,12 +116,12 @@ first_problem n m = is_allowed [] (MaxProblem n m) refl
 lines_noted : (b : MaxBegun) → after_lines (count_of b) ≡ after_records (max_begun_records b)
 lines_noted b = ap (earlier_of (after_lines (count_of b)).problem) (sym (counted b.nodes b.declared b.ends b.arcs))
 
-pub end_tells : (b : MaxBegun) → before_end (count_of b) ≡ noted_at_end Max (max_begun_records b)
-end_tells b = ap₂ (λ (e : Earlier) t. record e { lacks_end = t }) (lines_noted b) (sym (lacking b.nodes b.declared b.ends b.arcs))
+pub end_noted : (b : MaxBegun) → before_end (count_of b) ≡ noted_at_end Max (max_begun_records b)
+end_noted b = ap₂ (λ (e : Earlier) t. record e { lacks_end = t }) (lines_noted b) (sym (lacking b.nodes b.declared b.ends b.arcs))
 
-pub tells : (b : MaxBegun) (r : Record) → kind_of r ≡ Max → before (count_of b) r ≡ noted_before (max_begun_records b) r
-tells b (MaxProblem n m) of_kind = lines_noted b
-tells b (MaxNode id end) of_kind =
+pub before_noted : (b : MaxBegun) (r : Record) → kind_of r ≡ Max → before (count_of b) r ≡ noted_before (max_begun_records b) r
+before_noted b (MaxProblem n m) of_kind = lines_noted b
+before_noted b (MaxNode id end) of_kind =
     rw (any_flow_arc b.nodes b.declared b.ends b.arcs, named b.nodes b.declared b.ends b.arcs id, ended b.nodes b.declared b.ends b.arcs end, counted b.nodes b.declared b.ends b.arcs) refl
-tells b (MaxArc t h cap) of_kind = end_tells b
-tells b r of_kind = absurd (cc)
+before_noted b (MaxArc t h cap) of_kind = end_noted b
+before_noted b r of_kind = absurd (cc)

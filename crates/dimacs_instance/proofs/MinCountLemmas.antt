@@ -18,7 +18,7 @@ use Rattle.dimacs_instance.specs.MinFlows.{IsMin, demand_sum, supply_sum}
 use Rattle.dimacs_instance.specs.MinTexts.{GivesMin, min_arc, min_node, min_records}
 use Rattle.dimacs_instance.specs.MinReading.{IsMinBegun, IsMinCountedBy, MinCount, after_lines, before, count_of, without_arcs}
 use Rattle.dimacs_instance.specs.Summaries.{GivesSummary, SumsUpMin}
-use Rattle.dimacs_instance.proofs.MinLemmas.{arc_bounds, arc_joins, arc_room, begins, gives_min, law_with_arc, law_with_supply, lines_noted, min_law, names_one, new_law, node, tells, with_arc}
+use Rattle.dimacs_instance.proofs.MinLemmas.{arc_bounds, arc_joins, arc_room, begins, gives_min, law_with_arc, law_with_supply, lines_noted, min_law, names_one, new_law, node, before_noted, with_arc}
 
 pub counted_none : (nodes declared : ℕ) → nodes ≤ most_nodes → declared ≤ most_count → IsMinCountedBy (record { nodes = nodes; declared = declared; supplies = empty; arcs = 0 }) (MinProblem nodes declared ∷ [])
 counted_none nodes declared nodes_few arcs_few = record {
@@ -35,10 +35,10 @@ arc_records nodes declared named arcs a =
 
 module _ (c : MinCount) (rs : List Record) (counted : IsMinCountedBy c rs) where
   pub counted_noted : (r : Record) → kind_of r ≡ Min → before c r ≡ noted_before rs r
-  counted_noted r of_kind = rw counted.counts (tells counted.begun r of_kind rs counted.begun_by)
+  counted_noted r of_kind = rw counted.counts (before_noted counted.begun r of_kind rs counted.begun_by)
 
-  pub counted_lines_told : after_lines c ≡ after_records rs
-  counted_lines_told = rw counted.counts (lines_noted counted.begun rs counted.begun_by)
+  pub counted_lines_noted : after_lines c ≡ after_records rs
+  counted_lines_noted = rw counted.counts (lines_noted counted.begun rs counted.begun_by)
 
   pub one_more_arc : (a : ArcView) → Passes (after_lines c) (min_arc a) → 1 ≤ a.tail → 1 ≤ a.head → IsWhole a.cap → IsWhole a.cost
       → IsMinCountedBy (record { nodes = c.nodes; declared = c.declared; supplies = c.supplies; arcs = c.arcs + 1 }) (rs ++ min_arc a ∷ [])

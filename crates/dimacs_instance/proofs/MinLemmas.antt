@@ -79,17 +79,17 @@ lines_noted b rs h = rw h.records (ap (earlier_of (after_lines (count_of b)).pro
 has_named : (b : MinBegun) (id : ℕ) {rs : List Record} (h : IsMinBegunBy b rs) → has_line (count_of b) id ≡ list_any (is_of id) h.named
 has_named b id h = ap (λ m. is_some (get m id)) h.supplies ∙ has-from_entries h.named id
 
-arcs_told : (b : MinBegun) (rs : List Record) → IsMinBegunBy b rs → list_any is_flow_arc rs ≡ nat_lt 0 (length b.arcs)
-arcs_told b rs h = rw h.records (any_flow_arc h.named b.arcs)
+arcs_noted : (b : MinBegun) (rs : List Record) → IsMinBegunBy b rs → list_any is_flow_arc rs ≡ nat_lt 0 (length b.arcs)
+arcs_noted b rs h = rw h.records (any_flow_arc h.named b.arcs)
 
-named_told : (b : MinBegun) (rs : List Record) (id : ℕ) → IsMinBegunBy b rs → list_any (names id) rs ≡ has_line (count_of b) id
-named_told b rs id h = rw h.records (any_names id h.named b.arcs ∙ sym (has_named b id h))
+named_noted : (b : MinBegun) (rs : List Record) (id : ℕ) → IsMinBegunBy b rs → list_any (names id) rs ≡ has_line (count_of b) id
+named_noted b rs id h = rw h.records (any_names id h.named b.arcs ∙ sym (has_named b id h))
 
-pub tells : (b : MinBegun) (r : Record) → kind_of r ≡ Min → (rs : List Record) → IsMinBegunBy b rs → before (count_of b) r ≡ noted_before rs r
-tells b (MinProblem n m) of_kind rs h = lines_noted b rs h
-tells b (MinNode id s) of_kind rs h = rw (arcs_told b rs h, named_told b rs id h) (ap (λ (e : Earlier). record (before (count_of b) (MinNode id s)) { problem = e.problem; counted = e.counted }) (lines_noted b rs h))
-tells b (MinArc tail head low cap cost) of_kind rs h = lines_noted b rs h
-tells b r of_kind rs h = absurd (cc)
+pub before_noted : (b : MinBegun) (r : Record) → kind_of r ≡ Min → (rs : List Record) → IsMinBegunBy b rs → before (count_of b) r ≡ noted_before rs r
+before_noted b (MinProblem n m) of_kind rs h = lines_noted b rs h
+before_noted b (MinNode id s) of_kind rs h = rw (arcs_noted b rs h, named_noted b rs id h) (ap (λ (e : Earlier). record (before (count_of b) (MinNode id s)) { problem = e.problem; counted = e.counted }) (lines_noted b rs h))
+before_noted b (MinArc tail head low cap cost) of_kind rs h = lines_noted b rs h
+before_noted b r of_kind rs h = absurd (cc)
 
 -- the state after a problem line
 pub begins : (n m : ℕ) → IsMinBegunBy (record { nodes = n; declared = m; supplies = empty; arcs = [] }) (MinProblem n m ∷ [])

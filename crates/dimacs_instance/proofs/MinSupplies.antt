@@ -89,10 +89,10 @@ negative_few (pos n) h = omega arith
 negative_few (negsuc n) h = omega (arith, ints, h.0)
 
 -- a line for each node whose supply isn't 0
-pub supply_lines : (m : MinValue) → IsMin m → (says : ℕ → Option Record → Type 0) (n : ℕ)
-    → ((i : ℕ) (rec : Option Record) → i < n → says i rec → rec ≡ cond (is_nonzero (supply_of m (i + 1))) (Some (MinNode (i + 1) (supply_of m (i + 1)))) None)
-    → AreLines says n (λ i. map min_node (supplies_below m (i + 1)))
-supply_lines m law says n each = record {
+pub supply_lines : (m : MinValue) → IsMin m → (spells : ℕ → Option Record → Type 0) (n : ℕ)
+    → ((i : ℕ) (rec : Option Record) → i < n → spells i rec → rec ≡ cond (is_nonzero (supply_of m (i + 1))) (Some (MinNode (i + 1) (supply_of m (i + 1)))) None)
+    → AreLines spells n (λ i. map min_node (supplies_below m (i + 1)))
+supply_lines m law spells n each = record {
   none = ap (map min_node) (first_supplies m law);
   more = λ i rec within e.
       ap (map min_node) (next_supplies m law (i + 1)) ∙ map-append min_node (supplies_below m (i + 1)) (filter has_value ((i + 1, supply_of m (i + 1)) ∷ []))

@@ -63,19 +63,19 @@ pub lines_noted : (b : QueriesBegun) → after_lines b ≡ after_records (querie
 lines_noted b = ap (earlier_of (after_lines b).problem) (sym (counted_in-query_lines b.queries))
 
 -- only the problem line announces the kind of query
-source_told : (id n : ℕ) (queries : QueriesValue) → list_any (asks_for asks.Pairs) (earlier n queries) ≡ are_others (SourceQuery id) queries
-source_told id n (Sources ids) = no_problem_in_sources ids
-source_told id n (Pairs pairs) = refl
+source_noted : (id n : ℕ) (queries : QueriesValue) → list_any (asks_for asks.Pairs) (earlier n queries) ≡ are_others (SourceQuery id) queries
+source_noted id n (Sources ids) = no_problem_in_sources ids
+source_noted id n (Pairs pairs) = refl
 
-pair_told : (from to n : ℕ) (queries : QueriesValue) → list_any (asks_for asks.Sources) (earlier n queries) ≡ are_others (PairQuery from to) queries
-pair_told from to n (Sources ids) = refl
-pair_told from to n (Pairs pairs) = no_problem_in_pairs pairs
+pair_noted : (from to n : ℕ) (queries : QueriesValue) → list_any (asks_for asks.Sources) (earlier n queries) ≡ are_others (PairQuery from to) queries
+pair_noted from to n (Sources ids) = refl
+pair_noted from to n (Pairs pairs) = no_problem_in_pairs pairs
 
-pub tells : (b : QueriesBegun) (r : Record) → kind_of r ≡ kinds.Queries → before b r ≡ noted_before (queries_begun_records b) r
-tells b (QueriesProblem kind n) of_kind = lines_noted b
-tells b (SourceQuery id) of_kind = ap₂ (λ (e : Earlier) t. record e { misplaced = t }) (lines_noted b) (sym (source_told id b.declared b.queries))
-tells b (PairQuery from to) of_kind = ap₂ (λ (e : Earlier) t. record e { misplaced = t }) (lines_noted b) (sym (pair_told from to b.declared b.queries))
-tells b r of_kind = absurd (cc)
+pub before_noted : (b : QueriesBegun) (r : Record) → kind_of r ≡ kinds.Queries → before b r ≡ noted_before (queries_begun_records b) r
+before_noted b (QueriesProblem kind n) of_kind = lines_noted b
+before_noted b (SourceQuery id) of_kind = ap₂ (λ (e : Earlier) t. record e { misplaced = t }) (lines_noted b) (sym (source_noted id b.declared b.queries))
+before_noted b (PairQuery from to) of_kind = ap₂ (λ (e : Earlier) t. record e { misplaced = t }) (lines_noted b) (sym (pair_noted from to b.declared b.queries))
+before_noted b r of_kind = absurd (cc)
 
 -- the records of queries have no fault
 source_allowed : (n : ℕ) (ids : List ℕ) (id : ℕ) → length (map SourceQuery ids) < n → IsAllowed (earlier n (Sources ids)) (SourceQuery id)

@@ -34,9 +34,9 @@ end_records (One first) = max_node first ∷ []
 end_records (Both first second) = max_node first ∷ max_node second ∷ []
 
 -- two node lines name different nodes and different ends
-abbrev pub EndsAreApart : EndLines → Type 0
-EndsAreApart (Both first second) = (first.node ≢ second.node) × (first.end ≢ second.end)
-EndsAreApart ends = Unit {0}
+abbrev pub EndsAreDistinct : EndLines → Type 0
+EndsAreDistinct (Both first second) = (first.node ≢ second.node) × (first.end ≢ second.end)
+EndsAreDistinct ends = Unit {0}
 
 -- the node lines of source and sink, in either order
 abbrev pub AreEnds : EndLines → ℕ → ℕ → Type 0
@@ -54,7 +54,7 @@ pub record IsMaxBegun (begun : MaxBegun) : Type 0 where
   pub arcs_few : begun.declared ≤ most_count
   pub no_more : length begun.arcs ≤ begun.declared
   pub ends_within : AreNodes begun.nodes begun.ends
-  pub ends_apart : EndsAreApart begun.ends
+  pub ends_apart : EndsAreDistinct begun.ends
   pub joined : All (JoinsNodes begun.nodes) begun.arcs
   pub capacities : All HasCapacityAlone begun.arcs
 

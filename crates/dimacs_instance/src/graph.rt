@@ -156,7 +156,7 @@ impl<N: OfWeightArcs> Begun for BegunGraph<N> {
         }
     }
 
-    #[tactic(auto, using(crate::proofs::GraphLemmas::tells))]
+    #[tactic(auto, using(crate::proofs::GraphLemmas::before_noted))]
     #[inline(always)]
     fn before(&self, _rec: Record) -> Earlier {
         self.before_end()

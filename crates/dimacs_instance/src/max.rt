@@ -12,7 +12,7 @@ ghost use Rattle.dimacs_records.specs.Faults.{Fault};
 ghost use Rattle.dimacs_records.specs.Texts.{Reads};
 ghost use Rattle.dimacs_instance.specs.MaxFlows.{MaxValue, IsMax};
 ghost use Rattle.dimacs_instance.specs.MaxTexts.{GivesMax, SpellsMax, canonical_max, max_arc, nodes_by_id};
-ghost use Rattle.dimacs_instance.specs.MaxReading.{AreEnds, EndsAreApart, before, before_end, count_of, end_records, max_begun_records, max_node};
+ghost use Rattle.dimacs_instance.specs.MaxReading.{AreEnds, EndsAreDistinct, before, before_end, count_of, end_records, max_begun_records, max_node};
 
 mod build;
 
@@ -142,7 +142,7 @@ impl EndLines {
 
     /// Whether the source or the sink isn't named yet.
     #[inline(always)]
-    pub(crate) fn lack_one(self) -> bool
+    pub(crate) fn lacks_end(self) -> bool
         ensures { result ≡ lacks_end (end_records self) }
     {
         match self {
@@ -153,7 +153,7 @@ impl EndLines {
 
     /// The source and the sink, in this order; both have to be named.
     pub(crate) fn in_order(self) -> (u32, u32)
-        requires apart { EndsAreApart self }
+        requires distinct { EndsAreDistinct self }
         requires both { lacks_end (end_records self) ≡ false }
         ensures { AreEnds self result.0 result.1 }
     {
@@ -168,11 +168,11 @@ impl EndLines {
 
     /// Adds a line for another node and the other end.
     pub(crate) fn and(self, line: EndLine) -> EndLines
-        requires apart { EndsAreApart self }
+        requires distinct { EndsAreDistinct self }
         requires other_node { list_any (names line.node) (end_records self) ≡ false }
         requires other_end { list_any (is_end_node line.end) (end_records self) ≡ false }
         ensures lines { end_records result ≡ end_records self ++ max_node line ∷ [] }
-        ensures apart { EndsAreApart result }
+        ensures distinct { EndsAreDistinct result }
     {
         match self {
             EndLines::Neither => EndLines::One(line),
@@ -246,7 +246,7 @@ impl<N: OfCapacityArcs> Begun for BegunMax<N> {
         }
     }
 
-    #[tactic(auto, using(crate::proofs::MaxLemmas::tells))]
+    #[tactic(auto, using(crate::proofs::MaxLemmas::before_noted))]
     #[inline(always)]
     fn before(&self, rec: Record) -> Earlier {
         self.counted().before(rec)
@@ -267,7 +267,7 @@ impl<N: OfCapacityArcs> Begun for BegunMax<N> {
         }
     }
 
-    #[tactic(auto, using(crate::proofs::MaxLemmas::end_tells))]
+    #[tactic(auto, using(crate::proofs::MaxLemmas::end_noted))]
     #[inline(always)]
     fn before_end(&self) -> Earlier {
         self.counted().before_end()

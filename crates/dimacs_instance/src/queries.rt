@@ -159,7 +159,7 @@ impl Begun for BegunQueries {
         }
     }
 
-    #[tactic(auto, using(crate::proofs::QueriesLemmas::tells))]
+    #[tactic(auto, using(crate::proofs::QueriesLemmas::before_noted))]
     #[inline(always)]
     fn before(&self, rec: Record) -> Earlier {
         Earlier {

@@ -24,14 +24,14 @@ use std::alloc::Global;
 pub trait Summary: Drop {
     ghost kind: { TextKind };
 
-    ghost Said: { Type 0 };
+    ghost Content: { Type 0 };
 
     /// This is the summary of a value.
-    ghost sums_up: { Self → Said → Type 0 };
+    ghost sums_up: { Self → Content → Type 0 };
 
-    ghost spells: { List ℕ → Said → Type 0 };
+    ghost spells: { List ℕ → Content → Type 0 };
 
-    ghost shown: { Said → List ℕ };
+    ghost shown: { Content → List ℕ };
 
     /// The line about a value with this summary.
     ghost line: { Self → List ℕ };
@@ -39,7 +39,7 @@ pub trait Summary: Drop {
     /// The kind of text. The line depends only on the summary.
     fn kind() -> TextKind
         ensures kind { result ≡ kind }
-        ensures enough { (summary : Self) (value : Said) → sums_up summary value → line summary ≡ shown value };
+        ensures enough { (summary : Self) (value : Content) → sums_up summary value → line summary ≡ shown value };
 
     /// Reads a text and keeps only its summary.
     fn read<S: Source>(alloc: Global, source: &mut S) -> Result<Self, ReadError>

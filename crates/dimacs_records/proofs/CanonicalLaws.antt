@@ -14,7 +14,7 @@ use Rattle.dimacs_records.specs.Faults.{Spell}
 use Rattle.dimacs_records.specs.Texts.{AreSpelled}
 use Rattle.dimacs_records.specs.Readings.{numbered, records_of}
 use Rattle.dimacs_records.proofs.PlainLines.{IsPlain, ArePlain, texts_in-spaced, lines-spaced, length-spaced}
-use Rattle.dimacs_records.proofs.PlainForms.{IsPlainForm, plain_form, plain_parts, parts_say, length-parts}
+use Rattle.dimacs_records.proofs.PlainForms.{IsPlainForm, plain_form, plain_parts, parts_spell, length-parts}
 
 -- the line of a record without its byte 10
 abbrev body_of : Record → List ℕ
@@ -50,7 +50,7 @@ module _ (kind : TextKind) (r : Record) (can : CanBeSpelled kind r) where
     for_kind = can.for_kind;
     letter = can.letter;
     begins = texts_in-body ∙ ap (λ letter. letter ∷ map text_of (parts_of r)) can.letter;
-    says = parts_say can.form.types (parts_of r) form_is.types can.fit;
+    spells = parts_spell can.form.types (parts_of r) form_is.types can.fit;
   }
 
   is_skip-body : is_skip (texts_in (body_of r)) ≡ false

@@ -21,7 +21,7 @@ use Rattle.dimacs_records.proofs.FirstLaws.{first_after, first_before, first_lis
 use Rattle.dimacs_records.proofs.SplitLemmas.{same, sooner, later, two_places}
 use Rattle.dimacs_records.proofs.SpellLaws.{spells_one}
 use Rattle.dimacs_records.proofs.ShapeLaws.{spelled_shape}
-use Rattle.dimacs_records.proofs.FaultLaws.{say_same}
+use Rattle.dimacs_records.proofs.FaultLaws.{spell_same}
 
 -- the condition holds at no field and for no reason
 abbrev pub NoneHolds : (ℕ → Reason → Bool) → Type 0
@@ -48,13 +48,13 @@ clean_nothing kind = record { spell = tt; none = λ before after line earlier p 
 clean_push : (kind : TextKind) (before : List (List ℕ)) (by_line : List (Option Record)) (line : List ℕ) (x : Option Record)
     → IsClean kind before by_line → Spell kind (line ∷ []) (x ∷ [])
     → ((p : Place) → ¬ Condition kind (records_in by_line) (length before + 1) line p) → IsClean kind (before ++ line ∷ []) (by_line ++ x ∷ [])
-clean_push kind before by_line line x clean says none_here = record { spell = spell_append kind before (line ∷ []) by_line (x ∷ []) clean.spell says; none = none_at }
+clean_push kind before by_line line x clean spells none_here = record { spell = spell_append kind before (line ∷ []) by_line (x ∷ []) clean.spell spells; none = none_at }
   where
     none_at : (fore after : List (List ℕ)) (other : List ℕ) (earlier : List (Option Record)) (p : Place) → before ++ line ∷ [] ≡ fore ++ other ∷ after → Spell kind fore earlier
         → ¬ Condition kind (records_in earlier) (length fore + 1) other p
     none_at fore after other earlier p e spell h = elim (two_places before fore [] after line other e) [
       | same fore_is line_is ↦
-          let said_is = say_same kind fore by_line earlier (rw fore_is at clean.spell) spell in
+          let said_is = spell_same kind fore by_line earlier (rw fore_is at clean.spell) spell in
           none_here p (rw (said_is, fore_is, line_is) h)
       | sooner rest longer ↦
           omega (arith, ap length e, ap length longer, length-append before (line ∷ []), length-append fore (other ∷ after), length-append before (line ∷ rest))

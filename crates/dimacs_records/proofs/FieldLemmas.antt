@@ -15,7 +15,7 @@ use Rattle.dimacs_lines.specs.declared.numbers.NumberFault.{NumberFault}
 use Rattle.dimacs_lines.specs.declared.numbers.NumberFault.TheVariants as number_faults
 use Rattle.dimacs_records.specs.declared.reasons.Reason.TheVariants.{NumberRange}
 use Rattle.dimacs_records.specs.Forms.{FieldType, Word, Either, Number}
-use Rattle.dimacs_records.specs.Spelling.{Part, Text, Amount, Says}
+use Rattle.dimacs_records.specs.Spelling.{Part, Text, Amount, SpellsField}
 use Rattle.dimacs_records.specs.Shapes.{is_number}
 use Rattle.dimacs_records.specs.inside.FieldReader.{field_reason, number_reason}
 use Rattle.dimacs_records.specs.Earlier.{or_else}
@@ -63,7 +63,7 @@ same_bytes [] = refl
 same_bytes (b ∷ bs) = rw (eq-eqb b b refl) (same_bytes bs)
 
 -- a field with a content has no reason to be refused
-pub field_reason-said : (type : FieldType) (text : List ℕ) (part : Part) → Says type text part → field_reason type text ≡ None
+pub field_reason-said : (type : FieldType) (text : List ℕ) (part : Part) → SpellsField type text part → field_reason type text ≡ None
 field_reason-said (Word w) text (Text word) h = rw (h.0, same_bytes w) refl
 field_reason-said (Either v w) text (Text word) h = elim h.0 [
   | inl e ↦ rw (e, same_bytes v) refl

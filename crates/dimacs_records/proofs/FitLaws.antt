@@ -3,19 +3,19 @@ use Rattle.std.proofs.Common.{◌≡◌, ℕ, suc, ◌∷◌, [], List, Some, le
 use Rattle.dimacs_records.specs.declared.kinds.TextKind.{TextKind}
 use Rattle.dimacs_records.specs.declared.records.Record.{Record}
 use Rattle.dimacs_records.specs.Forms.{FieldType, Word, Either, Number, forms}
-use Rattle.dimacs_records.specs.Spelling.{Part, Text, Amount, Says, SayAll, letter_of, parts_of}
+use Rattle.dimacs_records.specs.Spelling.{Part, Text, Amount, SpellsField, SpellFields, letter_of, parts_of}
 use Rattle.dimacs_records.specs.Shapes.{types_in}
 use Rattle.dimacs_records.specs.Canonical.{CanBeSpelled, Fits, FitAll}
 use Rattle.dimacs_records.specs.Readings.{IsOfKind}
 use Rattle.dimacs_records.proofs.SpellLaws.{as_many, form_types}
 
-fits_said : (type : FieldType) (text : List ℕ) (part : Part) → Says type text part → Fits type part
+fits_said : (type : FieldType) (text : List ℕ) (part : Part) → SpellsField type text part → Fits type part
 fits_said (Word w) text (Text word) h = h.1
 fits_said (Either v w) text (Text word) h = rw h.1 h.0
 fits_said (Number low high) text (Amount n) h = h.1
 fits_said type text part h = absurd h
 
-fit_all_said : (types : List FieldType) (texts : List (List ℕ)) (parts : List Part) → SayAll types texts parts → FitAll types parts
+fit_all_said : (types : List FieldType) (texts : List (List ℕ)) (parts : List Part) → SpellFields types texts parts → FitAll types parts
 fit_all_said [] [] [] h = tt
 fit_all_said (type ∷ types) (text ∷ texts) (part ∷ parts) h = (fits_said type text part h.0, fit_all_said types texts parts h.1)
 fit_all_said types texts parts h = absurd h
@@ -24,9 +24,9 @@ fit_all_said types texts parts h = absurd h
 pub fits_of : (kind : TextKind) (r : Record) (types : List FieldType) → IsOfKind kind r → types_in (forms kind) (letter_of r) (length (parts_of r)) ≡ Some types → FitAll types (parts_of r)
 fits_of kind r types h found =
     let s = h.spelled in
-    let known : types_in (forms kind) (letter_of r) (length (parts_of r)) ≡ Some s.form.types = rw (s.letter, (as_many s.form.types s.after (parts_of r) s.says).1) (form_types kind s.form s.of_kind) in
+    let known : types_in (forms kind) (letter_of r) (length (parts_of r)) ≡ Some s.form.types = rw (s.letter, (as_many s.form.types s.after (parts_of r) s.spells).1) (form_types kind s.form s.of_kind) in
     let same : types ≡ s.form.types = cc in
-    rw same (fit_all_said s.form.types s.after (parts_of r) s.says)
+    rw same (fit_all_said s.form.types s.after (parts_of r) s.spells)
 
 as_many_fit : (types : List FieldType) (parts : List Part) → FitAll types parts → length parts ≡ length types
 as_many_fit [] [] h = refl

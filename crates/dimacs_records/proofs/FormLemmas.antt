@@ -13,7 +13,7 @@ use Rattle.dimacs_records.specs.declared.faults.LineFault.{LineFault}
 use Rattle.dimacs_records.specs.declared.field_reader.FieldReader.{FieldReader}
 use Rattle.dimacs_records.specs.Earlier.{or_else}
 use Rattle.dimacs_records.specs.Forms.{FieldType}
-use Rattle.dimacs_records.specs.Spelling.{Part, SayAll, kind_of, letter_of, parts_of}
+use Rattle.dimacs_records.specs.Spelling.{Part, SpellFields, kind_of, letter_of, parts_of}
 use Rattle.dimacs_records.specs.inside.FieldReader.{field_reason, fault_at, fault_in, fields_fault, TakesField, TakesNext, without_fault, finished, IsUntouched, ReadsForm, text_of_run, texts_left}
 use Rattle.dimacs_records.proofs.FieldLemmas.{or_else-none}
 
@@ -78,7 +78,7 @@ no_reason : (f : ℕ) (o : Option Reason) → fault_in f o ≡ None → o ≡ No
 no_reason f None h = refl
 no_reason f (Some reason) h = absurd (cc)
 
-said_all : (f : ℕ) (types : List FieldType) (s : FieldReader) (parts : List Part) (new : FieldReader) (runs : List Run) → s.scan ≡ runs → TakesAll f types s parts new → length types ≡ length runs → fields_fault f types (map text_of_run runs) ≡ None → SayAll types (map text_of_run runs) parts
+said_all : (f : ℕ) (types : List FieldType) (s : FieldReader) (parts : List Part) (new : FieldReader) (runs : List Run) → s.scan ≡ runs → TakesAll f types s parts new → length types ≡ length runs → fields_fault f types (map text_of_run runs) ≡ None → SpellFields types (map text_of_run runs) parts
 said_all f [] s [] new [] h taken same none = tt
 said_all f [] s [] new (run ∷ runs) h taken same none = absurd (omega (arith, same))
 said_all f [] s (part ∷ parts) new runs h taken same none = absurd taken
@@ -90,11 +90,11 @@ said_all f (type ∷ types) s (part ∷ parts) new (run ∷ runs) h taken same n
     let both = none_parts (fault_in f (field_reason type run.text)) (fields_fault (suc f) types (map text_of_run runs)) none in
     (next.3 (no_reason f (field_reason type run.text) both.0), said_all (suc f) types mid parts new runs next.0 taken.2 (omega (arith, same)) both.1)
 
-form_answer : (kind : TextKind) (letter : List ℕ) (types : List FieldType) (runs : List Run) (r : Record) → kind_of r ≡ kind → letter_of r ≡ letter → (length types ≡ length runs → fields_fault 2 types (map text_of_run runs) ≡ None → SayAll types (map text_of_run runs) (parts_of r)) → ReadsForm kind letter types (map text_of_run runs) (outcome 2 types None runs r)
-form_answer kind letter types runs r of_kind of_letter says = by_length (length types == length runs) refl
+form_answer : (kind : TextKind) (letter : List ℕ) (types : List FieldType) (runs : List Run) (r : Record) → kind_of r ≡ kind → letter_of r ≡ letter → (length types ≡ length runs → fields_fault 2 types (map text_of_run runs) ≡ None → SpellFields types (map text_of_run runs) (parts_of r)) → ReadsForm kind letter types (map text_of_run runs) (outcome 2 types None runs r)
+form_answer kind letter types runs r of_kind of_letter spells = by_length (length types == length runs) refl
   where
     by_fault : (fault : Option LineFault) → length types ≡ length runs → fields_fault 2 types (map text_of_run runs) ≡ fault → ReadsForm kind letter types (map text_of_run runs) (without_fault fault r)
-    by_fault None same h = (of_kind, of_letter, rw (length-map runs text_of_run, eq-eqb (length types) (length runs) same) h, says same h)
+    by_fault None same h = (of_kind, of_letter, rw (length-map runs text_of_run, eq-eqb (length types) (length runs) same) h, spells same h)
     by_fault (Some fault) same h = rw (length-map runs text_of_run, eq-eqb (length types) (length runs) same) h
 
     by_length : (t : Bool) → (length types == length runs) ≡ t → ReadsForm kind letter types (map text_of_run runs) (if t then without_fault (fields_fault 2 types (map text_of_run runs)) r else Err (fault_at 0 FieldCount))

@@ -12,7 +12,7 @@ use Rattle.dimacs_records.specs.declared.faults.TakeError.{TakeError}
 use Rattle.dimacs_records.specs.declared.kinds.TextKind.{TextKind}
 use Rattle.dimacs_records.specs.declared.records.Record.{Record}
 use Rattle.dimacs_records.specs.inside.Driver.{IsReadSoFar, ReadsNext}
-use Rattle.dimacs_records.specs.inside.Plain.{SaysFirst}
+use Rattle.dimacs_records.specs.inside.Plain.{SpellsFirst}
 use Rattle.dimacs_records.specs.Readings.{LineRecord, on_line, records_of, AreBefore, IsAllowed, RefusesRecord}
 use Rattle.dimacs_records.proofs.DriverLemmas.{at_number, comes_after, read_one, take_record}
 
@@ -33,7 +33,7 @@ first_given bytes line size there first (Some later) text is =
     some_is e = cc
 
 -- the bytes held begin with this line, as if it had been given
-given_line : (kind : TextKind) (bytes : List ℕ) (r : Record) (size given : ℕ) (coming : Option (List ℕ)) → (h : SaysFirst kind bytes r size) → given < most_lines
+given_line : (kind : TextKind) (bytes : List ℕ) (r : Record) (size given : ℕ) (coming : Option (List ℕ)) → (h : SpellsFirst kind bytes r size) → given < most_lines
     → GivesLine (state bytes given []) (state (drop size bytes) (given + 1) h.line) (before_piece bytes coming) (before_piece (drop size bytes) coming) (given + 1)
 given_line kind bytes r size given coming h few = record {
   next = refl;
@@ -46,35 +46,35 @@ given_line kind bytes r size given coming h few = record {
 
 -- one more line in plain form is taken, or the text has its fault there
 pub plain_step : (kind : TextKind) (all : List (List ℕ)) (bytes : List ℕ) (given size : ℕ) (coming : Option (List ℕ)) (r : Record) (old new : List LineRecord → Type 0) (result : Result Unit TakeError)
-    → SaysFirst kind bytes r size → given < most_lines → IsReadSoFar kind all given (before_piece bytes coming) old
+    → SpellsFirst kind bytes r size → given < most_lines → IsReadSoFar kind all given (before_piece bytes coming) old
     → OnOk result ((rs : List LineRecord) → old rs → IsAllowed (records_of rs) r)
     → OnOk result ((rs : List LineRecord) → old rs → AreBefore (given + 1) rs → new (rs ++ on_line (given + 1) r ∷ []))
     → IfErr result (λ error. (rs : List LineRecord) → old rs → RefusesRecord (records_of rs) r error)
     → ReadsNext kind all given (before_piece (drop size bytes) coming) new (at_number (given + 1) result)
-plain_step kind all bytes given size coming r old new result says few so_far allowed taken refused =
+plain_step kind all bytes given size coming r old new result spells few so_far allowed taken refused =
     let left = before_piece bytes coming in
     let later = before_piece (drop size bytes) coming in
     let before = state bytes given [] in
-    let after = state (drop size bytes) (given + 1) says.line in
-    let line = given_line kind bytes r size given coming says few in
+    let after = state (drop size bytes) (given + 1) spells.line in
+    let line = given_line kind bytes r size given coming spells few in
     let there = comes_after kind all before after left later (given + 1) old line so_far in
-    read_one kind all before after left later (given + 1) old new result line so_far (take_record kind so_far.before so_far.by_line (given + 1) says.line r old new result there so_far.stands says.reads.0 says.reads.1 allowed taken refused)
+    read_one kind all before after left later (given + 1) old new result line so_far (take_record kind so_far.before so_far.by_line (given + 1) spells.line r old new result there so_far.stands spells.reads.0 spells.reads.1 allowed taken refused)
 
 -- whole lines and the first line after them are one more whole line
-pub one_more_whole : (kind : TextKind) (held : List ℕ) (bytes count size : ℕ) (r : Record) → AreWholeLines (take bytes held) count → SaysFirst kind (drop bytes held) r size → AreWholeLines (take (bytes + size) held) (count + 1)
-one_more_whole kind held bytes count size r before says =
-    let line = says.line ++ 10 ∷ [] in
-    let cut : drop bytes held ≡ line ++ drop size (drop bytes held) = says.there ∙ sym (append_assoc says.line (10 ∷ []) (drop size (drop bytes held))) in
-    let front : take size (drop bytes held) ≡ line = ap (take size) cut ∙ take_at line (drop size (drop bytes held)) size (omega (arith, says.size_is, length-append says.line (10 ∷ []))) in
+pub one_more_whole : (kind : TextKind) (held : List ℕ) (bytes count size : ℕ) (r : Record) → AreWholeLines (take bytes held) count → SpellsFirst kind (drop bytes held) r size → AreWholeLines (take (bytes + size) held) (count + 1)
+one_more_whole kind held bytes count size r before spells =
+    let line = spells.line ++ 10 ∷ [] in
+    let cut : drop bytes held ≡ line ++ drop size (drop bytes held) = spells.there ∙ sym (append_assoc spells.line (10 ∷ []) (drop size (drop bytes held))) in
+    let front : take size (drop bytes held) ≡ line = ap (take size) cut ∙ take_at line (drop size (drop bytes held)) size (omega (arith, spells.size_is, length-append spells.line (10 ∷ []))) in
     let taken : take (bytes + size) held ≡ take bytes held ++ line = take-add bytes size held ∙ ap (λ ys. take bytes held ++ ys) front in
     record {
-      whole = before.whole ++ says.line ∷ [];
-      counted = omega (arith, before.counted, length-append before.whole (says.line ∷ []));
+      whole = before.whole ++ spells.line ∷ [];
+      counted = omega (arith, before.counted, length-append before.whole (spells.line ∷ []));
       come_first = λ rest.
           ap (λ ys. lines (ys ++ rest)) taken
           ∙ ap lines (append_assoc (take bytes held) line rest)
           ∙ before.come_first (line ++ rest)
-          ∙ ap (λ ys. before.whole ++ lines ys) (append_assoc says.line (10 ∷ []) rest)
-          ∙ ap (λ ls. before.whole ++ ls) (says.first rest)
-          ∙ sym (append_assoc before.whole (says.line ∷ []) (lines rest));
+          ∙ ap (λ ys. before.whole ++ lines ys) (append_assoc spells.line (10 ∷ []) rest)
+          ∙ ap (λ ls. before.whole ++ ls) (spells.first rest)
+          ∙ sym (append_assoc before.whole (spells.line ∷ []) (lines rest));
     }

@@ -82,7 +82,7 @@ form_line : (kind : TextKind) (letter : List ℕ) (types : List FieldType) (afte
 form_line kind letter types after (Ok None) solid known h = absurd h
 form_line kind letter types after (Ok (Some r)) solid known h =
     let f = form_of (forms kind) letter (length after) types known in
-    (solid, record { form = f.form; after = after; of_kind = f.contained; for_kind = h.0; letter = h.1 ∙ sym f.letter_is; begins = ap (λ x. x ∷ after) (sym f.letter_is); says = rw f.types_are h.3 })
+    (solid, record { form = f.form; after = after; of_kind = f.contained; for_kind = h.0; letter = h.1 ∙ sym f.letter_is; begins = ap (λ x. x ∷ after) (sym f.letter_is); spells = rw f.types_are h.3 })
 form_line kind letter types after (Err fault) solid known h = (solid, to_place kind letter types after fault known h)
 
 types_line : (kind : TextKind) (letter : List ℕ) (found : Option (List FieldType)) (after : List (List ℕ)) (result : Result (Option Record) LineFault) → is_skip (letter ∷ after) ≡ false

@@ -34,18 +34,18 @@ pub refused_noted : (e : Earlier) (earlier : List Record) (r : Record) (error : 
 refused_noted e earlier r error answer so = refused_at earlier r (place_by e r) error (noted e earlier r so) answer
 
 -- a record that passes the tests is allowed
-pub allowed_told : (e : Earlier) (earlier : List Record) (r : Record) → Passes e r → e ≡ noted_before earlier r → IsAllowed earlier r
-allowed_told e earlier r p so =
+pub allowed_noted : (e : Earlier) (earlier : List Record) (r : Record) → Passes e r → e ≡ noted_before earlier r → IsAllowed earlier r
+allowed_noted e earlier r p so =
     is_allowed earlier r (noted e earlier r so
-    ∙ rw (p.after_problem, p.one_problem, p.placed, p.second_within, p.third_within, p.fourth_within, p.new_node, p.new_end, p.both_ends, p.low, p.cap, p.room, p.full_block, p.one_value, p.pred_known, p.near) refl)
+    ∙ rw (p.after_problem, p.one_problem, p.placed, p.second_within, p.third_within, p.fourth_within, p.new_node, p.new_end, p.both_ends, p.low, p.cap, p.room, p.full_block, p.one_value, p.pred_known, p.within_radius) refl)
 
 -- the same at the end
-end_told : (kind : TextKind) (e : Earlier) (all : List Record) → e ≡ noted_at_end kind all → first_reason_at_end kind all ≡ reason_by kind e
-end_told Max e all so = rw so refl
-end_told Labels e all so = rw so refl
-end_told Distances e all so = rw so refl
-end_told Solution e all so = rw so refl
-end_told kind e all so = rw so refl
+end_noted : (kind : TextKind) (e : Earlier) (all : List Record) → e ≡ noted_at_end kind all → first_reason_at_end kind all ≡ reason_by kind e
+end_noted Max e all so = rw so refl
+end_noted Labels e all so = rw so refl
+end_noted Distances e all so = rw so refl
+end_noted Solution e all so = rw so refl
+end_noted kind e all so = rw so refl
 
 refused_at_end : (kind : TextKind) (all : List Record) (reason : Option Reason) (error : TakeError) → first_reason_at_end kind all ≡ reason → Err error ≡ answer_at_end reason → RefusesEnd kind all error
 refused_at_end kind all None error is answer = absurd (cc)
@@ -53,11 +53,11 @@ refused_at_end kind all (Some reason) error is answer =
     let same : error ≡ Refused (record { field = 0; reason = reason }) = cc in
     rw same (refl, is_first_at_end kind all reason is)
 
-pub end_refused_told : (kind : TextKind) (e : Earlier) (all : List Record) (error : TakeError) → Err error ≡ answer_at_end (reason_by kind e) → e ≡ noted_at_end kind all → RefusesEnd kind all error
-end_refused_told kind e all error answer so = refused_at_end kind all (reason_by kind e) error (end_told kind e all so) answer
+pub end_refused_noted : (kind : TextKind) (e : Earlier) (all : List Record) (error : TakeError) → Err error ≡ answer_at_end (reason_by kind e) → e ≡ noted_at_end kind all → RefusesEnd kind all error
+end_refused_noted kind e all error answer so = refused_at_end kind all (reason_by kind e) error (end_noted kind e all so) answer
 
-pub complete_told : (kind : TextKind) (e : Earlier) (all : List Record) → PassesEnd kind e → e ≡ noted_at_end kind all → IsComplete kind all
-complete_told kind e all p so = is_complete kind all (end_told kind e all so ∙ rw (p.problem, p.ends, p.finished, p.value) refl)
+pub complete_noted : (kind : TextKind) (e : Earlier) (all : List Record) → PassesEnd kind e → e ≡ noted_at_end kind all → IsComplete kind all
+complete_noted kind e all p so = is_complete kind all (end_noted kind e all so ∙ rw (p.problem, p.ends, p.finished, p.value) refl)
 
 -- the first record of a text that begins without its problem line
 pub first_missing : (r : Record) → is_problem r ≡ false → needs_problem (kind_of r) ≡ true → IsFirstCondition [] r (record { field = 0; reason = ProblemMissing })

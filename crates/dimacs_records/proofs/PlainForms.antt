@@ -11,7 +11,7 @@ use Rattle.dimacs_lines.specs.Number.{IsWithin}
 use Rattle.dimacs_records.specs.declared.kinds.TextKind.{TextKind}
 use Rattle.dimacs_records.specs.declared.kinds.TextKind.TheVariants.{Max, Min, Graph, Queries, Solution, Cut, Potentials, Labels, Distances}
 use Rattle.dimacs_records.specs.Forms.{FieldType, Word, Either, Number, Form, forms}
-use Rattle.dimacs_records.specs.Spelling.{Part, Text, Amount, Says, SayAll, is_comment}
+use Rattle.dimacs_records.specs.Spelling.{Part, Text, Amount, SpellsField, SpellFields, is_comment}
 use Rattle.dimacs_records.specs.Canonical.{text_of, Fits, FitAll}
 use Rattle.dimacs_records.proofs.PlainLines.{IsPlain, ArePlain}
 use Rattle.dimacs_records.proofs.DecimalLemmas.{lowest, highest, spells_signed_decimal, plain_signed_decimal}
@@ -76,11 +76,11 @@ plain_part (Either v w) (Text word) test fits =
 plain_part (Number low high) (Amount n) test fits = plain_signed_decimal n (within_widest low high n test fits)
 plain_part type part test fits = absurd fits
 
-part_says : (type : FieldType) (part : Part) → is_plain_type type ≡ true → Fits type part → Says type (text_of part) part
-part_says (Word w) (Text word) test fits = (fits, fits)
-part_says (Either v w) (Text word) test fits = (fits, refl)
-part_says (Number low high) (Amount n) test fits = (spells_signed_decimal n (within_widest low high n test fits), fits)
-part_says type part test fits = absurd fits
+part_spells : (type : FieldType) (part : Part) → is_plain_type type ≡ true → Fits type part → SpellsField type (text_of part) part
+part_spells (Word w) (Text word) test fits = (fits, fits)
+part_spells (Either v w) (Text word) test fits = (fits, refl)
+part_spells (Number low high) (Amount n) test fits = (spells_signed_decimal n (within_widest low high n test fits), fits)
+part_spells type part test fits = absurd fits
 
 pub plain_parts : (types : List FieldType) (parts : List Part) → list_all is_plain_type types ≡ true → FitAll types parts → ArePlain (map text_of parts)
 plain_parts [] [] test fit = tt
@@ -90,12 +90,12 @@ plain_parts (type ∷ types) (part ∷ parts) test fit =
 plain_parts types parts test fit = absurd fit
 
 -- contents that fit are those of the canonical texts
-pub parts_say : (types : List FieldType) (parts : List Part) → list_all is_plain_type types ≡ true → FitAll types parts → SayAll types (map text_of parts) parts
-parts_say [] [] test fit = tt
-parts_say (type ∷ types) (part ∷ parts) test fit =
+pub parts_spell : (types : List FieldType) (parts : List Part) → list_all is_plain_type types ≡ true → FitAll types parts → SpellFields types (map text_of parts) parts
+parts_spell [] [] test fit = tt
+parts_spell (type ∷ types) (part ∷ parts) test fit =
     let tests = and_parts (is_plain_type type) _ test in
-    (part_says type part tests.0 fit.0, parts_say types parts tests.1 fit.1)
-parts_say types parts test fit = absurd fit
+    (part_spells type part tests.0 fit.0, parts_spell types parts tests.1 fit.1)
+parts_spell types parts test fit = absurd fit
 
 pub length-parts : (types : List FieldType) (parts : List Part) → FitAll types parts → length parts ≡ length types
 length-parts [] [] fit = refl

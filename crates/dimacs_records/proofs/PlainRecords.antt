@@ -14,9 +14,9 @@ use Rattle.dimacs_lines.specs.Limits.{most_nodes}
 use Rattle.dimacs_records.specs.declared.kinds.TextKind.{TextKind}
 use Rattle.dimacs_records.specs.declared.records.Record.{Record}
 use Rattle.dimacs_records.specs.Forms.{FieldType, Word, Either, Number, Id, Whole, Wide, Form, forms}
-use Rattle.dimacs_records.specs.inside.Plain.{Stand, IsPlainLine, SaysFirst}
+use Rattle.dimacs_records.specs.inside.Plain.{Stand, IsPlainLine, SpellsFirst}
 use Rattle.dimacs_records.specs.Printed.{after_blank}
-use Rattle.dimacs_records.specs.Spelling.{Part, Text, Amount, Says, SayAll, kind_of, letter_of, parts_of, texts_in, is_comment}
+use Rattle.dimacs_records.specs.Spelling.{Part, Text, Amount, SpellsField, SpellFields, kind_of, letter_of, parts_of, texts_in, is_comment}
 use Rattle.dimacs_records.proofs.DecimalLemmas.{visible_digit}
 use Rattle.dimacs_records.proofs.PlainForms.{IsPlainForm, plain_form}
 use Rattle.dimacs_records.proofs.PlainLines.{IsVisible, IsPlain, ArePlain, texts_in-spaced, lines-spaced, length-spaced}
@@ -40,18 +40,18 @@ is_number type = false
 abbrev IsShort : List ℕ → Type 0
 IsShort text = length text ≤ 40
 
-says_plain : (type : FieldType) (text : List ℕ) (part : Part) → is_number type ≡ true → Says type text part → IsShort text → IsPlain text
-says_plain (Number low high) text (Amount n) is says short = spells_plain text n says.0 short
-says_plain (Number low high) text (Text word) is says short = absurd says
-says_plain (Word w) text part is says short = absurd (cc)
-says_plain (Either v w) text part is says short = absurd (cc)
+field_plain : (type : FieldType) (text : List ℕ) (part : Part) → is_number type ≡ true → SpellsField type text part → IsShort text → IsPlain text
+field_plain (Number low high) text (Amount n) is spells short = spells_plain text n spells.0 short
+field_plain (Number low high) text (Text word) is spells short = absurd spells
+field_plain (Word w) text part is spells short = absurd (cc)
+field_plain (Either v w) text part is spells short = absurd (cc)
 
-say_plain : (types : List FieldType) (texts : List (List ℕ)) (parts : List Part) → list_all is_number types ≡ true → SayAll types texts parts → All IsShort texts → ArePlain texts
-say_plain [] [] [] are say short = tt
-say_plain (type ∷ types) (text ∷ texts) (part ∷ parts) are say short =
+fields_plain : (types : List FieldType) (texts : List (List ℕ)) (parts : List Part) → list_all is_number types ≡ true → SpellFields types texts parts → All IsShort texts → ArePlain texts
+fields_plain [] [] [] are say short = tt
+fields_plain (type ∷ types) (text ∷ texts) (part ∷ parts) are say short =
     let both = and_parts (is_number type) _ are in
-    (says_plain type text part both.0 say.0 (All-head IsShort text texts short), say_plain types texts parts both.1 say.1 (All-tail IsShort text texts short))
-say_plain types texts parts are say short = absurd say
+    (field_plain type text part both.0 say.0 (All-head IsShort text texts short), fields_plain types texts parts both.1 say.1 (All-tail IsShort text texts short))
+fields_plain types texts parts are say short = absurd say
 
 record StandsSo (bytes : List ℕ) (at : ℕ) (body : List ℕ) (next : ℕ) : Type 0 where
   there : drop at bytes ≡ body ++ 10 ∷ drop next bytes
@@ -75,14 +75,14 @@ stand_so bytes at text (other ∷ texts) next (mid, ends, more) =
 -- a line of one of the kind's forms, with only numbers
 module _ (kind : TextKind) (form : Form) (bytes : List ℕ) (letter : ℕ) (size : ℕ) (r : Record) where
   spaced : (text : List ℕ) (texts : List (List ℕ)) → Contains (forms kind) form → kind_of r ≡ kind → letter_of r ≡ form.letter → form.letter ≡ letter ∷ [] → list_all is_number form.types ≡ true
-      → bytes ≡ letter ∷ 32 ∷ drop 2 bytes → Stand bytes 2 (text ∷ texts) size → All IsShort (text ∷ texts) → SayAll form.types (text ∷ texts) (parts_of r) → length texts ≤ 40 → SaysFirst kind bytes r size
-  spaced text texts among of_kind of_letter is_letter numbers begins stand short says few =
+      → bytes ≡ letter ∷ 32 ∷ drop 2 bytes → Stand bytes 2 (text ∷ texts) size → All IsShort (text ∷ texts) → SpellFields form.types (text ∷ texts) (parts_of r) → length texts ≤ 40 → SpellsFirst kind bytes r size
+  spaced text texts among of_kind of_letter is_letter numbers begins stand short spells few =
       let fields = text ∷ texts in
       let so = stand_so bytes 2 text texts size stand in
       let plain : IsPlainForm form = plain_form kind form among in
       let letter_plain : IsPlain (letter ∷ []) = subst IsPlain is_letter plain.letter in
       let solid : is_comment (letter ∷ []) ≡ false = subst (λ l. is_comment l ≡ false) is_letter plain.no_comment in
-      let are : ArePlain fields = say_plain form.types fields (parts_of r) numbers says short in
+      let are : ArePlain fields = fields_plain form.types fields (parts_of r) numbers spells short in
       let line = (letter ∷ []) ++ flat_map after_blank fields in
       let read : texts_in line ≡ (letter ∷ []) ∷ fields = texts_in-spaced (letter ∷ []) fields letter_plain are in
       record {
@@ -101,27 +101,27 @@ module _ (kind : TextKind) (form : Form) (bytes : List ℕ) (letter : ℕ) (size
             for_kind = of_kind;
             letter = of_letter;
             begins = read ∙ ap (λ l. l ∷ fields) (sym is_letter);
-            says = says;
+            spells = spells;
           },
         );
       }
 
   by_texts : (texts : List (List ℕ)) → Contains (forms kind) form → kind_of r ≡ kind → letter_of r ≡ form.letter → form.letter ≡ letter ∷ [] → list_all is_number form.types ≡ true
-      → bytes ≡ letter ∷ 32 ∷ drop 2 bytes → Stand bytes 2 texts size → All IsShort texts → SayAll form.types texts (parts_of r) → length texts ≤ 40 → SaysFirst kind bytes r size
-  by_texts [] among of_kind of_letter is_letter numbers begins stand short says few = absurd stand
-  by_texts (text ∷ texts) among of_kind of_letter is_letter numbers begins stand short says few = spaced text texts among of_kind of_letter is_letter numbers begins stand short says (omega (arith, few))
+      → bytes ≡ letter ∷ 32 ∷ drop 2 bytes → Stand bytes 2 texts size → All IsShort texts → SpellFields form.types texts (parts_of r) → length texts ≤ 40 → SpellsFirst kind bytes r size
+  by_texts [] among of_kind of_letter is_letter numbers begins stand short spells few = absurd stand
+  by_texts (text ∷ texts) among of_kind of_letter is_letter numbers begins stand short spells few = spaced text texts among of_kind of_letter is_letter numbers begins stand short spells (omega (arith, few))
 
-as_many : (types : List FieldType) (texts : List (List ℕ)) (parts : List Part) → SayAll types texts parts → length texts ≡ length types
+as_many : (types : List FieldType) (texts : List (List ℕ)) (parts : List Part) → SpellFields types texts parts → length texts ≡ length types
 as_many [] [] [] say = refl
 as_many (type ∷ types) (text ∷ texts) (part ∷ parts) say = omega (arith, as_many types texts parts say.1)
 as_many types texts parts say = absurd say
 
 -- a plain line with a form of its kind spells its record
-pub plain_says : (kind : TextKind) (form : Form) (bytes : List ℕ) (letter : ℕ) (size : ℕ) (r : Record) → Contains (forms kind) form → kind_of r ≡ kind → letter_of r ≡ form.letter → form.letter ≡ letter ∷ [] → list_all is_number form.types ≡ true
-    → IsPlainLine bytes letter form.types (parts_of r) size → SaysFirst kind bytes r size
-plain_says kind form bytes letter size r among of_kind of_letter is_letter numbers h =
+pub plain_spells : (kind : TextKind) (form : Form) (bytes : List ℕ) (letter : ℕ) (size : ℕ) (r : Record) → Contains (forms kind) form → kind_of r ≡ kind → letter_of r ≡ form.letter → form.letter ≡ letter ∷ [] → list_all is_number form.types ≡ true
+    → IsPlainLine bytes letter form.types (parts_of r) size → SpellsFirst kind bytes r size
+plain_spells kind form bytes letter size r among of_kind of_letter is_letter numbers h =
     let few : length form.types ≤ 5 = (plain_form kind form among).few in
-    by_texts kind form bytes letter size r h.texts among of_kind of_letter is_letter numbers h.begins h.stand h.short h.says (omega (arith, few, as_many form.types h.texts (parts_of r) h.says))
+    by_texts kind form bytes letter size r h.texts among of_kind of_letter is_letter numbers h.begins h.stand h.short h.spells (omega (arith, few, as_many form.types h.texts (parts_of r) h.spells))
 
 within_id : (id : ℕ) → 1 ≤ id → id < 100000000 → IsWithin (pos 1) (pos most_nodes) (pos id)
 within_id id some few = (omega (arith, ints), omega (arith, ints))
@@ -138,7 +138,7 @@ ends_stand bytes letter tail head after_tail after_head size n begins at_tail ta
   begins = begins;
   stand = (after_tail, at_tail.ends, (after_head, at_head.ends, at_n.ends));
   short = All-cons IsShort at_tail.text (at_head.text ∷ at_n.text ∷ []) at_tail.short (All-cons IsShort at_head.text (at_n.text ∷ []) at_head.short (All-cons IsShort at_n.text [] at_n.short (All-nil IsShort)));
-  says = ((at_tail.spelled, within_id tail tail_range.0 tail_range.1), ((at_head.spelled, within_id head head_range.0 head_range.1), ((at_n.spelled, within_whole n fits), tt)));
+  spells = ((at_tail.spelled, within_id tail tail_range.0 tail_range.1), ((at_head.spelled, within_id head head_range.0 head_range.1), ((at_n.spelled, within_whole n fits), tt)));
 }
 
 within_wide : (n : ℤ) → IsWithin (neg_ℤ (pos (2 ^ 63))) (pos (2 ^ 63 - 1)) n → IsWithin (neg_ℤ (pos (10 ^ 30))) (pos (10 ^ 30)) n
@@ -152,10 +152,10 @@ value_stands bytes letter id after_id size n begins at_id id_range at_n fits = r
   begins = begins;
   stand = (after_id, at_id.ends, at_n.ends);
   short = All-cons IsShort at_id.text (at_n.text ∷ []) at_id.short (All-cons IsShort at_n.text [] at_n.short (All-nil IsShort));
-  says = ((at_id.spelled, within_id id id_range.0 id_range.1), ((at_n.spelled, within_whole n fits), tt));
+  spells = ((at_id.spelled, within_id id id_range.0 id_range.1), ((at_n.spelled, within_whole n fits), tt));
 }
 
-widened : (id n : ℤ) (texts : List (List ℕ)) → SayAll (Id ∷ Whole ∷ []) texts (Amount id ∷ Amount n ∷ []) → SayAll (Id ∷ Wide ∷ []) texts (Amount id ∷ Amount n ∷ [])
+widened : (id n : ℤ) (texts : List (List ℕ)) → SpellFields (Id ∷ Whole ∷ []) texts (Amount id ∷ Amount n ∷ []) → SpellFields (Id ∷ Wide ∷ []) texts (Amount id ∷ Amount n ∷ [])
 widened id n [] say = absurd say
 widened id n (text ∷ []) say = absurd say.1
 widened id n (text ∷ other ∷ []) say = (say.0, ((say.1.0.0, within_wide n say.1.0.1), tt))
@@ -163,7 +163,7 @@ widened id n (text ∷ other ∷ third ∷ texts) say = absurd say.1.1
 
 -- a 64-bit number in place of a 128-bit one
 pub value_widened : (bytes : List ℕ) (letter id : ℕ) (n : ℤ) (size : ℕ) → IsPlainLine bytes letter (Id ∷ Whole ∷ []) (Amount (pos id) ∷ Amount n ∷ []) size → IsPlainLine bytes letter (Id ∷ Wide ∷ []) (Amount (pos id) ∷ Amount n ∷ []) size
-value_widened bytes letter id n size line = record { texts = line.texts; begins = line.begins; stand = line.stand; short = line.short; says = widened (pos id) n line.texts line.says }
+value_widened bytes letter id n size line = record { texts = line.texts; begins = line.begins; stand = line.stand; short = line.short; spells = widened (pos id) n line.texts line.spells }
 
 -- a node, a number and a node
 pub label_stands : (bytes : List ℕ) (id pred after_id after_dist size : ℕ) (dist : ℤ) → bytes ≡ 100 ∷ 32 ∷ drop 2 bytes → StandsAt bytes 2 32 (pos id) after_id → (1 ≤ id) × (id < 100000000)
@@ -174,7 +174,7 @@ label_stands bytes id pred after_id after_dist size dist begins at_id id_range a
   begins = begins;
   stand = (after_id, at_id.ends, (after_dist, at_dist.ends, at_pred.ends));
   short = All-cons IsShort at_id.text (at_dist.text ∷ at_pred.text ∷ []) at_id.short (All-cons IsShort at_dist.text (at_pred.text ∷ []) at_dist.short (All-cons IsShort at_pred.text [] at_pred.short (All-nil IsShort)));
-  says = ((at_id.spelled, within_id id id_range.0 id_range.1), ((at_dist.spelled, within_wide dist (within_whole dist fits)), ((at_pred.spelled, within_id pred pred_range.0 pred_range.1), tt)));
+  spells = ((at_id.spelled, within_id id id_range.0 id_range.1), ((at_dist.spelled, within_wide dist (within_whole dist fits)), ((at_pred.spelled, within_id pred pred_range.0 pred_range.1), tt)));
 }
 
 -- two nodes and three numbers
@@ -189,7 +189,7 @@ bounds_stand bytes tail head after_tail after_head after_low after_cap size low 
       begins = begins;
       stand = (after_tail, at_tail.ends, (after_head, at_head.ends, (after_low, at_low.ends, (after_cap, at_cap.ends, at_cost.ends))));
       short = All-cons IsShort at_tail.text (at_head.text ∷ low_and_later) at_tail.short (All-cons IsShort at_head.text low_and_later at_head.short short);
-      says = (
+      spells = (
         (at_tail.spelled, within_id tail tail_range.0 tail_range.1),
         ((at_head.spelled, within_id head head_range.0 head_range.1), ((at_low.spelled, within_whole low low_fits), ((at_cap.spelled, within_whole cap cap_fits), ((at_cost.spelled, within_whole cost cost_fits), tt)))),
       );

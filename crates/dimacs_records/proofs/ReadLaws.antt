@@ -16,12 +16,12 @@ use Rattle.dimacs_records.specs.Readings.{LineRecord, records_of, numbered, IsAl
 use Rattle.dimacs_records.specs.Texts.{AreSpelled, SpellsValue, Reads, AreFaultless}
 use Rattle.dimacs_records.proofs.SpellLaws.{spells_one}
 use Rattle.dimacs_records.proofs.ShapeLaws.{spelled_shape}
-use Rattle.dimacs_records.proofs.FaultLaws.{say_same, one_fault, no_fault}
+use Rattle.dimacs_records.proofs.FaultLaws.{spell_same, one_fault, no_fault}
 use Rattle.dimacs_records.proofs.CleanLines.{NoneHolds, records_in-append}
 use Rattle.dimacs_records.proofs.DriverLemmas.{within, records_of-numbered}
 
 -- what the lines before a line spell, what it spells, and what those after it spell
-record SaidAt (kind : TextKind) (before : List (List ℕ)) (line : List ℕ) (by_line : List (Option Record)) : Type 0 where
+record SpelledAt (kind : TextKind) (before : List (List ℕ)) (line : List ℕ) (by_line : List (Option Record)) : Type 0 where
   earlier : List (Option Record)
   here : Option Record
   more : List (Option Record)
@@ -29,22 +29,22 @@ record SaidAt (kind : TextKind) (before : List (List ℕ)) (line : List ℕ) (by
   spell : Spell kind before earlier
   spell_here : Spell kind (line ∷ []) (here ∷ [])
 
-said_at : (kind : TextKind) (before after : List (List ℕ)) (line : List ℕ) (by_line : List (Option Record)) → Spell kind (before ++ line ∷ after) by_line → SaidAt kind before line by_line
-said_at kind [] after line (None ∷ more) h = record { earlier = []; here = None; more = more; said_is = refl; spell = tt; spell_here = (h.0, tt) }
-said_at kind [] after line (Some r ∷ more) h = record { earlier = []; here = Some r; more = more; said_is = refl; spell = tt; spell_here = (h.0, h.1, tt) }
-said_at kind (first ∷ before) after line (None ∷ by_line) h =
-    let rest = said_at kind before after line by_line h.1 in
+spelled_at : (kind : TextKind) (before after : List (List ℕ)) (line : List ℕ) (by_line : List (Option Record)) → Spell kind (before ++ line ∷ after) by_line → SpelledAt kind before line by_line
+spelled_at kind [] after line (None ∷ more) h = record { earlier = []; here = None; more = more; said_is = refl; spell = tt; spell_here = (h.0, tt) }
+spelled_at kind [] after line (Some r ∷ more) h = record { earlier = []; here = Some r; more = more; said_is = refl; spell = tt; spell_here = (h.0, h.1, tt) }
+spelled_at kind (first ∷ before) after line (None ∷ by_line) h =
+    let rest = spelled_at kind before after line by_line h.1 in
     record { earlier = None ∷ rest.earlier; here = rest.here; more = rest.more; said_is = ap (λ t. None ∷ t) rest.said_is; spell = (h.0, rest.spell); spell_here = rest.spell_here }
-said_at kind (first ∷ before) after line (Some r ∷ by_line) h =
-    let rest = said_at kind before after line by_line h.2 in
+spelled_at kind (first ∷ before) after line (Some r ∷ by_line) h =
+    let rest = spelled_at kind before after line by_line h.2 in
     record { earlier = Some r ∷ rest.earlier; here = rest.here; more = rest.more; said_is = ap (λ t. Some r ∷ t) rest.said_is; spell = (h.0, h.1, rest.spell); spell_here = rest.spell_here }
-said_at kind before after line by_line h = absurd h
+spelled_at kind before after line by_line h = absurd h
 
 -- no line of a clean text exceeds a limit
 no_limit : (kind : TextKind) (all before after : List (List ℕ)) (line : List ℕ) (by_line : List (Option Record)) → IsClean kind all by_line → all ≡ before ++ line ∷ after
     → NoneHolds (limit_condition (length before + 1) line)
 no_limit kind all before after line by_line clean e f reason h =
-    let s = said_at kind before after line by_line (rw e at clean.spell) in
+    let s = spelled_at kind before after line by_line (rw e at clean.spell) in
     clean.none before after line s.earlier (at f reason) e s.spell (of_limit h)
 
 -- if neither limit's condition holds, both limits do
@@ -69,19 +69,19 @@ spelled_of_faultless kind all by_line h = record {
 -- a line within the limits whose record is allowed has no condition
 no_condition : (kind : TextKind) (earlier : List Record) (number : ℕ) (line : List ℕ) (x : Option Record) (p : Place) → Spell kind (line ∷ []) (x ∷ [])
     → NoneHolds (limit_condition number line) → ((r : Record) → x ≡ Some r → IsAllowed earlier r) → ¬ Condition kind earlier number line p
-no_condition kind earlier number line None p says within_limits allowed c = elim c [
+no_condition kind earlier number line None p spells within_limits allowed c = elim c [
   | of_limit h ↦ within_limits p.field p.reason h
-  | of_shape solid h ↦ true≢false (sym says.0 ∙ solid)
-  | of_record r solid spells h ↦ true≢false (sym says.0 ∙ solid)
+  | of_shape solid h ↦ true≢false (sym spells.0 ∙ solid)
+  | of_record r solid spells h ↦ true≢false (sym spells.0 ∙ solid)
 ]
-no_condition kind earlier number line (Some r) p says within_limits allowed c = elim c [
+no_condition kind earlier number line (Some r) p spells within_limits allowed c = elim c [
   | of_limit h ↦ within_limits p.field p.reason h
-  | of_shape solid h ↦ spelled_shape kind (texts_in line) r says.1 p.field p.reason h
-  | of_record s solid other h ↦ allowed s (ap Some (spells_one kind (texts_in line) r s says.1 other)) p h
+  | of_shape solid h ↦ spelled_shape kind (texts_in line) r spells.1 p.field p.reason h
+  | of_record s solid other h ↦ allowed s (ap Some (spells_one kind (texts_in line) r s spells.1 other)) p h
 ]
 
 -- the record of a line, with those before it and after it
-records_at : (kind : TextKind) (before : List (List ℕ)) (line : List ℕ) (by_line earlier : List (Option Record)) (s : SaidAt kind before line by_line) (r : Record)
+records_at : (kind : TextKind) (before : List (List ℕ)) (line : List ℕ) (by_line earlier : List (Option Record)) (s : SpelledAt kind before line by_line) (r : Record)
     → s.earlier ≡ earlier → s.here ≡ Some r → records_in by_line ≡ records_in earlier ++ r ∷ records_in s.more
 records_at kind before line by_line earlier s r same here = ap records_in s.said_is ∙ rw (here, same) (records_in-append earlier (Some r ∷ s.more))
 
@@ -92,8 +92,8 @@ faultless_of_spelled kind all by_line spelled faultless = record { clean = recor
     none_at : (before after : List (List ℕ)) (line : List ℕ) (earlier : List (Option Record)) (p : Place) → all ≡ before ++ line ∷ after → Spell kind before earlier
         → ¬ Condition kind (records_in earlier) (length before + 1) line p
     none_at before after line earlier p e spell =
-        let s = said_at kind before after line by_line (rw e at spelled.spell) in
-        let same : s.earlier ≡ earlier = say_same kind before s.earlier earlier s.spell spell in
+        let s = spelled_at kind before after line by_line (rw e at spelled.spell) in
+        let same : s.earlier ≡ earlier = spell_same kind before s.earlier earlier s.spell spell in
         let below : length before < length all = omega (arith, ap length e, length-append before (line ∷ after)) in
         let short = rw (e, get_or-append_seam before line after line) at (spelled.short (length before) line below) in
         let within_limits = within (length before + 1) line (omega (arith, below, spelled.few)) short in
@@ -108,7 +108,7 @@ pub reads_exactly : {V : Type 0} (kind : TextKind) (gives : List LineRecord → 
 reads_exactly kind gives all (Ok v) faultless same h = (
   record { by_line = h.by_line; spelled = spelled_of_faultless kind all h.by_line h.faultless; given = h.given },
   λ other s.
-      let said_is = say_same kind all s.by_line h.by_line s.spelled.spell h.faultless.clean.spell in
+      let said_is = spell_same kind all s.by_line h.by_line s.spelled.spell h.faultless.clean.spell in
       same (numbered 1 h.by_line) other v (rw said_is at s.given) h.given,
   λ l f r. no_fault kind all h.by_line l f r h.faultless,
 )
@@ -126,5 +126,5 @@ reads_exactly kind gives all (Err read_errors.Memory) faultless same h = tt
 pub spells_one_value : {V : Type 0} (kind : TextKind) (gives : List LineRecord → V → Type 0) (all : List (List ℕ)) (v w : V) → ((rs : List LineRecord) (v w : V) → gives rs v → gives rs w → v ≡ w)
     → SpellsValue kind gives all v → SpellsValue kind gives all w → v ≡ w
 spells_one_value kind gives all v w same s t =
-    let said_is = say_same kind all s.by_line t.by_line s.spelled.spell t.spelled.spell in
+    let said_is = spell_same kind all s.by_line t.by_line s.spelled.spell t.spelled.spell in
     same (numbered 1 t.by_line) v w (rw said_is at s.given) t.given

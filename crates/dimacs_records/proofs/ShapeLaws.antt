@@ -7,7 +7,7 @@ use Rattle.dimacs_records.specs.declared.records.Record.{Record}
 use Rattle.dimacs_records.specs.declared.reasons.Reason.{Reason}
 use Rattle.dimacs_records.specs.declared.reasons.Reason.TheVariants.{FieldCount, BadNumber, NumberRange, BadWord}
 use Rattle.dimacs_records.specs.Forms.{FieldType, Word, Either, Number}
-use Rattle.dimacs_records.specs.Spelling.{Part, SayAll, SpellsRecord, parts_of}
+use Rattle.dimacs_records.specs.Spelling.{Part, SpellFields, SpellsRecord, parts_of}
 use Rattle.dimacs_records.specs.Shapes.{field_condition, fields_condition, letter_condition, shape_condition}
 use Rattle.dimacs_records.specs.inside.FieldReader.{field_reason}
 use Rattle.dimacs_records.proofs.FieldLemmas.{field_reason-said}
@@ -37,7 +37,7 @@ if_false : (t a b : Bool) → a ≡ false → b ≡ false → (if t then a else 
 if_false true a b e f = e
 if_false false a b e f = f
 
-fields_condition-said : (n : ℕ) (types : List FieldType) (texts : List (List ℕ)) (parts : List Part) (f : ℕ) (reason : Reason) → SayAll types texts parts
+fields_condition-said : (n : ℕ) (types : List FieldType) (texts : List (List ℕ)) (parts : List Part) (f : ℕ) (reason : Reason) → SpellFields types texts parts
     → fields_condition n types texts f reason ≡ false
 fields_condition-said n (type ∷ types) (text ∷ texts) (part ∷ parts) f reason h =
     if_false (f == n) _ _ (field_condition-none type text reason (field_reason-said type text part h.0)) (fields_condition-said (suc n) types texts parts f reason h.1)
@@ -45,16 +45,16 @@ fields_condition-said n [] texts parts f reason h = refl
 fields_condition-said n (type ∷ types) [] parts f reason h = refl
 fields_condition-said n (type ∷ types) (text ∷ texts) [] f reason h = absurd h
 
-same_count : (types : List FieldType) (texts : List (List ℕ)) (parts : List Part) → SayAll types texts parts → length types ≡ length texts
+same_count : (types : List FieldType) (texts : List (List ℕ)) (parts : List Part) → SpellFields types texts parts → length types ≡ length texts
 same_count [] [] [] h = refl
 same_count (type ∷ types) (text ∷ texts) (part ∷ parts) h = ap suc (same_count types texts parts h.1)
 same_count types texts parts h = absurd h
 
-letter_condition-said : (types : List FieldType) (after : List (List ℕ)) (parts : List Part) (f : ℕ) (reason : Reason) → SayAll types after parts
+letter_condition-said : (types : List FieldType) (after : List (List ℕ)) (parts : List Part) (f : ℕ) (reason : Reason) → SpellFields types after parts
     → letter_condition (Some types) after f reason ≡ false
 letter_condition-said types after parts f FieldCount h = rw (eq-eqb (length types) (length after) (same_count types after parts h)) (and_right (f == 0) false refl)
 letter_condition-said types after parts f reason h = fields_condition-said 2 types after parts f reason h
 
 pub spelled_shape : (kind : TextKind) (texts : List (List ℕ)) (r : Record) → SpellsRecord kind texts r → (f : ℕ) (reason : Reason) → ¬ IsTrue (shape_condition kind texts f reason)
 spelled_shape kind texts r h f reason =
-    both_ways (shape_condition kind texts f reason) (rw (h.begins, spelled_types kind texts r h) (letter_condition-said h.form.types h.after (parts_of r) f reason h.says))
+    both_ways (shape_condition kind texts f reason) (rw (h.begins, spelled_types kind texts r h) (letter_condition-said h.form.types h.after (parts_of r) f reason h.spells))

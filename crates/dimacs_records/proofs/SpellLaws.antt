@@ -15,7 +15,7 @@ use Rattle.dimacs_records.specs.declared.records.QueryKind.TheVariants.{Sources,
 use Rattle.dimacs_records.specs.declared.records.Record.{Record}
 use Rattle.dimacs_records.specs.declared.records.Record.TheVariants.{MaxProblem, MaxNode, MaxArc, MinProblem, MinNode, MinArc, GraphProblem, GraphArc, QueriesProblem, SourceQuery, PairQuery, SolutionValue, SolutionEntry, CutProblem, CutNode, PotentialsProblem, PotentialsNode, LabelsProblem, LabelsBlock, LabelsNode, DistancesProblem, DistancesBlock, DistancesNode}
 use Rattle.dimacs_records.specs.Forms.{FieldType, Word, Either, Number, Form, forms}
-use Rattle.dimacs_records.specs.Spelling.{Part, Text, Amount, kind_of, letter_of, parts_of, Says, SayAll, SpellsRecord}
+use Rattle.dimacs_records.specs.Spelling.{Part, Text, Amount, kind_of, letter_of, parts_of, SpellsField, SpellFields, SpellsRecord}
 use Rattle.dimacs_records.specs.Shapes.{types_in, types_or}
 use Rattle.dimacs_records.proofs.FieldLemmas.{same_bytes}
 
@@ -73,19 +73,19 @@ abbrev all_said_by : List FieldType → List (List ℕ) → List Part
 all_said_by (type ∷ types) (text ∷ texts) = said_by type text ∷ all_said_by types texts
 all_said_by types texts = []
 
-part_said : (type : FieldType) (text : List ℕ) (part : Part) → Says type text part → part ≡ said_by type text
+part_said : (type : FieldType) (text : List ℕ) (part : Part) → SpellsField type text part → part ≡ said_by type text
 part_said (Word w) text (Text word) h = ap Text h.1
 part_said (Either v w) text (Text word) h = ap Text h.1
 part_said (Number low high) text (Amount n) h = ap Amount h.0.1
 part_said type text part h = absurd h
 
-parts_said : (types : List FieldType) (texts : List (List ℕ)) (parts : List Part) → SayAll types texts parts → parts ≡ all_said_by types texts
+parts_said : (types : List FieldType) (texts : List (List ℕ)) (parts : List Part) → SpellFields types texts parts → parts ≡ all_said_by types texts
 parts_said [] [] [] h = refl
 parts_said (type ∷ types) (text ∷ texts) (part ∷ parts) h = rw (part_said type text part h.0, parts_said types texts parts h.1) refl
 parts_said types texts parts h = absurd h
 
 -- there are as many fields as types
-pub as_many : (types : List FieldType) (texts : List (List ℕ)) (parts : List Part) → SayAll types texts parts → (length texts ≡ length types) × (length parts ≡ length types)
+pub as_many : (types : List FieldType) (texts : List (List ℕ)) (parts : List Part) → SpellFields types texts parts → (length texts ≡ length types) × (length parts ≡ length types)
 as_many [] [] [] h = (refl, refl)
 as_many (type ∷ types) (text ∷ texts) (part ∷ parts) h = let rest = as_many types texts parts h.1 in (ap suc rest.0, ap suc rest.1)
 as_many types texts parts h = absurd h
@@ -161,10 +161,10 @@ spelled_record kind (letter ∷ after) = typed_record kind letter (types_in (for
 
 -- the fields of a spelled line have the types of its form
 pub spelled_types : (kind : TextKind) (texts : List (List ℕ)) (r : Record) (h : SpellsRecord kind texts r) → types_in (forms kind) h.form.letter (length h.after) ≡ Some h.form.types
-spelled_types kind texts r h = rw ((as_many h.form.types h.after (parts_of r) h.says).0) (form_types kind h.form h.of_kind)
+spelled_types kind texts r h = rw ((as_many h.form.types h.after (parts_of r) h.spells).0) (form_types kind h.form h.of_kind)
 
 spelled_record-spelled : (kind : TextKind) (texts : List (List ℕ)) (r : Record) → SpellsRecord kind texts r → spelled_record kind texts ≡ Some r
-spelled_record-spelled kind texts r h = rw (h.begins, spelled_types kind texts r h, ← parts_said h.form.types h.after (parts_of r) h.says, ← h.for_kind, ← h.letter) (record_of-parts_of r)
+spelled_record-spelled kind texts r h = rw (h.begins, spelled_types kind texts r h, ← parts_said h.form.types h.after (parts_of r) h.spells, ← h.for_kind, ← h.letter) (record_of-parts_of r)
 
 pub spells_one : (kind : TextKind) (texts : List (List ℕ)) (r s : Record) → SpellsRecord kind texts r → SpellsRecord kind texts s → r ≡ s
 spells_one kind texts r s a b = let same = sym (spelled_record-spelled kind texts r a) ∙ spelled_record-spelled kind texts s b in cc

@@ -11,7 +11,7 @@ use Rattle.dimacs_records.specs.Readings.{LineRecord, on_line, AreBefore, IsGive
 use Rattle.dimacs_records.specs.inside.Driver.{HasTaken}
 
 abbrev IsSpelled : TextKind → LineRecord → Type 0
-IsSpelled kind r = IsOfKind kind r.says
+IsSpelled kind r = IsOfKind kind r.spells
 
 later : (line more : ℕ) (rs : List LineRecord) → line ≤ more → AreBefore line rs → AreBefore more rs
 later line more rs no_less before = All-weaker (λ (r : LineRecord). r.line < line) (λ (r : LineRecord). r.line < more) (λ r h. omega (arith, h, no_less)) rs before

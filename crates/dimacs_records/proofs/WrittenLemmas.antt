@@ -28,15 +28,15 @@ next_line (r ∷ rs) zero within = refl
 next_line (r ∷ rs) (suc i) within = ap (λ some. r ∷ some) (next_line rs i (omega (arith, within)))
 
 -- a line for each record of a list
-pub lines_of_list : (says : ℕ → Option Record → Type 0) (n : ℕ) (rs : List Record) → n ≤ length rs → ((i : ℕ) (rec : Option Record) → i < n → says i rec → rec ≡ slice_get rs i) → AreLines says n (λ i. take i rs)
-lines_of_list says n rs few each = record {
+pub lines_of_list : (spells : ℕ → Option Record → Type 0) (n : ℕ) (rs : List Record) → n ≤ length rs → ((i : ℕ) (rec : Option Record) → i < n → spells i rec → rec ≡ slice_get rs i) → AreLines spells n (λ i. take i rs)
+lines_of_list spells n rs few each = record {
   none = refl;
   more = λ i rec within e. ap (λ k. take k rs) (add-one i) ∙ next_line rs i (omega (arith, within, few)) ∙ ap (λ o. take i rs ++ records_of_line o) (sym (each i rec within e));
 }
 
 -- a line for each item of a list
-pub lines_of_items : {A : Type 0} (f : A → Record) (says : ℕ → Option Record → Type 0) (n : ℕ) (xs : List A) → n ≤ length xs → ((i : ℕ) (rec : Option Record) → i < n → says i rec → rec ≡ option_map f (slice_get xs i)) → AreLines says n (λ i. take i (map f xs))
-lines_of_items f says n xs few each = lines_of_list says n (map f xs) (omega (arith, few, length-map xs f)) (λ i rec within e. each i rec within e ∙ sym (slice_get-map f xs i))
+pub lines_of_items : {A : Type 0} (f : A → Record) (spells : ℕ → Option Record → Type 0) (n : ℕ) (xs : List A) → n ≤ length xs → ((i : ℕ) (rec : Option Record) → i < n → spells i rec → rec ≡ option_map f (slice_get xs i)) → AreLines spells n (λ i. take i (map f xs))
+lines_of_items f spells n xs few each = lines_of_list spells n (map f xs) (omega (arith, few, length-map xs f)) (λ i rec within e. each i rec within e ∙ sym (slice_get-map f xs i))
 
 -- these are all of them
 pub all_items : {A : Type 0} (f : A → Record) (n : ℕ) (xs : List A) → n ≡ length xs → take n (map f xs) ≡ map f xs

@@ -28,9 +28,9 @@ records_of_line None = []
 records_of_line (Some r) = r ∷ []
 
 -- `below i` has the records of the numbers below i, each with one record or none
-pub record AreLines (says : ℕ → Option Record → Type 0) (count : ℕ) (below : ℕ → List Record) : Type 0 where
+pub record AreLines (spells : ℕ → Option Record → Type 0) (count : ℕ) (below : ℕ → List Record) : Type 0 where
   pub none : below 0 ≡ []
-  pub more : (i : ℕ) (rec : Option Record) → i < count → says i rec → below (i + 1) ≡ below i ++ records_of_line rec
+  pub more : (i : ℕ) (rec : Option Record) → i < count → spells i rec → below (i + 1) ≡ below i ++ records_of_line rec
 
 -- a field of this type can have this content
 abbrev pub Fits : FieldType → Part → Type 0

@@ -37,21 +37,21 @@ problem_in [] = None
 problem_in (r ∷ rs) = or_else (problem_of r) (problem_in rs)
 
 -- there is a value, and it passes the test
-abbrev pub is_so : {X : Type 0} → (X → Bool) → Option X → Bool
-is_so f None = false
-is_so f (Some x) = f x
+abbrev pub is_some_and : {X : Type 0} → (X → Bool) → Option X → Bool
+is_some_and f None = false
+is_some_and f (Some x) = f x
 
 -- the ID is above NODES
 abbrev pub is_above : Option Declared → ℕ → Bool
-is_above p id = is_so (λ (q : Declared). is_so (λ (nodes : ℕ). nat_lt nodes id) q.nodes) p
+is_above p id = is_some_and (λ (q : Declared). is_some_and (λ (nodes : ℕ). nat_lt nodes id) q.nodes) p
 
 -- no fewer than declared
 abbrev pub is_full : Option Declared → ℕ → Bool
-is_full p n = is_so (λ (q : Declared). nat_le q.count n) p
+is_full p n = is_some_and (λ (q : Declared). nat_le q.count n) p
 
 -- fewer than declared
 abbrev pub is_short : Option Declared → ℕ → Bool
-is_short p n = is_so (λ (q : Declared). nat_lt n q.count) p
+is_short p n = is_some_and (λ (q : Declared). nat_lt n q.count) p
 
 -- the problem line counts this line
 abbrev pub is_counted : Record → Bool

@@ -19,13 +19,13 @@ use Rattle.dimacs_records.specs.Faults.{IsFaultless, FirstAtEnd, Fault}
 -- a record and the number of its line
 pub record LineRecord : Type 0 where
   pub line : ℕ
-  pub says : Record
+  pub spells : Record
 
 abbrev pub on_line : ℕ → Record → LineRecord
-on_line line r = record { line = line; says = r }
+on_line line r = record { line = line; spells = r }
 
 abbrev pub records_of : List LineRecord → List Record
-records_of rs = map (λ (r : LineRecord). r.says) rs
+records_of rs = map (λ (r : LineRecord). r.spells) rs
 
 -- the records of lines, of which the first has number n
 abbrev pub numbered : ℕ → List (Option Record) → List LineRecord
@@ -44,7 +44,7 @@ pub record IsOfKind (kind : TextKind) (r : Record) : Type 0 where
 
 -- lines before this one can spell these records
 pub record AreSpelledBefore (kind : TextKind) (line : ℕ) (rs : List LineRecord) : Type 0 where
-  pub of_kind : All (λ (r : LineRecord). IsOfKind kind r.says) rs
+  pub of_kind : All (λ (r : LineRecord). IsOfKind kind r.spells) rs
   pub before : AreBefore line rs
   pub few : length rs < line
 

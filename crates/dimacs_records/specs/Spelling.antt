@@ -75,17 +75,17 @@ abbrev pub parts_of : Record → List Part
 parts_of r = (record_line r).parts
 
 -- a field of this type with this text has this content
-abbrev pub Says : FieldType → List ℕ → Part → Type 0
-Says (Word w) text (Text word) = (text ≡ w) × (word ≡ w)
-Says (Either v w) text (Text word) = ((text ≡ v) ⊎ (text ≡ w)) × (word ≡ text)
-Says (Number low high) text (Amount n) = Spells text n × IsWithin low high n
-Says type text part = ⊥
+abbrev pub SpellsField : FieldType → List ℕ → Part → Type 0
+SpellsField (Word w) text (Text word) = (text ≡ w) × (word ≡ w)
+SpellsField (Either v w) text (Text word) = ((text ≡ v) ⊎ (text ≡ w)) × (word ≡ text)
+SpellsField (Number low high) text (Amount n) = Spells text n × IsWithin low high n
+SpellsField type text part = ⊥
 
 -- one by one, with none left over
-abbrev pub SayAll : List FieldType → List (List ℕ) → List Part → Type 0
-SayAll [] [] [] = Unit {0}
-SayAll (type ∷ types) (text ∷ texts) (part ∷ parts) = Says type text part × SayAll types texts parts
-SayAll types texts parts = ⊥
+abbrev pub SpellFields : List FieldType → List (List ℕ) → List Part → Type 0
+SpellFields [] [] [] = Unit {0}
+SpellFields (type ∷ types) (text ∷ texts) (part ∷ parts) = SpellsField type text part × SpellFields types texts parts
+SpellFields types texts parts = ⊥
 
 -- the fields have a form of the kind, and their contents are the record's
 pub record SpellsRecord (kind : TextKind) (texts : List (List ℕ)) (r : Record) : Type 0 where
@@ -95,7 +95,7 @@ pub record SpellsRecord (kind : TextKind) (texts : List (List ℕ)) (r : Record)
   pub for_kind : kind_of r ≡ kind
   pub letter : letter_of r ≡ form.letter
   pub begins : texts ≡ form.letter ∷ after
-  pub says : SayAll form.types after (parts_of r)
+  pub spells : SpellFields form.types after (parts_of r)
 
 -- the texts of a line's fields
 abbrev pub texts_in : List ℕ → List (List ℕ)

@@ -110,7 +110,7 @@ pub record Passes (e : Earlier) (r : Record) : Type 0 where
   pub full_block : e.block_short ≡ false
   pub one_value : e.valued ≡ false
   pub pred_known : e.pred_unknown ≡ false
-  pub near : e.past_radius ≡ false
+  pub within_radius : e.past_radius ≡ false
 
 -- no test at the end fails
 pub record PassesEnd (kind : TextKind) (e : Earlier) : Type 0 where

@@ -17,7 +17,7 @@ ghost use Rattle.dimacs_records.specs.Texts.{Reads, SpellsValue, AreFaultless};
 use crate::driver::read_text;
 use crate::faults::{ReadError, TakeError};
 use crate::kinds::TextKind;
-use crate::order::{Earlier, declares, test_end, test_record};
+use crate::order::{Earlier, is_problem, test_end, test_record};
 use crate::reading::Reading;
 use crate::reasons::Reason;
 use crate::records::Record;
@@ -48,31 +48,31 @@ pub trait Begun: Drop {
     fn kind() -> TextKind
         ensures kind { result ≡ kind }
         ensures faultless { (rs : List LineRecord) (value : Self.Value) → gives rs value → AreFaultless kind (records_of rs) }
-        ensures one { (rs : List LineRecord) (value other : Self.Value) → gives rs value → gives rs other → value ≡ other };
+        ensures one_value { (rs : List LineRecord) (value other : Self.Value) → gives rs value → gives rs other → value ≡ other };
 
     /// Begins with a problem line.
     fn begin(alloc: Global, problem: Record) -> Self
         requires of_kind { IsOfKind kind problem }
-        requires declares { is_problem problem ≡ true }
+        requires problem_line { is_problem problem ≡ true }
         ensures { begun_by result (problem ∷ []) };
 
     /// What the taken records contribute to the tests of one more.
     fn before(&self, rec: Record) -> Earlier
         requires { IsOfKind kind rec }
         ensures noted { result ≡ noted self.now rec }
-        ensures so { (rs : List Record) → begun_by self.now rs → result ≡ noted_before rs rec };
+        ensures of_records { (rs : List Record) → begun_by self.now rs → result ≡ noted_before rs rec };
 
     /// Keeps a record that passed all tests.
     fn keep(&mut self, rec: Record) -> Result<(), Memory>
         requires of_kind { IsOfKind kind rec }
         requires passes { Passes (noted self.old rec) rec }
-        ensures kept { OnOk result ((rs : List Record) → begun_by self.old rs → begun_by self.new (rs ++ rec ∷ [])) }
+        ensures added { OnOk result ((rs : List Record) → begun_by self.old rs → begun_by self.new (rs ++ rec ∷ [])) }
         ensures unchanged { OnErr result (self.new ≡ self.old) };
 
     /// What the taken records contribute to the tests at the end.
     fn before_end(&self) -> Earlier
         ensures noted { result ≡ noted_end self.now }
-        ensures so { (rs : List Record) → begun_by self.now rs → result ≡ noted_at_end kind rs };
+        ensures of_records { (rs : List Record) → begun_by self.now rs → result ≡ noted_at_end kind rs };
 
     /// The value of all records, which have passed all tests.
     fn value(self, alloc: Global) -> Result<Self::Value, Memory>
@@ -151,7 +151,7 @@ fn test_first(rec: Record) -> Result<(), TakeError>
     ensures allowed { OnOk result (IsAllowed [] rec) }
     ensures refused { IfErr result (λ error. needs_problem (kind_of rec) ≡ true → RefusesRecord [] rec error) }
 {
-    if declares(rec) {
+    if is_problem(rec) {
         Ok(())
     } else {
         Err(TakeError::refused(0, Reason::ProblemMissing))

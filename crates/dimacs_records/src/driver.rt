@@ -56,9 +56,9 @@ fn read_lines<R: Reading, S: Source>(
 ) -> Result<u64, ReadError>
     requires kind { R.kind reading.old ≡ kind }
     requires open { lines.old.progress ≡ Open }
-    requires few { lines.old.given ≤ most_lines }
+    requires within_limit { lines.old.given ≤ most_lines }
     ensures kind { R.kind reading.new ≡ kind }
-    ensures few { IfOk result (λ count. count ≤ most_lines) }
+    ensures within_limit { IfOk result (λ count. count ≤ most_lines) }
     ensures reads { (all : List (List ℕ)) → IsReadSoFar kind all lines.old.given (text_left lines.old (S.coming source.old)) (R.stands_for reading.old)
         → ReadsAll kind all (R.stands_for reading.new) result }
     ensures spelled { IfOk result (λ count. HasTaken kind (lines.old.given + 1) (R.stands_for reading.old)
@@ -87,14 +87,14 @@ fn take_held<R: Reading>(
     ensures kind { R.kind reading.new ≡ kind }
     ensures progress { lines.new.progress ≡ lines.old.progress }
     ensures no_fewer { lines.old.given ≤ lines.new.given }
-    ensures few { lines.old.given ≤ most_lines → lines.new.given ≤ most_lines }
+    ensures within_limit { lines.old.given ≤ most_lines → lines.new.given ≤ most_lines }
     ensures reads { (all : List (List ℕ)) (coming : Option (List ℕ))
         → IsReadSoFar kind all lines.old.given (text_left lines.old coming) (R.stands_for reading.old)
         → ReadsSome kind all lines.new.given (text_left lines.new coming) (R.stands_for reading.new) result }
     ensures spelled { OnOk result (HasTaken kind (lines.old.given + 1) (R.stands_for reading.old)
         → HasTaken kind (lines.new.given + 1) (R.stands_for reading.new)) }
     ensures kept { (value : R.Value) → R.keeps reading.new value → R.keeps reading.old value }
-    ensures undisturbed { IfErr result (λ error. error ≢ Device) }
+    ensures no_io_error { IfErr result (λ error. error ≢ Device) }
 {
     if lines.given() > MAX_LINES - MAX_HELD as u64 {
         return Ok(());
@@ -113,18 +113,18 @@ fn take_plain<R: Reading>(
     reading: &mut R,
 ) -> Result<PlainLines, ReadError>
     requires kind { R.kind reading.old ≡ kind }
-    requires few { given + length held.now ≤ most_lines }
+    requires within_limit { given + length held.now ≤ most_lines }
     ensures kind { R.kind reading.new ≡ kind }
     ensures within { IfOk result (λ taken. taken.bytes ≤ length held.now) }
     ensures whole { IfOk result (λ taken. AreWholeLines (take taken.bytes held.now) taken.lines) }
-    ensures few { IfOk result (λ taken. given + taken.lines ≤ most_lines) }
+    ensures within_limit { IfOk result (λ taken. given + taken.lines ≤ most_lines) }
     ensures takes { (all : List (List ℕ)) (coming : Option (List ℕ))
         → IsReadSoFar kind all given (before_piece held.now coming) (R.stands_for reading.old)
         → TakesPlain kind all given held.now coming (R.stands_for reading.new) result }
     ensures spelled { IfOk result (λ taken. HasTaken kind (given + 1) (R.stands_for reading.old)
         → HasTaken kind (given + taken.lines + 1) (R.stands_for reading.new)) }
     ensures kept { (value : R.Value) → R.keeps reading.new value → R.keeps reading.old value }
-    ensures undisturbed { IfErr result (λ error. error ≢ Device) }
+    ensures no_io_error { IfErr result (λ error. error ≢ Device) }
 {
     let mut bytes = 0;
     let mut lines = 0;
@@ -164,7 +164,7 @@ fn read_line<R: Reading, S: Source>(
             Ok(()) => Ok(Some(number)),
             Err(error) => Err(at_line(number, error)),
         },
-        Err(error) => Err(of_lines(error)),
+        Err(error) => Err(lines_error(error)),
     }
 }
 
@@ -205,7 +205,7 @@ fn at_line(line: u64, error: TakeError) -> ReadError
 }
 
 /// The refusal or the error of a reader of lines.
-fn of_lines(error: LinesError) -> ReadError
+fn lines_error(error: LinesError) -> ReadError
     ensures { result ≡ lines_error error }
 {
     match error {

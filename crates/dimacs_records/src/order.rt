@@ -6,7 +6,7 @@ ghost use Rattle.dimacs_records.specs.declared.kinds.TextKind.{TextKind};
 ghost use Rattle.dimacs_records.specs.declared.order.Declared.{Declared};
 ghost use Rattle.dimacs_records.specs.declared.records.Record.{Record};
 ghost use Rattle.dimacs_records.specs.Conditions.{is_above_at, bounded_ids, is_bound_wrong, needs_problem};
-ghost use Rattle.dimacs_records.specs.Earlier.{is_above, is_counted, is_full, is_problem, is_short, is_so};
+ghost use Rattle.dimacs_records.specs.Earlier.{is_above, is_counted, is_full, is_problem, is_short, is_some_and};
 ghost use Rattle.dimacs_records.specs.Spelling.{kind_of};
 ghost use Rattle.dimacs_records.specs.Tests.{Passes, PassesEnd, answer_at, answer_at_end, earlier_of, passes_count, needs_value, place_by, reason_by};
 
@@ -73,12 +73,12 @@ impl Earlier {
 
     /// The record needs a problem line before it, and there is none.
     #[inline(always)]
-    fn is_without_problem(self, rec: Record) -> bool
+    fn lacks_problem_before(self, rec: Record) -> bool
         ensures { result ≡ ((needs_problem (kind_of rec) && not (is_problem rec)) && is_none self.problem) }
     {
         match self.problem {
             Some(_) => false,
-            None => wants_problem(rec),
+            None => must_follow_problem(rec),
         }
     }
 
@@ -88,7 +88,7 @@ impl Earlier {
         ensures { result ≡ (is_problem rec && is_some self.problem) }
     {
         match self.problem {
-            Some(_) => declares(rec),
+            Some(_) => is_problem(rec),
             None => false,
         }
     }
@@ -100,13 +100,13 @@ impl Earlier {
     {
         match rec {
             Record::LabelsNode { .. } | Record::DistancesNode { .. } => self.block_full,
-            _ => counts(rec) && self.is_full(),
+            _ => is_counted(rec) && self.is_full(),
         }
     }
 
     /// The kind needs a problem line, and there is none.
     #[inline(always)]
-    fn is_without_any(self, kind: TextKind) -> bool
+    fn lacks_problem(self, kind: TextKind) -> bool
         ensures { result ≡ (needs_problem kind && is_none self.problem) }
     {
         match self.problem {
@@ -125,7 +125,7 @@ impl Earlier {
 
     /// The kind needs a value, and there is none.
     #[inline(always)]
-    fn is_without_value(self, kind: TextKind) -> bool
+    fn lacks_value(self, kind: TextKind) -> bool
         ensures { result ≡ (needs_value kind && not self.valued) }
     {
         match kind {
@@ -153,7 +153,7 @@ impl Earlier {
     /// There is an ID, and it is above NODES.
     #[inline(always)]
     fn has_above(self, id: Option<u32>) -> bool
-        ensures { result ≡ is_so (is_above self.problem) id }
+        ensures { result ≡ is_some_and (is_above self.problem) id }
     {
         match id {
             Some(id) => self.is_above(id),
@@ -188,9 +188,9 @@ impl Earlier {
 #[inline(always)]
 pub fn test_record(earlier: Earlier, rec: Record) -> Result<(), TakeError>
     ensures passes { OnOk result (Passes earlier rec) }
-    ensures noted { result ≡ answer_at (place_by earlier rec) }
+    ensures first_fault { result ≡ answer_at (place_by earlier rec) }
 {
-    refuse_if(earlier.is_without_problem(rec), 0, Reason::ProblemMissing)?;
+    refuse_if(earlier.lacks_problem_before(rec), 0, Reason::ProblemMissing)?;
     refuse_if(earlier.is_second_problem(rec), 0, Reason::ProblemTwice)?;
     refuse_if(earlier.misplaced, 0, Reason::RecordOrder)?;
     refuse_if(earlier.has_above(second_id(rec)), 2, Reason::NodeRange)?;
@@ -214,12 +214,12 @@ pub fn test_record(earlier: Earlier, rec: Record) -> Result<(), TakeError>
 #[inline(always)]
 pub fn test_end(kind: TextKind, earlier: Earlier) -> Result<(), TakeError>
     ensures passes { OnOk result (PassesEnd kind earlier) }
-    ensures noted { result ≡ answer_at_end (reason_by kind earlier) }
+    ensures first_fault { result ≡ answer_at_end (reason_by kind earlier) }
 {
-    refuse_if(earlier.is_without_any(kind), 0, Reason::ProblemMissing)?;
+    refuse_if(earlier.lacks_problem(kind), 0, Reason::ProblemMissing)?;
     refuse_if(earlier.lacks_end, 0, Reason::EndMissing)?;
     refuse_if(earlier.is_unfinished(), 0, Reason::TooFew)?;
-    refuse_if(earlier.is_without_value(kind), 0, Reason::SolutionMissing)?;
+    refuse_if(earlier.lacks_value(kind), 0, Reason::SolutionMissing)?;
     Ok(())
 }
 
@@ -250,18 +250,18 @@ fn needs_problem(kind: TextKind) -> bool
 
 /// Whether the record has to come after a problem line.
 #[inline(always)]
-fn wants_problem(rec: Record) -> bool
+fn must_follow_problem(rec: Record) -> bool
     ensures { result ≡ (needs_problem (kind_of rec) && not (is_problem rec)) }
 {
     match rec {
         Record::SolutionValue { .. } | Record::SolutionEntry { .. } => false,
-        _ => !declares(rec),
+        _ => !is_problem(rec),
     }
 }
 
 /// Whether the record is a problem line.
 #[inline(always)]
-pub(crate) fn declares(rec: Record) -> bool
+pub(crate) fn is_problem(rec: Record) -> bool
     ensures { result ≡ is_problem rec }
 {
     match rec {
@@ -280,7 +280,7 @@ pub(crate) fn declares(rec: Record) -> bool
 /// The ID in field 2, if NODES bounds it.
 #[inline(always)]
 fn second_id(rec: Record) -> Option<u32>
-    ensures { (p : Option Declared) → is_above_at 2 p (bounded_ids rec) ≡ is_so (is_above p) result }
+    ensures { (p : Option Declared) → is_above_at 2 p (bounded_ids rec) ≡ is_some_and (is_above p) result }
 {
     match rec {
         Record::MaxNode { id, .. }
@@ -299,7 +299,7 @@ fn second_id(rec: Record) -> Option<u32>
 /// The ID in field 3, if NODES bounds it.
 #[inline(always)]
 fn third_id(rec: Record) -> Option<u32>
-    ensures { (p : Option Declared) → is_above_at 3 p (bounded_ids rec) ≡ is_so (is_above p) result }
+    ensures { (p : Option Declared) → is_above_at 3 p (bounded_ids rec) ≡ is_some_and (is_above p) result }
 {
     match rec {
         Record::MaxArc { head, .. } | Record::MinArc { head, .. } | Record::GraphArc { head, .. } =>
@@ -311,7 +311,7 @@ fn third_id(rec: Record) -> Option<u32>
 /// The ID in field 4, if NODES bounds it.
 #[inline(always)]
 fn fourth_id(rec: Record) -> Option<u32>
-    ensures { (p : Option Declared) → is_above_at 4 p (bounded_ids rec) ≡ is_so (is_above p) result }
+    ensures { (p : Option Declared) → is_above_at 4 p (bounded_ids rec) ≡ is_some_and (is_above p) result }
 {
     match rec {
         Record::LabelsNode { pred, .. } => Some(pred),
@@ -344,7 +344,7 @@ fn has_wrong_cap(rec: Record) -> bool
 
 /// Whether the problem line counts this line.
 #[inline(always)]
-fn counts(rec: Record) -> bool
+fn is_counted(rec: Record) -> bool
     ensures { result ≡ is_counted rec }
 {
     match rec {

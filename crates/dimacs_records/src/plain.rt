@@ -4,7 +4,7 @@
 ghost use Rattle.std.specs.Prelude.{◌≡◌, ◌≤◌, ◌∷◌, [], pos, length, IfSome};
 ghost use Rattle.dimacs_records.specs.declared.kinds.TextKind.TheVariants.{Min, Potentials, Labels, Distances};
 ghost use Rattle.dimacs_records.specs.Forms.{Id, Whole};
-ghost use Rattle.dimacs_records.specs.inside.Plain.{IsPlainLine, SaysArc, SaysFirst};
+ghost use Rattle.dimacs_records.specs.inside.Plain.{IsPlainLine, SpellsArc, SpellsFirst};
 ghost use Rattle.dimacs_records.specs.Spelling.{Amount};
 
 use crate::kinds::TextKind;
@@ -39,7 +39,7 @@ struct NodeLine {
 /// Each reading `R` gets its own copy, in which the kind is a constant; the compiler drops the forms of other kinds.
 #[inline]
 pub(crate) fn plain_line<R: Reading>(kind: TextKind, bytes: &[u8]) -> Option<PlainLine>
-    ensures { IfSome result (λ line. SaysFirst kind bytes.now line.rec line.size) }
+    ensures { IfSome result (λ line. SpellsFirst kind bytes.now line.rec line.size) }
 {
     match kind {
         TextKind::Max | TextKind::Graph => arc_line(kind, b'a', bytes),
@@ -55,7 +55,7 @@ pub(crate) fn plain_line<R: Reading>(kind: TextKind, bytes: &[u8]) -> Option<Pla
 /// A node or an arc line of an instance of minimum cost flow.
 #[inline(always)]
 fn min_line(bytes: &[u8]) -> Option<PlainLine>
-    ensures { IfSome result (λ line. SaysFirst Min bytes.now line.rec line.size) }
+    ensures { IfSome result (λ line. SpellsFirst Min bytes.now line.rec line.size) }
 {
     if let Some(line) = bounds_line(bytes) {
         return Some(line);
@@ -68,7 +68,7 @@ fn min_line(bytes: &[u8]) -> Option<PlainLine>
 /// A node line of potentials.
 #[inline(always)]
 fn potentials_line(bytes: &[u8]) -> Option<PlainLine>
-    ensures { IfSome result (λ line. SaysFirst Potentials bytes.now line.rec line.size) }
+    ensures { IfSome result (λ line. SpellsFirst Potentials bytes.now line.rec line.size) }
 {
     let NodeLine { size, id, number } = node_line(bytes, b'y')?;
     let rec = Record::PotentialsNode {
@@ -81,7 +81,7 @@ fn potentials_line(bytes: &[u8]) -> Option<PlainLine>
 /// A node line of distances.
 #[inline(always)]
 fn distances_line(bytes: &[u8]) -> Option<PlainLine>
-    ensures { IfSome result (λ line. SaysFirst Distances bytes.now line.rec line.size) }
+    ensures { IfSome result (λ line. SpellsFirst Distances bytes.now line.rec line.size) }
 {
     let NodeLine { size, id, number } = node_line(bytes, b'd')?;
     let rec = Record::DistancesNode {
@@ -94,7 +94,7 @@ fn distances_line(bytes: &[u8]) -> Option<PlainLine>
 /// A node line of labels.
 #[inline(always)]
 fn labels_line(bytes: &[u8]) -> Option<PlainLine>
-    ensures { IfSome result (λ line. SaysFirst Labels bytes.now line.rec line.size) }
+    ensures { IfSome result (λ line. SpellsFirst Labels bytes.now line.rec line.size) }
 {
     let mut numbers = PlainNumbers::after(b'd', bytes)?;
     let id = numbers.id(b' ')?;
@@ -112,7 +112,7 @@ fn labels_line(bytes: &[u8]) -> Option<PlainLine>
 /// An arc line with bounds and cost.
 #[inline(always)]
 fn bounds_line(bytes: &[u8]) -> Option<PlainLine>
-    ensures { IfSome result (λ line. SaysFirst Min bytes.now line.rec line.size) }
+    ensures { IfSome result (λ line. SpellsFirst Min bytes.now line.rec line.size) }
 {
     let mut numbers = PlainNumbers::after(b'a', bytes)?;
     let tail = numbers.id(b' ')?;
@@ -146,7 +146,7 @@ fn node_line(bytes: &[u8], letter: u8) -> Option<NodeLine>
 /// A line of two nodes and a number.
 #[inline(always)]
 fn arc_line(kind: TextKind, letter: u8, bytes: &[u8]) -> Option<PlainLine>
-    ensures { IfSome result (λ line. SaysFirst kind bytes.now line.rec line.size) }
+    ensures { IfSome result (λ line. SpellsFirst kind bytes.now line.rec line.size) }
 {
     let mut numbers = PlainNumbers::after(letter, bytes)?;
     let tail = numbers.id(b' ')?;
@@ -160,7 +160,7 @@ fn arc_line(kind: TextKind, letter: u8, bytes: &[u8]) -> Option<PlainLine>
 /// The record of a line with two nodes and a number, if the kind has such lines with this letter.
 #[inline(always)]
 fn arc_record(kind: TextKind, letter: u8, tail: u32, head: u32, number: i64) -> Option<Record>
-    ensures { IfSome result (λ rec. SaysArc kind letter tail head number rec) }
+    ensures { IfSome result (λ rec. SpellsArc kind letter tail head number rec) }
 {
     match (kind, letter) {
         (TextKind::Max, b'a') => Some(Record::MaxArc {

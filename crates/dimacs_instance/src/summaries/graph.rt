@@ -23,7 +23,7 @@ pub struct GraphSummary {
 impl Summary for GraphSummary {
     ghost kind = { kinds.Graph };
 
-    ghost Said = { NetworkValue };
+    ghost Content = { NetworkValue };
 
     ghost sums_up = { λ s g. SumsUpGraph s g };
 

@@ -28,7 +28,7 @@ pub struct MaxSummary {
 impl Summary for MaxSummary {
     ghost kind = { kinds.Max };
 
-    ghost Said = { MaxValue };
+    ghost Content = { MaxValue };
 
     ghost sums_up = { λ s m. SumsUpMax s m };
 
@@ -71,19 +71,19 @@ pub struct CountedMax {
 }
 
 impl Model for CountedMax {
-    ghost use Rattle.dimacs_instance.specs.MaxReading.{EndsAreApart, MaxCount};
+    ghost use Rattle.dimacs_instance.specs.MaxReading.{EndsAreDistinct, MaxCount};
 
     ghost Value = { MaxCount };
 
     ghost view = { λ c. record { nodes = c.nodes; declared = c.declared; ends = c.ends; arcs = c.arcs } };
 
-    ghost invariant = { λ c. EndsAreApart c.ends };
+    ghost invariant = { λ c. EndsAreDistinct c.ends };
 }
 
 impl CountedMax {
     /// What the tests have to know for a record that isn't about source and sink.
     #[inline(always)]
-    fn lines(&self) -> Earlier
+    fn after_lines(&self) -> Earlier
         ensures { result ≡ after_lines self.now }
     {
         let nodes = Some(self.nodes);
@@ -131,9 +131,9 @@ impl Begun for CountedMax {
                 misplaced: self.arcs > 0,
                 named: self.ends.names(id),
                 end_named: self.ends.has(end),
-                ..self.lines()
+                ..self.after_lines()
             },
-            Record::MaxProblem { .. } => self.lines(),
+            Record::MaxProblem { .. } => self.after_lines(),
             _ => unreachable!(),
         }
     }
@@ -155,8 +155,8 @@ impl Begun for CountedMax {
     #[inline(always)]
     fn before_end(&self) -> Earlier {
         Earlier {
-            lacks_end: self.ends.lack_one(),
-            ..self.lines()
+            lacks_end: self.ends.lacks_end(),
+            ..self.after_lines()
         }
     }
 

@@ -30,7 +30,7 @@ pub struct MinSummary {
 impl Summary for MinSummary {
     ghost kind = { kinds.Min };
 
-    ghost Said = { MinValue };
+    ghost Content = { MinValue };
 
     ghost sums_up = { λ s m. SumsUpMin s m };
 

@@ -13,7 +13,7 @@ use Rattle.dimacs_records.specs.declared.field_reader.Choice.TheVariants.{Former
 use Rattle.dimacs_records.specs.declared.field_reader.FieldReader.{FieldReader}
 use Rattle.dimacs_records.specs.Earlier.{or_else}
 use Rattle.dimacs_records.specs.Forms.{FieldType, Number, Radius, forms}
-use Rattle.dimacs_records.specs.Spelling.{Part, Amount, Says, SayAll, kind_of, letter_of, parts_of}
+use Rattle.dimacs_records.specs.Spelling.{Part, Amount, SpellsField, SpellFields, kind_of, letter_of, parts_of}
 use Rattle.dimacs_records.specs.Shapes.{field_condition, types_in}
 
 abbrev pub fault_at : ℕ → Reason → LineFault
@@ -39,7 +39,7 @@ form_fault types texts = if length types == length texts then fields_fault 2 typ
 -- field f, of this type, was taken; unless it has a fault, this is its content
 abbrev pub TakesNext : ℕ → FieldType → List Run → FieldReader → Part → FieldReader → Type 0
 TakesNext f type [] old part new = new.missing ≡ true
-TakesNext f type (run ∷ runs) old part new = (new.scan ≡ runs) × (new.missing ≡ old.missing) × (new.fault ≡ or_else old.fault (fault_in f (field_reason type run.text))) × (field_reason type run.text ≡ None → Says type run.text part)
+TakesNext f type (run ∷ runs) old part new = (new.scan ≡ runs) × (new.missing ≡ old.missing) × (new.fault ≡ or_else old.fault (fault_in f (field_reason type run.text))) × (field_reason type run.text ≡ None → SpellsField type run.text part)
 
 abbrev pub TakesField : ℕ → FieldType → FieldReader → Part → FieldReader → Type 0
 TakesField f type old part new = TakesNext f type old.scan old part new
@@ -74,7 +74,7 @@ number_reason number_faults.NumberRange = NumberRange
 
 -- the number of a field within a range, or the first reason to refuse it
 abbrev pub ReadsAmount : ℤ → ℤ → List ℕ → Result ℤ Reason → Type 0
-ReadsAmount low high text (Ok n) = Says (Number low high) text (Amount n)
+ReadsAmount low high text (Ok n) = SpellsField (Number low high) text (Amount n)
 ReadsAmount low high text (Err reason) = field_reason (Number low high) text ≡ Some reason
 
 -- no field was taken yet
@@ -84,7 +84,7 @@ IsUntouched fields = (fields.missing ≡ false) × (fields.fault ≡ None)
 -- the result for the fields after a letter with these types
 abbrev pub ReadsForm : TextKind → List ℕ → List FieldType → List (List ℕ) → Result (Option Record) LineFault → Type 0
 ReadsForm kind letter types texts (Ok None) = ⊥
-ReadsForm kind letter types texts (Ok (Some r)) = (kind_of r ≡ kind) × (letter_of r ≡ letter) × (form_fault types texts ≡ None) × SayAll types texts (parts_of r)
+ReadsForm kind letter types texts (Ok (Some r)) = (kind_of r ≡ kind) × (letter_of r ≡ letter) × (form_fault types texts ≡ None) × SpellFields types texts (parts_of r)
 ReadsForm kind letter types texts (Err fault) = form_fault types texts ≡ Some fault
 
 abbrev pub texts_left : FieldReader → List (List ℕ)

@@ -13,7 +13,7 @@ use Rattle.dimacs_records.specs.inside.Driver.{IsReadSoFar, RefusesLine}
 use Rattle.dimacs_records.specs.Forms.{FieldType, Id, Whole, form, forms}
 use Rattle.dimacs_records.specs.LineReader.{ReadsLine}
 use Rattle.dimacs_records.specs.Readings.{LineRecord}
-use Rattle.dimacs_records.specs.Spelling.{Part, Amount, SayAll, kind_of, letter_of, parts_of, texts_in}
+use Rattle.dimacs_records.specs.Spelling.{Part, Amount, SpellFields, kind_of, letter_of, parts_of, texts_in}
 
 -- these texts stand one after another, with a blank after each but the last, and a line end after the last
 abbrev pub Stand : List ℕ → ℕ → List (List ℕ) → ℕ → Type 0
@@ -27,17 +27,17 @@ pub record IsPlainLine (bytes : List ℕ) (letter : ℕ) (types : List FieldType
   pub begins : bytes ≡ letter ∷ 32 ∷ drop 2 bytes
   pub stand : Stand bytes 2 texts size
   pub short : All (λ (text : List ℕ). length text ≤ 40) texts
-  pub says : SayAll types texts parts
+  pub spells : SpellFields types texts parts
 
 -- lines of the kind may have this letter, two nodes and a number; the record is that of such a line
-pub record SaysArc (kind : TextKind) (letter tail head : ℕ) (n : ℤ) (r : Record) : Type 0 where
+pub record SpellsArc (kind : TextKind) (letter tail head : ℕ) (n : ℤ) (r : Record) : Type 0 where
   pub among : Contains (forms kind) (form (letter ∷ []) (Id ∷ Id ∷ Whole ∷ []))
   pub of_kind : kind_of r ≡ kind
   pub of_letter : letter_of r ≡ letter ∷ []
   pub parts : parts_of r ≡ Amount (pos tail) ∷ Amount (pos head) ∷ Amount n ∷ []
 
 -- the first line is whole and within the limits, spells this record, and has `size` bytes with its end
-pub record SaysFirst (kind : TextKind) (bytes : List ℕ) (r : Record) (size : ℕ) : Type 0 where
+pub record SpellsFirst (kind : TextKind) (bytes : List ℕ) (r : Record) (size : ℕ) : Type 0 where
   pub line : List ℕ
   pub there : bytes ≡ line ++ 10 ∷ drop size bytes
   pub size_is : size ≡ length line + 1

@@ -11,7 +11,7 @@ returns-in-Err-clause-reads g c =
     let left = text_left old (g.S.Source.coming c.args.source.now) in
     let later = text_left new (g.S.Source.coming c.next_line.new.source) in
     let stands = g.R.Reading.stands_for c.args.reading.now in
-    λ all h. rw c.of_lines.ensures (stopped c.args.kind all old new left later stands stands c.in-Err.error (c.in-Err.ensures.answer c.requires.open) h)
+    λ all h. rw c.lines_error.ensures (stopped c.args.kind all old new left later stands stands c.in-Err.error (c.in-Err.ensures.answer c.requires.open) h)
 
 pub returns-in-Ok-None-clause-reads : goal.returns-in-Ok-None-clause-reads
 returns-in-Ok-None-clause-reads g c =

@@ -16,8 +16,8 @@ returns-in_err-read_line-clause-reads g c = λ all h.
     let held = c.in_ok-take_held.ensures.reads all (g.S.Source.coming c.loop-lines.source) (c.loop-lines.invariant.read all h) in
     rw (p.1, p.2) (c.in_err-read_line.ensures.reads all held)
 
-pub returns-then-is_none-clause-few : goal.returns-then-is_none-clause-few
-returns-then-is_none-clause-few g c = rw c.given-count.ensures (c.in_ok-take_held.ensures.few c.loop-lines.invariant.few)
+pub returns-then-is_none-clause-within_limit : goal.returns-then-is_none-clause-within_limit
+returns-then-is_none-clause-within_limit g c = rw c.given-count.ensures (c.in_ok-take_held.ensures.within_limit c.loop-lines.invariant.within_limit)
 
 none_of : {X : Type 0} → (o : Option X) → is_some o ≡ false → o ≡ None
 none_of None h = refl

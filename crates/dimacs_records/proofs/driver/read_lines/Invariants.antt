@@ -10,7 +10,7 @@ abbrev pub invariant-loop-lines : goal.invariant-loop-lines
 invariant-loop-lines g l = record {
   kind : g.R.Reading.kind l.reading ≡ l.kind;
   goes_on : l.lines.progress ≡ Open;
-  few : l.lines.given ≤ most_lines;
+  within_limit : l.lines.given ≤ most_lines;
   read : (all : List (List ℕ)) → IsReadSoFar l.kind all l.fn.lines.given (text_left l.fn.lines (g.S.Source.coming l.fn.source)) (g.R.Reading.stands_for l.fn.reading)
       → IsReadSoFar l.kind all l.lines.given (text_left l.lines (g.S.Source.coming l.source)) (g.R.Reading.stands_for l.reading);
   spelled : HasTaken l.kind (l.fn.lines.given + 1) (g.R.Reading.stands_for l.fn.reading) → HasTaken l.kind (l.lines.given + 1) (g.R.Reading.stands_for l.reading);

@@ -34,4 +34,4 @@ pub returns-in-Ok-clause-spelled : goal.returns-in-Ok-clause-spelled
 returns-in-Ok-clause-spelled g c =
     let given = ap (λ (s : State). s.given) c.in_ok-lines.ensures in
     let begun = none_taken c.args.kind (g.R.Reading.stands_for c.args.reading) c.requires.new in
-    given_by_lines c.args.kind g.R.Reading.gives c.in-Ok.value c.in_ok-count.count (g.R.Reading.stands_for c.read_lines.new.reading) c.in_ok-count.ensures.few c.in-Ok.ensures.given (c.in_ok-count.ensures.spelled (rw given begun))
+    given_by_lines c.args.kind g.R.Reading.gives c.in-Ok.value c.in_ok-count.count (g.R.Reading.stands_for c.read_lines.new.reading) c.in_ok-count.ensures.within_limit c.in-Ok.ensures.given (c.in_ok-count.ensures.spelled (rw given begun))

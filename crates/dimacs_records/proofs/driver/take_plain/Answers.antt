@@ -2,7 +2,7 @@ use Rattle.std.proofs.Common.{◌≡◌, ◌+◌, ◌<◌, length, drop, length-
 use Rattle.std.proofs.lemmas.List.{drop-drop}
 use Rattle.std.proofs.lemmas.Slice.{between_to_end}
 use Rattle.dimacs_lines.specs.Limits.{most_lines}
-use Rattle.dimacs_records.specs.inside.Plain.{SaysFirst}
+use Rattle.dimacs_records.specs.inside.Plain.{SpellsFirst}
 use Rattle.dimacs_records.specs.Spelling.{texts_in}
 use Rattle.dimacs_records.proofs.HeldLines.{one_more_whole, plain_step}
 use Rattle.dimacs_records.proofs.TakenLines.{one_taken}
@@ -14,11 +14,11 @@ returns-in-Err-clause-takes g c = λ all coming h.
     let loop = c.loop-line in
     let bytes = drop loop.bytes c.args.held.now in
     let given = c.args.given + loop.lines in
-    let says : SaysFirst c.args.kind bytes line.rec line.size = rw (between_to_end c.args.held.now loop.bytes (length c.args.held.now) (omega (arith, loop.invariant.within))) at c.in-Some.ensures in
+    let spells : SpellsFirst c.args.kind bytes line.rec line.size = rw (between_to_end c.args.held.now loop.bytes (length c.args.held.now) (omega (arith, loop.invariant.within))) at c.in-Some.ensures in
     let next : c.args.given + (loop.lines + 1) ≡ given + 1 = omega arith in
-    let few : given < most_lines = omega (arith, loop.invariant.few, loop.invariant.within, c.requires.few, says.size_is, says.within, length-drop loop.bytes c.args.held.now) in
+    let few : given < most_lines = omega (arith, loop.invariant.few, loop.invariant.within, c.requires.within_limit, spells.size_is, spells.within, length-drop loop.bytes c.args.held.now) in
     rw (c.at_line.ensures, next)
-    (plain_step c.args.kind all bytes given line.size coming line.rec (g.R.Reading.stands_for loop.reading) (g.R.Reading.stands_for c.take.new.self) (Err c.in-Err.error) says few (loop.invariant.read all coming h)
+    (plain_step c.args.kind all bytes given line.size coming line.rec (g.R.Reading.stands_for loop.reading) (g.R.Reading.stands_for c.take.new.self) (Err c.in-Err.error) spells few (loop.invariant.read all coming h)
     c.in-Err.ensures.allowed c.in-Err.ensures.taken c.in-Err.ensures.refused)
 
 pub loop-line-preserved : goal.loop-line-preserved
@@ -28,20 +28,20 @@ loop-line-preserved g c =
     let held = c.args.held.now in
     let bytes = drop loop.bytes held in
     let given = c.args.given + loop.lines in
-    let says : SaysFirst c.args.kind bytes line.rec line.size = rw (between_to_end c.args.held.now loop.bytes (length c.args.held.now) (omega (arith, loop.invariant.within))) at c.in-Some.ensures in
+    let spells : SpellsFirst c.args.kind bytes line.rec line.size = rw (between_to_end c.args.held.now loop.bytes (length c.args.held.now) (omega (arith, loop.invariant.within))) at c.in-Some.ensures in
     let next : c.args.given + (loop.lines + 1) ≡ given + 1 = omega arith in
-    let few : given < most_lines = omega (arith, loop.invariant.few, loop.invariant.within, c.requires.few, says.size_is, says.within, length-drop loop.bytes held) in
+    let few : given < most_lines = omega (arith, loop.invariant.few, loop.invariant.within, c.requires.within_limit, spells.size_is, spells.within, length-drop loop.bytes held) in
     record {
       kind = c.take.ensures.kind ∙ loop.invariant.kind;
-      within = omega (arith, loop.invariant.within, says.within, length-drop loop.bytes held);
-      whole = one_more_whole c.args.kind held loop.bytes loop.lines line.size line.rec loop.invariant.whole says;
-      few = omega (arith, loop.invariant.few, says.size_is);
+      within = omega (arith, loop.invariant.within, spells.within, length-drop loop.bytes held);
+      whole = one_more_whole c.args.kind held loop.bytes loop.lines line.size line.rec loop.invariant.whole spells;
+      few = omega (arith, loop.invariant.few, spells.size_is);
       read = λ all coming h.
-          let step = plain_step c.args.kind all bytes given line.size coming line.rec (g.R.Reading.stands_for loop.reading) (g.R.Reading.stands_for c.take.new.self) (Ok c.in_default-take.field-0) says few (loop.invariant.read all coming h)
+          let step = plain_step c.args.kind all bytes given line.size coming line.rec (g.R.Reading.stands_for loop.reading) (g.R.Reading.stands_for c.take.new.self) (Ok c.in_default-take.field-0) spells few (loop.invariant.read all coming h)
           c.in_default-take.ensures.allowed (rw next at c.in_default-take.ensures.taken) c.in_default-take.ensures.refused in
           rw (next, ← drop-drop line.size loop.bytes held) step;
       spelled = λ before.
           let there : c.args.given + loop.lines + 1 ≡ c.args.given + (loop.lines + 1) = omega arith in
-          one_taken c.args.kind (c.args.given + (loop.lines + 1)) line.rec (g.R.Reading.stands_for loop.reading) (g.R.Reading.stands_for c.take.new.self) (record { texts = texts_in says.line; spelled = says.reads.1 }) c.in_default-take.ensures.taken (rw there at (loop.invariant.spelled before));
+          one_taken c.args.kind (c.args.given + (loop.lines + 1)) line.rec (g.R.Reading.stands_for loop.reading) (g.R.Reading.stands_for c.take.new.self) (record { texts = texts_in spells.line; spelled = spells.reads.1 }) c.in_default-take.ensures.taken (rw there at (loop.invariant.spelled before));
       kept = λ value keeps. loop.invariant.kept value (c.take.ensures.kept value keeps);
     }

@@ -2,7 +2,7 @@ use Rattle.std.proofs.Common.{[], ◌∷◌, refl, rules, subst, sym, SFits, w64
 use Rattle.std.proofs.lemmas.Int.{to_z-of_z}
 use Rattle.dimacs_records.specs.Forms.{Id, Whole, form}
 use Rattle.dimacs_records.specs.inside.Plain.{IsPlainLine}
-use Rattle.dimacs_records.proofs.PlainRecords.{ends_stand, plain_says}
+use Rattle.dimacs_records.proofs.PlainRecords.{ends_stand, plain_spells}
 use Rattle.dimacs_records.proofs.plain.arc_line.Goals as goal
 
 pub returns : goal.returns
@@ -16,9 +16,9 @@ returns c =
     let fits : SFits w64 number.number = search rules in
     let types = Id ∷ Id ∷ Whole ∷ [] in
     let size = c.whole.new.self.at in
-    let says = rw (to_z-of_z w64 number.number fits) at c.in_ok-rec.ensures in
+    let spells = rw (to_z-of_z w64 number.number fits) at c.in_ok-rec.ensures in
     let line = ends_stand bytes letter tail.tail head.head c.id.new.self.at c.id-2.new.self.at size number.number c.in_ok-numbers.ensures.begins
     (rw start at tail.ensures.stands) tail.ensures.range (rw (tail.ensures.bytes, start) at head.ensures.stands) head.ensures.range
     (rw (head.ensures.bytes, tail.ensures.bytes, start) at number.ensures.stands) fits in
     rw c.at-size.ensures
-    (plain_says c.args.kind (form (letter ∷ []) types) bytes letter size c.in_ok-rec.rec says.among says.of_kind says.of_letter refl refl (subst (λ parts. IsPlainLine bytes letter types parts size) (sym says.parts) line))
+    (plain_spells c.args.kind (form (letter ∷ []) types) bytes letter size c.in_ok-rec.rec spells.among spells.of_kind spells.of_letter refl refl (subst (λ parts. IsPlainLine bytes letter types parts size) (sym spells.parts) line))

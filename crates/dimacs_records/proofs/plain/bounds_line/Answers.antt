@@ -4,7 +4,7 @@ use Rattle.std.proofs.lemmas.Int.{to_z-of_z}
 use Rattle.dimacs_records.specs.declared.kinds.TextKind.TheVariants.{Min}
 use Rattle.dimacs_records.specs.declared.records.Record.TheVariants.{MinArc}
 use Rattle.dimacs_records.specs.Forms.{Id, Whole, form}
-use Rattle.dimacs_records.proofs.PlainRecords.{plain_says, bounds_stand}
+use Rattle.dimacs_records.proofs.PlainRecords.{plain_spells, bounds_stand}
 use Rattle.dimacs_records.proofs.plain.bounds_line.Goals as goal
 
 pub returns : goal.returns
@@ -20,7 +20,7 @@ returns c =
     let cap_fits : SFits w64 cap.cap = search rules in
     let cost_fits : SFits w64 cost.cost = search rules in
     rw (to_z-of_z w64 low.low low_fits, to_z-of_z w64 cap.cap cap_fits, to_z-of_z w64 cost.cost cost_fits, c.at-size.ensures)
-    (plain_says Min (form (codes "a") (Id ∷ Id ∷ Whole ∷ Whole ∷ Whole ∷ [])) bytes 97 c.whole-3.new.self.at (MinArc tail.tail head.head low.low cap.cap cost.cost) (2, lit< tt, refl) refl refl refl refl
+    (plain_spells Min (form (codes "a") (Id ∷ Id ∷ Whole ∷ Whole ∷ Whole ∷ [])) bytes 97 c.whole-3.new.self.at (MinArc tail.tail head.head low.low cap.cap cost.cost) (2, lit< tt, refl) refl refl refl refl
     (bounds_stand bytes tail.tail head.head c.id.new.self.at c.id-2.new.self.at c.whole.new.self.at c.whole-2.new.self.at c.whole-3.new.self.at low.low cap.cap cost.cost c.in_ok-numbers.ensures.begins
     (rw start at tail.ensures.stands) tail.ensures.range (rw (tail.ensures.bytes, start) at head.ensures.stands) head.ensures.range
     (rw (head.ensures.bytes, tail.ensures.bytes, start) at low.ensures.stands) low_fits

@@ -5,7 +5,7 @@ use Rattle.std.proofs.lemmas.Int.{to_z-of_z}
 use Rattle.dimacs_records.specs.declared.kinds.TextKind.TheVariants.{Distances}
 use Rattle.dimacs_records.specs.declared.records.Record.TheVariants.{DistancesNode}
 use Rattle.dimacs_records.specs.Forms.{Id, Wide, form}
-use Rattle.dimacs_records.proofs.PlainRecords.{plain_says, value_widened}
+use Rattle.dimacs_records.proofs.PlainRecords.{plain_spells, value_widened}
 use Rattle.dimacs_records.proofs.plain.distances_line.Goals as goal
 
 pub returns : goal.returns
@@ -15,4 +15,4 @@ returns c =
     let fits : SFits w128 value = search rules in
     let narrow : SFits w64 line.number = search rules in
     rw (to_z-of_z w128 value fits, c.from.ensures, to_z-of_z w64 line.number narrow)
-    (plain_says Distances (form (codes "d") (Id ∷ Wide ∷ [])) c.args.bytes.now 100 line.size (DistancesNode line.id line.number) (2, lit< tt, refl) refl refl refl refl (value_widened c.args.bytes.now 100 line.id line.number line.size c.in_ok-size.ensures))
+    (plain_spells Distances (form (codes "d") (Id ∷ Wide ∷ [])) c.args.bytes.now 100 line.size (DistancesNode line.id line.number) (2, lit< tt, refl) refl refl refl refl (value_widened c.args.bytes.now 100 line.id line.number line.size c.in_ok-size.ensures))

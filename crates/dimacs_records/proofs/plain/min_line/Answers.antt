@@ -4,7 +4,7 @@ use Rattle.std.proofs.lemmas.Int.{to_z-of_z}
 use Rattle.dimacs_records.specs.declared.kinds.TextKind.TheVariants.{Min}
 use Rattle.dimacs_records.specs.declared.records.Record.TheVariants.{MinNode}
 use Rattle.dimacs_records.specs.Forms.{Id, Whole, form}
-use Rattle.dimacs_records.proofs.PlainRecords.{plain_says}
+use Rattle.dimacs_records.proofs.PlainRecords.{plain_spells}
 use Rattle.dimacs_records.proofs.plain.min_line.Goals as goal
 
 pub returns : goal.returns
@@ -12,4 +12,4 @@ returns c =
     let line = c.in_ok-size.field-0 in
     let fits : SFits w64 line.number = search rules in
     rw (to_z-of_z w64 line.number fits)
-    (plain_says Min (form (codes "n") (Id ∷ Whole ∷ [])) c.args.bytes.now 110 line.size (MinNode line.id line.number) (1, lit< tt, refl) refl refl refl refl c.in_ok-size.ensures)
+    (plain_spells Min (form (codes "n") (Id ∷ Whole ∷ [])) c.args.bytes.now 110 line.size (MinNode line.id line.number) (1, lit< tt, refl) refl refl refl refl c.in_ok-size.ensures)

@@ -6,8 +6,8 @@ use Rattle.dimacs_claims.specs.Cuts.{CutValue}
 use Rattle.dimacs_claims.proofs.CutLemmas.{more}
 use Rattle.dimacs_claims.proofs.cut.BegunCutBegun.keep.Goals as goal
 
-pub returns-clause-kept : goal.returns-clause-kept
-returns-clause-kept c =
+pub returns-clause-added : goal.returns-clause-added
+returns-clause-added c =
     let id = c.in-CutNode.id in
     let passes = rw (c.in-CutNode.is, ← c.self.view_is) at c.requires.passes in
     let least : 1 ≤ c.in-CutNode.id = search rules in

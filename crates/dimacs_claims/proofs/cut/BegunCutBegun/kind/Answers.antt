@@ -4,5 +4,5 @@ use Rattle.dimacs_claims.proofs.cut.BegunCutBegun.kind.Goals as goal
 pub returns-clause-faultless : goal.returns-clause-faultless
 returns-clause-faultless c = cut_faultless
 
-pub returns-clause-one : goal.returns-clause-one
-returns-clause-one c = one_cut
+pub returns-clause-one_value : goal.returns-clause-one_value
+returns-clause-one_value c = one_cut

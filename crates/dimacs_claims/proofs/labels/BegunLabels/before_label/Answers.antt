@@ -2,7 +2,7 @@ use Rattle.std.proofs.Common.{◌≡◌, ◌++◌, ◌∷◌, [], ap, rules, sym
 use Rattle.std.specs.Int.{w128}
 use Rattle.std.proofs.lemmas.Int.{to_z-of_z}
 use Rattle.dimacs_claims.specs.LabelsReading.{LabelsBegun}
-use Rattle.dimacs_claims.proofs.BegunLemmas.{label_told, last_got}
+use Rattle.dimacs_claims.proofs.BegunLemmas.{label_noted, last_got}
 use Rattle.dimacs_claims.proofs.labels.BegunLabels.before_label.Goals as goal
 
 pub returns : goal.returns
@@ -15,4 +15,4 @@ returns c =
     let source = sym c.source-source.ensures in
     let dist : SFits w128 l.dist = search rules in
     let missing = ap (λ (t : LabelsBegun). t.missing) c.self.view_is in
-    rw (c.lines-2.ensures, c.has_label.ensures got.0 b at source, c.has_label-2.ensures got.0 b at source, c.is_past.ensures, to_z-of_z w128 l.dist dist, missing) (label_told begun got.0 b at l)
+    rw (c.after_lines-2.ensures, c.has_label.ensures got.0 b at source, c.has_label-2.ensures got.0 b at source, c.is_past.ensures, to_z-of_z w128 l.dist dist, missing) (label_noted begun got.0 b at l)

@@ -28,8 +28,8 @@ invariant_of-self-2 c =
       labelled_more inside.labelled c.put.new.self begun.blocks fit.front fit.b l fit.is c.self.invariant.2 (c.put.ensures.set l.id there ∙ number) (λ id off. c.put.ensures.others l.id id there off ∙ c.in_ok-place.ensures.same id),
     )
 
-pub returns-clause-kept : goal.returns-clause-kept
-returns-clause-kept c =
+pub returns-clause-added : goal.returns-clause-added
+returns-clause-added c =
     let inside = c.self.inside in
     let begun : LabelsBegun = record { nodes = inside.nodes; declared = inside.declared; missing = inside.missing; blocks = inside.blocks.items } in
     let fit = fits begun c.args.label (passes_of begun _ (label_line c.args.label) c.self.view_is c.requires.passes) in

@@ -16,8 +16,8 @@ invariant_of-self-2 c =
     let set = rw (to_z-of_z w128 line.potential fits) at c.set.ensures.set in
     law_after_set c.self.inside.nodes c.self.inside.values c.set.new.self line.id line.potential c.set.result set c.set.ensures.unchanged c.self.invariant (node _ _ _ least passes) wide
 
-pub returns-clause-kept : goal.returns-clause-kept
-returns-clause-kept c = λ rs h.
+pub returns-clause-added : goal.returns-clause-added
+returns-clause-added c = λ rs h.
     let line = c.in-PotentialsNode in
     let fits : SFits w128 line.potential = search rules in
     let least : 1 ≤ line.id = search rules in

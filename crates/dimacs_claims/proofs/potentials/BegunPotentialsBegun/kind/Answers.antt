@@ -4,5 +4,5 @@ use Rattle.dimacs_claims.proofs.potentials.BegunPotentialsBegun.kind.Goals as go
 pub returns-clause-faultless : goal.returns-clause-faultless
 returns-clause-faultless c = potentials_faultless
 
-pub returns-clause-one : goal.returns-clause-one
-returns-clause-one c = one_potentials
+pub returns-clause-one_value : goal.returns-clause-one_value
+returns-clause-one_value c = one_potentials

@@ -30,8 +30,8 @@ invariant_of-self-in-MinNode g c =
     let set = rw (to_z-of_z w64 line.supply fits) at c.set.ensures.set in
     law_after_set _ line.id line.supply c.set.new.self c.set.result set c.set.ensures.unchanged c.self.invariant (node _ _ _ least passes) (omega (arith, ints, fits), omega (arith, ints, fits))
 
-pub returns-in_ok-set-in-MinNode-clause-kept : goal.returns-in_ok-set-in-MinNode-clause-kept
-returns-in_ok-set-in-MinNode-clause-kept g c = λ rs h.
+pub returns-in_ok-set-in-MinNode-clause-added : goal.returns-in_ok-set-in-MinNode-clause-added
+returns-in_ok-set-in-MinNode-clause-added g c = λ rs h.
     let line = c.in-MinNode in
     let fits : SFits w64 line.supply = search rules in
     let least : 1 ≤ line.id = search rules in

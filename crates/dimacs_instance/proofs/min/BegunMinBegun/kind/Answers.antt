@@ -4,5 +4,5 @@ use Rattle.dimacs_instance.proofs.min.BegunMinBegun.kind.Goals as goal
 pub returns-clause-faultless : goal.returns-clause-faultless
 returns-clause-faultless g c = min_faultless
 
-pub returns-clause-one : goal.returns-clause-one
-returns-clause-one g c = one_min
+pub returns-clause-one_value : goal.returns-clause-one_value
+returns-clause-one_value g c = one_min

@@ -1,7 +1,7 @@
 use Rattle.std.proofs.Common.{◌≡◌, refl, sym, rules, w64, SFits, None}
 use Rattle.std.proofs.lemmas.Int.{to_z-of_z}
 use Rattle.dimacs_records.specs.Forms.{Number}
-use Rattle.dimacs_records.specs.Spelling.{Amount, Says}
+use Rattle.dimacs_records.specs.Spelling.{Amount, SpellsField}
 use Rattle.dimacs_records.specs.inside.FieldReader.{field_reason}
 use Rattle.dimacs_records.proofs.FieldLemmas.{field_reason-said, or_else-none}
 use Rattle.dimacs_records.proofs.field_reader.FieldReader.range.Goals as goal
@@ -15,6 +15,6 @@ returns-in-Ok-clause-takes c =
     let n_fits : SFits w64 n = search rules in
     let low_fits : SFits w64 low = search rules in
     let high_fits : SFits w64 high = search rules in
-    let said : Says (Number low high) text (Amount n) = rw (to_z-of_z w64 low low_fits, to_z-of_z w64 high high_fits) at c.in-Ok.ensures in
+    let said : SpellsField (Number low high) text (Amount n) = rw (to_z-of_z w64 low low_fits, to_z-of_z w64 high high_fits) at c.in-Ok.ensures in
     let clean : field_reason (Number low high) text ≡ None = field_reason-said (Number low high) text (Amount n) said in
     rw (c.in-Some.ensures.some, to_z-of_z w64 n n_fits) (refl, refl, rw clean (sym (or_else-none c.args.self.now.fault)), λ h. said)

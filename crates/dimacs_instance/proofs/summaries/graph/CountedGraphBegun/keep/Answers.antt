@@ -3,8 +3,8 @@ use Rattle.std.proofs.lemmas.Int.{ints}
 use Rattle.dimacs_instance.proofs.SummaryLemmas.{counted_more}
 use Rattle.dimacs_instance.proofs.summaries.graph.CountedGraphBegun.keep.Goals as goal
 
-pub returns-clause-kept : goal.returns-clause-kept
-returns-clause-kept c = λ rs counted.
+pub returns-clause-added : goal.returns-clause-added
+returns-clause-added c = λ rs counted.
     let arc = c.in-GraphArc in
     let weight : SFits w64 arc._weight = search rules in
     let tail : 1 ≤ arc._tail = search rules in

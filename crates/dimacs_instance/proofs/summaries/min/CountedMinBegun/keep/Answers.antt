@@ -14,8 +14,8 @@ invariant_of-self-in-Continue-1 c =
     let set = rw (to_z-of_z w64 line.supply fits) at c.set.ensures.set in
     law_after_set _ line.id line.supply c.set.new.self c.set.result set c.set.ensures.unchanged c.self.invariant (counted_node _ line.id line.supply passes least) (omega (arith, ints, fits), omega (arith, ints, fits))
 
-pub returns-in-MinArc-clause-kept : goal.returns-in-MinArc-clause-kept
-returns-in-MinArc-clause-kept c = λ rs counted.
+pub returns-in-MinArc-clause-added : goal.returns-in-MinArc-clause-added
+returns-in-MinArc-clause-added c = λ rs counted.
     let arc = c.in-MinArc in
     let low : SFits w64 arc._low = search rules in
     let cap : SFits w64 arc._cap = search rules in
@@ -26,8 +26,8 @@ returns-in-MinArc-clause-kept c = λ rs counted.
     let passes = rw (arc.is, ← c.self.view_is) at c.requires.passes in
     rw arc.is (one_more_arc _ rs (rw (← c.self.view_is) at counted) a passes tail head (omega (arith, ints, cap), omega (arith, ints, cap)) (omega (arith, ints, cost), omega (arith, ints, cost)))
 
-pub returns-in_ok-set-in-MinNode-clause-kept : goal.returns-in_ok-set-in-MinNode-clause-kept
-returns-in_ok-set-in-MinNode-clause-kept c = λ rs counted.
+pub returns-in_ok-set-in-MinNode-clause-added : goal.returns-in_ok-set-in-MinNode-clause-added
+returns-in_ok-set-in-MinNode-clause-added c = λ rs counted.
     let line = c.in-MinNode in
     let fits : SFits w64 line.supply = search rules in
     let least : 1 ≤ line.id = search rules in

@@ -6,5 +6,5 @@ use Rattle.dimacs_instance.proofs.summaries.min.CountedMinBegun.kind.Goals as go
 pub returns-clause-faultless : goal.returns-clause-faultless
 returns-clause-faultless c = λ rs s given. min_faultless rs given.0 given.1
 
-pub returns-clause-one : goal.returns-clause-one
-returns-clause-one c = λ rs s other given also. given.2 ∙ ap min_summary (one_min rs given.0 also.0 given.1 also.1) ∙ sym also.2
+pub returns-clause-one_value : goal.returns-clause-one_value
+returns-clause-one_value c = λ rs s other given also. given.2 ∙ ap min_summary (one_min rs given.0 also.0 given.1 also.1) ∙ sym also.2
