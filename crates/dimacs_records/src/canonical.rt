@@ -12,7 +12,7 @@ use crate::printed::{Part, write_line};
 use crate::records::Record;
 use dimacs_lines::{DeviceFault, OutputBuffer, Sink};
 
-/// Puts the line of a record.
+/// Writes the line of a record.
 pub fn put_record<S: Sink>(sink: &mut S, rec: &Record) -> Result<(), DeviceFault>
     ensures { Puts result (S.seen sink.old) (canonical_line rec.now) (S.seen sink.new) }
 {
@@ -21,7 +21,7 @@ pub fn put_record<S: Sink>(sink: &mut S, rec: &Record) -> Result<(), DeviceFault
     output.finish(sink)
 }
 
-/// Puts these lines, then a line for each number below `count` for which `line` gives a record.
+/// Writes the lines of `first`, then those of the records that `line` gives for the numbers below `count`.
 pub fn put_text<S: Sink, F: Fn(usize) -> Option<Record>>(
     sink: &mut S,
     first: &[Record],
@@ -38,7 +38,7 @@ pub fn put_text<S: Sink, F: Fn(usize) -> Option<Record>>(
     output.finish(sink)
 }
 
-/// Writes the lines of these records. A function by itself: `write_record` is large if the kind of record isn't known.
+/// Not inlined: `write_record` is large if the kind of record isn't known.
 #[inline(never)]
 fn write_all<S: Sink>(output: &mut OutputBuffer, sink: &mut S, records: &[Record])
     ensures { Appends (canonical_text records.now) (S.seen sink.old) output.old (S.seen sink.new) output.new }
@@ -54,7 +54,7 @@ fn write_all<S: Sink>(output: &mut OutputBuffer, sink: &mut S, records: &[Record
     );
 }
 
-/// Writes a line for each number below `count`, in order, for which `line` gives a record.
+/// Writes the lines of the records that `line` gives for the numbers below `count`, in order.
 #[inline(always)]
 pub fn write_lines<S: Sink, F: Fn(usize) -> Option<Record>>(
     output: &mut OutputBuffer,
@@ -71,7 +71,6 @@ pub fn write_lines<S: Sink, F: Fn(usize) -> Option<Record>>(
     }
 }
 
-/// Writes the line of a record, if there is one.
 #[inline(always)]
 fn write_if_any<S: Sink>(output: &mut OutputBuffer, sink: &mut S, rec: Option<Record>)
     ensures { Appends (canonical_text (records_of_line rec)) (S.seen sink.old) output.old (S.seen sink.new) output.new }
@@ -172,7 +171,6 @@ pub fn write_record<S: Sink>(output: &mut OutputBuffer, sink: &mut S, rec: &Reco
     }
 }
 
-/// Writes a problem line with a number of nodes and a count.
 #[inline(always)]
 fn write_problem<S: Sink>(
     output: &mut OutputBuffer,
@@ -192,7 +190,6 @@ fn write_problem<S: Sink>(
     );
 }
 
-/// Writes a line of tail, head and a number.
 #[inline(always)]
 fn write_arc<S: Sink>(
     output: &mut OutputBuffer,
@@ -208,7 +205,6 @@ fn write_arc<S: Sink>(
     output.line_of_three(sink, letter, i64::from(tail), i64::from(head), n);
 }
 
-/// A count or an ID as a field.
 #[inline(always)]
 fn unsigned(n: u32) -> Part<'static>
     ensures { result ≡ Number (pos n) }

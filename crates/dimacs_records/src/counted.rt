@@ -1,4 +1,4 @@
-//! Reading texts that begin with a problem line: one reading for all of their kinds.
+//! One reading for all kinds of text that begin with a problem line.
 
 ghost use Rattle.std.specs.Prelude.{◌≡◌, ◌++◌, ◌∷◌, [], ℕ, List, None, Some, IfErr, IfOk, OnOk, OnErr, true};
 ghost use Rattle.dimacs_lines.specs.Lines.{lines};
@@ -24,57 +24,57 @@ use crate::records::Record;
 use dimacs_lines::{Memory, Source};
 use std::alloc::Global;
 
-/// What is known of a text after its problem line, and after each further record. A kind of text implements this to be
-/// read by `CountedReading`.
+/// The state of a text after its problem line, and after each further record. `CountedReading` reads the kinds of text
+/// that implement this.
 pub trait Begun: Drop {
     /// What the text is read into.
     type Value;
 
     ghost kind: { TextKind };
 
-    /// Which records may have been taken.
+    /// Which records may lead to this state.
     ghost begun_by: { Self → List Record → Type 0 };
 
-    /// What they contribute to the tests of one more record.
+    /// What the tests of one more record need.
     ghost noted: { Self → Record → Earlier };
 
-    /// What they contribute to the tests at the end.
+    /// What the tests at the end need.
     ghost noted_end: { Self → Earlier };
 
     /// Which value the records of a text give.
     ghost gives: { List LineRecord → Self.Value → Type 0 };
 
-    /// The kind of text. Records that give a value have no fault, and give no other value.
+    /// The kind of text.
     fn kind() -> TextKind
         ensures kind { result ≡ kind }
         ensures faultless { (rs : List LineRecord) (value : Self.Value) → gives rs value → AreFaultless kind (records_of rs) }
         ensures one_value { (rs : List LineRecord) (value other : Self.Value) → gives rs value → gives rs other → value ≡ other };
 
-    /// Begins with a problem line.
+    /// The state after the problem line.
     fn begin(alloc: Global, problem: Record) -> Self
         requires of_kind { IsOfKind kind problem }
         requires problem_line { is_problem problem ≡ true }
         ensures { begun_by result (problem ∷ []) };
 
-    /// What the taken records contribute to the tests of one more.
+    /// What the tests of one more record need.
     fn before(&self, rec: Record) -> Earlier
         requires { IsOfKind kind rec }
         ensures noted { result ≡ noted self.now rec }
         ensures of_records { (rs : List Record) → begun_by self.now rs → result ≡ noted_before rs rec };
 
-    /// Keeps a record that passed all tests.
+    /// Adds a record that passed all tests.
     fn keep(&mut self, rec: Record) -> Result<(), Memory>
         requires of_kind { IsOfKind kind rec }
         requires passes { Passes (noted self.old rec) rec }
         ensures added { OnOk result ((rs : List Record) → begun_by self.old rs → begun_by self.new (rs ++ rec ∷ [])) }
         ensures unchanged { OnErr result (self.new ≡ self.old) };
 
-    /// What the taken records contribute to the tests at the end.
+    /// What the tests at the end need.
     fn before_end(&self) -> Earlier
         ensures noted { result ≡ noted_end self.now }
         ensures of_records { (rs : List Record) → begun_by self.now rs → result ≡ noted_at_end kind rs };
 
-    /// The value of all records, which have passed all tests.
+    /// The value of all records, after the tests at the end.
     fn value(self, alloc: Global) -> Result<Self::Value, Memory>
         requires { PassesEnd kind (noted_end self) }
         ensures { IfOk result (λ value. (rs : List LineRecord) → begun_by self (records_of rs) → gives rs value) };
@@ -83,8 +83,7 @@ pub trait Begun: Drop {
     ghost has_problem: { needs_problem kind ≡ true };
 }
 
-/// Reads the records of a text that begins with a problem line, and makes a value of them. It makes all tests, in their
-/// order, and leaves the rest to `B`.
+/// Reads a text that begins with a problem line. It makes all tests in their order; `B` keeps the state.
 #[derive(Drop)]
 pub struct CountedReading<B: Begun> {
     alloc: Global,
@@ -145,7 +144,7 @@ pub fn read_counted<B: Begun, S: Source>(
     read_text(alloc, B::kind(), CountedReading::<B>::new(alloc), source)
 }
 
-/// Tests the first record: it has to be a problem line.
+/// The first record must be a problem line.
 fn test_first(rec: Record) -> Result<(), TakeError>
     ensures problem { OnOk result (is_problem rec ≡ true) }
     ensures allowed { OnOk result (IsAllowed [] rec) }

@@ -24,7 +24,7 @@ use std::alloc::Global;
 
 /// Reads a whole text: the value that its records give, or its first fault.
 ///
-/// After an error nothing more is pulled. How far the source was pulled past a refused line is left open.
+/// After an error it reads no more. How far it has read past a refused line isn't specified.
 pub fn read_text<R: Reading, S: Source>(
     alloc: Global,
     kind: TextKind,
@@ -47,7 +47,7 @@ pub fn read_text<R: Reading, S: Source>(
     }
 }
 
-/// Reads the remaining lines. Returns how many lines the text has.
+/// Reads the remaining lines. Returns the number of lines of the text.
 fn read_lines<R: Reading, S: Source>(
     kind: TextKind,
     lines: &mut Lines,
@@ -104,7 +104,7 @@ fn take_held<R: Reading>(
     Ok(())
 }
 
-/// Gives the reading the records of the lines in plain form at the front of the held bytes, up to the first other line.
+/// Passes the records of the lines in plain form at the front of the held bytes to the reading.
 #[inline(always)]
 fn take_plain<R: Reading>(
     kind: TextKind,
@@ -168,7 +168,7 @@ fn read_line<R: Reading, S: Source>(
     }
 }
 
-/// Gives the reading the record of a line, if it has one.
+/// Passes the record of a line, if any, to the reading.
 #[inline(always)]
 fn take_line<R: Reading>(
     kind: TextKind,
@@ -191,7 +191,6 @@ fn take_line<R: Reading>(
     }
 }
 
-/// The refusal of a record, with its line.
 fn at_line(line: u64, error: TakeError) -> ReadError
     ensures { result ≡ read_error line error }
 {
@@ -204,7 +203,6 @@ fn at_line(line: u64, error: TakeError) -> ReadError
     }
 }
 
-/// The refusal or the error of a reader of lines.
 fn lines_error(error: LinesError) -> ReadError
     ensures { result ≡ lines_error error }
 {

@@ -7,15 +7,15 @@ use crate::reasons::Reason;
 use dimacs_lines::Memory;
 use std::alloc::AllocFailed;
 
-/// A fault within a line: the field, counted from 1, or 0 for the whole line; and the reason.
+/// A fault of a line. Fields count from 1; 0 is the whole line.
 #[derive(Clone, Copy, Debug, PartialEq, Eq)]
 pub struct LineFault {
     pub field: u32,
     pub reason: Reason,
 }
 
-/// A place in a text: the line, counted from 1, and the field as in [`LineFault`]. A fault at the end of a text has the
-/// number of lines plus one, and field 0.
+/// A place in a text. Lines count from 1; the field is as in [`LineFault`]. A fault at the end of a text has the number
+/// of lines plus one, and field 0.
 #[derive(Clone, Copy, Debug, PartialEq, Eq)]
 pub struct At {
     pub line: u64,
@@ -32,7 +32,7 @@ pub enum TakeError {
 }
 
 impl TakeError {
-    /// A refusal at this field; 0 for the whole line.
+    /// A refusal at this field.
     pub fn refused(field: u32, reason: Reason) -> TakeError
         ensures { result ≡ Refused (record { field = field; reason = reason }) }
     {
@@ -65,7 +65,7 @@ impl<T: Drop> From<AllocFailed<T>> for TakeError {
 pub enum ReadError {
     /// The text's first fault.
     Refused(At, Reason),
-    /// I/O error: a pull failed.
+    /// I/O error: a read failed.
     Device,
     /// Out of memory.
     Memory,

@@ -1,6 +1,6 @@
-//! Reads the fields of a line one after another, each by its type.
+//! Reads the fields of a line from left to right, each by its type.
 //!
-//! A fault is reported only when the line is finished: a wrong number of fields comes before it.
+//! A fault is reported only at the end of the line, since a wrong number of fields comes first.
 
 ghost use Rattle.std.specs.Prelude.{◌≡◌, ◌≤ℤ◌, ◌≤◌, pos, neg_ℤ, ◌^◌, codes};
 ghost use Rattle.dimacs_lines.specs.Number.{IsWithin};
@@ -14,7 +14,7 @@ use crate::reasons::Reason;
 use crate::records::{End, QueryKind, Record};
 use dimacs_lines::{NumberFault, Scan, Token};
 
-/// The greatest NODES, and so the greatest ID.
+/// The greatest NODES, and the greatest ID.
 pub const MAX_NODES: u32 = 134_217_728;
 
 /// The greatest number of lines that a problem line may declare.
@@ -27,7 +27,7 @@ enum Choice {
     Latter,
 }
 
-/// The fields that aren't taken yet, and the first fault of those that were.
+/// The remaining fields, and the first fault of those before them.
 #[derive(Drop)]
 pub(crate) struct FieldReader<'a> {
     scan: Scan<'a>,
@@ -61,7 +61,7 @@ impl<'a> FieldReader<'a> {
         }
     }
 
-    /// Takes `s` or `t`; after a fault, returns the source.
+    /// Takes `s` or `t`; the source after a fault.
     pub(crate) fn end(&mut self, field: u32) -> End
         ensures { TakesField field (Either (codes "s") (codes "t")) self.old (Text (end_word result)) self.new }
     {
@@ -71,7 +71,7 @@ impl<'a> FieldReader<'a> {
         }
     }
 
-    /// Takes `ss` or `p2p`; after a fault, returns `ss`.
+    /// Takes `ss` or `p2p`; `ss` after a fault.
     pub(crate) fn query_kind(&mut self, field: u32) -> QueryKind
         ensures { TakesField field (Either (codes "ss") (codes "p2p")) self.old (Text (query_word result)) self.new }
     {
@@ -81,7 +81,7 @@ impl<'a> FieldReader<'a> {
         }
     }
 
-    /// Takes NODES; after a fault, returns 0.
+    /// Takes NODES; 0 after a fault.
     #[inline(always)]
     pub(crate) fn nodes(&mut self, field: u32) -> u32
         ensures { TakesField field Nodes self.old (Amount (pos result)) self.new }
@@ -89,7 +89,7 @@ impl<'a> FieldReader<'a> {
         self.range(field, 0, i64::from(MAX_NODES)) as u32
     }
 
-    /// Takes a declared count; after a fault, returns 0.
+    /// Takes a declared count; 0 after a fault.
     #[inline(always)]
     pub(crate) fn count(&mut self, field: u32) -> u32
         ensures { TakesField field Count self.old (Amount (pos result)) self.new }
@@ -97,7 +97,7 @@ impl<'a> FieldReader<'a> {
         self.range(field, 0, i64::from(MAX_COUNT)) as u32
     }
 
-    /// Takes an ID; after a fault, returns 1.
+    /// Takes an ID; 1 after a fault.
     #[inline(always)]
     pub(crate) fn id(&mut self, field: u32) -> u32
         ensures { TakesField field Id self.old (Amount (pos result)) self.new }
@@ -105,7 +105,7 @@ impl<'a> FieldReader<'a> {
         self.range(field, 1, i64::from(MAX_NODES)) as u32
     }
 
-    /// Takes a 64-bit number; after a fault, returns the least.
+    /// Takes a 64-bit number; the least after a fault.
     #[inline(always)]
     pub(crate) fn whole(&mut self, field: u32) -> i64
         ensures { TakesField field Whole self.old (Amount result) self.new }
@@ -113,7 +113,7 @@ impl<'a> FieldReader<'a> {
         self.range(field, i64::MIN, i64::MAX)
     }
 
-    /// Takes a 128-bit number from -10^30 to 10^30; after a fault, returns 0.
+    /// Takes a number from -10^30 to 10^30; 0 after a fault.
     #[inline(always)]
     pub(crate) fn wide(&mut self, field: u32) -> i128
         ensures { TakesField field Wide self.old (Amount result) self.new }
@@ -145,7 +145,7 @@ impl<'a> FieldReader<'a> {
         }
     }
 
-    /// The record, if every field was there without a fault and none is left. A wrong number of fields comes first.
+    /// The record, or the first fault; a wrong number of fields comes before all others.
     #[inline(always)]
     pub(crate) fn finish(mut self, spelled: Record) -> Result<Option<Record>, LineFault>
         ensures { result ≡ finished self.entry spelled }
@@ -162,7 +162,7 @@ impl<'a> FieldReader<'a> {
         }
     }
 
-    /// Takes one of two words; after a fault, returns the former.
+    /// Takes one of two words; the former after a fault.
     fn either(&mut self, field: u32, former: &[u8], latter: &[u8]) -> Choice
         ensures { TakesField field (Either former.now latter.now) self.old (Text (word_of former.now latter.now result)) self.new }
     {
@@ -180,7 +180,7 @@ impl<'a> FieldReader<'a> {
         }
     }
 
-    /// Takes a number from `low` to `high`; after a fault, returns `low`.
+    /// Takes a number from `low` to `high`; `low` after a fault.
     #[inline(always)]
     fn range(&mut self, field: u32, low: i64, high: i64) -> i64
         requires { low ≤ℤ high }
@@ -212,7 +212,6 @@ impl<'a> FieldReader<'a> {
     }
 }
 
-/// Reads a field as a number from `low` to `high`.
 #[inline(always)]
 fn amount(token: &Token<'_>, low: i64, high: i64) -> Result<i64, Reason>
     ensures { ReadsAmount low high token.now.field.text.now result }
@@ -225,7 +224,6 @@ fn amount(token: &Token<'_>, low: i64, high: i64) -> Result<i64, Reason>
     }
 }
 
-/// Reads a field as a 128-bit number.
 #[inline(always)]
 fn wide_amount(token: &Token<'_>) -> Result<i128, Reason>
     ensures { ReadsAmount (neg_ℤ (pos (10 ^ 30))) (pos (10 ^ 30)) token.now.field.text.now result }
@@ -236,7 +234,6 @@ fn wide_amount(token: &Token<'_>) -> Result<i128, Reason>
     }
 }
 
-/// Reads a field as a RADIUS.
 fn radius_amount(token: &Token<'_>) -> Result<i128, Reason>
     ensures { ReadsAmount (pos 0) (pos (10 ^ 30)) token.now.field.text.now result }
 {
@@ -247,7 +244,6 @@ fn radius_amount(token: &Token<'_>) -> Result<i128, Reason>
     }
 }
 
-/// Why a field that spells no number of its range is refused.
 fn number_reason(fault: NumberFault) -> Reason
     ensures { result ≡ number_reason fault }
 {

@@ -3,9 +3,9 @@
 /// The kind of a text: an instance, queries, a claim or a certificate.
 #[derive(Clone, Copy, Debug, PartialEq, Eq)]
 pub enum TextKind {
-    /// An instance of maximum flow, as in the first DIMACS challenge.
+    /// A maximum flow instance, as in the first DIMACS challenge.
     Max,
-    /// An instance of minimum cost flow, as in the first DIMACS challenge.
+    /// A minimum cost flow instance, as in the first DIMACS challenge.
     Min,
     /// A graph for shortest paths, as in the ninth DIMACS challenge (`.gr`).
     Graph,

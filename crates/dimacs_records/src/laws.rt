@@ -1,6 +1,6 @@
-//! Theorems about all texts: their faults and canonical form.
+//! Theorems about the faults of texts and the canonical form.
 //!
-//! A function here is a theorem. Its contract states it, and its body is empty on purpose: there is nothing to compute.
+//! Each function is a theorem: its contract states it, and its body is empty on purpose.
 
 ghost use Rattle.dimacs_records.specs.CanonicalLaw.{CanonicalLaw};
 ghost use Rattle.dimacs_records.specs.FaultLaws.{OneFaultLaw, NoFaultLaw};

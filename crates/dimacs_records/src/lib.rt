@@ -1,8 +1,7 @@
-//! Records, which lines spell, and the driver that reads a whole text into a value.
+//! The records that lines spell, and the driver that reads a whole text into a value.
 //!
-//! A kind of text is defined by two tables: the forms of its lines, and the reasons for which it is refused. `record`
-//! reads a line by the first table. A `Reading` keeps what it needs of the earlier records, and refuses by the second.
-//! `read_text` passes the records of a text to the reading one by one; its contract holds for every reading.
+//! Two tables define a kind of text: the forms of its lines, and the reasons to refuse it. `record` reads a line by the
+//! first. A `Reading` takes the records, and refuses by the second. `read_text` reads a text with any `Reading`.
 #![tactic(auto)]
 
 mod canonical;

@@ -23,8 +23,8 @@ use crate::reasons::Reason;
 use crate::records::Record;
 use dimacs_lines::Scan;
 
-/// Reads a line of a text of this kind: its record, or `None` for a comment or a line without fields; or its first
-/// fault of shape. Tests that need earlier lines aren't made here.
+/// Reads a line: its record, `None` for a comment or a line without fields, or the first fault of its shape. Makes no
+/// test that needs earlier lines.
 #[inline(always)]
 pub fn record(kind: TextKind, line: &[u8]) -> Result<Option<Record>, LineFault>
     ensures { ReadsLine kind (texts_in line.now) result }
@@ -47,7 +47,6 @@ fn is_comment(first: &[u8]) -> bool
     first.first() == Some(&b'c')
 }
 
-/// The record of a line that begins with this letter.
 #[inline(always)]
 fn letter_record(
     kind: TextKind,

@@ -1,4 +1,4 @@
-//! The tests of one more record and of the end of a text, in the order in which faults are named.
+//! The tests of a record and of the end of a text, in the order in which faults are reported.
 
 ghost use Rattle.std.specs.Prelude.{◌≡◌, ◌&&◌, ◌||◌, not, false, true, Option, None, is_some, is_none, OnOk, OnErr, IfErr};
 ghost use Rattle.dimacs_records.specs.declared.faults.TakeError.TheVariants.{Refused};
@@ -22,15 +22,15 @@ pub struct Declared {
     pub count: u32,
 }
 
-/// What the tests of one more record, or of the end, have to know about the earlier records. "The record" is the one
-/// that is tested. A field that its tests don't use is false.
+/// What the tests of a record, or of the end, need from the earlier records. "The record" is the one that is tested.
+/// Flags that its tests don't use are false.
 #[derive(Clone, Copy)]
 pub struct Earlier {
-    /// The problem line, if there was one.
+    /// The problem line, if any.
     pub problem: Option<Declared>,
-    /// How many lines there were of those that the problem line counts.
+    /// The number of lines that the problem line counts.
     pub counted: u32,
-    /// The record comes too late, isn't of the kind that the problem line announces, or belongs to no block.
+    /// The record comes too late, isn't of the kind announced, or belongs to no block.
     pub misplaced: bool,
     /// An earlier line has the record's node as its own; for a label, an earlier line of its block.
     pub named: bool,
@@ -42,7 +42,7 @@ pub struct Earlier {
     pub block_full: bool,
     /// The last block has fewer labels than it declares, and no more can come.
     pub block_short: bool,
-    /// The solution's value was given.
+    /// The solution has a value.
     pub valued: bool,
     /// The label's predecessor has no label in the block.
     pub pred_unknown: bool,
@@ -51,7 +51,7 @@ pub struct Earlier {
 }
 
 impl Earlier {
-    /// After this problem line, if any, and so many lines that it counts. All tests are false.
+    /// After this problem line, if any, and so many lines that it counts. All flags are false.
     #[inline(always)]
     pub fn of(problem: Option<Declared>, counted: u32) -> Earlier
         ensures { result ≡ earlier_of problem counted }
@@ -71,7 +71,6 @@ impl Earlier {
         }
     }
 
-    /// The record needs a problem line before it, and there is none.
     #[inline(always)]
     fn lacks_problem_before(self, rec: Record) -> bool
         ensures { result ≡ ((needs_problem (kind_of rec) && not (is_problem rec)) && is_none self.problem) }
@@ -82,7 +81,6 @@ impl Earlier {
         }
     }
 
-    /// The record is a second problem line.
     #[inline(always)]
     fn is_second_problem(self, rec: Record) -> bool
         ensures { result ≡ (is_problem rec && is_some self.problem) }
@@ -93,7 +91,7 @@ impl Earlier {
         }
     }
 
-    /// The text has as many lines as it declares, or the block as many labels, and the record is one more.
+    /// The record is one line more than the text declares, or one label more than its block declares.
     #[inline(always)]
     fn is_full_for(self, rec: Record) -> bool
         ensures { result ≡ passes_count self rec }
@@ -104,7 +102,6 @@ impl Earlier {
         }
     }
 
-    /// The kind needs a problem line, and there is none.
     #[inline(always)]
     fn lacks_problem(self, kind: TextKind) -> bool
         ensures { result ≡ (needs_problem kind && is_none self.problem) }
@@ -123,7 +120,6 @@ impl Earlier {
         self.block_short || self.is_short()
     }
 
-    /// The kind needs a value, and there is none.
     #[inline(always)]
     fn lacks_value(self, kind: TextKind) -> bool
         ensures { result ≡ (needs_value kind && not self.valued) }
@@ -150,7 +146,6 @@ impl Earlier {
         }
     }
 
-    /// There is an ID, and it is above NODES.
     #[inline(always)]
     fn has_above(self, id: Option<u32>) -> bool
         ensures { result ≡ is_some_and (is_above self.problem) id }
@@ -161,7 +156,6 @@ impl Earlier {
         }
     }
 
-    /// There are as many lines as declared.
     #[inline(always)]
     fn is_full(self) -> bool
         ensures { result ≡ is_full self.problem self.counted }
@@ -172,7 +166,6 @@ impl Earlier {
         }
     }
 
-    /// There are fewer lines than declared.
     #[inline(always)]
     fn is_short(self) -> bool
         ensures { result ≡ is_short self.problem self.counted }
@@ -184,7 +177,7 @@ impl Earlier {
     }
 }
 
-/// Tests one more record, in the order in which its faults are named. Returns the first fault.
+/// Tests a record after the earlier ones. Returns its first fault in the order of `docs/TEXTS.md`.
 #[inline(always)]
 pub fn test_record(earlier: Earlier, rec: Record) -> Result<(), TakeError>
     ensures passes { OnOk result (Passes earlier rec) }
@@ -209,8 +202,7 @@ pub fn test_record(earlier: Earlier, rec: Record) -> Result<(), TakeError>
     Ok(())
 }
 
-/// Tests the end of a text, in the order in which its faults are named. Returns the first fault. A solution is refused
-/// if `valued` is false.
+/// Tests the end of a text. Returns its first fault. Only a solution needs `valued`.
 #[inline(always)]
 pub fn test_end(kind: TextKind, earlier: Earlier) -> Result<(), TakeError>
     ensures passes { OnOk result (PassesEnd kind earlier) }
@@ -223,7 +215,6 @@ pub fn test_end(kind: TextKind, earlier: Earlier) -> Result<(), TakeError>
     Ok(())
 }
 
-/// Refuses if `wrong`.
 #[inline(always)]
 fn refuse_if(wrong: bool, field: u32, reason: Reason) -> Result<(), TakeError>
     ensures right { OnOk result (wrong ≡ false) }
@@ -248,7 +239,6 @@ fn needs_problem(kind: TextKind) -> bool
     }
 }
 
-/// Whether the record has to come after a problem line.
 #[inline(always)]
 fn must_follow_problem(rec: Record) -> bool
     ensures { result ≡ (needs_problem (kind_of rec) && not (is_problem rec)) }
@@ -259,7 +249,6 @@ fn must_follow_problem(rec: Record) -> bool
     }
 }
 
-/// Whether the record is a problem line.
 #[inline(always)]
 pub(crate) fn is_problem(rec: Record) -> bool
     ensures { result ≡ is_problem rec }
@@ -342,7 +331,6 @@ fn has_wrong_cap(rec: Record) -> bool
     }
 }
 
-/// Whether the problem line counts this line.
 #[inline(always)]
 fn is_counted(rec: Record) -> bool
     ensures { result ≡ is_counted rec }

@@ -1,5 +1,5 @@
-//! Fast reading of lines in the plain form, which most lines have: a letter, one blank before each number, and the
-//! line's end right after the last. They are read straight from the buffer; every other line is left to `record`.
+//! Fast reading of lines in the plain form, which most have: a letter, one blank before each number, and the line's end
+//! right after the last. `record` reads all others.
 
 ghost use Rattle.std.specs.Prelude.{◌≡◌, ◌≤◌, ◌∷◌, [], pos, length, IfSome};
 ghost use Rattle.dimacs_records.specs.declared.kinds.TextKind.TheVariants.{Min, Potentials, Labels, Distances};
@@ -12,14 +12,14 @@ use crate::reading::Reading;
 use crate::records::Record;
 use dimacs_lines::PlainNumbers;
 
-/// The length of some of the first lines in the buffer, with their ends.
+/// The size and number of some first lines in the buffer, with their ends.
 #[derive(Clone, Copy)]
 pub(crate) struct PlainLines {
     pub(crate) bytes: usize,
     pub(crate) lines: u64,
 }
 
-/// A record, and the number of bytes of its line with its end.
+/// A record, and the bytes of its line with its end.
 #[derive(Clone, Copy)]
 pub(crate) struct PlainLine {
     pub(crate) size: usize,
@@ -36,7 +36,7 @@ struct NodeLine {
 
 /// Reads the first line, if it has the plain form.
 ///
-/// Each reading `R` gets its own copy, in which the kind is a constant; the compiler drops the forms of other kinds.
+/// Each reading `R` has its own copy, where the kind is a constant and the compiler drops the other forms.
 #[inline]
 pub(crate) fn plain_line<R: Reading>(kind: TextKind, bytes: &[u8]) -> Option<PlainLine>
     ensures { IfSome result (λ line. SpellsFirst kind bytes.now line.rec line.size) }
@@ -52,7 +52,6 @@ pub(crate) fn plain_line<R: Reading>(kind: TextKind, bytes: &[u8]) -> Option<Pla
     }
 }
 
-/// A node or an arc line of an instance of minimum cost flow.
 #[inline(always)]
 fn min_line(bytes: &[u8]) -> Option<PlainLine>
     ensures { IfSome result (λ line. SpellsFirst Min bytes.now line.rec line.size) }
@@ -65,7 +64,6 @@ fn min_line(bytes: &[u8]) -> Option<PlainLine>
     Some(PlainLine { size, rec })
 }
 
-/// A node line of potentials.
 #[inline(always)]
 fn potentials_line(bytes: &[u8]) -> Option<PlainLine>
     ensures { IfSome result (λ line. SpellsFirst Potentials bytes.now line.rec line.size) }
@@ -78,7 +76,6 @@ fn potentials_line(bytes: &[u8]) -> Option<PlainLine>
     Some(PlainLine { size, rec })
 }
 
-/// A node line of distances.
 #[inline(always)]
 fn distances_line(bytes: &[u8]) -> Option<PlainLine>
     ensures { IfSome result (λ line. SpellsFirst Distances bytes.now line.rec line.size) }
@@ -91,7 +88,6 @@ fn distances_line(bytes: &[u8]) -> Option<PlainLine>
     Some(PlainLine { size, rec })
 }
 
-/// A node line of labels.
 #[inline(always)]
 fn labels_line(bytes: &[u8]) -> Option<PlainLine>
     ensures { IfSome result (λ line. SpellsFirst Labels bytes.now line.rec line.size) }
@@ -131,7 +127,6 @@ fn bounds_line(bytes: &[u8]) -> Option<PlainLine>
     Some(PlainLine { size, rec })
 }
 
-/// A line of a node and a number.
 #[inline(always)]
 fn node_line(bytes: &[u8], letter: u8) -> Option<NodeLine>
     ensures { IfSome result (λ line. IsPlainLine bytes.now letter (Id ∷ Whole ∷ []) (Amount (pos line.id) ∷ Amount line.number ∷ []) line.size) }
@@ -143,7 +138,6 @@ fn node_line(bytes: &[u8], letter: u8) -> Option<NodeLine>
     Some(NodeLine { size, id, number })
 }
 
-/// A line of two nodes and a number.
 #[inline(always)]
 fn arc_line(kind: TextKind, letter: u8, bytes: &[u8]) -> Option<PlainLine>
     ensures { IfSome result (λ line. SpellsFirst kind bytes.now line.rec line.size) }
@@ -157,7 +151,7 @@ fn arc_line(kind: TextKind, letter: u8, bytes: &[u8]) -> Option<PlainLine>
     Some(PlainLine { size, rec })
 }
 
-/// The record of a line with two nodes and a number, if the kind has such lines with this letter.
+/// None if lines of the kind with this letter aren't two nodes and a number.
 #[inline(always)]
 fn arc_record(kind: TextKind, letter: u8, tail: u32, head: u32, number: i64) -> Option<Record>
     ensures { IfSome result (λ rec. SpellsArc kind letter tail head number rec) }

@@ -15,7 +15,7 @@ pub enum Part<'a> {
     Wide(i128),
 }
 
-/// Puts a line: a word, then the fields, each after one blank.
+/// Writes a line: a word, then the fields, each after one blank.
 pub fn put_line<S: Sink>(sink: &mut S, word: &[u8], parts: &[Part<'_>]) -> Result<(), DeviceFault>
     ensures { Puts result (S.seen sink.old) (printed_line word.now parts.now) (S.seen sink.new) }
 {
@@ -24,7 +24,7 @@ pub fn put_line<S: Sink>(sink: &mut S, word: &[u8], parts: &[Part<'_>]) -> Resul
     output.finish(sink)
 }
 
-/// Writes such a line through a buffer.
+/// The same through a buffer.
 pub fn write_line<S: Sink>(output: &mut OutputBuffer, sink: &mut S, word: &[u8], parts: &[Part<'_>])
     ensures { Appends (printed_line word.now parts.now) (S.seen sink.old) output.old (S.seen sink.new) output.new }
 {
@@ -35,7 +35,6 @@ pub fn write_line<S: Sink>(output: &mut OutputBuffer, sink: &mut S, word: &[u8],
     output.write(sink, b"\n");
 }
 
-/// Writes a blank and then the field.
 #[inline(always)]
 fn write_part<S: Sink>(output: &mut OutputBuffer, sink: &mut S, part: &Part<'_>)
     ensures { Appends (after_blank (printed part.now)) (S.seen sink.old) output.old (S.seen sink.new) output.new }

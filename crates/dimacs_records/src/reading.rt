@@ -7,10 +7,10 @@ ghost use Rattle.dimacs_records.specs.Readings.{LineRecord, records_of, on_line,
 use crate::faults::TakeError;
 use crate::records::Record;
 
-/// Takes the records of a text in order and gives a value at the end. Refuses what its kind of text forbids.
+/// Takes the records of a text in order, and gives a value at the end. Refuses what its kind of text forbids.
 ///
-/// The specification relates a reading to lists of records with line numbers. It is a relation, not a function, since a
-/// reading needn't keep all of its records: one that drops the line numbers stands for the same records on any lines.
+/// `stands_for` relates a reading to records with line numbers. It is a relation, since a reading needn't keep
+/// everything: one without line numbers stands for the same records on any lines.
 pub trait Reading: Drop {
     /// What the text is read into.
     type Value;
@@ -22,12 +22,11 @@ pub trait Reading: Drop {
     /// Which value the records of a text give.
     ghost gives: { List LineRecord → Self.Value → Type 0 };
 
-    /// A fact that links the final value to the reading it started from, whatever records came between. A reading that
-    /// starts empty leaves this out.
+    /// How the value depends on the reading before its first record. A reading that starts empty leaves this out.
     ghost keeps: { Self → Self.Value → Type 0 } = { λ _ _. ⊤ };
 
-    /// Takes the record of the line with this number; lines come in order. It succeeds only if no condition of the kind
-    /// holds; `Refused` names the first that does. After an error the reading is unchanged.
+    /// Takes the record of the line with this number; lines come in order. `Refused` has the first condition of the
+    /// kind that holds. After an error the reading is unchanged.
     fn take(&mut self, line: u64, rec: Record) -> Result<(), TakeError>
         requires of_kind { IsOfKind (kind self.old) rec }
         ensures kind { kind self.new ≡ kind self.old }
@@ -37,8 +36,7 @@ pub trait Reading: Drop {
         ensures unchanged { OnErr result ((rs : List LineRecord) → stands_for self.new rs ↔ stands_for self.old rs) }
         ensures kept { (value : Self.Value) → keeps self.new value → keeps self.old value };
 
-    /// The value of the records. It succeeds only if no condition of the end holds; `Refused` names the first that
-    /// does.
+    /// The value of the records. `Refused` has the first condition of the end that holds.
     fn finish(self) -> Result<Self::Value, TakeError>
         ensures given { IfOk result (λ value. (rs : List LineRecord) → stands_for self rs → gives rs value) }
         ensures complete { OnOk result ((rs : List LineRecord) → stands_for self rs → IsComplete (kind self) (records_of rs)) }

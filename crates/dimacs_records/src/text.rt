@@ -1,4 +1,4 @@
-//! What all kinds of text have in common: a value can be read, written and shown.
+//! What all kinds of text have in common.
 
 ghost use Rattle.std.specs.Prelude.{◌≡◌, ℕ, List, Some, IfOk};
 ghost use Rattle.dimacs_lines.specs.Lines.{lines};
@@ -21,19 +21,19 @@ pub trait Text: Drop {
     /// The mathematical value.
     ghost Content: { Type 0 };
 
-    /// The mathematical value of this one; it doesn't depend on capacities of lists.
+    /// The mathematical value of this one, whatever the capacities of its lists.
     ghost content: { Self → Content };
 
     /// Which bytes spell which value.
     ghost spells: { List ℕ → Content → Type 0 };
 
-    /// What holds of every value that was read from a text.
+    /// What holds of every value that was read.
     ghost lawful: { Content → Type 0 };
 
     /// The canonical text of a value.
     ghost canonical: { Content → List ℕ };
 
-    /// The line that `show` puts.
+    /// The line that `show` writes.
     ghost shown: { Content → List ℕ };
 
     /// The kind of text, as a value.
@@ -46,11 +46,11 @@ pub trait Text: Drop {
         ensures faults { CountsRead result (S.faults source.old) (S.faults source.new) }
         ensures lawful { IfOk result (λ value. lawful (content value)) };
 
-    /// Puts the canonical text of the value.
+    /// Writes the canonical text of the value.
     fn write<K: Sink>(&self, sink: &mut K) -> Result<(), DeviceFault>
         ensures puts { Puts result (K.seen sink.old) (canonical (content self.now)) (K.seen sink.new) };
 
-    /// Puts one line about the value, which begins with `i`.
+    /// Writes one line about the value, which begins with `i`.
     fn show<K: Sink>(&self, sink: &mut K) -> Result<(), DeviceFault>
         ensures puts { Puts result (K.seen sink.old) (shown (content self.now)) (K.seen sink.new) };
 }

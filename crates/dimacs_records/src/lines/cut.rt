@@ -10,7 +10,6 @@ use crate::faults::LineFault;
 use crate::field_reader::FieldReader;
 use crate::records::Record;
 
-/// Reads a line that begins with this letter.
 #[inline(always)]
 pub(super) fn record(letter: &[u8], fields: FieldReader) -> Result<Option<Record>, LineFault>
     requires { IsUntouched fields }
