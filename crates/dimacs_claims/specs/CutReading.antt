@@ -15,7 +15,7 @@ pub record CutBegun : Type 0 where
   pub declared : ℕ
   pub cut : CutValue
 
--- these records may have been taken
+-- these records may lead to this state
 pub record IsCutBegunBy (begun : CutBegun) (rs : List Record) : Type 0 where
   pub named : List ℕ
   pub are_named : AreNamed begun.cut.nodes named
@@ -31,7 +31,7 @@ cut_code = code_by (ℕ × FinSet nat_cmp) (coded× coded_ℕ (set.code coded_�
 abbrev pub begun_code : Coded CutBegun
 begun_code = code_by (ℕ × CutValue) (coded× coded_ℕ cut_code) (λ b. (b.declared, b.cut)) (λ p. record { declared = p.0; cut = p.1 }) (λ _. refl)
 
--- what the tests have to know, after the problem line and these nodes
+-- what the tests need after the problem line and these nodes
 abbrev pub after_lines : CutBegun → Earlier
 after_lines begun = earlier_of (Some (record { nodes = Some begun.cut.nodes; count = begun.declared })) (length (ids_in begun.cut))
 

@@ -55,9 +55,10 @@ pub record AreLabelsBegun (begun : LabelsBegun) : Type 0 where
 -- the table has for each node the number of the last block with a label of it, from 1
 pub record AreLabelled (labelled : NodeTable ℕ) (blocks : List BlockValue) : Type 0 where
   pub few : (id : ℕ) → value_of labelled id ≤ length blocks
-  pub last : (front : List BlockValue) (b : BlockValue) → blocks ≡ front ++ b ∷ [] → (id : ℕ) → (value_of labelled id == length blocks) ≡ is_some (distance_in b.labels id)
+  pub last : (front : List BlockValue) (b : BlockValue) → blocks ≡ front ++ b ∷ [] → (id : ℕ)
+      → (value_of labelled id == length blocks) ≡ is_some (distance_in b.labels id)
 
--- what the tests have to know for a record that concerns no block
+-- what the tests need if blocks don't matter
 abbrev pub after_lines : LabelsBegun → Earlier
 after_lines begun = earlier_of (Some (record { nodes = Some begun.nodes; count = begun.declared })) (length begun.blocks)
 
@@ -79,7 +80,7 @@ before begun (LabelsNode id dist pred) =
     }
 before begun r = after_lines begun
 
--- the same for a line of distances: as for a line of labels, without PRED and RADIUS
+-- the same for a line of distances, which has no PRED and no RADIUS
 abbrev pub before_bare : LabelsBegun → Record → Earlier
 before_bare begun (DistancesBlock source count) = before begun (LabelsBlock source count None)
 before_bare begun (DistancesNode id dist) = record (before begun (LabelsNode id dist id)) { pred_unknown = false; past_radius = false }

@@ -22,7 +22,7 @@ pub record PotentialsBegun : Type 0 where
 abbrev pub potentials_begun : PotentialsBegun → PotentialsValue
 potentials_begun begun = record { nodes = begun.nodes; values = without_zeros begun.values }
 
--- these records may have been taken
+-- these records may lead to this state
 pub record ArePotentialsBegunBy (begun : PotentialsBegun) (rs : List Record) : Type 0 where
   pub named : List (ℕ × ℤ)
   pub name_nodes : NameNodes begun.nodes named
@@ -32,17 +32,19 @@ pub record ArePotentialsBegunBy (begun : PotentialsBegun) (rs : List Record) : T
   pub records : rs ≡ potentials_records begun.nodes begun.declared named
 
 abbrev pub potentials_code : Coded PotentialsValue
-potentials_code = code_by (ℕ × FinMap nat_cmp ℤ) (coded× coded_ℕ (map.code coded_ℕ coded_ℤ)) (λ p. (p.nodes, p.values)) (λ p. record { nodes = p.0; values = p.1 }) (λ _. refl)
+potentials_code = code_by (ℕ × FinMap nat_cmp ℤ) (coded× coded_ℕ (map.code coded_ℕ coded_ℤ))
+    (λ p. (p.nodes, p.values)) (λ p. record { nodes = p.0; values = p.1 }) (λ _. refl)
 
 abbrev pub begun_code : Coded PotentialsBegun
 begun_code =
-    code_by (ℕ × (ℕ × (ℕ × FinMap nat_cmp ℤ))) (coded× coded_ℕ (coded× coded_ℕ (coded× coded_ℕ (map.code coded_ℕ coded_ℤ)))) (λ b. (b.nodes, (b.declared, (b.taken, b.values))))
+    code_by (ℕ × (ℕ × (ℕ × FinMap nat_cmp ℤ))) (coded× coded_ℕ (coded× coded_ℕ (coded× coded_ℕ (map.code coded_ℕ coded_ℤ))))
+    (λ b. (b.nodes, (b.declared, (b.taken, b.values))))
     (λ p. record { nodes = p.0; declared = p.1.0; taken = p.1.1.0; values = p.1.1.1 }) (λ _. refl)
 
 abbrev pub has_line : PotentialsBegun → ℕ → Bool
 has_line begun id = is_some (get begun.values id)
 
--- what the tests have to know, after the problem line and these lines
+-- what the tests need after the problem line and these lines
 abbrev pub after_lines : PotentialsBegun → Earlier
 after_lines begun = earlier_of (Some (record { nodes = Some begun.nodes; count = begun.declared })) begun.taken
 

@@ -23,7 +23,8 @@ StandsForSolution value holds rs = (entries : List Entry) × holds entries × Ar
 
 -- the records give a solution with this value, and with entries that the place stands for
 abbrev pub GivesPlaced : ℤ → ℕ → (List Entry → Type 0) → List LineRecord → Type 0
-GivesPlaced value value_line holds rs = (entries : List Entry) × holds entries × GivesSolution rs (record { value = value; value_line = value_line; entries = entries })
+GivesPlaced value value_line holds rs = (entries : List Entry) × holds entries
+    × GivesSolution rs (record { value = value; value_line = value_line; entries = entries })
 
 -- the solution has this value, and the place stands for its entries
 pub record IsPlaced (value : ℤ) (value_line : ℕ) (holds : List Entry → Type 0) (s : texts.SolutionValue) : Type 0 where

@@ -11,8 +11,8 @@ use dimacs_lines::Memory;
 use std::alloc::Global;
 use std::marker::Model;
 
-/// A claimed distance: node `id` is at distance `dist` from the source, and `pred` is the node before it on a walk of
-/// this weight.
+/// A claimed distance: node `id` is at distance `dist` from the source, and `pred` is its predecessor on a walk of this
+/// weight.
 #[derive(Clone, Copy, Debug, PartialEq, Eq)]
 pub struct Label {
     pub dist: i128,
@@ -20,8 +20,7 @@ pub struct Label {
     pub pred: u32,
 }
 
-/// The labels from one source. A node without a label is claimed to be unreachable or, if there is a radius, farther
-/// than it.
+/// The labels of one source. A node without a label is claimed to be unreachable or, with a radius, farther than it.
 #[derive(Drop)]
 pub struct Block {
     source: u32,
@@ -47,7 +46,7 @@ impl Block {
         Block::within(alloc, source, None)
     }
 
-    /// The block of a source with this radius, if any, and without labels.
+    /// The same with this radius, if any.
     pub(crate) fn within(alloc: Global, source: u32, radius: Option<i128>) -> Block
         ensures { result ≡ record { source = source; radius = radius; labels = [] } }
     {
@@ -80,15 +79,13 @@ impl Block {
         self.source
     }
 
-    /// The greatest distance that the block labels; beyond it nothing is claimed. None if the block claims all
-    /// distances.
+    /// The greatest distance that the block covers; none if it covers all distances.
     pub fn radius(&self) -> Option<i128>
         ensures { result ≡ self.now.radius }
     {
         self.radius
     }
 
-    /// Whether a distance is greater than the radius.
     #[inline(always)]
     pub(crate) fn is_past(&self, dist: i128) -> bool
         ensures { result ≡ is_past self.now.radius dist }

@@ -73,7 +73,7 @@ impl Cut {
         self.len
     }
 
-    /// Whether the set has this node. An ID above the number of nodes isn't in it. Allocates nothing.
+    /// Whether the set has this node; false for an ID above the number of nodes.
     #[inline]
     pub fn contains(&self, id: u32) -> bool
         ensures { result ≡ set.contains self.now.ids id }
@@ -96,7 +96,7 @@ impl Cut {
     }
 }
 
-/// Reads a set of nodes from the records of a text.
+/// Reads the records of a set of nodes.
 pub type CutReading = CountedReading<BegunCut>;
 
 /// A set of nodes while its text is read: the nodes after the problem line.

@@ -1,4 +1,4 @@
-//! Distances: what a shortest path solver claims, without predecessors.
+//! Distances: claims without predecessors.
 
 ghost use Rattle.std.specs.Prelude.{◌≡◌, ◌<◌, ◌≤◌, ◌∷◌, [], ℕ, List, Some, OnOk, OnErr, IfOk, IfSome, length, map, refl};
 ghost use Rattle.std.specs.List.{All};
@@ -22,8 +22,7 @@ use dimacs_records::{Begun, CountedReading, Earlier, ReadError, Record, TextKind
 use std::alloc::Global;
 use std::marker::Model;
 
-/// Claimed distances in blocks, one for each source. They are stored as labels whose predecessors are all the source,
-/// since no predecessors are claimed.
+/// Claimed distances in blocks, one for each source. They are kept as labels whose predecessor is the source.
 #[derive(Drop)]
 pub struct Distances {
     labels: Labels,
@@ -51,8 +50,7 @@ impl Distances {
         }
     }
 
-    /// Adds a block of a source that has none yet. The block has no radius, and the source is the predecessor of each
-    /// label.
+    /// Adds a block of a source that has none yet. It has no radius, and its source is the predecessor of each label.
     pub fn push(&mut self, block: Block) -> Result<(), Memory>
         requires lawful { IsBlock self.old.nodes block }
         requires bare { IsBare block }
@@ -64,7 +62,7 @@ impl Distances {
         self.labels.push(block)
     }
 
-    /// Indexes the distances of each block by ID, as [`Labels::index`] does.
+    /// As [`Labels::index`].
     pub fn index(&mut self) -> Result<(), Memory>
         ensures { self.new ≡ self.old }
     {
@@ -86,8 +84,7 @@ impl Distances {
         self.labels.blocks()
     }
 
-    /// The distance that a block claims for a node, as [`Labels::label`]: 0 at its source, none if the node is claimed
-    /// to be unreachable.
+    /// As [`Labels::label`]; none if the node is claimed to be unreachable.
     #[inline]
     pub fn distance(&self, block: usize, id: u32) -> Option<i128>
         ensures distance { result ≡ label_at self.now.blocks block id }
@@ -105,7 +102,7 @@ impl Distances {
     }
 }
 
-/// Reads distances from the records of a text.
+/// Reads the records of distances.
 pub type DistancesReading = CountedReading<BegunDistances>;
 
 /// Distances while their text is read: the blocks after the problem line.

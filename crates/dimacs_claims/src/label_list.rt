@@ -37,7 +37,6 @@ impl LabelList {
         }
     }
 
-    /// Appends a label.
     #[inline(always)]
     pub(crate) fn push(&mut self, label: Label) -> Result<(), Memory>
         ensures pushed { OnOk result (self.new ≡ self.old ++ label ∷ []) }
@@ -61,7 +60,7 @@ impl LabelList {
         self.labels.is_empty()
     }
 
-    /// The label that was added first; none in an empty list.
+    /// The first label; none in an empty list.
     pub fn first(&self) -> Option<Label>
         ensures { result ≡ slice_get self.now 0 }
     {

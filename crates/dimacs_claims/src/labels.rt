@@ -84,8 +84,8 @@ impl Labels {
         Ok(self.blocks.push(block)?)
     }
 
-    /// Indexes the labels of each block by ID, so that `label` takes logarithmic time. Takes 4 bytes a label. Blocks
-    /// that are indexed already are skipped. After an error the labels are the same, some with an index.
+    /// Indexes the labels of each block by ID, if they aren't yet. Then `label` takes logarithmic time. Takes 4 bytes a
+    /// label. After an error some blocks may be indexed.
     pub fn index(&mut self) -> Result<(), Memory>
         ensures { self.new ≡ self.old }
     {
@@ -107,9 +107,8 @@ impl Labels {
         &self.blocks
     }
 
-    /// The distance that a block claims for a node: 0 at its source, none if the node has no label. Blocks count from
-    /// 0; a block or a node that doesn't exist has none. Allocates nothing. Takes logarithmic time in an indexed block,
-    /// otherwise time in proportion to its labels.
+    /// The distance that a block claims for a node: 0 at its source; none without a label, and if the block or the node
+    /// doesn't exist. Blocks count from 0. Takes logarithmic time in an indexed block, otherwise linear time.
     #[inline]
     pub fn label(&self, block: usize, id: u32) -> Option<i128>
         ensures label { result ≡ label_at self.now.blocks block id }
@@ -136,7 +135,7 @@ fn index_others(blocks: &[Block], indices: &mut Vec<ById>) -> Result<(), Memory>
     Ok(())
 }
 
-/// Reads labels from the records of a text, without an index of them.
+/// Reads the records of labels, without an index of them.
 pub type LabelsReading = CountedReading<BegunLabels>;
 
 /// Labels while their text is read: the blocks after the problem line.
@@ -166,7 +165,7 @@ impl Model for BegunLabels {
 }
 
 impl BegunLabels {
-    /// The state after a problem line that declares so many nodes and blocks.
+    /// The state after the problem line.
     pub(crate) fn new(alloc: Global, nodes: u32, declared: u32) -> BegunLabels
         requires nodes { nodes ≤ most_nodes }
         requires declared { declared ≤ most_count }
@@ -196,7 +195,6 @@ impl BegunLabels {
         }
     }
 
-    /// The number of blocks.
     #[inline(always)]
     fn len(&self) -> u32
         ensures { result ≡ length self.now.blocks }
@@ -224,7 +222,7 @@ impl BegunLabels {
         }
     }
 
-    /// What the tests have to know for a record that concerns no block.
+    /// What the tests need if blocks don't matter.
     #[inline(always)]
     pub(crate) fn after_lines(&self) -> Earlier
         ensures { result ≡ after_lines self.now }
@@ -234,7 +232,7 @@ impl BegunLabels {
         Earlier::of(Some(Declared { nodes, count }), self.len())
     }
 
-    /// What the tests have to know for a new block of this source.
+    /// What the tests of a new block of this source need.
     #[inline(always)]
     pub(crate) fn before_block(&self, source: u32) -> Earlier
         ensures { (count : ℕ) (radius : Option ℤ) → result ≡ before self.now (LabelsBlock source count radius) }
@@ -245,7 +243,7 @@ impl BegunLabels {
         }
     }
 
-    /// What the tests have to know for one more label.
+    /// What the tests of one more label need.
     #[inline(always)]
     pub(crate) fn before_label(&self, label: Label) -> Earlier
         ensures { result ≡ before self.now (label_line label) }
@@ -313,7 +311,6 @@ impl BegunLabels {
     }
 }
 
-/// Adds a label to the last block, of which there is one.
 #[inline(always)]
 fn add_to_last(blocks: &mut Vec<Block>, label: Label) -> Result<(), Memory>
     requires { (front : List BlockValue) × (b : BlockValue) × (blocks.old.items ≡ front ++ b ∷ []) × (claims.label b label.id ≡ None) }
@@ -418,7 +415,7 @@ pub fn write_labels<S: Sink>(labels: &Labels, sink: &mut S) -> Result<(), Device
     write_in_kind(TextKind::Labels, labels, sink)
 }
 
-/// Writes labels as a text of this kind: labels or distances. Inlined, so that the kind is a constant in each copy.
+/// Writes labels as a text of this kind: labels or distances. Inlined: the kind is a constant in each copy.
 #[inline(always)]
 pub(crate) fn write_in_kind<S: Sink>(
     kind: TextKind,
@@ -443,7 +440,6 @@ pub(crate) fn write_in_kind<S: Sink>(
     output.finish(sink)
 }
 
-/// Writes the line of a block and the lines of its labels.
 #[inline(always)]
 fn write_block<S: Sink>(output: &mut OutputBuffer, sink: &mut S, kind: TextKind, block: &Block)
     requires { length block.now.labels ≤ most_count }
@@ -470,7 +466,7 @@ fn write_block<S: Sink>(output: &mut OutputBuffer, sink: &mut S, kind: TextKind,
     );
 }
 
-/// A line of labels as a text of this kind has it.
+/// A line of labels as a line of this kind.
 #[inline(always)]
 fn in_kind(kind: TextKind, rec: Record) -> Record
     ensures { result ≡ in_kind kind rec }
@@ -494,7 +490,6 @@ fn bare(rec: Record) -> Record
     }
 }
 
-/// The line of a label.
 #[inline(always)]
 fn label_record(label: Label) -> Record
     ensures { result ≡ label_line label }

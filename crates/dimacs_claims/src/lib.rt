@@ -1,5 +1,4 @@
-//! Claims and certificates: solutions, cuts, potentials, labels and distances. They are read from texts, and written in
-//! the canonical form.
+//! Claims and certificates: solutions, cuts, potentials, labels and distances, read and written.
 #![tactic(auto)]
 
 mod block;

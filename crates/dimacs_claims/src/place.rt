@@ -8,8 +8,8 @@ use dimacs_lines::Memory;
 
 /// Receives the entries of a solution one after another.
 ///
-/// The specification relates a place to lists of entries. It is a relation, not a function, since a place needn't keep
-/// the entries: it may keep only what follows from them.
+/// `stands_for` relates a place to lists of entries. It is a relation, since a place may keep only what it needs of
+/// them.
 pub trait Place: Drop {
     ghost stands_for: { Self → List Entry → Type 0 };
 

@@ -65,7 +65,7 @@ impl Potentials {
         self.nodes
     }
 
-    /// The potential of a node; 0 for an ID above the number of nodes. Allocates nothing.
+    /// The potential of a node; 0 for an ID above the number of nodes.
     #[inline]
     pub fn of(&self, id: u32) -> i128
         ensures value { result ≡ potential_of self.now id }
@@ -98,7 +98,7 @@ impl Potentials {
     }
 }
 
-/// Reads potentials from the records of a text.
+/// Reads the records of potentials.
 pub type PotentialsReading = CountedReading<BegunPotentials>;
 
 /// Potentials while their text is read: the lines after the problem line.

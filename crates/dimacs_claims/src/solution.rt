@@ -21,8 +21,8 @@ use dimacs_records::{
 };
 use std::alloc::Global;
 
-/// A claimed flow: its value or cost, and the flows of arcs. The fields are public and may hold anything;
-/// `read_solution` promises that what it reads is lawful.
+/// A claimed flow: its value or cost, and the flows of arcs. The fields may hold anything; what `read_solution` reads
+/// is lawful.
 #[derive(Debug, PartialEq, Eq, Drop)]
 pub struct Solution {
     pub value: i128,
@@ -43,7 +43,6 @@ pub struct Entry {
 }
 
 impl Entry {
-    /// The line of an entry.
     #[inline(always)]
     fn record(&self) -> Record
         ensures { result ≡ entry_record self.now }
@@ -63,8 +62,7 @@ pub(crate) struct ValueLine {
     line: u64,
 }
 
-/// Reads a solution from the records of a text: passes the entries to a place, and keeps the value, which may come at
-/// any position.
+/// Reads the records of a solution. Passes the entries to a place, and keeps the value, which may come anywhere.
 #[derive(Drop)]
 pub struct SolutionReading<P: Place> {
     value: Option<ValueLine>,
@@ -72,7 +70,7 @@ pub struct SolutionReading<P: Place> {
 }
 
 impl<P: Place> SolutionReading<P> {
-    /// A reading before the first record; `place` has no entries yet.
+    /// A reading before the first record.
     pub fn new(place: P) -> SolutionReading<P>
         ensures begins { (entries : List Entry) → P.stands_for place entries
             → StandsForSolution result.value (P.stands_for result.place) (map entry_line entries) }
@@ -81,7 +79,7 @@ impl<P: Place> SolutionReading<P> {
         SolutionReading { value: None, place }
     }
 
-    /// What the tests have to know for a value, or for the end.
+    /// What the tests of a value, or of the end, need.
     #[inline(always)]
     fn earlier(&self) -> Earlier
         ensures { result ≡ earlier_value self.now.value }
@@ -137,8 +135,8 @@ impl<P: Place> Reading for SolutionReading<P> {
     }
 }
 
-/// Reads a text of a solution. Arcs aren't compared with an instance here. `docs/TEXTS.md` has the rules and the order
-/// of faults.
+/// Reads a text of a solution, without comparing it with an instance. `docs/TEXTS.md` has the rules and the order of
+/// faults.
 pub fn read_solution<S: Source>(alloc: Global, source: &mut S) -> Result<Solution, ReadError>
     ensures reads { (text : List ℕ) → S.coming source.old ≡ Some text
         → Reads (SpellsSolution text) (Fault kinds.Solution (lines text)) (result_map_both claimed (λ e. e) result) }
@@ -153,8 +151,7 @@ pub fn read_solution<S: Source>(alloc: Global, source: &mut S) -> Result<Solutio
     })
 }
 
-/// Reads a text of a solution, and passes each entry to the place as soon as it is read. The result is that of
-/// `read_solution`, with the place instead of the entries.
+/// Like `read_solution`, but passes each entry to the place as soon as it is read.
 pub fn read_solution_into<P: Place, S: Source>(
     alloc: Global,
     place: P,
@@ -176,7 +173,7 @@ pub fn read_solution_into<P: Place, S: Source>(
     )
 }
 
-/// Writes the canonical text of a solution. It has the value on line 1 and the entries on the lines after it.
+/// Writes the canonical text of a solution: the value on line 1, then the entries.
 pub fn write_solution<S: Sink>(solution: &Solution, sink: &mut S) -> Result<(), DeviceFault>
     ensures puts { Puts result (S.seen sink.old) (canonical_solution (claimed solution.now)) (S.seen sink.new) }
     ensures round_trip { IsLawful (claimed solution.now) → SpellsSolution (canonical_solution (claimed solution.now)) (renumbered (claimed solution.now)) }

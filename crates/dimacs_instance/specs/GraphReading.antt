@@ -28,6 +28,6 @@ pub record IsGraphBegun (begun : GraphBegun) : Type 0 where
 abbrev pub graph_begun_records : GraphBegun → List Record
 graph_begun_records begun = GraphProblem begun.nodes begun.declared ∷ map graph_arc begun.arcs
 
--- what the tests have to know, after the problem line and these arcs
+-- what the tests need after the problem line and these arcs
 abbrev pub after_lines : GraphBegun → Earlier
 after_lines begun = earlier_of (Some (record { nodes = Some begun.nodes; count = begun.declared })) (length begun.arcs)

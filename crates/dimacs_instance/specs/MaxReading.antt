@@ -40,7 +40,8 @@ EndsAreDistinct ends = Unit {0}
 
 -- the node lines of source and sink, in either order
 abbrev pub AreEnds : EndLines → ℕ → ℕ → Type 0
-AreEnds ends source sink = (ends ≡ Both (record { node = source; end = Source }) (record { node = sink; end = Sink })) ⊎ (ends ≡ Both (record { node = sink; end = Sink }) (record { node = source; end = Source }))
+AreEnds ends source sink = (ends ≡ Both (record { node = source; end = Source }) (record { node = sink; end = Sink }))
+    ⊎ (ends ≡ Both (record { node = sink; end = Sink }) (record { node = source; end = Source }))
 
 -- the node lines name nodes of the instance
 abbrev pub AreNodes : ℕ → EndLines → Type 0
@@ -71,14 +72,14 @@ pub record MaxCount : Type 0 where
 abbrev pub count_of : MaxBegun → MaxCount
 count_of begun = record { nodes = begun.nodes; declared = begun.declared; ends = begun.ends; arcs = length begun.arcs }
 
--- these records may have been taken; their arcs are counted
+-- these records may lead to this state; their arcs are counted
 pub record IsMaxCountedBy (counted : MaxCount) (rs : List Record) : Type 0 where
   pub begun : MaxBegun
   pub is_begun : IsMaxBegun begun
   pub records : rs ≡ max_begun_records begun
   pub counts : counted ≡ count_of begun
 
--- what the tests have to know for a record that isn't about source and sink
+-- what the tests need if source and sink don't matter
 abbrev pub after_lines : MaxCount → Earlier
 after_lines counted = earlier_of (Some (record { nodes = Some counted.nodes; count = counted.declared })) counted.arcs
 

@@ -22,7 +22,8 @@ max_records m ends = MaxProblem m.nodes (length m.arcs) ∷ ends.0 ∷ ends.1 �
 
 -- the node lines may come in either order
 abbrev pub GivesMax : List LineRecord → MaxValue → Type 0
-GivesMax rs m = ((records_of rs ≡ max_records m (MaxNode m.source Source, MaxNode m.sink Sink)) ⊎ (records_of rs ≡ max_records m (MaxNode m.sink Sink, MaxNode m.source Source))) × IsMax m
+GivesMax rs m = ((records_of rs ≡ max_records m (MaxNode m.source Source, MaxNode m.sink Sink))
+    ⊎ (records_of rs ≡ max_records m (MaxNode m.sink Sink, MaxNode m.source Source))) × IsMax m
 
 -- the text spells this instance
 abbrev pub SpellsMax : List ℕ → MaxValue → Type 0

@@ -10,7 +10,8 @@ use Rattle.dimacs_instance.specs.MinReading.{MinBegun, MinCount}
 
 abbrev arc_code : Coded ArcView
 arc_code =
-    code_by (ℕ × (ℕ × (ℤ × (ℤ × ℤ)))) (coded× coded_ℕ (coded× coded_ℕ (coded× coded_ℤ (coded× coded_ℤ coded_ℤ)))) (λ a. (a.tail, (a.head, (a.low, (a.cap, a.cost)))))
+    code_by (ℕ × (ℕ × (ℤ × (ℤ × ℤ)))) (coded× coded_ℕ (coded× coded_ℕ (coded× coded_ℤ (coded× coded_ℤ coded_ℤ))))
+    (λ a. (a.tail, (a.head, (a.low, (a.cap, a.cost)))))
     (λ p. record { tail = p.0; head = p.1.0; low = p.1.1.0; cap = p.1.1.1.0; cost = p.1.1.1.1 }) (λ _. refl)
 
 abbrev supplies_code : Coded (FinMap nat_cmp ℤ)
@@ -23,10 +24,12 @@ min_code =
 
 abbrev pub begun_code : Coded MinBegun
 begun_code =
-    code_by (ℕ × (ℕ × (FinMap nat_cmp ℤ × List ArcView))) (coded× coded_ℕ (coded× coded_ℕ (coded× supplies_code (coded_list arc_code)))) (λ b. (b.nodes, (b.declared, (b.supplies, b.arcs))))
+    code_by (ℕ × (ℕ × (FinMap nat_cmp ℤ × List ArcView))) (coded× coded_ℕ (coded× coded_ℕ (coded× supplies_code (coded_list arc_code))))
+    (λ b. (b.nodes, (b.declared, (b.supplies, b.arcs))))
     (λ p. record { nodes = p.0; declared = p.1.0; supplies = p.1.1.0; arcs = p.1.1.1 }) (λ _. refl)
 
 abbrev pub count_code : Coded MinCount
 count_code =
-    code_by (ℕ × (ℕ × (FinMap nat_cmp ℤ × ℕ))) (coded× coded_ℕ (coded× coded_ℕ (coded× supplies_code coded_ℕ))) (λ c. (c.nodes, (c.declared, (c.supplies, c.arcs))))
+    code_by (ℕ × (ℕ × (FinMap nat_cmp ℤ × ℕ))) (coded× coded_ℕ (coded× coded_ℕ (coded× supplies_code coded_ℕ)))
+    (λ c. (c.nodes, (c.declared, (c.supplies, c.arcs))))
     (λ p. record { nodes = p.0; declared = p.1.0; supplies = p.1.1.0; arcs = p.1.1.1 }) (λ _. refl)

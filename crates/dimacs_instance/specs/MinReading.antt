@@ -35,7 +35,7 @@ pub record IsMinBegun (begun : MinBegun) : Type 0 where
   pub joined : All (JoinsNodes begun.nodes) begun.arcs
   pub bounds : All HasBounds begun.arcs
 
--- these records may have been taken
+-- these records may lead to this state
 pub record IsMinBegunBy (begun : MinBegun) (rs : List Record) : Type 0 where
   pub named : List (ℕ × ℤ)
   pub name_nodes : NameNodes begun.nodes named
@@ -56,7 +56,7 @@ count_of begun = record { nodes = begun.nodes; declared = begun.declared; suppli
 abbrev pub without_arcs : MinCount → MinBegun
 without_arcs counted = record { nodes = counted.nodes; declared = counted.declared; supplies = counted.supplies; arcs = [] }
 
--- these records may have been taken; their arcs are counted
+-- these records may lead to this state; their arcs are counted
 pub record IsMinCountedBy (counted : MinCount) (rs : List Record) : Type 0 where
   pub begun : MinBegun
   pub is_begun : IsMinBegun begun
@@ -66,7 +66,7 @@ pub record IsMinCountedBy (counted : MinCount) (rs : List Record) : Type 0 where
 abbrev pub has_line : MinCount → ℕ → Bool
 has_line counted id = is_some (get counted.supplies id)
 
--- what the tests have to know, after the problem line, these node lines and arcs
+-- what the tests need after the problem line, these node lines and arcs
 abbrev pub after_lines : MinCount → Earlier
 after_lines counted = earlier_of (Some (record { nodes = Some counted.nodes; count = counted.declared })) counted.arcs
 

@@ -28,7 +28,7 @@ are_others (SourceQuery id) (Pairs pairs) = true
 are_others (PairQuery from to) (Sources ids) = true
 are_others r queries = false
 
--- what the tests have to know, after the problem line and these queries
+-- what the tests need after the problem line and these queries
 abbrev pub after_lines : QueriesBegun → Earlier
 after_lines begun = earlier_of (Some (record { nodes = None; count = begun.declared })) (length (query_lines begun.queries))
 

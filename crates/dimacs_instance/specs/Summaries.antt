@@ -37,7 +37,7 @@ SumsUpGraph s g = s ≡ graph_summary g
 abbrev pub graph_summary_line : GraphSummary → List ℕ
 graph_summary_line s = shown (codes "sp" ∷ decimal s.nodes ∷ decimal s.arcs ∷ [])
 
--- these records may have been taken; their arcs are counted
+-- these records may lead to this state; their arcs are counted
 pub record IsGraphCountedBy (c : CountedGraph) (rs : List Record) : Type 0 where
   pub begun : GraphBegun
   pub is_begun : IsGraphBegun begun
@@ -46,7 +46,7 @@ pub record IsGraphCountedBy (c : CountedGraph) (rs : List Record) : Type 0 where
   pub declared : c.declared ≡ begun.declared
   pub arcs : c.arcs ≡ length begun.arcs
 
--- what the tests have to know, after the problem line and these arcs
+-- what the tests need after the problem line and these arcs
 abbrev pub counted_lines : CountedGraph → Earlier
 counted_lines c = earlier_of (Some (record { nodes = Some c.nodes; count = c.declared })) c.arcs
 

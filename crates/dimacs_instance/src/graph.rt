@@ -49,7 +49,7 @@ impl Graph<PlainArcs<WeightArc>> {
         }
     }
 
-    /// Adds an arc. `Memory` leaves the graph unchanged.
+    /// Adds an arc.
     #[inline(always)]
     pub fn push(&mut self, arc: WeightArc) -> Result<(), Memory>
         requires tail { IsNode self.old.nodes arc.tail }
@@ -63,7 +63,7 @@ impl Graph<PlainArcs<WeightArc>> {
 }
 
 impl<N: Network> Graph<N> {
-    /// The graph over a network that has its arcs already. Allocates nothing.
+    /// The graph over a network with its arcs. Allocates nothing.
     pub fn over(network: N) -> Graph<N>
         requires { IsGraph (record { nodes = N.node_count network; arcs = N.list network }) }
         ensures { result ≡ record { nodes = N.node_count network; arcs = N.list network } }
@@ -82,7 +82,7 @@ impl<N: Network> Graph<N> {
 }
 
 impl<A: KeptArc> Graph<PlainArcs<A>> {
-    /// The same graph with an index of its arcs by their ends. `Memory` drops the graph.
+    /// The same graph with an index of its arcs by their ends. An error drops it.
     pub fn indexed(self, alloc: Global) -> Result<Graph<ForwardStar<A>>, Memory>
         ensures { IfOk result (λ indexed. indexed ≡ self) }
     {
@@ -103,10 +103,10 @@ impl<A: KeptArc> Graph<ForwardStar<A>> {
     }
 }
 
-/// Reads a graph from the records of a text.
+/// Reads the records of a graph.
 pub type GraphReading = CountedReading<BegunGraph<ForwardStar<WeightArc>>>;
 
-/// Reads a graph from the records of a text, without an index of its arcs.
+/// The same, without an index of its arcs.
 pub type PlainGraphReading = CountedReading<BegunGraph<PlainArcs<WeightArc>>>;
 
 /// A graph while its text is read: the arcs after the problem line.
@@ -198,7 +198,7 @@ pub fn read_graph<S: Source>(
     read_counted::<BegunGraph<ForwardStar<WeightArc>>, S>(alloc, source)
 }
 
-/// Reads the text of a graph, without an index of its arcs.
+/// The same, without an index of its arcs.
 pub fn read_plain_graph<S: Source>(
     alloc: Global,
     source: &mut S,
@@ -229,7 +229,6 @@ pub fn write_graph<N: Network, S: Sink>(graph: &Graph<N>, sink: &mut S) -> Resul
     )
 }
 
-/// The line of an arc. Its `cost` is its weight.
 #[inline(always)]
 fn arc_record(arc: ArcView) -> Record
     ensures { result ≡ graph_arc arc }

@@ -1,5 +1,4 @@
-//! Instances and queries: reading them, writing them in the canonical form, describing them on one line, and building
-//! them.
+//! Instances and queries: reading, writing, showing and building them.
 #![tactic(auto)]
 
 mod graph;

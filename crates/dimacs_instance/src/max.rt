@@ -71,7 +71,7 @@ impl<N: Network> MaxInstance<N> {
 }
 
 impl<A: KeptArc> MaxInstance<PlainArcs<A>> {
-    /// The same instance with an index of its arcs by their ends. `Memory` drops the instance.
+    /// The same instance with an index of its arcs by their ends. An error drops it.
     pub fn indexed(self, alloc: Global) -> Result<MaxInstance<ForwardStar<A>>, Memory>
         ensures { IfOk result (λ indexed. indexed ≡ self) }
     {
@@ -96,10 +96,10 @@ impl<A: KeptArc> MaxInstance<ForwardStar<A>> {
     }
 }
 
-/// Reads a maximum flow instance from the records of a text.
+/// Reads the records of a maximum flow instance.
 pub type MaxReading = CountedReading<BegunMax<ForwardStar<CapacityArc>>>;
 
-/// Reads a maximum flow instance from the records of a text, without an index of its arcs.
+/// The same, without an index of its arcs.
 pub type PlainMaxReading = CountedReading<BegunMax<PlainArcs<CapacityArc>>>;
 
 /// A node line: it names the source or the sink.
@@ -118,7 +118,6 @@ pub(crate) enum EndLines {
 }
 
 impl EndLines {
-    /// Whether a line names this node.
     pub(crate) fn names(self, node: u32) -> bool
         ensures { result ≡ list_any (names node) (end_records self) }
     {
@@ -129,7 +128,6 @@ impl EndLines {
         }
     }
 
-    /// Whether a line names this end.
     pub(crate) fn has(self, end: End) -> bool
         ensures { result ≡ list_any (is_end_node end) (end_records self) }
     {
@@ -140,7 +138,6 @@ impl EndLines {
         }
     }
 
-    /// Whether the source or the sink isn't named yet.
     #[inline(always)]
     pub(crate) fn lacks_end(self) -> bool
         ensures { result ≡ lacks_end (end_records self) }
@@ -151,7 +148,7 @@ impl EndLines {
         }
     }
 
-    /// The source and the sink, in this order; both have to be named.
+    /// The source, then the sink.
     pub(crate) fn in_order(self) -> (u32, u32)
         requires distinct { EndsAreDistinct self }
         requires both { lacks_end (end_records self) ≡ false }
@@ -202,7 +199,6 @@ impl<N: OfCapacityArcs> Model for BegunMax<N> {
 }
 
 impl<N: OfCapacityArcs> BegunMax<N> {
-    /// The same with the arcs only counted.
     #[inline(always)]
     fn counted(&self) -> CountedMax
         ensures { result ≡ count_of self.now }
@@ -296,7 +292,7 @@ pub fn read_max<S: Source>(
     read_counted::<BegunMax<ForwardStar<CapacityArc>>, S>(alloc, source)
 }
 
-/// Reads the text of a maximum flow instance, without an index of its arcs.
+/// The same, without an index of its arcs.
 pub fn read_plain_max<S: Source>(
     alloc: Global,
     source: &mut S,
@@ -347,7 +343,6 @@ fn node_lines<N: Network>(max: &MaxInstance<N>) -> (Record, Record)
     }
 }
 
-/// The line of an arc.
 #[inline(always)]
 fn arc_record(arc: ArcView) -> Record
     ensures { result ≡ max_arc arc }

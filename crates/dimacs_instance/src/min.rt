@@ -30,7 +30,7 @@ use std::marker::{Model, PhantomData};
 /// takes flow out.
 #[derive(Drop)]
 pub struct MinInstance<N: Network> {
-    /// The supplies of the nodes that were named, even if they are 0.
+    /// The supplies of the named nodes, some perhaps 0.
     pub(crate) supplies: NodeMap<i64>,
     pub(crate) network: N,
 }
@@ -57,7 +57,6 @@ pub struct SupplySums {
 }
 
 impl SupplySums {
-    /// The sums with one more supply.
     #[inline]
     fn with(self, supply: i64) -> SupplySums
         requires supplied { (pos 0 ≤ℤ self.supplied) × (self.supplied <ℤ pos (2 ^ 100)) }
@@ -115,7 +114,7 @@ impl<N: Network> MinInstance<N> {
 }
 
 impl<A: KeptArc> MinInstance<PlainArcs<A>> {
-    /// The same instance with an index of its arcs by their ends. `Memory` drops the instance.
+    /// The same instance with an index of its arcs by their ends. An error drops it.
     pub fn indexed(self, alloc: Global) -> Result<MinInstance<ForwardStar<A>>, Memory>
         ensures { IfOk result (λ indexed. indexed ≡ self) }
     {
@@ -138,17 +137,17 @@ impl<A: KeptArc> MinInstance<ForwardStar<A>> {
     }
 }
 
-/// Reads a minimum cost flow instance from the records of a text.
+/// Reads the records of a minimum cost flow instance.
 pub type MinReading = CountedReading<BegunMin<ForwardStar<ArcView>>>;
 
-/// Reads a minimum cost flow instance from the records of a text, without an index of its arcs.
+/// The same, without an index of its arcs.
 pub type PlainMinReading = CountedReading<BegunMin<PlainArcs<ArcView>>>;
 
 /// A minimum cost flow instance while its text is read: node lines after the problem line, then arcs.
 #[derive(Drop)]
 pub struct BegunMin<N: OfCostArcs> {
     declared: u32,
-    /// The supplies of the nodes that were named, even if they are 0.
+    /// The supplies of the named nodes, some perhaps 0.
     supplies: NodeMap<i64>,
     arcs: PlainArcs<ArcView>,
     of: PhantomData<N>,
@@ -265,7 +264,7 @@ pub fn read_min<S: Source>(
     read_counted::<BegunMin<ForwardStar<ArcView>>, S>(alloc, source)
 }
 
-/// Reads the text of a minimum cost flow instance, without an index of its arcs.
+/// The same, without an index of its arcs.
 pub fn read_plain_min<S: Source>(
     alloc: Global,
     source: &mut S,
@@ -316,7 +315,6 @@ pub fn write_min<N: Network, S: Sink>(
     output.finish(sink)
 }
 
-/// The line of an arc.
 #[inline(always)]
 fn arc_record(arc: ArcView) -> Record
     ensures { result ≡ min_arc arc }

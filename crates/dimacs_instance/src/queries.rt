@@ -22,7 +22,7 @@ use dimacs_records::{
 use std::alloc::Global;
 use std::marker::Model;
 
-/// The distances that are asked for. Callers may build any lists; those that were read from a text are lawful.
+/// Queries for distances. Callers may build any lists; those read from a text are lawful.
 #[derive(Drop)]
 pub enum Queries {
     /// The distances from each of these nodes to all nodes.
@@ -64,7 +64,6 @@ impl Queries {
         }
     }
 
-    /// The line of the query at this place.
     #[inline(always)]
     fn line(&self, i: usize) -> Record
         requires { i < length (query_lines (asked self.now)) }
@@ -106,7 +105,7 @@ impl LawfulQueries {
     }
 }
 
-/// Reads queries from the records of a text.
+/// Reads the records of queries.
 pub type QueriesReading = CountedReading<BegunQueries>;
 
 /// Queries while their text is read: those after the problem line.

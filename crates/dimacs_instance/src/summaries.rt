@@ -1,4 +1,4 @@
-//! Summaries: what is printed on one line about an instance, read without keeping its arcs.
+//! Summaries: what `show` prints about an instance, read without keeping its arcs.
 
 ghost use Rattle.std.specs.Prelude.{◌≡◌, ℕ, List, Some};
 ghost use Rattle.dimacs_lines.specs.Lines.{lines};
@@ -20,7 +20,7 @@ pub use max::MaxSummary;
 pub use min::MinSummary;
 use std::alloc::Global;
 
-/// The summary of the value that a text spells: enough to print the line about it.
+/// The summary of an instance: enough to print the line about it.
 pub trait Summary: Drop {
     ghost kind: { TextKind };
 
@@ -36,7 +36,7 @@ pub trait Summary: Drop {
     /// The line about a value with this summary.
     ghost line: { Self → List ℕ };
 
-    /// The kind of text. The line depends only on the summary.
+    /// The kind of text.
     fn kind() -> TextKind
         ensures kind { result ≡ kind }
         ensures enough { (summary : Self) (value : Content) → sums_up summary value → line summary ≡ shown value };

@@ -10,4 +10,5 @@ use Rattle.dimacs_records.specs.Texts.{AreSpelled}
 
 -- if lines of the kind can spell these records, their canonical lines are within the limits and spell exactly them
 abbrev pub CanonicalLaw : Type 0
-CanonicalLaw = (kind : TextKind) (rs : List Record) → All (CanBeSpelled kind) rs → length rs ≤ most_lines → AreSpelled kind (lines (canonical_text rs)) (map (λ (r : Record). Some r) rs)
+CanonicalLaw = (kind : TextKind) (rs : List Record) → All (CanBeSpelled kind) rs → length rs ≤ most_lines
+    → AreSpelled kind (lines (canonical_text rs)) (map (λ (r : Record). Some r) rs)

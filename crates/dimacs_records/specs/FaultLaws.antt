@@ -7,8 +7,10 @@ use Rattle.dimacs_records.specs.Faults.{Fault, IsFaultless}
 
 -- a text has at most one fault
 abbrev pub OneFaultLaw : Type 0
-OneFaultLaw = (kind : TextKind) (lines : List (List ℕ)) (l f l' f' : ℕ) (r r' : Reason) → Fault kind lines l f r → Fault kind lines l' f' r' → (l ≡ l') × (f ≡ f') × (r ≡ r')
+OneFaultLaw = (kind : TextKind) (lines : List (List ℕ)) (l f l' f' : ℕ) (r r' : Reason)
+    → Fault kind lines l f r → Fault kind lines l' f' r' → (l ≡ l') × (f ≡ f') × (r ≡ r')
 
 -- a text without a condition that holds has no fault
 abbrev pub NoFaultLaw : Type 0
-NoFaultLaw = (kind : TextKind) (lines : List (List ℕ)) (by_line : List (Option Record)) (l f : ℕ) (r : Reason) → IsFaultless kind lines by_line → ¬ Fault kind lines l f r
+NoFaultLaw = (kind : TextKind) (lines : List (List ℕ)) (by_line : List (Option Record)) (l f : ℕ) (r : Reason)
+    → IsFaultless kind lines by_line → ¬ Fault kind lines l f r

@@ -12,7 +12,8 @@ use Rattle.dimacs_records.specs.Order.{IsRefusedAt, Place, at, places, end_reaso
 pub data Condition (kind : TextKind) (earlier : List Record) (number : ℕ) (line : List ℕ) (p : Place) : Type 0 where
   of_limit : IsTrue (limit_condition number line p.field p.reason) → Condition kind earlier number line p
   of_shape : is_skip (texts_in line) ≡ false → IsTrue (shape_condition kind (texts_in line) p.field p.reason) → Condition kind earlier number line p
-  of_record : (r : Record) → is_skip (texts_in line) ≡ false → SpellsRecord kind (texts_in line) r → IsRefusedAt earlier r p → Condition kind earlier number line p
+  of_record : (r : Record) → is_skip (texts_in line) ≡ false → SpellsRecord kind (texts_in line) r
+      → IsRefusedAt earlier r p → Condition kind earlier number line p
 
 -- each line is skipped or spells the record at its position
 abbrev pub Spell : TextKind → List (List ℕ) → List (Option Record) → Type 0
@@ -30,7 +31,8 @@ records_in (Some r ∷ more) = r ∷ records_in more
 -- the lines spell these records, and no condition holds at any line
 pub record IsClean (kind : TextKind) (lines : List (List ℕ)) (by_line : List (Option Record)) : Type 0 where
   pub spell : Spell kind lines by_line
-  pub none : (before after : List (List ℕ)) (line : List ℕ) (earlier : List (Option Record)) (p : Place) → lines ≡ before ++ line ∷ after → Spell kind before earlier → ¬ Condition kind (records_in earlier) (length before + 1) line p
+  pub none : (before after : List (List ℕ)) (line : List ℕ) (earlier : List (Option Record)) (p : Place)
+      → lines ≡ before ++ line ∷ after → Spell kind before earlier → ¬ Condition kind (records_in earlier) (length before + 1) line p
 
 -- clean lines, then one at which this condition is the first
 pub record FaultyLine (kind : TextKind) (lines : List (List ℕ)) (l f : ℕ) (r : Reason) : Type 0 where

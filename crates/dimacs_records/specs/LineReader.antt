@@ -11,4 +11,5 @@ use Rattle.dimacs_records.specs.Order.{Place, at, shape_places, FirstOf}
 abbrev pub ReadsLine : TextKind → List (List ℕ) → Result (Option Record) LineFault → Type 0
 ReadsLine kind texts (Ok None) = is_skip texts ≡ true
 ReadsLine kind texts (Ok (Some r)) = (is_skip texts ≡ false) × SpellsRecord kind texts r
-ReadsLine kind texts (Err fault) = (is_skip texts ≡ false) × FirstOf (λ (p : Place). IsTrue (shape_condition kind texts p.field p.reason)) shape_places (at fault.field fault.reason)
+ReadsLine kind texts (Err fault) = (is_skip texts ≡ false)
+    × FirstOf (λ (p : Place). IsTrue (shape_condition kind texts p.field p.reason)) shape_places (at fault.field fault.reason)

@@ -34,7 +34,8 @@ types_or count types (Some others) = if length types == count then types else ot
 -- the types of so many fields after a letter: those of its form with so many, otherwise of its last form
 abbrev pub types_in : List Form → List ℕ → ℕ → Option (List FieldType)
 types_in [] letter count = None
-types_in (form ∷ more) letter count = if bytes_eq form.letter letter then Some (types_or count form.types (types_in more letter count)) else types_in more letter count
+types_in (form ∷ more) letter count =
+    if bytes_eq form.letter letter then Some (types_or count form.types (types_in more letter count)) else types_in more letter count
 
 -- the condition of a reason holds for field f of a line with this letter
 abbrev pub letter_condition : Option (List FieldType) → List (List ℕ) → ℕ → Reason → Bool

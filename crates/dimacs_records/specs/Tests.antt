@@ -19,7 +19,19 @@ use Rattle.dimacs_records.specs.Spelling.{kind_of}
 
 -- after this problem line and so many lines that it counts
 abbrev pub earlier_of : Option Declared → ℕ → Earlier
-earlier_of problem counted = record { problem = problem; counted = counted; misplaced = false; named = false; end_named = false; lacks_end = false; block_full = false; block_short = false; valued = false; pred_unknown = false; past_radius = false }
+earlier_of problem counted = record {
+  problem = problem;
+  counted = counted;
+  misplaced = false;
+  named = false;
+  end_named = false;
+  lacks_end = false;
+  block_full = false;
+  block_short = false;
+  valued = false;
+  pred_unknown = false;
+  past_radius = false;
+}
 
 -- after these records, if only their number matters
 abbrev pub after_records : List Record → Earlier
@@ -31,7 +43,7 @@ is_full_label earlier (LabelsNode id dist pred) = is_full_block (block_in earlie
 is_full_label earlier (DistancesNode id dist) = is_full_block (block_in earlier)
 is_full_label earlier r = false
 
--- what the tests of record r have to know about the earlier records
+-- what the tests of record r need from the earlier records
 abbrev pub noted_before : List Record → Record → Earlier
 noted_before earlier r = record {
   problem = problem_in earlier;
@@ -47,7 +59,7 @@ noted_before earlier r = record {
   past_radius = is_refused_for PastRadius earlier r;
 }
 
--- what the tests at the end have to know about the records
+-- what the tests at the end need from the records
 abbrev pub noted_at_end : TextKind → List Record → Earlier
 noted_at_end Max all = record (after_records all) { lacks_end = lacks_end all }
 noted_at_end Labels all = record (after_records all) { block_short = is_short_block (block_in all) }
@@ -82,7 +94,10 @@ needs_value kind = false
 -- the reason of the first test at the end that fails
 abbrev pub reason_by : TextKind → Earlier → Option Reason
 reason_by kind e =
-    first_failing end_reasons ((needs_problem kind && is_none e.problem) ∷ e.lacks_end ∷ (e.block_short || is_short e.problem e.counted) ∷ (needs_value kind && not e.valued) ∷ [])
+    first_failing end_reasons (
+    (needs_problem kind && is_none e.problem) ∷ e.lacks_end
+    ∷ (e.block_short || is_short e.problem e.counted) ∷ (needs_value kind && not e.valued) ∷ []
+    )
 
 -- a refusal at this place, if there is one
 abbrev pub answer_at : Option Place → Result Unit TakeError

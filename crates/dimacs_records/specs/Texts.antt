@@ -25,7 +25,8 @@ pub record SpellsValue {V : Type 0} (kind : TextKind) (gives : List LineRecord �
 -- the only value that is spelled, and then there is no fault; or the only fault, and then no value is spelled
 abbrev pub Reads : {V : Type 0} → (V → Type 0) → (ℕ → ℕ → Reason → Type 0) → Result V ReadError → Type 0
 Reads spells fault (Ok v) = spells v × ((other : _) → spells other → other ≡ v) × ((l f : ℕ) (r : Reason) → ¬ fault l f r)
-Reads spells fault (Err (read_errors.Refused place reason)) = fault place.line place.field reason × ((l f : ℕ) (r : Reason) → fault l f r → (l ≡ place.line) × (f ≡ place.field) × (r ≡ reason)) × ((v : _) → ¬ spells v)
+Reads spells fault (Err (read_errors.Refused place reason)) = fault place.line place.field reason
+    × ((l f : ℕ) (r : Reason) → fault l f r → (l ≡ place.line) × (f ≡ place.field) × (r ≡ reason)) × ((v : _) → ¬ spells v)
 Reads spells fault (Err read_errors.Device) = Unit {0}
 Reads spells fault (Err read_errors.Memory) = Unit {0}
 

@@ -6,7 +6,7 @@ use Rattle.dimacs_claims.specs.declared.block.Label.{Label}
 use Rattle.dimacs_claims.specs.DistanceTexts.{bare}
 use Rattle.dimacs_claims.specs.LabelTexts.{label_line}
 
--- a line of labels as a text of this kind has it
+-- a line of labels as a line of this kind
 abbrev pub in_kind : TextKind → Record → Record
 in_kind Distances r = bare r
 in_kind kind r = r

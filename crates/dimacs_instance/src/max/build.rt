@@ -31,7 +31,7 @@ impl MaxInstance<PlainArcs<CapacityArc>> {
         }
     }
 
-    /// Adds an arc. `Memory` leaves the instance unchanged.
+    /// Adds an arc.
     #[inline(always)]
     pub fn push(&mut self, arc: CapacityArc) -> Result<(), Memory>
         requires tail { IsNode self.old.nodes arc.tail }
@@ -46,7 +46,7 @@ impl MaxInstance<PlainArcs<CapacityArc>> {
 }
 
 impl<N: Network> MaxInstance<N> {
-    /// The instance over a network that has its arcs already. Allocates nothing.
+    /// The instance over a network with its arcs. Allocates nothing.
     pub fn over(network: N, source: u32, sink: u32) -> MaxInstance<N>
         requires { IsMax (record { nodes = N.node_count network; source = source; sink = sink; arcs = N.list network }) }
         ensures { result ≡ record { nodes = N.node_count network; source = source; sink = sink; arcs = N.list network } }

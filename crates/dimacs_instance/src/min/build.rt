@@ -25,7 +25,7 @@ impl MinInstance<PlainArcs<ArcView>> {
         }
     }
 
-    /// Sets the supply of a node. `Memory` leaves the instance unchanged.
+    /// Sets the supply of a node.
     #[inline]
     pub fn set_supply(&mut self, id: u32, supply: i64) -> Result<(), Memory>
         requires node { IsNode self.old.nodes id }
@@ -35,7 +35,7 @@ impl MinInstance<PlainArcs<ArcView>> {
         self.supplies.set(id, supply)
     }
 
-    /// Adds an arc. `Memory` leaves the instance unchanged.
+    /// Adds an arc.
     #[inline(always)]
     pub fn push(&mut self, arc: ArcView) -> Result<(), Memory>
         requires joined { JoinsNodes self.old.nodes arc }
@@ -47,7 +47,7 @@ impl MinInstance<PlainArcs<ArcView>> {
         self.network.push(arc)
     }
 
-    /// The same supplies over a network that has its arcs already. Arcs that were added are dropped. Allocates nothing.
+    /// The same supplies over a network with its arcs. Drops arcs added before. Allocates nothing.
     pub fn over<N: Network>(self, network: N) -> MinInstance<N>
         requires nodes { N.node_count network ≡ self.nodes }
         requires few { length (N.list network) ≤ most_count }

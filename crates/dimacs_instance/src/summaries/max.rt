@@ -81,7 +81,7 @@ impl Model for CountedMax {
 }
 
 impl CountedMax {
-    /// What the tests have to know for a record that isn't about source and sink.
+    /// What the tests need if source and sink don't matter.
     #[inline(always)]
     fn after_lines(&self) -> Earlier
         ensures { result ≡ after_lines self.now }

@@ -18,7 +18,7 @@ use dimacs_records::{
 use std::alloc::Global;
 use std::marker::Model;
 
-/// The size of a minimum cost flow instance, and the sums of its positive and its negative supplies, without a sign.
+/// The size of a minimum cost flow instance, and the sums of its supplies, as in `SupplySums`.
 #[derive(Clone, Copy, Debug, PartialEq, Eq)]
 pub struct MinSummary {
     pub nodes: u32,
@@ -68,7 +68,7 @@ impl Summary for MinSummary {
 pub struct CountedMin {
     nodes: u32,
     declared: u32,
-    /// The supplies of the nodes that were named, even if they are 0.
+    /// The supplies of the named nodes, some perhaps 0.
     supplies: NodeMap<i64>,
     arcs: u32,
 }

@@ -62,7 +62,8 @@ ReadsAll kind all stands_for (Err error) = RefusesLine kind all error
 -- the result of taking one more line: it is clean and the reading stands for its record too; or its first condition
 abbrev pub TakesLine : TextKind → List (List ℕ) → List (Option Record) → List ℕ → (List LineRecord → Type 0) → Result Unit TakeError → Type 0
 TakesLine kind before by_line line stands_for (Ok done) = (more : List (Option Record)) × IsClean kind (before ++ line ∷ []) more × stands_for (numbered 1 more)
-TakesLine kind before by_line line stands_for (Err (take_errors.Refused fault)) = FirstOf (Condition kind (records_in by_line) (length before + 1) line) places (at fault.field fault.reason)
+TakesLine kind before by_line line stands_for (Err (take_errors.Refused fault)) =
+    FirstOf (Condition kind (records_in by_line) (length before + 1) line) places (at fault.field fault.reason)
 TakesLine kind before by_line line stands_for (Err take_errors.Memory) = Unit {0}
 
 -- a line within the limits, after lines that were read

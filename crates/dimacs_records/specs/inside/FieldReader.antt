@@ -21,7 +21,11 @@ fault_at field reason = record { field = field; reason = reason }
 
 -- the first reason to refuse a field of this type
 abbrev pub field_reason : FieldType → List ℕ → Option Reason
-field_reason type text = if field_condition type text BadNumber then Some BadNumber else if field_condition type text NumberRange then Some NumberRange else if field_condition type text BadWord then Some BadWord else None
+field_reason type text =
+    if field_condition type text BadNumber then Some BadNumber
+    else if field_condition type text NumberRange then Some NumberRange
+    else if field_condition type text BadWord then Some BadWord
+    else None
 
 abbrev pub fault_in : ℕ → Option Reason → Option LineFault
 fault_in f None = None
@@ -39,7 +43,8 @@ form_fault types texts = if length types == length texts then fields_fault 2 typ
 -- field f, of this type, was taken; unless it has a fault, this is its content
 abbrev pub TakesNext : ℕ → FieldType → List Run → FieldReader → Part → FieldReader → Type 0
 TakesNext f type [] old part new = new.missing ≡ true
-TakesNext f type (run ∷ runs) old part new = (new.scan ≡ runs) × (new.missing ≡ old.missing) × (new.fault ≡ or_else old.fault (fault_in f (field_reason type run.text))) × (field_reason type run.text ≡ None → SpellsField type run.text part)
+TakesNext f type (run ∷ runs) old part new = (new.scan ≡ runs) × (new.missing ≡ old.missing)
+    × (new.fault ≡ or_else old.fault (fault_in f (field_reason type run.text))) × (field_reason type run.text ≡ None → SpellsField type run.text part)
 
 abbrev pub TakesField : ℕ → FieldType → FieldReader → Part → FieldReader → Type 0
 TakesField f type old part new = TakesNext f type old.scan old part new
@@ -84,7 +89,8 @@ IsUntouched fields = (fields.missing ≡ false) × (fields.fault ≡ None)
 -- the result for the fields after a letter with these types
 abbrev pub ReadsForm : TextKind → List ℕ → List FieldType → List (List ℕ) → Result (Option Record) LineFault → Type 0
 ReadsForm kind letter types texts (Ok None) = ⊥
-ReadsForm kind letter types texts (Ok (Some r)) = (kind_of r ≡ kind) × (letter_of r ≡ letter) × (form_fault types texts ≡ None) × SpellFields types texts (parts_of r)
+ReadsForm kind letter types texts (Ok (Some r)) = (kind_of r ≡ kind) × (letter_of r ≡ letter) × (form_fault types texts ≡ None)
+    × SpellFields types texts (parts_of r)
 ReadsForm kind letter types texts (Err fault) = form_fault types texts ≡ Some fault
 
 abbrev pub texts_left : FieldReader → List (List ℕ)

@@ -48,5 +48,6 @@ pub record SpellsFirst (kind : TextKind) (bytes : List ℕ) (r : Record) (size :
 
 -- the result of reading the first lines held: they are read and the rest is left, or one of them is refused
 abbrev pub TakesPlain : TextKind → List (List ℕ) → ℕ → List ℕ → Option (List ℕ) → (List LineRecord → Type 0) → Result PlainLines ReadError → Type 0
-TakesPlain kind all given held coming stands_for (Ok taken) = IsReadSoFar kind all (given + taken.lines) (before_piece (drop taken.bytes held) coming) stands_for
+TakesPlain kind all given held coming stands_for (Ok taken) =
+    IsReadSoFar kind all (given + taken.lines) (before_piece (drop taken.bytes held) coming) stands_for
 TakesPlain kind all given held coming stands_for (Err error) = RefusesLine kind all error
