@@ -127,7 +127,7 @@ fn index_others(blocks: &[Block], indices: &mut Vec<ById>) -> Result<(), Memory>
     requires lawful { (nodes : ℕ) × All (IsBlock nodes) blocks.now }
     requires begun { AreIndexed blocks.now indices.old.items }
     ensures indexed { AreIndexed blocks.now indices.new.items }
-    ensures all { OnOk result (length indices.new.items ≡ length blocks.now) }
+    ensures all_indexed { OnOk result (length indices.new.items ≡ length blocks.now) }
 {
     for i in indices.len()..blocks.len() {
         indices.push(ById::new(*indices.allocator(), blocks[i].labels())?)?;

@@ -217,8 +217,8 @@ pub fn test_end(kind: TextKind, earlier: Earlier) -> Result<(), TakeError>
 
 #[inline(always)]
 fn refuse_if(wrong: bool, field: u32, reason: Reason) -> Result<(), TakeError>
-    ensures right { OnOk result (wrong ≡ false) }
-    ensures wrong { OnErr result (wrong ≡ true) }
+    ensures passed { OnOk result (wrong ≡ false) }
+    ensures failed { OnErr result (wrong ≡ true) }
     ensures refused { IfErr result (λ error. error ≡ Refused (record { field = field; reason = reason })) }
 {
     if wrong {

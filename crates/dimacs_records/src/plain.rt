@@ -36,7 +36,7 @@ struct NodeLine {
 
 /// Reads the first line, if it has the plain form.
 ///
-/// Each reading `R` has its own copy, where the kind is a constant and the compiler drops the other forms.
+/// Each reading `R` has its own copy, in which the kind is a constant and the compiler drops the other forms.
 #[inline]
 pub(crate) fn plain_line<R: Reading>(kind: TextKind, bytes: &[u8]) -> Option<PlainLine>
     ensures { IfSome result (λ line. SpellsFirst kind bytes.now line.rec line.size) }
