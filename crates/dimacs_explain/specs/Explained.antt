@@ -8,5 +8,5 @@ use Rattle.dimacs_runs.specs.Files.{FilesSeen}
 
 -- the command ran and ended like this, then the output accepted more bytes, after those of the command
 abbrev pub Explains : List (List ℕ) → Contents → Option (List ℕ) → Option (Result Status CommandError) → Seen → FilesSeen → Option (List ℕ) → Type 0
-Explains words holds empty ended old files accepted =
-    (output : Written) × Commands words holds empty ended old (seen_by files output) × (more : List ℕ) × (accepted ≡ after_piece output.accepted more)
+Explains arguments holds empty ended old files accepted =
+    (output : Written) × Commands arguments holds empty ended old (seen_by files output) × (more : List ℕ) × (accepted ≡ after_piece output.accepted more)

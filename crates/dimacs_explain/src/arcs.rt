@@ -1,7 +1,7 @@
 //! Arcs of an instance and entries of a solution, found by number.
 
 use crate::quote::Quote;
-use crate::texts::{ANY_LINES, Named, TextLines};
+use crate::texts::{ANY_LINES, TextFile, TextLines};
 use dimacs_lines::Memory;
 use dimacs_network::ArcView;
 use dimacs_records::Record;
@@ -71,7 +71,7 @@ pub(crate) fn arc_of(record: Record) -> Option<ArcView> {
 pub(crate) fn find_arc<F: Files>(
     alloc: Global,
     files: &mut F,
-    instance: Named<'_>,
+    instance: TextFile<'_>,
     number: u32,
 ) -> Result<Option<FoundArc>, Memory> {
     let Some(mut lines) = TextLines::open(alloc, files, instance)? else {
@@ -98,7 +98,7 @@ pub(crate) fn find_arc<F: Files>(
 pub(crate) fn parallel_arcs<F: Files>(
     alloc: Global,
     files: &mut F,
-    instance: Named<'_>,
+    instance: TextFile<'_>,
     tail: u32,
     head: u32,
     number: u64,
@@ -144,7 +144,7 @@ impl Parallel {
 pub(crate) fn find_entry<F: Files>(
     alloc: Global,
     files: &mut F,
-    solution: Named<'_>,
+    solution: TextFile<'_>,
     tail: u32,
     head: u32,
     before: u64,

@@ -8,7 +8,7 @@ pub(crate) struct Before {
     /// The number of lines.
     pub(crate) lines: u64,
     /// The problem line.
-    pub(crate) problem: Option<Declared>,
+    pub(crate) problem: Option<ProblemLine>,
     /// How many of the lines that the problem line counts there are.
     pub(crate) counted: u64,
     /// The lines of source and sink.
@@ -22,7 +22,7 @@ pub(crate) struct Before {
 
 /// What a problem line declares.
 #[derive(Clone, Copy)]
-pub(crate) struct Declared {
+pub(crate) struct ProblemLine {
     pub(crate) line: u64,
     /// NODES, if the kind has it.
     pub(crate) nodes: Option<u32>,
@@ -52,8 +52,8 @@ pub(crate) const NOTHING_BEFORE: Before = Before {
 
 impl Before {
     /// Adds a line.
-    pub(crate) fn add(&mut self, line: u64, said: Record) {
-        match said {
+    pub(crate) fn add(&mut self, line: u64, record: Record) {
+        match record {
             Record::MaxProblem { nodes, arcs }
             | Record::MinProblem { nodes, arcs }
             | Record::GraphProblem { nodes, arcs } => self.declare(line, Some(nodes), arcs),
@@ -85,7 +85,7 @@ impl Before {
 
     /// Keeps the problem line.
     fn declare(&mut self, line: u64, nodes: Option<u32>, count: u32) {
-        self.problem = Some(Declared { line, nodes, count });
+        self.problem = Some(ProblemLine { line, nodes, count });
     }
 
     /// Begins a block.

@@ -1,16 +1,16 @@
 //! Explaining a refusal that comes with a better or a feasible flow.
 
 use crate::lookups::{FoundLine, Wanted, find_line};
-use crate::texts::{Named, Texts};
+use crate::texts::{TextFile, Texts};
 use dimacs_lines::Memory;
 use dimacs_records::{Record, TextKind};
 use dimacs_runs::Files;
 use std::alloc::{AllocError, Global};
 
 /// Explains that a better solution replaced the refused one in its file.
-pub(crate) fn say_replaced(file: &str, said: &mut String) -> Result<(), Memory> {
+pub(crate) fn write_replaced(file: &str, out: &mut String) -> Result<(), Memory> {
     writeln!(
-        said,
+        out,
         "the flow is feasible, and there is a better one: if its cost can be written, {file} has it now"
     )?;
     Ok(())
@@ -21,27 +21,27 @@ pub(crate) fn explain_feasible<F: Files>(
     alloc: Global,
     files: &mut F,
     texts: Texts<'_>,
-    said: &mut String,
+    out: &mut String,
 ) -> Result<(), Memory> {
-    let Some(file) = texts.better else {
+    let Some(file) = texts.written_file else {
         writeln!(
-            said,
+            out,
             "the instance has a feasible flow: name a file after the instance to get one"
         )?;
         return Ok(());
     };
     writeln!(
-        said,
+        out,
         "the instance has a feasible flow: if its cost can be written, {file} has one"
     )?;
-    let solution = Named {
+    let solution = TextFile {
         kind: TextKind::Solution,
         file,
     };
     if files.open(file).is_ok()
         && let Some(FoundLine { quote, .. }) = find_line(alloc, files, solution, Wanted::Value)?
     {
-        quote.show(said, file)?;
+        quote.show(out, file)?;
     }
     Ok(())
 }
@@ -52,22 +52,22 @@ pub(crate) fn explain_better<F: Files>(
     files: &mut F,
     texts: Texts<'_>,
     claimed: i128,
-    said: &mut String,
+    out: &mut String,
 ) -> Result<(), Memory> {
-    let Some(file) = texts.better else {
+    let Some(file) = texts.written_file else {
         writeln!(
-            said,
+            out,
             "the flow is feasible, and there is a better one: name a file after the solution to get it"
         )?;
         return Ok(());
     };
-    let better = Named {
+    let better = TextFile {
         kind: TextKind::Solution,
         file,
     };
     if files.open(file).is_err() {
         writeln!(
-            said,
+            out,
             "the flow is feasible, and there is a better one, which was written to {file}"
         )?;
         return Ok(());
@@ -79,11 +79,11 @@ pub(crate) fn explain_better<F: Files>(
                 quote,
             },
         ) => {
-            quote.show(said, file)?;
-            say_better(value, claimed, said)?;
+            quote.show(out, file)?;
+            write_gain(value, claimed, out)?;
         }
         _ => writeln!(
-            said,
+            out,
             "the flow is feasible, and there is a better one, whose cost leaves -10^30 to 10^30"
         )?,
     }
@@ -91,17 +91,17 @@ pub(crate) fn explain_better<F: Files>(
 }
 
 /// Compares the value of the better flow with the claimed one.
-fn say_better(value: i128, claimed: i128, said: &mut String) -> Result<(), AllocError> {
+fn write_gain(value: i128, claimed: i128, out: &mut String) -> Result<(), AllocError> {
     if value > claimed {
         let more = value.saturating_sub(claimed);
         writeln!(
-            said,
+            out,
             "this flow is feasible, and has {more} more than the {claimed} that is claimed"
         )
     } else {
         let less = claimed.saturating_sub(value);
         writeln!(
-            said,
+            out,
             "this flow is feasible, and costs {less} less than the {claimed} that is claimed"
         )
     }

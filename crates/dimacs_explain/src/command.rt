@@ -12,7 +12,7 @@ use crate::first_line::FirstLine;
 use crate::flow_tests::{explain_arc, explain_balance, explain_solution};
 use crate::path_tests::{explain_label, explain_query};
 use crate::refusal::{Place, Refusal};
-use crate::texts::{Named, Texts};
+use crate::texts::{TextFile, Texts};
 use crate::whole_tests::{explain_end, explain_whole};
 use dimacs_lines::{Memory, Sink, put_all};
 use dimacs_records::{End, TextKind};
@@ -24,17 +24,17 @@ use std::alloc::Global;
 /// that of the command all the same.
 pub fn explain_command<'a, F: Files, A: Files, K: Sink>(
     alloc: Global,
-    words: &'a [String],
+    arguments: &'a [String],
     files: &mut F,
     again: &mut A,
     output: &mut FirstLine<K>,
 ) -> Option<Result<Status, CommandError<'a>>>
-    ensures explains { Explains (map string_bytes words.now) (F.holds files.old) F.empty result
+    ensures explains { Explains (map string_bytes arguments.now) (F.holds files.old) F.empty result
         (seen_by (F.seen files.old) (K.seen output.old.sink)) (F.seen files.new) (K.seen output.new.sink).accepted }
 {
-    let ended = run_command(alloc, words, files, output);
+    let ended = run_command(alloc, arguments, files, output);
     if matches!(ended, Some(Ok(Status::Refused)))
-        && let Ok(text) = explanation(alloc, words, output.line(), again)
+        && let Ok(text) = explanation(alloc, arguments, output.line(), again)
     {
         let _ = put_all(output, text.as_bytes());
     }
@@ -44,13 +44,13 @@ pub fn explain_command<'a, F: Files, A: Files, K: Sink>(
 /// The explanation of the refusal that a command printed; empty if it printed none.
 fn explanation<A: Files>(
     alloc: Global,
-    words: &[String],
+    arguments: &[String],
     printed: &[u8],
     again: &mut A,
 ) -> Result<String, Memory> {
-    let mut said = String::new(alloc);
-    let (Some(job), Some(refusal)) = (job(words), Refusal::read(printed)) else {
-        return Ok(said);
+    let mut out = String::new(alloc);
+    let (Some(job), Some(refusal)) = (job(arguments), Refusal::read(printed)) else {
+        return Ok(out);
     };
     let texts = Texts::of(job);
     let reason = refusal.reason;
@@ -61,34 +61,34 @@ fn explanation<A: Files>(
                 field,
                 reason,
             };
-            explain_text(alloc, again, texts, name, fault, &mut said)?;
+            explain_text(alloc, again, texts, name, fault, &mut out)?;
         }
         Place::Arc(number) => {
-            if are_readable(again, texts, &mut said)? {
-                explain_arc(alloc, again, texts, number, reason, &mut said)?;
+            if are_readable(again, texts, &mut out)? {
+                explain_arc(alloc, again, texts, number, reason, &mut out)?;
             }
         }
         Place::Node(node) => {
-            if are_readable(again, texts, &mut said)? {
-                explain_node(alloc, again, texts, node, reason, &mut said)?;
+            if are_readable(again, texts, &mut out)? {
+                explain_node(alloc, again, texts, node, reason, &mut out)?;
             }
         }
     }
-    Ok(said)
+    Ok(out)
 }
 
 /// Whether all texts of a run can be read again. Names those that can't.
 fn are_readable<A: Files>(
     again: &mut A,
     texts: Texts<'_>,
-    said: &mut String,
+    out: &mut String,
 ) -> Result<bool, Memory> {
     let mut all = true;
     for text in [texts.instance, texts.claim, texts.certificate] {
-        if let Some(Named { file, .. }) = text
+        if let Some(TextFile { file, .. }) = text
             && again.open(file).is_err()
         {
-            cannot_read(said, file)?;
+            cannot_read(out, file)?;
             all = false;
         }
     }
@@ -102,24 +102,24 @@ fn explain_text<A: Files>(
     texts: Texts<'_>,
     name: &str,
     fault: Fault<'_>,
-    said: &mut String,
+    out: &mut String,
 ) -> Result<(), Memory> {
     match fault.reason {
-        "Feasible" => explain_feasible(alloc, again, texts, said),
+        "Feasible" => explain_feasible(alloc, again, texts, out),
         "UnknownArc" | "ArcTwice" | "ValueDiffers" | "NotMaximum" | "NotLeast" => {
-            if are_readable(again, texts, said)? {
-                explain_solution(alloc, again, texts, fault, said)?;
+            if are_readable(again, texts, out)? {
+                explain_solution(alloc, again, texts, fault, out)?;
             }
             Ok(())
         }
         "NodesDiffer" | "NotViolated" => {
-            if are_readable(again, texts, said)? {
-                explain_whole(alloc, again, texts, fault.reason, said)?;
+            if are_readable(again, texts, out)? {
+                explain_whole(alloc, again, texts, fault.reason, out)?;
             }
             Ok(())
         }
         _ => match texts.by_name(name) {
-            Some(text) => explain_fault(alloc, again, text, fault, said),
+            Some(text) => explain_fault(alloc, again, text, fault, out),
             None => Ok(()),
         },
     }
@@ -132,14 +132,14 @@ fn explain_node<A: Files>(
     texts: Texts<'_>,
     node: u32,
     reason: &str,
-    said: &mut String,
+    out: &mut String,
 ) -> Result<(), Memory> {
     match reason {
-        "Balance" => explain_balance(alloc, again, texts, node, said),
-        "SourceOutside" => explain_end(alloc, again, texts, node, End::Source, said),
-        "SinkInside" => explain_end(alloc, again, texts, node, End::Sink, said),
-        "NoTightArc" => explain_unreached(alloc, again, texts, node, said),
-        _ => explain_query(alloc, again, texts, node, reason, said),
+        "Balance" => explain_balance(alloc, again, texts, node, out),
+        "SourceOutside" => explain_end(alloc, again, texts, node, End::Source, out),
+        "SinkInside" => explain_end(alloc, again, texts, node, End::Sink, out),
+        "NoTightArc" => explain_unreached(alloc, again, texts, node, out),
+        _ => explain_query(alloc, again, texts, node, reason, out),
     }
 }
 
@@ -149,13 +149,13 @@ fn explain_unreached<A: Files>(
     again: &mut A,
     texts: Texts<'_>,
     node: u32,
-    said: &mut String,
+    out: &mut String,
 ) -> Result<(), Memory> {
     let (Some(graph), Some(tested)) = (texts.instance, texts.tested()) else {
         return Ok(());
     };
     if tested.kind == TextKind::Distances {
-        return explain_distance(alloc, again, graph, tested, node, said);
+        return explain_distance(alloc, again, graph, tested, node, out);
     }
-    explain_label(alloc, again, graph, tested, node, said)
+    explain_label(alloc, again, graph, tested, node, out)
 }

@@ -1,6 +1,6 @@
 //! The cost of a claimed flow.
 
-use crate::texts::Named;
+use crate::texts::TextFile;
 use dimacs_claims::read_solution_into;
 use dimacs_instance::read_plain_min;
 use dimacs_judge::{FlowPlaces, cost_within};
@@ -12,8 +12,8 @@ use std::alloc::Global;
 pub(crate) fn cost_of<F: Files>(
     alloc: Global,
     files: &mut F,
-    instance: Named<'_>,
-    solution: Named<'_>,
+    instance: TextFile<'_>,
+    solution: TextFile<'_>,
 ) -> Result<Option<i128>, Memory> {
     let Ok(mut source) = files.open(instance.file) else {
         return Ok(None);

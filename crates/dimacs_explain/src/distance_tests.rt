@@ -3,7 +3,7 @@
 use crate::faults::cannot_read;
 use crate::lookups::{FoundLine, line_at};
 use crate::path_tests::arcs_into;
-use crate::texts::{ANY_LINES, Named, TextLines};
+use crate::texts::{ANY_LINES, TextFile, TextLines};
 use dimacs_lines::Memory;
 use dimacs_records::Record;
 use dimacs_runs::Files;
@@ -11,7 +11,7 @@ use std::alloc::Global;
 
 /// A block of claimed distances, as far as it concerns one node.
 #[derive(Clone, Copy)]
-struct Claimed {
+struct ClaimedBlock {
     source: u32,
     /// The line of the block, and that of the node's distance.
     block_line: u64,
@@ -21,10 +21,10 @@ struct Claimed {
     least: Option<i128>,
 }
 
-impl Claimed {
+impl ClaimedBlock {
     /// A block at its t line. Arcs from its source, at distance 0, count.
-    fn begin(block_line: u64, source: u32, arcs: &[(u32, i64)]) -> Claimed {
-        let mut block = Claimed {
+    fn begin(block_line: u64, source: u32, arcs: &[(u32, i64)]) -> ClaimedBlock {
+        let mut block = ClaimedBlock {
             source,
             block_line,
             line: 0,
@@ -56,7 +56,7 @@ impl Claimed {
     }
 
     /// Whether no arc has the claimed distance.
-    fn is_loose(&self) -> bool {
+    fn lacks_tight_arc(&self) -> bool {
         self.dist.is_some() && self.least != self.dist
     }
 }
@@ -65,59 +65,59 @@ impl Claimed {
 pub(crate) fn explain_distance<F: Files>(
     alloc: Global,
     files: &mut F,
-    graph: Named<'_>,
-    distances: Named<'_>,
+    graph: TextFile<'_>,
+    distances: TextFile<'_>,
     node: u32,
-    said: &mut String,
+    out: &mut String,
 ) -> Result<(), Memory> {
     let arcs = arcs_into(alloc, files, graph, node)?;
-    let Some(block) = loose_block(alloc, files, distances, &arcs, node)? else {
+    let Some(block) = block_without_tight_arc(alloc, files, distances, &arcs, node)? else {
         writeln!(
-            said,
+            out,
             "the arcs that lead to the distance of node {node} come from nodes that no walk from the source reaches at theirs"
         )?;
         return Ok(());
     };
     let Some(FoundLine { quote, .. }) = line_at(alloc, files, distances, block.line, 0)? else {
-        return cannot_read(said, distances.file);
+        return cannot_read(out, distances.file);
     };
-    quote.show(said, distances.file)?;
+    quote.show(out, distances.file)?;
     write!(
-        said,
+        out,
         "in the block from source {} (line {}) no arc leads to node {node} at {}",
         block.source,
         block.block_line,
         block.dist.unwrap_or(0)
     )?;
     match block.least {
-        Some(least) => writeln!(said, ": the nearest leads there at {least}")?,
-        None => writeln!(said, ": none comes from a node that has a distance")?,
+        Some(least) => writeln!(out, ": the nearest leads there at {least}")?,
+        None => writeln!(out, ": none comes from a node that has a distance")?,
     }
     Ok(())
 }
 
 /// The first block in which no arc has the node's distance.
-fn loose_block<F: Files>(
+fn block_without_tight_arc<F: Files>(
     alloc: Global,
     files: &mut F,
-    distances: Named<'_>,
+    distances: TextFile<'_>,
     arcs: &[(u32, i64)],
     node: u32,
-) -> Result<Option<Claimed>, Memory> {
+) -> Result<Option<ClaimedBlock>, Memory> {
     let Some(mut lines) = TextLines::open(alloc, files, distances)? else {
         return Ok(None);
     };
-    let mut block: Option<Claimed> = None;
+    let mut block: Option<ClaimedBlock> = None;
     for _ in 0..ANY_LINES {
         let Some(line) = lines.next() else {
             break;
         };
         match lines.record() {
             Some(Record::DistancesBlock { source, .. }) => {
-                if block.is_some_and(|block| block.is_loose()) {
+                if block.is_some_and(|block| block.lacks_tight_arc()) {
                     return Ok(block);
                 }
-                block = Some(Claimed::begin(line, source, arcs));
+                block = Some(ClaimedBlock::begin(line, source, arcs));
             }
             Some(Record::DistancesNode { id, dist }) => {
                 if let Some(block) = &mut block {
@@ -127,5 +127,5 @@ fn loose_block<F: Files>(
             _ => (),
         }
     }
-    Ok(block.filter(|block| block.is_loose()))
+    Ok(block.filter(|block| block.lacks_tight_arc()))
 }

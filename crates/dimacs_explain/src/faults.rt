@@ -5,7 +5,7 @@ use crate::forms::{field_name, form_of, forms, kind_words, range_of};
 use crate::numbers::meant_number;
 use crate::oddities::{has_lone_return, oddity, other_kind};
 use crate::quote::{Quote, escape};
-use crate::texts::{ANY_LINES, Named, TextLines};
+use crate::texts::{ANY_LINES, TextFile, TextLines};
 use dimacs_lines::{Memory, fields};
 use dimacs_records::{End, Record, TextKind};
 use dimacs_runs::Files;
@@ -24,7 +24,7 @@ pub(crate) struct Fault<'a> {
 
 /// What was read of a text up to its fault.
 #[derive(Drop)]
-struct Seen {
+struct FaultContext {
     before: Before,
     /// The line of the fault; none if the fault is at the end of the text.
     quote: Option<Quote>,
@@ -45,36 +45,40 @@ struct Seen {
 pub(crate) fn explain_fault<F: Files>(
     alloc: Global,
     files: &mut F,
-    text: Named<'_>,
+    text: TextFile<'_>,
     fault: Fault<'_>,
-    said: &mut String,
+    out: &mut String,
 ) -> Result<(), Memory> {
-    let Some(seen) = look(alloc, files, text, fault)? else {
-        return cannot_read(said, text.file);
+    let Some(context) = read_context(alloc, files, text, fault)? else {
+        return cannot_read(out, text.file);
     };
-    match &seen.quote {
-        Some(quote) => quote.show(said, text.file)?,
-        None if is_unread(fault.reason) => write!(said, "{}:{}: ", text.file, fault.line)?,
-        None => writeln!(said, "{}: ends after line {}", text.file, seen.before.lines)?,
+    match &context.quote {
+        Some(quote) => quote.show(out, text.file)?,
+        None if is_unread(fault.reason) => write!(out, "{}:{}: ", text.file, fault.line)?,
+        None => writeln!(
+            out,
+            "{}: ends after line {}",
+            text.file, context.before.lines
+        )?,
     }
-    if let Some(odd) = seen.odd {
-        writeln!(said, "{odd}")?;
+    if let Some(odd) = context.odd {
+        writeln!(out, "{odd}")?;
         return Ok(());
     }
-    if seen.lone_return {
+    if context.lone_return {
         writeln!(
-            said,
+            out,
             "lines end by a carriage return alone: end them by a line feed"
         )?;
     }
-    if let Some(other) = seen.other
+    if let Some(other) = context.other
         && is_of_other_kind(fault.reason)
     {
-        writeln!(said, "{other}, and {} is wanted", kind_words(text.kind))?;
+        writeln!(out, "{other}, and {} is wanted", kind_words(text.kind))?;
     }
-    say_reason(alloc, text.kind, fault, &seen, said)?;
-    if let Some(line) = earlier_line(alloc, files, text, fault, &seen)? {
-        writeln!(said, "line {line} names the node already")?;
+    write_reason(alloc, text.kind, fault, &context, out)?;
+    if let Some(line) = earlier_line(alloc, files, text, fault, &context)? {
+        writeln!(out, "line {line} names the node already")?;
     }
     Ok(())
 }
@@ -85,25 +89,25 @@ fn is_unread(reason: &str) -> bool {
 }
 
 /// Reports that a file can't be read again.
-pub(crate) fn cannot_read(said: &mut String, file: &str) -> Result<(), Memory> {
+pub(crate) fn cannot_read(out: &mut String, file: &str) -> Result<(), Memory> {
     writeln!(
-        said,
+        out,
         "{file}: is no file that can be read again, so its lines are left out"
     )?;
     Ok(())
 }
 
 /// Reads a text up to its fault; none if it can't be read.
-fn look<F: Files>(
+fn read_context<F: Files>(
     alloc: Global,
     files: &mut F,
-    text: Named<'_>,
+    text: TextFile<'_>,
     fault: Fault<'_>,
-) -> Result<Option<Seen>, Memory> {
+) -> Result<Option<FaultContext>, Memory> {
     let Some(mut lines) = TextLines::open(alloc, files, text)? else {
         return Ok(None);
     };
-    let mut seen = Seen {
+    let mut context = FaultContext {
         before: NOTHING_BEFORE,
         quote: None,
         letter: String::new(alloc),
@@ -120,25 +124,25 @@ fn look<F: Files>(
         };
         let bytes = lines.bytes();
         if number == 1 {
-            seen.odd = oddity(bytes);
-            seen.lone_return = has_lone_return(bytes);
+            context.odd = oddity(bytes);
+            context.lone_return = has_lone_return(bytes);
         }
         if number == fault.line {
-            seen.other = other_kind(text.kind, bytes);
-            seen.fields = count_fields(bytes);
-            seen.quote = Some(Quote::new(alloc, number, bytes, fault.field)?);
-            add_word(&mut seen.letter, bytes, 1)?;
-            add_word(&mut seen.word, bytes, fault.field)?;
-            seen.record = lines.record();
-            seen.lone_return = seen.lone_return && number == 1 && lines.next().is_none();
+            context.other = other_kind(text.kind, bytes);
+            context.fields = count_fields(bytes);
+            context.quote = Some(Quote::new(alloc, number, bytes, fault.field)?);
+            add_word(&mut context.letter, bytes, 1)?;
+            add_word(&mut context.word, bytes, fault.field)?;
+            context.record = lines.record();
+            context.lone_return = context.lone_return && number == 1 && lines.next().is_none();
             break;
         }
-        seen.before.lines = number;
+        context.before.lines = number;
         if let Some(record) = lines.record() {
-            seen.before.add(number, record);
+            context.before.add(number, record);
         }
     }
-    Ok(Some(seen))
+    Ok(Some(context))
 }
 
 /// Adds a field, from 1, or the beginning of a long one.
@@ -182,19 +186,19 @@ fn is_of_other_kind(reason: &str) -> bool {
 fn earlier_line<F: Files>(
     alloc: Global,
     files: &mut F,
-    text: Named<'_>,
+    text: TextFile<'_>,
     fault: Fault<'_>,
-    seen: &Seen,
+    context: &FaultContext,
 ) -> Result<Option<u64>, Memory> {
     if fault.reason != "NodeTwice" {
         return Ok(None);
     }
-    let Some(id) = seen.record.and_then(named_node) else {
+    let Some(id) = context.record.and_then(named_node) else {
         return Ok(None);
     };
-    let in_block = seen.record.is_some_and(is_in_block);
+    let in_block = context.record.is_some_and(is_in_block);
     let begin = if in_block {
-        seen.before.block.map_or(0, |block| block.line)
+        context.before.block.map_or(0, |block| block.line)
     } else {
         0
     };
@@ -243,155 +247,155 @@ fn names(record: Option<Record>, id: u32, in_block: bool) -> bool {
 }
 
 /// Explains the reason, with the numbers involved.
-fn say_reason(
+fn write_reason(
     alloc: Global,
     kind: TextKind,
     fault: Fault<'_>,
-    seen: &Seen,
-    said: &mut String,
+    context: &FaultContext,
+    out: &mut String,
 ) -> Result<(), AllocError> {
     match fault.reason {
-        "LineTooLong" => writeln!(said, "the line has more than 1048576 bytes"),
-        "LineLimit" => writeln!(said, "a text has at most 1000000000000 lines"),
-        "UnknownLine" | "FieldCount" | "BadWord" => say_shape(kind, fault, seen, said),
-        "BadNumber" | "NumberRange" => say_number(alloc, kind, fault, seen, said),
-        "TooMany" | "TooFew" => say_count(kind, fault, seen, said),
-        _ => say_order(kind, fault, seen, said),
+        "LineTooLong" => writeln!(out, "the line has more than 1048576 bytes"),
+        "LineLimit" => writeln!(out, "a text has at most 1000000000000 lines"),
+        "UnknownLine" | "FieldCount" | "BadWord" => write_form_fault(kind, fault, context, out),
+        "BadNumber" | "NumberRange" => write_number(alloc, kind, fault, context, out),
+        "TooMany" | "TooFew" => write_count(kind, fault, context, out),
+        _ => write_order(kind, fault, context, out),
     }
 }
 
 /// Explains what is wrong with the form of a line.
-fn say_shape(
+fn write_form_fault(
     kind: TextKind,
     fault: Fault<'_>,
-    seen: &Seen,
-    said: &mut String,
+    context: &FaultContext,
+    out: &mut String,
 ) -> Result<(), AllocError> {
-    let letter = seen.letter.as_str();
+    let letter = context.letter.as_str();
     match (fault.reason, form_of(kind, letter)) {
         ("FieldCount", Some(form)) => {
             let wanted = form.split(' ').count();
-            let fields = seen.fields;
+            let fields = context.fields;
             if kind == TextKind::Labels && letter == "t" {
                 return writeln!(
-                    said,
+                    out,
                     "the line has {fields} fields, and `{form}` has {wanted}, or one more with a RADIUS"
                 );
             }
             writeln!(
-                said,
+                out,
                 "the line has {fields} fields, and `{form}` has {wanted}"
             )
         }
         ("BadWord", Some(form)) => {
-            let word = seen.word.as_str();
+            let word = context.word.as_str();
             let wanted = field_name(form, fault.field);
             writeln!(
-                said,
+                out,
                 "`{word}` stands where `{wanted}` is wanted: the line is `{form}`"
             )
         }
         _ => {
             writeln!(
-                said,
+                out,
                 "no line of {} begins with `{letter}`",
                 kind_words(kind)
             )?;
-            say_forms(kind, said)
+            list_forms(kind, out)
         }
     }
 }
 
 /// Lists the lines that a text of this kind has.
-fn say_forms(kind: TextKind, said: &mut String) -> Result<(), AllocError> {
-    said.push_str("its lines are")?;
+fn list_forms(kind: TextKind, out: &mut String) -> Result<(), AllocError> {
+    out.push_str("its lines are")?;
     for form in forms(kind) {
-        write!(said, " `{form}`,")?;
+        write!(out, " `{form}`,")?;
     }
-    writeln!(said, " and comments, which begin with c")
+    writeln!(out, " and comments, which begin with c")
 }
 
 /// Explains what is wrong with a number.
-fn say_number(
+fn write_number(
     alloc: Global,
     kind: TextKind,
     fault: Fault<'_>,
-    seen: &Seen,
-    said: &mut String,
+    context: &FaultContext,
+    out: &mut String,
 ) -> Result<(), AllocError> {
-    let name = match form_of(kind, seen.letter.as_str()) {
-        Some(_) if kind == TextKind::Labels && seen.letter.as_str() == "t" && fault.field == 4 =>
+    let name = match form_of(kind, context.letter.as_str()) {
+        Some(_) if kind == TextKind::Labels && context.letter.as_str() == "t" && fault.field == 4 =>
             "RADIUS",
         Some(form) => field_name(form, fault.field),
         None => "the field",
     };
-    let word = seen.word.as_str();
+    let word = context.word.as_str();
     if fault.reason == "NumberRange" {
         return writeln!(
-            said,
+            out,
             "{name} is a number from {}, and not {word}",
             range_of(name)
         );
     }
     writeln!(
-        said,
+        out,
         "{name} is a whole number, digits with a sign or without, and not `{word}`"
     )?;
     if let Some(number) = meant_number(alloc, word)? {
-        writeln!(said, "write {}", number.as_str())?;
+        writeln!(out, "write {}", number.as_str())?;
     }
     Ok(())
 }
 
 /// Compares the declared number of lines with the actual one.
-fn say_count(
+fn write_count(
     kind: TextKind,
     fault: Fault<'_>,
-    seen: &Seen,
-    said: &mut String,
+    context: &FaultContext,
+    out: &mut String,
 ) -> Result<(), AllocError> {
-    if is_of_block(fault, seen) {
-        return say_block_count(seen, said);
+    if is_of_block(fault, context) {
+        return write_block_count(context, out);
     }
     let what = counted_lines(kind);
-    let Some(problem) = seen.before.problem else {
+    let Some(problem) = context.before.problem else {
         return Ok(());
     };
     let line = problem.line;
     let declared = problem.count;
-    let counted = seen.before.counted;
+    let counted = context.before.counted;
     if fault.reason == "TooFew" {
         writeln!(
-            said,
+            out,
             "{counted} {what} of the {declared} that line {line} declares"
         )
     } else {
         writeln!(
-            said,
+            out,
             "line {line} declares {declared} {what}, and this is one more"
         )
     }
 }
 
 /// Whether a fault concerns the count of a block.
-fn is_of_block(fault: Fault<'_>, seen: &Seen) -> bool {
-    let Some(block) = seen.before.block else {
+fn is_of_block(fault: Fault<'_>, context: &FaultContext) -> bool {
+    let Some(block) = context.before.block else {
         return false;
     };
-    seen.record.is_some_and(is_in_block)
+    context.record.is_some_and(is_in_block)
         || (fault.reason == "TooFew" && block.counted < u64::from(block.declared))
 }
 
 /// Compares the declared number of labels of a block with the actual one.
-fn say_block_count(seen: &Seen, said: &mut String) -> Result<(), AllocError> {
-    let Some(block) = seen.before.block else {
+fn write_block_count(context: &FaultContext, out: &mut String) -> Result<(), AllocError> {
+    let Some(block) = context.before.block else {
         return Ok(());
     };
     let line = block.line;
     let declared = block.declared;
     let counted = block.counted;
     writeln!(
-        said,
+        out,
         "the block of line {line}, from source {}, declares {declared} d lines, and {counted} stand before this place",
         block.source
     )
@@ -408,26 +412,26 @@ fn counted_lines(kind: TextKind) -> &'static str {
 }
 
 /// Explains a fault that depends on the lines before.
-fn say_order(
+fn write_order(
     kind: TextKind,
     fault: Fault<'_>,
-    seen: &Seen,
-    said: &mut String,
+    context: &FaultContext,
+    out: &mut String,
 ) -> Result<(), AllocError> {
-    let before = &seen.before;
+    let before = &context.before;
     match fault.reason {
         "ProblemMissing" => {
             let form = form_of(kind, "p").unwrap_or("p");
-            writeln!(said, "a line `{form}` has to stand first, but for comments")
+            writeln!(out, "a line `{form}` has to stand first, but for comments")
         }
-        "ProblemTwice" => say_earlier(
+        "ProblemTwice" => write_earlier(
             before.problem.map(|problem| problem.line),
             "is a p line already",
-            said,
+            out,
         ),
-        "SolutionTwice" => say_earlier(before.value_line, "is an s line already", said),
+        "SolutionTwice" => write_earlier(before.value_line, "is an s line already", out),
         "SolutionMissing" => writeln!(
-            said,
+            out,
             "a solution has one line `s VALUE`, and this one has none"
         ),
         "NodeRange" => {
@@ -437,96 +441,96 @@ fn say_order(
                 .unwrap_or(0);
             let line = before.problem.map_or(0, |problem| problem.line);
             writeln!(
-                said,
+                out,
                 "node {} is above the {nodes} nodes that line {line} declares",
-                seen.word.as_str()
+                context.word.as_str()
             )
         }
-        "EndMissing" => say_ends(before, said),
-        "EndTwice" => say_earlier(end_line(seen), "has the same letter already", said),
-        _ => say_rest(kind, fault, seen, said),
+        "EndMissing" => write_missing_ends(before, out),
+        "EndTwice" => write_earlier(end_line(context), "has the same letter already", out),
+        _ => write_rest(kind, fault, context, out),
     }
 }
 
 /// The earlier line of the end that this line names.
-fn end_line(seen: &Seen) -> Option<u64> {
-    match seen.record {
+fn end_line(context: &FaultContext) -> Option<u64> {
+    match context.record {
         Some(
             Record::MaxNode {
                 end: End::Source,
                 ..
             },
-        ) => seen.before.source_line,
-        _ => seen.before.sink_line,
+        ) => context.before.source_line,
+        _ => context.before.sink_line,
     }
 }
 
 /// Refers to an earlier line.
-fn say_earlier(line: Option<u64>, what: &str, said: &mut String) -> Result<(), AllocError> {
+fn write_earlier(line: Option<u64>, what: &str, out: &mut String) -> Result<(), AllocError> {
     match line {
-        Some(line) => writeln!(said, "line {line} {what}"),
+        Some(line) => writeln!(out, "line {line} {what}"),
         None => Ok(()),
     }
 }
 
 /// Reports which of source and sink isn't named.
-fn say_ends(before: &Before, said: &mut String) -> Result<(), AllocError> {
+fn write_missing_ends(before: &Before, out: &mut String) -> Result<(), AllocError> {
     let missing = match (before.source_line, before.sink_line) {
         (None, None) => "`n ID s` and `n ID t`, the source and the sink, have",
         (None, Some(_)) => "`n ID s`, the source, has",
         _ => "`n ID t`, the sink, has",
     };
-    writeln!(said, "{missing} to stand before the arcs")
+    writeln!(out, "{missing} to stand before the arcs")
 }
 
 /// Explains the remaining reasons.
-fn say_rest(
+fn write_rest(
     kind: TextKind,
     fault: Fault<'_>,
-    seen: &Seen,
-    said: &mut String,
+    context: &FaultContext,
+    out: &mut String,
 ) -> Result<(), AllocError> {
-    match (fault.reason, seen.record) {
+    match (fault.reason, context.record) {
         ("BoundOrder", Some(Record::MaxArc { cap, .. })) => writeln!(
-            said,
+            out,
             "CAP is {cap}, and is 0 or more"
         ),
         ("BoundOrder", Some(Record::MinArc { low, cap, .. })) if low < 0 => {
-            writeln!(said, "LOW is {low} (and CAP {cap}), and is 0 or more")
+            writeln!(out, "LOW is {low} (and CAP {cap}), and is 0 or more")
         }
         ("BoundOrder", Some(Record::MinArc { low, cap, .. })) => writeln!(
-            said,
+            out,
             "CAP is {cap}, less than LOW, {low}"
         ),
         ("PredUnknown", Some(Record::LabelsNode { pred, .. })) => writeln!(
-            said,
+            out,
             "PRED, {pred}, is neither the source of the block nor the ID of a d line before this one: order the d lines so that each stands after that of its PRED"
         ),
         ("PastRadius", Some(Record::LabelsNode { dist, .. })) => {
-            let radius = seen
+            let radius = context
                 .before
                 .block
                 .and_then(|block| block.radius)
                 .unwrap_or(0);
             writeln!(
-                said,
+                out,
                 "DIST is {dist}, above the RADIUS of the block, {radius}"
             )
         }
         ("NodeTwice", _) => Ok(()),
-        ("RecordOrder", _) => say_misplaced(kind, said),
+        ("RecordOrder", _) => write_misplaced(kind, out),
         _ => Ok(()),
     }
 }
 
 /// Explains where a line belongs.
-fn say_misplaced(kind: TextKind, said: &mut String) -> Result<(), AllocError> {
+fn write_misplaced(kind: TextKind, out: &mut String) -> Result<(), AllocError> {
     match kind {
-        TextKind::Queries => writeln!(said, "an ss text has s lines alone, and a p2p text q lines"),
+        TextKind::Queries => writeln!(out, "an ss text has s lines alone, and a p2p text q lines"),
         TextKind::Labels | TextKind::Distances => writeln!(
-            said,
+            out,
             "a d line stands after the t line of its block"
         ),
-        _ => writeln!(said, "node lines stand before all arc lines"),
+        _ => writeln!(out, "node lines stand before all arc lines"),
     }
 }

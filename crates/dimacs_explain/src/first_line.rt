@@ -5,14 +5,14 @@ ghost use Rattle.std.specs.Prelude.{◌≡◌};
 use dimacs_lines::{DeviceFault, Sink};
 
 /// No line of a refusal is longer.
-const ROOM: usize = 128;
+const LONGEST: usize = 128;
 
 /// A sink that passes all bytes on to another, and keeps the first 128 that were accepted.
 #[derive(Drop)]
 pub struct FirstLine<K> {
     sink: K,
-    first: [u8; ROOM],
-    kept: usize,
+    first: [u8; LONGEST],
+    length: usize,
 }
 
 impl<K> FirstLine<K> {
@@ -22,8 +22,8 @@ impl<K> FirstLine<K> {
     {
         FirstLine {
             sink,
-            first: [0; ROOM],
-            kept: 0,
+            first: [0; LONGEST],
+            length: 0,
         }
     }
 
@@ -36,10 +36,10 @@ impl<K> FirstLine<K> {
 
     /// The first line that was accepted, without its end; cut off after 128 bytes.
     pub(crate) fn line(&self) -> &[u8] {
-        let kept = self.first.get(..self.kept).unwrap_or(&[]);
-        match kept.iter().position(|&byte| byte == b'\n') {
-            Some(end) => kept.get(..end).unwrap_or(kept),
-            None => kept,
+        let bytes = self.first.get(..self.length).unwrap_or(&[]);
+        match bytes.iter().position(|&byte| byte == b'\n') {
+            Some(end) => bytes.get(..end).unwrap_or(bytes),
+            None => bytes,
         }
     }
 }
@@ -50,14 +50,14 @@ impl<K: Sink> Sink for FirstLine<K> {
     fn put(&mut self, bytes: &[u8]) -> Result<usize, DeviceFault> {
         let count = self.sink.put(bytes)?;
         let accepted = bytes.get(..count).unwrap_or(bytes);
-        self.kept = keep(&mut self.first, self.kept, accepted);
+        self.length = append(&mut self.first, self.length, accepted);
         Ok(count)
     }
 }
 
 /// Keeps more bytes after the first `kept`, as far as they fit. Returns how many are kept then.
-fn keep(first: &mut [u8; ROOM], kept: usize, bytes: &[u8]) -> usize {
-    let mut end = kept;
+fn append(first: &mut [u8; LONGEST], length: usize, bytes: &[u8]) -> usize {
+    let mut end = length;
     for &byte in bytes {
         let Some(slot) = first.get_mut(end) else {
             return end;

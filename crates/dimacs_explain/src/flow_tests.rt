@@ -1,12 +1,12 @@
 //! Explaining the tests of a flow.
 
 use crate::arcs::{FoundArc, Parallel, find_arc, find_entry, parallel_arcs};
-use crate::better::{explain_better, say_replaced};
+use crate::better::{explain_better, write_replaced};
 use crate::costs::cost_of;
 use crate::faults::{Fault, cannot_read};
 use crate::lookups::{FoundLine, Wanted, find_line, line_at};
 use crate::path_tests::explain_weight;
-use crate::texts::{ANY_LINES, Named, TextLines, Texts};
+use crate::texts::{ANY_LINES, TextFile, TextLines, Texts};
 use dimacs_lines::Memory;
 use dimacs_network::ArcView;
 use dimacs_records::{End, Record, TextKind};
@@ -15,7 +15,7 @@ use std::alloc::{AllocError, Global};
 
 /// An arc with its flow, as it was tested.
 #[derive(Clone, Copy)]
-struct Carried {
+struct ArcFlow {
     number: u32,
     arc: ArcView,
     flow: i64,
@@ -28,20 +28,20 @@ pub(crate) fn explain_arc<F: Files>(
     texts: Texts<'_>,
     number: u32,
     reason: &str,
-    said: &mut String,
+    out: &mut String,
 ) -> Result<(), Memory> {
     let Some(instance) = texts.instance else {
         return Ok(());
     };
     let Some(found) = find_arc(alloc, files, instance, number)? else {
-        return cannot_read(said, instance.file);
+        return cannot_read(out, instance.file);
     };
-    found.quote.show(said, instance.file)?;
+    found.quote.show(out, instance.file)?;
     if instance.kind == TextKind::Graph {
-        return explain_weight(alloc, files, texts, number, &found, reason, said);
+        return explain_weight(alloc, files, texts, number, &found, reason, out);
     }
     let FoundArc { arc, .. } = found;
-    let same = parallel_arcs(
+    let parallel = parallel_arcs(
         alloc,
         files,
         instance,
@@ -49,14 +49,14 @@ pub(crate) fn explain_arc<F: Files>(
         arc.head,
         u64::from(number),
     )?;
-    let flow = show_entry(alloc, files, texts, arc, same, said)?;
-    let carried = Carried { number, arc, flow };
-    say_bound(carried, reason, said)?;
+    let flow = show_entry(alloc, files, texts, arc, parallel, out)?;
+    let arc_flow = ArcFlow { number, arc, flow };
+    write_bound(arc_flow, reason, out)?;
     if let Some(certificate) = texts.certificate {
-        explain_certificate(alloc, files, certificate, carried, reason, said)?;
+        explain_certificate(alloc, files, certificate, arc_flow, reason, out)?;
     }
-    if same.all > 1 && matches!(reason, "AboveCap" | "BelowLow") {
-        say_parallel(arc, same, said)?;
+    if parallel.all > 1 && matches!(reason, "AboveCap" | "BelowLow") {
+        write_parallel(arc, parallel, out)?;
     }
     Ok(())
 }
@@ -67,20 +67,20 @@ fn show_entry<F: Files>(
     files: &mut F,
     texts: Texts<'_>,
     arc: ArcView,
-    same: Parallel,
-    said: &mut String,
+    parallel: Parallel,
+    out: &mut String,
 ) -> Result<i64, Memory> {
     let Some(solution) = texts.claim else {
         return Ok(0);
     };
-    match find_entry(alloc, files, solution, arc.tail, arc.head, same.before)? {
+    match find_entry(alloc, files, solution, arc.tail, arc.head, parallel.before)? {
         Some(entry) => {
-            entry.quote.show(said, solution.file)?;
+            entry.quote.show(out, solution.file)?;
             Ok(entry.flow)
         }
         None => {
             writeln!(
-                said,
+                out,
                 "{}: has no entry for the arc, so it carries 0",
                 solution.file
             )?;
@@ -90,21 +90,21 @@ fn show_entry<F: Files>(
 }
 
 /// Compares the flow of an arc with its bounds, or its cost with the range.
-fn say_bound(carried: Carried, reason: &str, said: &mut String) -> Result<(), AllocError> {
-    let Carried { number, arc, flow } = carried;
+fn write_bound(arc_flow: ArcFlow, reason: &str, out: &mut String) -> Result<(), AllocError> {
+    let ArcFlow { number, arc, flow } = arc_flow;
     match reason {
         "AboveCap" => writeln!(
-            said,
+            out,
             "arc {number} carries {flow}, more than its CAP, {}",
             arc.cap
         ),
         "BelowLow" => writeln!(
-            said,
+            out,
             "arc {number} carries {flow}, less than its LOW, {}",
             arc.low
         ),
         "CostRange" => writeln!(
-            said,
+            out,
             "arc {number} carries {flow} at a COST of {}: the costs of the arcs up to this one leave -10^30 to 10^30",
             arc.cost
         ),
@@ -113,11 +113,11 @@ fn say_bound(carried: Carried, reason: &str, said: &mut String) -> Result<(), Al
 }
 
 /// Explains which entries belong to parallel arcs.
-fn say_parallel(arc: ArcView, same: Parallel, said: &mut String) -> Result<(), AllocError> {
+fn write_parallel(arc: ArcView, parallel: Parallel, out: &mut String) -> Result<(), AllocError> {
     writeln!(
-        said,
+        out,
         "{} arcs lead from {} to {}, and arc {} is the first of them: entries with these ends belong to them in the order of the instance",
-        same.all, arc.tail, arc.head, same.first
+        parallel.all, arc.tail, arc.head, parallel.first
     )
 }
 
@@ -125,27 +125,27 @@ fn say_parallel(arc: ArcView, same: Parallel, said: &mut String) -> Result<(), A
 fn explain_certificate<F: Files>(
     alloc: Global,
     files: &mut F,
-    certificate: Named<'_>,
-    carried: Carried,
+    certificate: TextFile<'_>,
+    arc_flow: ArcFlow,
     reason: &str,
-    said: &mut String,
+    out: &mut String,
 ) -> Result<(), Memory> {
-    let Carried { number, arc, flow } = carried;
+    let ArcFlow { number, arc, flow } = arc_flow;
     match reason {
         "NotSaturated" => writeln!(
-            said,
+            out,
             "arc {number} leaves the set, from {} inside to {} outside, and carries {flow} of its CAP, {}",
             arc.tail, arc.head, arc.cap
         )?,
         "BackFlow" => writeln!(
-            said,
+            out,
             "arc {number} enters the set, from {} outside to {} inside, and carries {flow}, not 0",
             arc.tail, arc.head
         )?,
         "NotTight" => {
-            let tail = potential(alloc, files, certificate, arc.tail, said)?;
-            let head = potential(alloc, files, certificate, arc.head, said)?;
-            say_reduced(carried, tail, head, said)?;
+            let tail = potential(alloc, files, certificate, arc.tail, out)?;
+            let head = potential(alloc, files, certificate, arc.head, out)?;
+            write_reduced_cost(arc_flow, tail, head, out)?;
         }
         _ => (),
     }
@@ -156,9 +156,9 @@ fn explain_certificate<F: Files>(
 fn potential<F: Files>(
     alloc: Global,
     files: &mut F,
-    certificate: Named<'_>,
+    certificate: TextFile<'_>,
     node: u32,
-    said: &mut String,
+    out: &mut String,
 ) -> Result<i128, Memory> {
     let Some(FoundLine { record, quote }) = find_line(
         alloc,
@@ -169,7 +169,7 @@ fn potential<F: Files>(
     else {
         return Ok(0);
     };
-    quote.show(said, certificate.file)?;
+    quote.show(out, certificate.file)?;
     match record {
         Record::PotentialsNode { value, .. } => Ok(value),
         _ => Ok(0),
@@ -177,13 +177,13 @@ fn potential<F: Files>(
 }
 
 /// Computes the reduced cost of an arc, and names the flow that it demands.
-fn say_reduced(
-    carried: Carried,
+fn write_reduced_cost(
+    arc_flow: ArcFlow,
     tail: i128,
     head: i128,
-    said: &mut String,
+    out: &mut String,
 ) -> Result<(), AllocError> {
-    let Carried { number, arc, flow } = carried;
+    let ArcFlow { number, arc, flow } = arc_flow;
     let reduced = i128::from(arc.cost)
         .saturating_sub(tail)
         .saturating_add(head);
@@ -193,7 +193,7 @@ fn say_reduced(
         ("below", "CAP", arc.cap)
     };
     writeln!(
-        said,
+        out,
         "the reduced cost of arc {number} is COST - y({}) + y({}) = {} - {tail} + {head} = {reduced}, {sign} 0, so it has to carry its {bound}, {wanted}, and carries {flow}",
         arc.tail, arc.head, arc.cost
     )
@@ -201,22 +201,25 @@ fn say_reduced(
 
 /// The flow out of a node and into it, by the entries of a solution.
 #[derive(Clone, Copy)]
-struct Through {
-    out: i128,
-    into: i128,
+struct NodeFlow {
+    outflow: i128,
+    inflow: i128,
 }
 
 /// The flow out of a node and into it, without loops.
-fn sums_through<F: Files>(
+fn node_flow<F: Files>(
     alloc: Global,
     files: &mut F,
-    solution: Named<'_>,
+    solution: TextFile<'_>,
     node: u32,
-) -> Result<Option<Through>, Memory> {
+) -> Result<Option<NodeFlow>, Memory> {
     let Some(mut lines) = TextLines::open(alloc, files, solution)? else {
         return Ok(None);
     };
-    let mut sums = Through { out: 0, into: 0 };
+    let mut sums = NodeFlow {
+        outflow: 0,
+        inflow: 0,
+    };
     for _ in 0..ANY_LINES {
         if lines.next().is_none() {
             break;
@@ -230,14 +233,14 @@ fn sums_through<F: Files>(
     Ok(Some(sums))
 }
 
-impl Through {
+impl NodeFlow {
     /// Adds an entry.
     fn add(&mut self, node: u32, tail: u32, head: u32, flow: i128) {
         if tail == node {
-            self.out = self.out.saturating_add(flow);
+            self.outflow = self.outflow.saturating_add(flow);
         }
         if head == node {
-            self.into = self.into.saturating_add(flow);
+            self.inflow = self.inflow.saturating_add(flow);
         }
     }
 }
@@ -248,19 +251,19 @@ pub(crate) fn explain_balance<F: Files>(
     files: &mut F,
     texts: Texts<'_>,
     node: u32,
-    said: &mut String,
+    out: &mut String,
 ) -> Result<(), Memory> {
     let (Some(instance), Some(solution)) = (texts.instance, texts.claim) else {
         return Ok(());
     };
-    let Some(Through { out, into }) = sums_through(alloc, files, solution, node)? else {
-        return cannot_read(said, solution.file);
+    let Some(NodeFlow { outflow, inflow }) = node_flow(alloc, files, solution, node)? else {
+        return cannot_read(out, solution.file);
     };
-    let net = out.saturating_sub(into);
-    let supply = supply_of(alloc, files, instance, node, said)?;
+    let net = outflow.saturating_sub(inflow);
+    let supply = supply_of(alloc, files, instance, node, out)?;
     writeln!(
-        said,
-        "{out} leaves node {node} and {into} enters it: {net} more leaves it than enters, and its supply is {supply}"
+        out,
+        "{outflow} leaves node {node} and {inflow} enters it: {net} more leaves it than enters, and its supply is {supply}"
     )?;
     Ok(())
 }
@@ -269,15 +272,15 @@ pub(crate) fn explain_balance<F: Files>(
 fn supply_of<F: Files>(
     alloc: Global,
     files: &mut F,
-    instance: Named<'_>,
+    instance: TextFile<'_>,
     node: u32,
-    said: &mut String,
+    out: &mut String,
 ) -> Result<i64, Memory> {
     let Some(FoundLine { record, quote }) = find_line(alloc, files, instance, Wanted::Node(node))?
     else {
         return Ok(0);
     };
-    quote.show(said, instance.file)?;
+    quote.show(out, instance.file)?;
     match record {
         Record::MinNode { supply, .. } => Ok(supply),
         _ => Ok(0),
@@ -290,28 +293,28 @@ pub(crate) fn explain_solution<F: Files>(
     files: &mut F,
     texts: Texts<'_>,
     fault: Fault<'_>,
-    said: &mut String,
+    out: &mut String,
 ) -> Result<(), Memory> {
     let (Some(instance), Some(solution)) = (texts.instance, texts.claim) else {
         return Ok(());
     };
     let reason = fault.reason;
-    if texts.better == Some(solution.file) && matches!(reason, "NotMaximum" | "NotLeast") {
-        return say_replaced(solution.file, said);
+    if texts.written_file == Some(solution.file) && matches!(reason, "NotMaximum" | "NotLeast") {
+        return write_replaced(solution.file, out);
     }
     let found = line_at(alloc, files, solution, fault.line, fault.field)?;
     let Some(FoundLine { record, quote }) = found else {
-        return cannot_read(said, solution.file);
+        return cannot_read(out, solution.file);
     };
-    quote.show(said, solution.file)?;
+    quote.show(out, solution.file)?;
     match record {
         Record::SolutionEntry { tail, head, .. } => {
-            explain_entry(alloc, files, instance, tail, head, reason, said)
+            explain_entry(alloc, files, instance, tail, head, reason, out)
         }
         Record::SolutionValue { value } if reason == "ValueDiffers" => {
-            explain_value(alloc, files, instance, solution, value, said)
+            explain_value(alloc, files, instance, solution, value, out)
         }
-        Record::SolutionValue { value } => explain_better(alloc, files, texts, value, said),
+        Record::SolutionValue { value } => explain_better(alloc, files, texts, value, out),
         _ => Ok(()),
     }
 }
@@ -320,25 +323,25 @@ pub(crate) fn explain_solution<F: Files>(
 fn explain_entry<F: Files>(
     alloc: Global,
     files: &mut F,
-    instance: Named<'_>,
+    instance: TextFile<'_>,
     tail: u32,
     head: u32,
     reason: &str,
-    said: &mut String,
+    out: &mut String,
 ) -> Result<(), Memory> {
-    let same = parallel_arcs(alloc, files, instance, tail, head, 0)?;
+    let parallel = parallel_arcs(alloc, files, instance, tail, head, 0)?;
     if reason == "ArcTwice" {
         writeln!(
-            said,
+            out,
             "{} has {} arcs from {tail} to {head}, and as many earlier entries have these ends",
-            instance.file, same.all
+            instance.file, parallel.all
         )?;
         return Ok(());
     }
-    writeln!(said, "{} has no arc from {tail} to {head}", instance.file)?;
+    writeln!(out, "{} has no arc from {tail} to {head}", instance.file)?;
     let back = parallel_arcs(alloc, files, instance, head, tail, 0)?;
     if back.all > 0 {
-        writeln!(said, "arc {} leads from {head} to {tail}", back.first)?;
+        writeln!(out, "arc {} leads from {head} to {tail}", back.first)?;
     }
     Ok(())
 }
@@ -347,28 +350,28 @@ fn explain_entry<F: Files>(
 fn explain_value<F: Files>(
     alloc: Global,
     files: &mut F,
-    instance: Named<'_>,
-    solution: Named<'_>,
+    instance: TextFile<'_>,
+    solution: TextFile<'_>,
     claimed: i128,
-    said: &mut String,
+    out: &mut String,
 ) -> Result<(), Memory> {
     if instance.kind == TextKind::Min {
         if let Some(cost) = cost_of(alloc, files, instance, solution)? {
-            writeln!(said, "{claimed} is claimed, and the flow costs {cost}")?;
+            writeln!(out, "{claimed} is claimed, and the flow costs {cost}")?;
         }
         return Ok(());
     }
     let wanted = Wanted::End(End::Source);
     let Some(FoundLine { record, .. }) = find_line(alloc, files, instance, wanted)? else {
-        return cannot_read(said, instance.file);
+        return cannot_read(out, instance.file);
     };
     if let Record::MaxNode { id, .. } = record
-        && let Some(Through { out, into }) = sums_through(alloc, files, solution, id)?
+        && let Some(NodeFlow { outflow, inflow }) = node_flow(alloc, files, solution, id)?
     {
-        let value = out.saturating_sub(into);
+        let value = outflow.saturating_sub(inflow);
         writeln!(
-            said,
-            "{claimed} is claimed, and the flow has the value {value}: {out} leaves the source, node {id}, and {into} enters it"
+            out,
+            "{claimed} is claimed, and the flow has the value {value}: {outflow} leaves the source, node {id}, and {inflow} enters it"
         )?;
     }
     Ok(())

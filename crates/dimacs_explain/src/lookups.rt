@@ -1,7 +1,7 @@
 //! Finding single lines of texts.
 
 use crate::quote::Quote;
-use crate::texts::{ANY_LINES, Named, TextLines};
+use crate::texts::{ANY_LINES, TextFile, TextLines};
 use dimacs_lines::Memory;
 use dimacs_records::{End, Record};
 use dimacs_runs::Files;
@@ -70,7 +70,7 @@ pub(crate) fn nodes_of(record: Record) -> Option<u32> {
 pub(crate) fn find_line<F: Files>(
     alloc: Global,
     files: &mut F,
-    text: Named<'_>,
+    text: TextFile<'_>,
     wanted: Wanted,
 ) -> Result<Option<FoundLine>, Memory> {
     let Some(mut lines) = TextLines::open(alloc, files, text)? else {
@@ -95,7 +95,7 @@ pub(crate) fn find_line<F: Files>(
 pub(crate) fn line_at<F: Files>(
     alloc: Global,
     files: &mut F,
-    text: Named<'_>,
+    text: TextFile<'_>,
     number: u64,
     field: u64,
 ) -> Result<Option<FoundLine>, Memory> {

@@ -3,7 +3,7 @@
 use crate::arcs::{FoundArc, arc_of};
 use crate::faults::cannot_read;
 use crate::lookups::{FoundLine, Wanted, find_line, line_at};
-use crate::texts::{ANY_LINES, Named, TextLines, Texts};
+use crate::texts::{ANY_LINES, TextFile, TextLines, Texts};
 use dimacs_lines::Memory;
 use dimacs_network::ArcView;
 use dimacs_records::{Record, TextKind};
@@ -15,7 +15,7 @@ const SHOWN_SOURCES: u64 = 5;
 
 /// The labels of an arc's ends in one block.
 #[derive(Clone, Copy)]
-struct Ends {
+struct EndLabels {
     source: u32,
     line: u64,
     radius: Option<i128>,
@@ -23,11 +23,11 @@ struct Ends {
     head: Option<i128>,
 }
 
-impl Ends {
+impl EndLabels {
     /// A block at its t line, which labels its source.
-    fn of(line: u64, source: u32, radius: Option<i128>, arc: ArcView) -> Ends {
+    fn of(line: u64, source: u32, radius: Option<i128>, arc: ArcView) -> EndLabels {
         let begin = |node: u32| if node == source { Some(0) } else { None };
-        Ends {
+        EndLabels {
             source,
             line,
             radius,
@@ -67,12 +67,12 @@ pub(crate) fn explain_weight<F: Files>(
     number: u32,
     found: &FoundArc,
     reason: &str,
-    said: &mut String,
+    out: &mut String,
 ) -> Result<(), Memory> {
     let arc = found.arc;
     if reason == "NegativeWeight" {
         writeln!(
-            said,
+            out,
             "arc {number} has the WEIGHT {}, below 0: solve-paths takes no such graph, and a block with a RADIUS has none",
             arc.cost
         )?;
@@ -82,8 +82,8 @@ pub(crate) fn explain_weight<F: Files>(
         return Ok(());
     };
     match failing_block(alloc, files, labels, arc)? {
-        Some(ends) => say_ends(number, arc, ends, labels, said)?,
-        None => cannot_read(said, labels.file)?,
+        Some(ends) => write_end_labels(number, arc, ends, labels, out)?,
+        None => cannot_read(out, labels.file)?,
     }
     Ok(())
 }
@@ -101,13 +101,13 @@ fn block_of(record: Record) -> Option<(u32, Option<i128>)> {
 fn failing_block<F: Files>(
     alloc: Global,
     files: &mut F,
-    labels: Named<'_>,
+    labels: TextFile<'_>,
     arc: ArcView,
-) -> Result<Option<Ends>, Memory> {
+) -> Result<Option<EndLabels>, Memory> {
     let Some(mut lines) = TextLines::open(alloc, files, labels)? else {
         return Ok(None);
     };
-    let mut block: Option<Ends> = None;
+    let mut block: Option<EndLabels> = None;
     for _ in 0..ANY_LINES {
         let Some(line) = lines.next() else {
             break;
@@ -123,7 +123,7 @@ fn failing_block<F: Files>(
                     if block.is_some_and(|ends| ends.fails(arc)) {
                         return Ok(block);
                     }
-                    block = Some(Ends::of(line, source, radius, arc));
+                    block = Some(EndLabels::of(line, source, radius, arc));
                 }
             }
             None => (),
@@ -133,12 +133,12 @@ fn failing_block<F: Files>(
 }
 
 /// Compares the labels of an arc's ends.
-fn say_ends(
+fn write_end_labels(
     number: u32,
     arc: ArcView,
-    ends: Ends,
-    labels: Named<'_>,
-    said: &mut String,
+    ends: EndLabels,
+    labels: TextFile<'_>,
+    out: &mut String,
 ) -> Result<(), AllocError> {
     let name = match labels.kind {
         TextKind::Distances => "distance",
@@ -147,24 +147,24 @@ fn say_ends(
     let tail = ends.tail.unwrap_or(0);
     let sum = tail.saturating_add(i128::from(arc.cost));
     writeln!(
-        said,
+        out,
         "{}:{}: the block from source {}",
         labels.file, ends.line, ends.source
     )?;
     write!(
-        said,
+        out,
         "arc {number} leads from {}, at {tail}, with the WEIGHT {}, to {}, which is then no farther than {sum}",
         arc.tail, arc.cost, arc.head
     )?;
     match ends.head {
-        Some(head) => writeln!(said, "; its {name} is {head}"),
-        None => writeln!(said, "; it has no {name}"),
+        Some(head) => writeln!(out, "; its {name} is {head}"),
+        None => writeln!(out, "; it has no {name}"),
     }
 }
 
 /// A node's label in one block.
 #[derive(Clone, Copy)]
-struct Labelled {
+struct LabelLine {
     source: u32,
     /// The line of the block, and that of the label.
     block_line: u64,
@@ -175,7 +175,7 @@ struct Labelled {
     before: i128,
 }
 
-impl Labelled {
+impl LabelLine {
     /// The weight that an arc from PRED needs to be tight.
     fn weight(&self) -> i128 {
         self.dist.saturating_sub(self.before)
@@ -186,32 +186,36 @@ impl Labelled {
 pub(crate) fn explain_label<F: Files>(
     alloc: Global,
     files: &mut F,
-    graph: Named<'_>,
-    labels: Named<'_>,
+    graph: TextFile<'_>,
+    labels: TextFile<'_>,
     node: u32,
-    said: &mut String,
+    out: &mut String,
 ) -> Result<(), Memory> {
     let arcs = arcs_into(alloc, files, graph, node)?;
     let mut found = labels_of(alloc, files, labels, node)?;
     add_preds(alloc, files, labels, &mut found)?;
-    let Some(label) = found.iter().copied().find(|label| !leads(&arcs, *label)) else {
-        return cannot_read(said, labels.file);
+    let Some(label) = found
+        .iter()
+        .copied()
+        .find(|label| !has_tight_arc(&arcs, *label))
+    else {
+        return cannot_read(out, labels.file);
     };
     if let Some(FoundLine { quote, .. }) = line_at(alloc, files, labels, label.line, 0)? {
-        quote.show(said, labels.file)?;
+        quote.show(out, labels.file)?;
     }
-    say_label(&arcs, label, node, said)?;
+    write_label(&arcs, label, node, out)?;
     Ok(())
 }
 
 /// Compares a label with that of its PRED.
-fn say_label(
+fn write_label(
     arcs: &[(u32, i64)],
-    label: Labelled,
+    label: LabelLine,
     node: u32,
-    said: &mut String,
+    out: &mut String,
 ) -> Result<(), AllocError> {
-    let Labelled {
+    let LabelLine {
         source,
         block_line,
         dist,
@@ -220,21 +224,21 @@ fn say_label(
         ..
     } = label;
     writeln!(
-        said,
+        out,
         "in the block from source {source} (line {block_line}) node {node} is at {dist}, and its PRED, {pred}, at {before}: no arc from {pred} to {node} has the WEIGHT {}",
         label.weight()
     )?;
     match arcs.iter().find(|arc| arc.0 == pred) {
         Some(&(_, weight)) => writeln!(
-            said,
+            out,
             "the lightest arc from {pred} to {node} has the WEIGHT {weight}"
         ),
-        None => writeln!(said, "no arc leads from {pred} to {node}"),
+        None => writeln!(out, "no arc leads from {pred} to {node}"),
     }
 }
 
 /// Whether the label has a tight arc from its PRED.
-fn leads(arcs: &[(u32, i64)], label: Labelled) -> bool {
+fn has_tight_arc(arcs: &[(u32, i64)], label: LabelLine) -> bool {
     match i64::try_from(label.weight()) {
         Ok(weight) => arcs.binary_search(&(label.pred, weight)).is_ok(),
         Err(_) => false,
@@ -245,9 +249,9 @@ fn leads(arcs: &[(u32, i64)], label: Labelled) -> bool {
 fn labels_of<F: Files>(
     alloc: Global,
     files: &mut F,
-    labels: Named<'_>,
+    labels: TextFile<'_>,
     node: u32,
-) -> Result<Vec<Labelled>, Memory> {
+) -> Result<Vec<LabelLine>, Memory> {
     let mut found = Vec::new(alloc);
     let Some(mut lines) = TextLines::open(alloc, files, labels)? else {
         return Ok(found);
@@ -259,7 +263,7 @@ fn labels_of<F: Files>(
         };
         match lines.record() {
             Some(Record::LabelsBlock { source, .. }) => block = (source, line),
-            Some(Record::LabelsNode { id, dist, pred }) if id == node => found.push(Labelled {
+            Some(Record::LabelsNode { id, dist, pred }) if id == node => found.push(LabelLine {
                 source: block.0,
                 block_line: block.1,
                 line,
@@ -277,8 +281,8 @@ fn labels_of<F: Files>(
 fn add_preds<F: Files>(
     alloc: Global,
     files: &mut F,
-    labels: Named<'_>,
-    found: &mut Vec<Labelled>,
+    labels: TextFile<'_>,
+    found: &mut Vec<LabelLine>,
 ) -> Result<(), Memory> {
     let Some(mut lines) = TextLines::open(alloc, files, labels)? else {
         return Ok(());
@@ -307,7 +311,7 @@ fn add_preds<F: Files>(
 pub(crate) fn arcs_into<F: Files>(
     alloc: Global,
     files: &mut F,
-    graph: Named<'_>,
+    graph: TextFile<'_>,
     node: u32,
 ) -> Result<Vec<(u32, i64)>, Memory> {
     let mut arcs = Vec::new(alloc);
@@ -335,7 +339,7 @@ pub(crate) fn explain_query<F: Files>(
     texts: Texts<'_>,
     node: u32,
     reason: &str,
-    said: &mut String,
+    out: &mut String,
 ) -> Result<(), Memory> {
     let (Some(graph), Some(queries)) = (texts.instance, texts.claim) else {
         return Ok(());
@@ -346,35 +350,35 @@ pub(crate) fn explain_query<F: Files>(
         Wanted::Query(node)
     };
     let Some(FoundLine { quote, .. }) = find_line(alloc, files, queries, wanted)? else {
-        return cannot_read(said, queries.file);
+        return cannot_read(out, queries.file);
     };
-    quote.show(said, queries.file)?;
+    quote.show(out, queries.file)?;
     if reason == "QueryNode" {
         if let Some(FoundLine { quote, .. }) = find_line(alloc, files, graph, Wanted::Problem)? {
-            quote.show(said, graph.file)?;
+            quote.show(out, graph.file)?;
         }
-        writeln!(said, "node {node} is above the NODES of the graph")?;
+        writeln!(out, "node {node} is above the NODES of the graph")?;
         return Ok(());
     }
     match texts.certificate {
-        Some(labels) => say_sources(alloc, files, labels, node, said),
+        Some(labels) => list_sources(alloc, files, labels, node, out),
         None => Ok(()),
     }
 }
 
 /// Lists sources of the blocks.
-fn say_sources<F: Files>(
+fn list_sources<F: Files>(
     alloc: Global,
     files: &mut F,
-    labels: Named<'_>,
+    labels: TextFile<'_>,
     node: u32,
-    said: &mut String,
+    out: &mut String,
 ) -> Result<(), Memory> {
     let Some(mut lines) = TextLines::open(alloc, files, labels)? else {
-        return cannot_read(said, labels.file);
+        return cannot_read(out, labels.file);
     };
     write!(
-        said,
+        out,
         "{} has no block from source {node} that serves the query; its blocks are from",
         labels.file
     )?;
@@ -388,12 +392,12 @@ fn say_sources<F: Files>(
         };
         blocks = blocks.saturating_add(1);
         if blocks <= SHOWN_SOURCES {
-            write!(said, " {source}")?;
+            write!(out, " {source}")?;
             if radius.is_some() {
-                write!(said, " (up to a RADIUS, which serves no ss query)")?;
+                write!(out, " (up to a RADIUS, which serves no ss query)")?;
             }
         }
     }
-    writeln!(said, "; {blocks} in all")?;
+    writeln!(out, "; {blocks} in all")?;
     Ok(())
 }

@@ -47,35 +47,35 @@ impl Quote {
     }
 
     /// Writes the quote after the name of its file and the line's number.
-    pub(crate) fn show(&self, said: &mut String, file: &str) -> Result<(), AllocError> {
-        let before = said.len();
-        write!(said, "{file}:{}: ", self.line)?;
-        let indent = said.len().saturating_sub(before);
-        writeln!(said, "{}", self.text.as_str())?;
+    pub(crate) fn show(&self, out: &mut String, file: &str) -> Result<(), AllocError> {
+        let before = out.len();
+        write!(out, "{file}:{}: ", self.line)?;
+        let indent = out.len().saturating_sub(before);
+        writeln!(out, "{}", self.text.as_str())?;
         if let Some((begin, length)) = self.mark {
-            repeat(said, ' ', indent.saturating_add(begin))?;
-            repeat(said, '^', length)?;
-            said.push('\n')?;
+            repeat(out, ' ', indent.saturating_add(begin))?;
+            repeat(out, '^', length)?;
+            out.push('\n')?;
         }
         Ok(())
     }
 }
 
 /// Writes a character several times.
-fn repeat(said: &mut String, what: char, times: usize) -> Result<(), AllocError> {
+fn repeat(out: &mut String, what: char, times: usize) -> Result<(), AllocError> {
     for _ in 0..times {
-        said.push(what)?;
+        out.push(what)?;
     }
     Ok(())
 }
 
 /// Writes bytes: printable ones unchanged, a tab or a carriage return as a space, others by their codes.
-pub(crate) fn escape(said: &mut String, bytes: &[u8]) -> Result<(), AllocError> {
+pub(crate) fn escape(out: &mut String, bytes: &[u8]) -> Result<(), AllocError> {
     for &byte in bytes {
         match byte {
-            b'\t' | b'\r' => said.push(' ')?,
-            b' '..=b'~' => said.push(char::from(byte))?,
-            _ => write!(said, "\\x{byte:02x}")?,
+            b'\t' | b'\r' => out.push(' ')?,
+            b' '..=b'~' => out.push(char::from(byte))?,
+            _ => write!(out, "\\x{byte:02x}")?,
         }
     }
     Ok(())

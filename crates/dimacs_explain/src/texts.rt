@@ -7,7 +7,7 @@ use std::alloc::Global;
 
 /// A text of a run: its kind and its file.
 #[derive(Clone, Copy)]
-pub(crate) struct Named<'a> {
+pub(crate) struct TextFile<'a> {
     pub(crate) kind: TextKind,
     pub(crate) file: &'a str,
 }
@@ -16,13 +16,13 @@ pub(crate) struct Named<'a> {
 #[derive(Clone, Copy)]
 pub(crate) struct Texts<'a> {
     /// The text of `convert` or `show`, of any kind.
-    single: Option<Named<'a>>,
-    pub(crate) instance: Option<Named<'a>>,
+    single: Option<TextFile<'a>>,
+    pub(crate) instance: Option<TextFile<'a>>,
     /// Queries, a solution or distances.
-    pub(crate) claim: Option<Named<'a>>,
-    pub(crate) certificate: Option<Named<'a>>,
+    pub(crate) claim: Option<TextFile<'a>>,
+    pub(crate) certificate: Option<TextFile<'a>>,
     /// The file for a certificate or a better solution.
-    pub(crate) better: Option<&'a str>,
+    pub(crate) written_file: Option<&'a str>,
 }
 
 const NO_TEXTS: Texts<'static> = Texts {
@@ -30,7 +30,7 @@ const NO_TEXTS: Texts<'static> = Texts {
     instance: None,
     claim: None,
     certificate: None,
-    better: None,
+    written_file: None,
 };
 
 impl<'a> Texts<'a> {
@@ -38,27 +38,27 @@ impl<'a> Texts<'a> {
     pub(crate) fn of(job: Job<'a>) -> Texts<'a> {
         match job {
             Job::Convert(kind, file) | Job::Show(kind, file) => Texts {
-                single: Some(Named { kind, file }),
+                single: Some(TextFile { kind, file }),
                 ..NO_TEXTS
             },
-            Job::Judge(kind, files) => judged(kind, files),
-            Job::Certify(kind, files) => certified(kind, files),
-            Job::Spread(SpreadKind::Max, files) => claimed(
+            Job::Judge(kind, files) => judge_texts(kind, files),
+            Job::Certify(kind, files) => certify_texts(kind, files),
+            Job::Spread(SpreadKind::Max, files) => claim_texts(
                 TextKind::Max,
                 TextKind::Solution,
                 files,
             ),
-            Job::Spread(SpreadKind::Min, files) => claimed(
+            Job::Spread(SpreadKind::Min, files) => claim_texts(
                 TextKind::Min,
                 TextKind::Solution,
                 files,
             ),
-            Job::Solve(job, files) => solved(job, files),
+            Job::Solve(job, files) => solve_texts(job, files),
         }
     }
 
     /// The text with this word in refusals.
-    pub(crate) fn by_name(&self, name: &str) -> Option<Named<'a>> {
+    pub(crate) fn by_name(&self, name: &str) -> Option<TextFile<'a>> {
         if self.single.is_some() {
             return self.single;
         }
@@ -70,7 +70,7 @@ impl<'a> Texts<'a> {
     }
 
     /// The text that is tested against the instance as a whole: the certificate, or distances.
-    pub(crate) fn tested(&self) -> Option<Named<'a>> {
+    pub(crate) fn tested(&self) -> Option<TextFile<'a>> {
         match self.claim {
             Some(claim) if claim.kind == TextKind::Distances => Some(claim),
             _ => self.certificate,
@@ -79,7 +79,7 @@ impl<'a> Texts<'a> {
 }
 
 /// The texts of judging.
-fn judged(kind: JudgeKind, files: &[String]) -> Texts<'_> {
+fn judge_texts(kind: JudgeKind, files: &[String]) -> Texts<'_> {
     let (instance, claim, certificate) = match kind {
         JudgeKind::Max => (TextKind::Max, TextKind::Solution, TextKind::Cut),
         JudgeKind::Min => (TextKind::Min, TextKind::Solution, TextKind::Potentials),
@@ -103,22 +103,22 @@ fn judged(kind: JudgeKind, files: &[String]) -> Texts<'_> {
 }
 
 /// The texts of certifying.
-fn certified(kind: CertifyKind, files: &[String]) -> Texts<'_> {
+fn certify_texts(kind: CertifyKind, files: &[String]) -> Texts<'_> {
     match kind {
-        CertifyKind::Max => claimed(TextKind::Max, TextKind::Solution, files),
-        CertifyKind::Min => claimed(TextKind::Min, TextKind::Solution, files),
-        CertifyKind::Infeasible => unclaimed(TextKind::Min, files),
-        CertifyKind::Paths => claimed(TextKind::Graph, TextKind::Distances, files),
+        CertifyKind::Max => claim_texts(TextKind::Max, TextKind::Solution, files),
+        CertifyKind::Min => claim_texts(TextKind::Min, TextKind::Solution, files),
+        CertifyKind::Infeasible => instance_texts(TextKind::Min, files),
+        CertifyKind::Paths => claim_texts(TextKind::Graph, TextKind::Distances, files),
     }
 }
 
 /// The texts of a run that reads an instance and a claim, and may write a third file.
-fn claimed(instance: TextKind, claim: TextKind, files: &[String]) -> Texts<'_> {
+fn claim_texts(instance: TextKind, claim: TextKind, files: &[String]) -> Texts<'_> {
     match files {
         [first, second, rest @ ..] => Texts {
             instance: text_in(instance, first),
             claim: text_in(claim, second),
-            better: rest.first().map(String::as_str),
+            written_file: rest.first().map(String::as_str),
             ..NO_TEXTS
         },
         _ => NO_TEXTS,
@@ -126,11 +126,11 @@ fn claimed(instance: TextKind, claim: TextKind, files: &[String]) -> Texts<'_> {
 }
 
 /// The text of a run that reads an instance, and may write a second file.
-fn unclaimed(instance: TextKind, files: &[String]) -> Texts<'_> {
+fn instance_texts(instance: TextKind, files: &[String]) -> Texts<'_> {
     match files {
         [first, rest @ ..] => Texts {
             instance: text_in(instance, first),
-            better: rest.first().map(String::as_str),
+            written_file: rest.first().map(String::as_str),
             ..NO_TEXTS
         },
         _ => NO_TEXTS,
@@ -138,7 +138,7 @@ fn unclaimed(instance: TextKind, files: &[String]) -> Texts<'_> {
 }
 
 /// The texts of solving.
-fn solved(job: SolveJob, files: &[String]) -> Texts<'_> {
+fn solve_texts(job: SolveJob, files: &[String]) -> Texts<'_> {
     let (instance, claim) = match job {
         SolveJob::Max(_) => (TextKind::Max, None),
         SolveJob::Min(_) => (TextKind::Min, None),
@@ -147,7 +147,7 @@ fn solved(job: SolveJob, files: &[String]) -> Texts<'_> {
     match files {
         [first, second, ..] => Texts {
             instance: text_in(instance, first),
-            claim: claim.map(|kind| Named {
+            claim: claim.map(|kind| TextFile {
                 kind,
                 file: second.as_str(),
             }),
@@ -158,8 +158,8 @@ fn solved(job: SolveJob, files: &[String]) -> Texts<'_> {
 }
 
 /// A text of this kind in this file.
-fn text_in(kind: TextKind, file: &String) -> Option<Named<'_>> {
-    Some(Named {
+fn text_in(kind: TextKind, file: &String) -> Option<TextFile<'_>> {
+    Some(TextFile {
         kind,
         file: file.as_str(),
     })
@@ -178,7 +178,7 @@ impl<I: Source> TextLines<I> {
     pub(crate) fn open<F: Files<Input = I>>(
         alloc: Global,
         files: &mut F,
-        text: Named<'_>,
+        text: TextFile<'_>,
     ) -> Result<Option<TextLines<I>>, Memory> {
         let lines = Lines::new(alloc)?;
         let Ok(source) = files.open(text.file) else {

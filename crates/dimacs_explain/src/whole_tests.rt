@@ -3,7 +3,7 @@
 use crate::arcs::arc_of;
 use crate::faults::cannot_read;
 use crate::lookups::{FoundLine, Wanted, find_line};
-use crate::texts::{ANY_LINES, Named, TextLines, Texts};
+use crate::texts::{ANY_LINES, TextFile, TextLines, Texts};
 use dimacs_claims::{Cut, read_cut};
 use dimacs_lines::Memory;
 use dimacs_network::ArcView;
@@ -18,21 +18,21 @@ pub(crate) fn explain_end<F: Files>(
     texts: Texts<'_>,
     node: u32,
     end: End,
-    said: &mut String,
+    out: &mut String,
 ) -> Result<(), Memory> {
     let (Some(instance), Some(cut)) = (texts.instance, texts.certificate) else {
         return Ok(());
     };
     if let Some(FoundLine { quote, .. }) = find_line(alloc, files, instance, Wanted::End(end))? {
-        quote.show(said, instance.file)?;
+        quote.show(out, instance.file)?;
     }
     match find_line(alloc, files, cut, Wanted::Node(node))? {
         Some(FoundLine { quote, .. }) => {
-            quote.show(said, cut.file)?;
-            writeln!(said, "node {node} is the sink, and the cut holds it")?;
+            quote.show(out, cut.file)?;
+            writeln!(out, "node {node} is the sink, and the cut holds it")?;
         }
         None => writeln!(
-            said,
+            out,
             "node {node} is the source, and the cut in {} doesn't hold it",
             cut.file
         )?,
@@ -46,36 +46,33 @@ pub(crate) fn explain_whole<F: Files>(
     files: &mut F,
     texts: Texts<'_>,
     reason: &str,
-    said: &mut String,
+    out: &mut String,
 ) -> Result<(), Memory> {
     let (Some(instance), Some(certificate)) = (texts.instance, texts.tested()) else {
         return Ok(());
     };
     if reason == "NotViolated" {
-        return explain_violation(alloc, files, instance, certificate, said);
+        return explain_violation(alloc, files, instance, certificate, out);
     }
     for text in [instance, certificate] {
         match find_line(alloc, files, text, Wanted::Problem)? {
-            Some(FoundLine { quote, .. }) => quote.show(said, text.file)?,
-            None => cannot_read(said, text.file)?,
+            Some(FoundLine { quote, .. }) => quote.show(out, text.file)?,
+            None => cannot_read(out, text.file)?,
         }
     }
-    writeln!(
-        said,
-        "NODES of the two differ: they are not of one instance"
-    )?;
+    writeln!(out, "NODES of the two differ: they are not of one instance")?;
     Ok(())
 }
 
 /// The supply of a set, and the bounds of the net flow out of it.
 #[derive(Clone, Copy)]
-struct Across {
+struct SetSums {
     supply: i128,
     high: i128,
     low: i128,
 }
 
-impl Across {
+impl SetSums {
     /// Adds the supply of a node of the set.
     fn add_supply(&mut self, supply: i64) {
         self.supply = self.supply.saturating_add(i128::from(supply));
@@ -102,21 +99,21 @@ impl Across {
 fn explain_violation<F: Files>(
     alloc: Global,
     files: &mut F,
-    instance: Named<'_>,
-    certificate: Named<'_>,
-    said: &mut String,
+    instance: TextFile<'_>,
+    certificate: TextFile<'_>,
+    out: &mut String,
 ) -> Result<(), Memory> {
     let Ok(mut source) = files.open(certificate.file) else {
-        return cannot_read(said, certificate.file);
+        return cannot_read(out, certificate.file);
     };
     let Ok(set) = read_cut(alloc, &mut source) else {
-        return cannot_read(said, certificate.file);
+        return cannot_read(out, certificate.file);
     };
-    let Some(Across { supply, high, low }) = sums_across(alloc, files, instance, &set)? else {
-        return cannot_read(said, instance.file);
+    let Some(SetSums { supply, high, low }) = set_sums(alloc, files, instance, &set)? else {
+        return cannot_read(out, instance.file);
     };
     writeln!(
-        said,
+        out,
         "the set in {} supplies {supply}, and its arcs can carry {low} to {high} out of it: a set shows that no flow is feasible where its supply lies outside",
         certificate.file
     )?;
@@ -124,16 +121,16 @@ fn explain_violation<F: Files>(
 }
 
 /// The supply of a set, and the bounds of the net flow out of it; none if the instance can't be read.
-fn sums_across<F: Files>(
+fn set_sums<F: Files>(
     alloc: Global,
     files: &mut F,
-    instance: Named<'_>,
+    instance: TextFile<'_>,
     set: &Cut,
-) -> Result<Option<Across>, Memory> {
+) -> Result<Option<SetSums>, Memory> {
     let Some(mut lines) = TextLines::open(alloc, files, instance)? else {
         return Ok(None);
     };
-    let mut sums = Across {
+    let mut sums = SetSums {
         supply: 0,
         high: 0,
         low: 0,
