@@ -11,17 +11,17 @@ use std::fs::File;
 use std::io;
 use std::io::ErrorKind;
 
-/// The operating system's files, by name. What they hold is unknown to the specification.
+/// The operating system's files, by name. The contracts promise nothing about their content.
 #[derive(Drop)]
 pub struct SystemFiles<'a> {
     rt: &'a HostRuntime,
     faults: u64,
-    /// Why the last failed operation on a file failed.
+    /// Why the last file that failed did.
     reason: Option<io::Error>,
 }
 
 impl<'a> SystemFiles<'a> {
-    /// The files of the host, with no fault counted yet.
+    /// No file has failed yet.
     pub fn new(rt: &'a HostRuntime) -> SystemFiles<'a> {
         SystemFiles {
             rt,
@@ -30,12 +30,12 @@ impl<'a> SystemFiles<'a> {
         }
     }
 
-    /// Why the last failed operation on a file failed, as the operating system reports it; none if none failed.
+    /// Why the last file that failed did, if the operating system gave a reason.
     pub fn reason(&self) -> Option<io::Error> {
         self.reason
     }
 
-    /// Records the faults of a file that is closed; `reason` is that of the last. Returns whether there were any.
+    /// Counts a closed file as one fault if it had any; `reason` is that of its last. Returns whether it had any.
     fn count(&mut self, faults: u64, reason: Option<io::Error>) -> bool
         ensures failed { result ≡ not (faults == 0) }
         ensures fault { self.new.faults ≡ (if faults == 0 then self.old.faults else one_more self.old.faults) }
@@ -49,7 +49,7 @@ impl<'a> SystemFiles<'a> {
         failed
     }
 
-    /// Records that a file could not be opened or created. Out of memory doesn't count as a fault of the file.
+    /// Counts a file that couldn't be opened or created as a fault, unless memory ran out.
     pub fn refuse(&mut self, error: io::Error) -> RunError
         ensures fault { CountsDevices {X = Unit {0}} (Err result) (self.old.faults ∷ []) (self.new.faults ∷ []) }
         ensures memory { result ≡ RunError.Memory ↔ error_kind error ≡ ErrorKind.OutOfMemory }

@@ -1,13 +1,12 @@
-//! The command `dimacs`: runs what its arguments ask for over the operating system's files, and ends with the status of
-//! the run.
+//! The command `dimacs`: runs a command over the operating system's files.
 #![tactic(auto)]
 
-mod again;
 mod files;
+mod regular_files;
 mod usage;
 
-use crate::again::FilesAgain;
 use crate::files::SystemFiles;
+use crate::regular_files::RegularFiles;
 use dimacs_explain::{FirstLine, explain_command};
 use dimacs_lines::FileSink;
 use dimacs_runs::{
@@ -20,23 +19,23 @@ use std::os::fd::{AsRawFd, RawFd};
 use std::process::ExitCode;
 use std::{env, io};
 
-/// The argument before a command whose refusal is to be explained.
+/// Before a command, it asks to explain a refusal.
 const EXPLAIN: &str = "explain";
 
 /// The greatest file descriptor of a standard stream.
 const STANDARD_ERROR: RawFd = 2;
 
 fn main(rt: HostRuntime) -> ExitCode {
-    let _kept = (stand_in(&rt), stand_in(&rt), stand_in(&rt));
-    let status = match words(&rt) {
-        Ok(words) => run(&rt, words.get(1..).unwrap_or_default()),
-        Err(error) => wordless(&rt, error),
+    let _folders = (stand_in(&rt), stand_in(&rt), stand_in(&rt));
+    let status = match arguments(&rt) {
+        Ok(arguments) => run(&rt, arguments.get(1..).unwrap_or_default()),
+        Err(error) => without_arguments(&rt, error),
     };
     ExitCode::from(status)
 }
 
-/// Opens a file in place of a standard stream that was closed, so that no file of a run gets its descriptor and what is
-/// meant for the stream. The folder `/` always exists, and can be neither read nor written as a file.
+/// Opens `/` in place of a closed standard stream. Without it, the next file that opens gets the stream's descriptor, and
+/// the stream's output. `/` always exists, and can't be read or written as a file.
 fn stand_in(rt: &HostRuntime) -> Option<File> {
     match File::open(rt, "/") {
         Ok(folder) if folder.as_raw_fd() <= STANDARD_ERROR => Some(folder),
@@ -44,21 +43,21 @@ fn stand_in(rt: &HostRuntime) -> Option<File> {
     }
 }
 
-/// Runs what the arguments after the program's name ask for, and returns the exit status.
-fn run(rt: &HostRuntime, words: &[String]) -> u8 {
+/// Runs the command of these arguments, without the program's name, and returns the exit status.
+fn run(rt: &HostRuntime, arguments: &[String]) -> u8 {
     let mut files = SystemFiles::new(rt);
     let mut output = FirstLine::new(FileSink::new(io::writer(rt)));
-    let (words, ended) = match words {
-        [first, asked @ ..] if first.as_str() == EXPLAIN => {
-            let mut again = FilesAgain::new(rt);
+    let (arguments, ended) = match arguments {
+        [first, command @ ..] if first.as_str() == EXPLAIN => {
+            let mut regular = RegularFiles::new(rt);
             (
-                asked,
-                explain_command(rt.alloc(), asked, &mut files, &mut again, &mut output),
+                command,
+                explain_command(rt.alloc(), command, &mut files, &mut regular, &mut output),
             )
         }
         _ => (
-            words,
-            run_command(rt.alloc(), words, &mut files, &mut output),
+            arguments,
+            run_command(rt.alloc(), arguments, &mut files, &mut output),
         ),
     };
     let status = command_status(&ended);
@@ -70,19 +69,19 @@ fn run(rt: &HostRuntime, words: &[String]) -> u8 {
         };
         print_failure(rt, failure, reason);
     }
-    if let Some(name) = job(words).and_then(|job| job.written_twice()) {
+    if let Some(name) = job(arguments).and_then(|job| job.written_twice()) {
         let _ = eprintln!(rt; "dimacs: {name}: written twice");
     }
     status
 }
 
 /// The arguments, the program's name first.
-fn words(rt: &HostRuntime) -> io::Result<Vec<String>> {
+fn arguments(rt: &HostRuntime) -> io::Result<Vec<String>> {
     Ok(env::args(rt)?.collect(rt.alloc())?)
 }
 
-/// The exit status if the arguments can't be had. Arguments that aren't UTF-8 ask for no run.
-fn wordless(rt: &HostRuntime, error: io::Error) -> u8 {
+/// Complains that there are no arguments, and returns the exit status. Arguments that aren't UTF-8 name no run.
+fn without_arguments(rt: &HostRuntime, error: io::Error) -> u8 {
     let status = if error.kind() == ErrorKind::OutOfMemory {
         exit_status(&Err(RunError::Memory))
     } else {
@@ -92,8 +91,8 @@ fn wordless(rt: &HostRuntime, error: io::Error) -> u8 {
     status
 }
 
-/// Writes the complaint for an exit status, if it has one, to the standard error; the usage text follows if no run was
-/// asked for.
+/// Writes the complaint for an exit status, if it has one, to the standard error; then the usage text, if the arguments
+/// name no run.
 fn complain(rt: &HostRuntime, status: u8) {
     if let Some(line) = complaint(status) {
         let _ = eprintln!(rt; "{line}");
@@ -103,12 +102,12 @@ fn complain(rt: &HostRuntime, status: u8) {
     }
 }
 
-/// Writes the failed operation to the standard error, and the reason, if the operating system gives one.
+/// Writes to the standard error what failed, and the reason, if it is known.
 fn print_failure(rt: &HostRuntime, failure: Failure<'_>, reason: Option<io::Error>) {
-    let device = failure.device();
+    let name = failure.device();
     let call = failure.call();
     let _ = match reason {
-        Some(reason) => eprintln!(rt; "dimacs: {device}: {call}: {reason}"),
-        None => eprintln!(rt; "dimacs: {device}: {call}"),
+        Some(reason) => eprintln!(rt; "dimacs: {name}: {call}: {reason}"),
+        None => eprintln!(rt; "dimacs: {name}: {call}"),
     };
 }

@@ -1,9 +1,9 @@
-//! The usage text, as clap renders it. `dimacs_runs::job` decides what the arguments mean.
+//! The usage text. clap only renders it: `dimacs_runs::job` reads the arguments.
 
 use clap::Command;
 use std::alloc::{AllocError, Global};
 
-/// The arguments of each run, and what it does. With two spaces between them they fit into 80 columns.
+/// The arguments of each run, and what it does: both fit into 80 columns, with two spaces between them.
 static RUNS: [(&str, &str); 16] = [
     ("convert KIND FILE", "Prints its canonical form"),
     ("show KIND FILE", "Prints a line about it"),
@@ -50,7 +50,7 @@ static RUNS: [(&str, &str); 16] = [
     ("explain COMMAND FILE...", "Does it, and explains a refusal"),
 ];
 
-/// The text after the list of runs.
+/// After the list of runs.
 static NOTES: &str = "\
 A judge is given a certificate, which shows that a claim is true. A certify run
 needs none: it writes one to CERTIFICATE or LABELS, if it is named, or a better
@@ -76,24 +76,22 @@ Example:
   dimacs judge-max pipes.max pipes.solution pipes.cut
   prints v max 12, or the first fault with its place, as x arc 3 NotSaturated";
 
-/// The name and the version.
 static VERSION: &str = "dimacs 0.1.0";
 
-/// Writes the version and the usage text to the standard error, if there is memory for it.
+/// Writes the version and the usage text to the standard error, unless memory runs out.
 pub fn print(rt: &HostRuntime) {
     if let Ok(text) = usage_text(rt.alloc()) {
         let _ = eprintln!(rt; "{VERSION}\n{text}");
     }
 }
 
-/// The usage text.
 fn usage_text(alloc: Global) -> Result<String, AllocError> {
     let mut command = Command::new(alloc, "dimacs")
         .about("Reads, converts, judges and makes the DIMACS texts of flows and shortest paths")
         .override_usage("dimacs COMMAND FILE...")
         .after_help(NOTES);
-    for &(words, about) in &RUNS {
-        command = command.subcommand(Command::new(alloc, words).about(about))?;
+    for &(arguments, about) in &RUNS {
+        command = command.subcommand(Command::new(alloc, arguments).about(about))?;
     }
     command
         .disable_help_subcommand(true)

@@ -1,4 +1,4 @@
-//! Files that are read a second time.
+//! The operating system's files, if they can be read twice.
 
 ghost use Rattle.std.specs.Prelude.{None};
 
@@ -9,25 +9,24 @@ use std::fs::File;
 use std::io::ErrorKind;
 use std::{fs, io};
 
-/// The operating system's files. `open` refuses what isn't a regular file: a pipe is empty by now, and opening one may
-/// block for ever.
+/// Opens only regular files: a pipe is empty the second time, and opening it may block for ever.
 #[derive(Drop)]
-pub struct FilesAgain<'a> {
+pub struct RegularFiles<'a> {
     rt: &'a HostRuntime,
     files: SystemFiles<'a>,
 }
 
-impl<'a> FilesAgain<'a> {
-    /// The files of the host.
-    pub fn new(rt: &'a HostRuntime) -> FilesAgain<'a> {
-        FilesAgain {
+impl<'a> RegularFiles<'a> {
+    /// No file has failed yet.
+    pub fn new(rt: &'a HostRuntime) -> RegularFiles<'a> {
+        RegularFiles {
             rt,
             files: SystemFiles::new(rt),
         }
     }
 }
 
-impl<'a> Files for FilesAgain<'a> {
+impl<'a> Files for RegularFiles<'a> {
     type Input = FileSource<File>;
 
     type Output = FileSink<File>;
