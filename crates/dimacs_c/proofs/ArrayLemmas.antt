@@ -21,15 +21,15 @@ none_by : {X : Type 0} (h : Handed X) → HandsNothing h → HandsOut [] h
 none_by h nothing = rw (nothing.needed, nothing.unchanged) (hands_none h.buffer)
 
 -- the judge's answer was handed out, or memory ran out
-pub line_answered : (judges : Result Verdict ArrayError → Type 0) → judges (Err Memory) → (r : Result Verdict ArrayError) → judges r → (answer : ℕ) (h : Handed ℕ)
-    → EndsLine (printed verdict_printed r) answer h → AnswersLine judges answer h
-line_answered judges memory r holds answer h (inl ends) = (r, holds, ends.0, ends.1)
-line_answered judges memory r holds answer h (inr ends) = (Err Memory, memory, ends.0, none_by h ends.1)
+pub line_answered : (judges : Result Verdict ArrayError → Type 0) → judges (Err Memory) → (r : Result Verdict ArrayError) → judges r → (exit_status : ℕ) (h : Handed ℕ)
+    → EndsLine (printed verdict_printed r) exit_status h → AnswersLine judges exit_status h
+line_answered judges memory r holds exit_status h (inl ends) = (r, holds, ends.0, ends.1)
+line_answered judges memory r holds exit_status h (inr ends) = (Err Memory, memory, ends.0, none_by h ends.1)
 
 -- ---- items, for the buffers that a call may have
 module _ {I : Type 0} (items : List I) where
   abbrev pub EndsTo : Result ℕ DeviceFault → Option (Handed I) → Type 0
-  EndsTo put buffer = IfSome buffer (λ h. (answer : ℕ) × EndsPrinted put items answer h)
+  EndsTo put buffer = IfSome buffer (λ h. (exit_status : ℕ) × EndsPrinted put items exit_status h)
 
   handed_to : (status : ℕ) (buffer : Option (Handed I)) → EndsTo (Ok status) buffer → IfSome buffer (HandsOut items)
   handed_to status None ends = tt
@@ -42,9 +42,9 @@ module _ {I : Type 0} (items : List I) where
 module _ {X : Type 0} (prints : X → Printed) (gives : Result X ArrayError → Type 0) (memory : gives (Err Memory)) (r : Result X ArrayError) (holds : gives r) where
   --   the line was written and all was handed out, or memory ran out
   pub items_answered : (put : Result ℕ DeviceFault) → IfOk put (λ status. status ≡ (printed prints r).status) → (start line : List ℕ) → start ≡ [] → Accepts put (Some start) (printed prints r).line (Some line)
-      → (all : Buffers) (answer : ℕ) → EndsPrinted put line answer all.line → EndsTo (printed prints r).marks put all.marks → EndsTo (printed prints r).numbers put all.numbers → EndsTo (printed prints r).amounts put all.amounts
-      → AnswersItems prints gives answer all
-  items_answered (Ok status) is start line empty put all answer ends marks numbers amounts =
+      → (all : Buffers) (exit_status : ℕ) → EndsPrinted put line exit_status all.line → EndsTo (printed prints r).marks put all.marks → EndsTo (printed prints r).numbers put all.numbers → EndsTo (printed prints r).amounts put all.amounts
+      → AnswersItems prints gives exit_status all
+  items_answered (Ok status) is start line empty put all exit_status ends marks numbers amounts =
       let line_is : line ≡ (printed prints r).line = bytes_of put ∙ ap (λ front. front ++ (printed prints r).line) empty in (
         r,
         holds,
@@ -56,7 +56,7 @@ module _ {X : Type 0} (prints : X → Printed) (gives : Result X ArrayError → 
           amounts = handed_to (printed prints r).amounts status all.amounts amounts;
         },
       )
-  items_answered (Err fault) is start line empty put all answer ends marks numbers amounts = (
+  items_answered (Err fault) is start line empty put all exit_status ends marks numbers amounts = (
     Err Memory,
     memory,
     ends.0,

@@ -22,53 +22,53 @@ are_queries (Min limit) coming b is = tt
 are_queries Paths coming b is = is
 
 pub bytes_of : {a b : List ℕ} → Some a ≡ Some b → a ≡ b
-bytes_of is = ap (λ (held : Option (List ℕ)). unwrap_or held []) is
+bytes_of is = ap (λ (sink : Option (List ℕ)). unwrap_or sink []) is
 
 -- one sink was empty, and its bytes were handed out
-pub answered : (writes : Status → List ℕ → Type 0) (ended : Result Status RunError) (start bytes : List ℕ) (answer : ℕ) (h : Handed ℕ) → start ≡ []
-    → Reports writes ended (Some start) (Some bytes) → Ends ended bytes answer h → Answers writes answer h
-answered writes (Ok s) start bytes answer h empty reports ends =
+pub answered : (writes : Status → List ℕ → Type 0) (ended : Result Status RunError) (start bytes : List ℕ) (exit_status : ℕ) (h : Handed ℕ) → start ≡ []
+    → Reports writes ended (Some start) (Some bytes) → Ends ended bytes exit_status h → Answers writes exit_status h
+answered writes (Ok s) start bytes exit_status h empty reports ends =
     let whole : bytes ≡ reports.0 = bytes_of reports.2 ∙ ap (λ front. front ++ reports.0) empty in
     inl (s, reports.0, reports.1, ends.0, subst (λ text. HandsOut text h) whole ends.1)
-answered writes (Err error) start bytes answer h empty reports ends = inr ends
+answered writes (Err error) start bytes exit_status h empty reports ends = inr ends
 
 -- ---- several texts, each from its own sink
 -- the bytes of a sink, and the buffer for them
-abbrev pub Kept : Type 0
-Kept = List ℕ × Handed ℕ
+abbrev pub Output : Type 0
+Output = List ℕ × Handed ℕ
 
-abbrev pub begun : List Kept → List (Option (List ℕ))
-begun [] = []
-begun (k ∷ kept) = Some [] ∷ begun kept
+abbrev pub empty_sinks : List Output → List (Option (List ℕ))
+empty_sinks [] = []
+empty_sinks (k ∷ outputs) = Some [] ∷ empty_sinks outputs
 
-abbrev pub held : List Kept → List (Option (List ℕ))
-held [] = []
-held (k ∷ kept) = Some k.0 ∷ held kept
+abbrev pub written_sinks : List Output → List (Option (List ℕ))
+written_sinks [] = []
+written_sinks (k ∷ outputs) = Some k.0 ∷ written_sinks outputs
 
-abbrev pub buffers_of : List Kept → List (Handed ℕ)
+abbrev pub buffers_of : List Output → List (Handed ℕ)
 buffers_of [] = []
-buffers_of (k ∷ kept) = k.1 ∷ buffers_of kept
+buffers_of (k ∷ outputs) = k.1 ∷ buffers_of outputs
 
 -- each buffer got the bytes of its sink, or nothing
-abbrev pub EndEach : Result Status RunError → List Kept → Type 0
+abbrev pub EndEach : Result Status RunError → List Output → Type 0
 EndEach ended [] = Unit {0}
-EndEach ended (k ∷ kept) = ((answer : ℕ) × Ends ended k.0 answer k.1) × EndEach ended kept
+EndEach ended (k ∷ outputs) = ((exit_status : ℕ) × Ends ended k.0 exit_status k.1) × EndEach ended outputs
 
-hands_each : (s : Status) (texts : List (List ℕ)) (kept : List Kept) → AcceptAll texts (begun kept) (held kept) → EndEach (Ok s) kept → HandsEach texts (buffers_of kept)
+hands_each : (s : Status) (texts : List (List ℕ)) (outputs : List Output) → AcceptAll texts (empty_sinks outputs) (written_sinks outputs) → EndEach (Ok s) outputs → HandsEach texts (buffers_of outputs)
 hands_each s [] [] same ends = tt
-hands_each s [] (k ∷ kept) same ends =
+hands_each s [] (k ∷ outputs) same ends =
     let empty : k.0 ≡ [] = bytes_of (ap (λ sinks. get_or sinks 0 None) same) in
-    let rest : held kept ≡ begun kept = ap (drop 1) same in
-    (subst (λ text. HandsOut text k.1) empty ends.0.1.1, hands_each s [] kept rest ends.1)
+    let rest : written_sinks outputs ≡ empty_sinks outputs = ap (drop 1) same in
+    (subst (λ text. HandsOut text k.1) empty ends.0.1.1, hands_each s [] outputs rest ends.1)
 hands_each s (text ∷ texts) [] never ends = absurd never
-hands_each s (text ∷ texts) (k ∷ kept) accepted ends = (subst (λ t. HandsOut t k.1) (bytes_of accepted.0) ends.0.1.1, hands_each s texts kept accepted.1 ends.1)
+hands_each s (text ∷ texts) (k ∷ outputs) accepted ends = (subst (λ t. HandsOut t k.1) (bytes_of accepted.0) ends.0.1.1, hands_each s texts outputs accepted.1 ends.1)
 
-hand_nothing : (error : RunError) (kept : List Kept) → EndEach (Err error) kept → HandNothing (buffers_of kept)
+hand_nothing : (error : RunError) (outputs : List Output) → EndEach (Err error) outputs → HandNothing (buffers_of outputs)
 hand_nothing error [] ends = tt
-hand_nothing error (k ∷ kept) ends = (ends.0.1.1, hand_nothing error kept ends.1)
+hand_nothing error (k ∷ outputs) ends = (ends.0.1.1, hand_nothing error outputs ends.1)
 
 -- all sinks were empty, and their bytes were handed out
-pub answered_texts : (writes : Status → List (List ℕ) → Type 0) (ended : Result Status RunError) (kept : List Kept) (report : List ℕ) (answer : ℕ) (last : Handed ℕ)
-    → ReportsAll writes ended (begun kept) (held kept) → EndEach ended kept → Ends ended report answer last → AnswersTexts writes answer (buffers_of kept)
-answered_texts writes (Ok s) kept report answer last reports ends status = inl (s, reports.0, reports.1, status.0, hands_each s reports.0 kept reports.2 ends)
-answered_texts writes (Err error) kept report answer last reports ends status = inr (status.0, hand_nothing error kept ends)
+pub answered_texts : (writes : Status → List (List ℕ) → Type 0) (ended : Result Status RunError) (outputs : List Output) (report : List ℕ) (exit_status : ℕ) (last : Handed ℕ)
+    → ReportsAll writes ended (empty_sinks outputs) (written_sinks outputs) → EndEach ended outputs → Ends ended report exit_status last → AnswersTexts writes exit_status (buffers_of outputs)
+answered_texts writes (Ok s) outputs report exit_status last reports ends status = inl (s, reports.0, reports.1, status.0, hands_each s reports.0 outputs reports.2 ends)
+answered_texts writes (Err error) outputs report exit_status last reports ends status = inr (status.0, hand_nothing error outputs ends)

@@ -95,8 +95,8 @@ paths_found (paths_solved.Far labels) = only 5 gave_up_line
 
 -- the line of a possible answer of the judge is handed out, with its status; out of memory is one, without a line
 abbrev pub AnswersLine : (Result Verdict ArrayError → Type 0) → ℕ → Handed ℕ → Type 0
-AnswersLine judges answer h =
-    (r : Result Verdict ArrayError) × judges r × (answer ≡ (printed verdict_printed r).status) × HandsOut (printed verdict_printed r).line h
+AnswersLine judges exit_status h =
+    (r : Result Verdict ArrayError) × judges r × (exit_status ≡ (printed verdict_printed r).status) × HandsOut (printed verdict_printed r).line h
 
 -- a caller's buffers for a line and for items; a call has none for items that it never hands out
 pub record Buffers : Type 0 where
@@ -117,5 +117,5 @@ pub record HandsOutAll (s : Printed) (r : Buffers) : Type 0 where
 
 -- a possible answer of the certifier or the solver is handed out, with its status
 abbrev pub AnswersItems : {X : Type 0} → (X → Printed) → (Result X ArrayError → Type 0) → ℕ → Buffers → Type 0
-AnswersItems {X} prints gives answer given =
-    (r : Result X ArrayError) × gives r × (answer ≡ (printed prints r).status) × HandsOutAll (printed prints r) given
+AnswersItems {X} prints gives exit_status all =
+    (r : Result X ArrayError) × gives r × (exit_status ≡ (printed prints r).status) × HandsOutAll (printed prints r) all

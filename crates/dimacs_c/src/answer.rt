@@ -38,14 +38,14 @@ pub(crate) fn end(
 /// Copies items of a call over arrays, unless writing its line failed, and returns the status. Writing to memory fails
 /// only if memory runs out.
 pub(crate) fn hand_printed<T: Copy>(
-    put: Result<u32, DeviceFault>,
+    status: Result<u32, DeviceFault>,
     items: &[T],
     buffer: &mut [T],
     needed: &mut usize,
 ) -> u32
-    ensures { EndsPrinted put items.now result (handed buffer.old buffer.new needed.new) }
+    ensures { EndsPrinted status items.now result (handed buffer.old buffer.new needed.new) }
 {
-    match put {
+    match status {
         Ok(status) => {
             hand_out(items, buffer, needed);
             status

@@ -44,14 +44,15 @@ pub extern "C" fn dimacs_certify_infeasible_arrays(
     flows_needed: &mut usize,
 ) -> u32
     ensures { AnswersItems infeasible_printed (CertifiesInfeasibleArrays instance.now) result
-        (buffers (handed out.old out.new needed.new) (Some (handed inside.old inside.new inside_needed.new)) None (Some (handed flows.old flows.new flows_needed.new))) }
+        (buffers (handed out.old out.new needed.new) (Some (handed inside.old inside.new inside_needed.new))
+        None (Some (handed flows.old flows.new flows_needed.new))) }
 {
     let answer = certify_infeasible_arrays(alloc, instance);
     let mut line = MemorySink::new(alloc);
-    let put = put_certified(&mut line, &answer);
-    hand_printed(put, inside_of(&answer), inside, inside_needed);
-    hand_printed(put, flow_of(&answer), flows, flows_needed);
-    hand_printed(put, line.bytes(), out, needed)
+    let status = put_certified(&mut line, &answer);
+    hand_printed(status, inside_of(&answer), inside, inside_needed);
+    hand_printed(status, flow_of(&answer), flows, flows_needed);
+    hand_printed(status, line.bytes(), out, needed)
 }
 
 /// Writes the line of the answer, and returns its status.

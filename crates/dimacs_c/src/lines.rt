@@ -37,8 +37,8 @@ pub(crate) fn hand_judged(
     ensures { EndsLine (printed verdict_printed answer) result (handed out.old out.new needed.new) }
 {
     let mut line = MemorySink::new(alloc);
-    let put = put_judged(&mut line, answer);
-    hand_printed(put, line.bytes(), out, needed)
+    let status = put_judged(&mut line, answer);
+    hand_printed(status, line.bytes(), out, needed)
 }
 
 /// Writes the line of a judge's answer, and returns its status.
@@ -96,7 +96,7 @@ pub(crate) fn put_feasible<K: Sink>(sink: &mut K) -> Result<u32, DeviceFault>
 }
 
 /// Writes the line `g limit`.
-pub(crate) fn put_wide<K: Sink>(sink: &mut K) -> Result<u32, DeviceFault>
+pub(crate) fn put_unsolved<K: Sink>(sink: &mut K) -> Result<u32, DeviceFault>
     ensures status { IfOk result (λ status. status ≡ 5) }
     ensures line { Puts result (K.seen sink.old) gave_up_line (K.seen sink.new) }
 {

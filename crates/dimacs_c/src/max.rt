@@ -7,7 +7,7 @@ ghost use Rattle.dimacs_c.specs.Arrays.{AnswersItems, AnswersLine, max_found, ma
 ghost use Rattle.dimacs_c.specs.Calls.{handed};
 
 use crate::answer::hand_printed;
-use crate::lines::{WHOLE_FLOW, hand_judged, put_error, put_no, put_wide, put_yes};
+use crate::lines::{WHOLE_FLOW, hand_judged, put_error, put_no, put_unsolved, put_yes};
 use dimacs_arrays::{
     ArrayError, MaxArrays, MaxCertified, MaxSolved, certify_max_arrays, judge_max_arrays,
     solve_max_arrays,
@@ -48,14 +48,15 @@ pub extern "C" fn dimacs_certify_max_arrays(
     better_needed: &mut usize,
 ) -> u32
     ensures { AnswersItems max_printed (CertifiesMaxArrays instance.now flows.now) result
-        (buffers (handed out.old out.new needed.new) (Some (handed inside.old inside.new inside_needed.new)) None (Some (handed better.old better.new better_needed.new))) }
+        (buffers (handed out.old out.new needed.new) (Some (handed inside.old inside.new inside_needed.new))
+        None (Some (handed better.old better.new better_needed.new))) }
 {
     let answer = certify_max_arrays(alloc, instance, flows);
     let mut line = MemorySink::new(alloc);
-    let put = put_certified(&mut line, &answer);
-    hand_printed(put, inside_of(&answer), inside, inside_needed);
-    hand_printed(put, better_of(&answer), better, better_needed);
-    hand_printed(put, line.bytes(), out, needed)
+    let status = put_certified(&mut line, &answer);
+    hand_printed(status, inside_of(&answer), inside, inside_needed);
+    hand_printed(status, better_of(&answer), better, better_needed);
+    hand_printed(status, line.bytes(), out, needed)
 }
 
 /// Writes the line of the answer, and returns its status.
@@ -108,14 +109,15 @@ pub extern "C" fn dimacs_solve_max_arrays(
     inside_needed: &mut usize,
 ) -> u32
     ensures { AnswersItems max_found (SolvesMaxArrays instance.now limit) result
-        (buffers (handed out.old out.new needed.new) (Some (handed inside.old inside.new inside_needed.new)) None (Some (handed flows.old flows.new flows_needed.new))) }
+        (buffers (handed out.old out.new needed.new) (Some (handed inside.old inside.new inside_needed.new))
+        None (Some (handed flows.old flows.new flows_needed.new))) }
 {
     let answer = solve_max_arrays(alloc, instance, limit);
     let mut line = MemorySink::new(alloc);
-    let put = put_solved(&mut line, &answer);
-    hand_printed(put, inside_by(&answer), inside, inside_needed);
-    hand_printed(put, flow_of(&answer), flows, flows_needed);
-    hand_printed(put, line.bytes(), out, needed)
+    let status = put_solved(&mut line, &answer);
+    hand_printed(status, solved_inside(&answer), inside, inside_needed);
+    hand_printed(status, flow_of(&answer), flows, flows_needed);
+    hand_printed(status, line.bytes(), out, needed)
 }
 
 /// Writes the line of the answer, and returns its status.
@@ -128,13 +130,13 @@ fn put_solved<K: Sink>(
 {
     match answer {
         Ok(MaxSolved::Optimal { value, .. }) => put_yes(sink, &Verdict::Max(*value)),
-        Ok(MaxSolved::GaveUp) => put_wide(sink),
+        Ok(MaxSolved::GaveUp) => put_unsolved(sink),
         Err(error) => put_error(sink, *error),
     }
 }
 
 /// The bytes of the cut, if a flow was found.
-fn inside_by(answer: &Result<MaxSolved, ArrayError>) -> &[u8]
+fn solved_inside(answer: &Result<MaxSolved, ArrayError>) -> &[u8]
     ensures { result.now ≡ (printed max_found answer.now).marks }
 {
     match answer {

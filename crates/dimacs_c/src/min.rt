@@ -7,7 +7,7 @@ ghost use Rattle.dimacs_c.specs.Arrays.{AnswersItems, AnswersLine, min_found, mi
 ghost use Rattle.dimacs_c.specs.Calls.{handed};
 
 use crate::answer::hand_printed;
-use crate::lines::{WHOLE_FLOW, hand_judged, put_error, put_no, put_wide, put_yes};
+use crate::lines::{WHOLE_FLOW, hand_judged, put_error, put_no, put_unsolved, put_yes};
 use dimacs_arrays::{
     ArrayError, MinArrays, MinCertified, MinSolved, certify_min_arrays, judge_min_arrays,
     solve_min_arrays,
@@ -48,14 +48,20 @@ pub extern "C" fn dimacs_certify_min_arrays(
     better_needed: &mut usize,
 ) -> u32
     ensures { AnswersItems min_printed (CertifiesMinArrays instance.now flows.now) result
-        (buffers (handed out.old out.new needed.new) None (Some (handed potentials.old potentials.new potentials_needed.new)) (Some (handed better.old better.new better_needed.new))) }
+        (buffers (handed out.old out.new needed.new) None (Some (handed potentials.old potentials.new potentials_needed.new))
+        (Some (handed better.old better.new better_needed.new))) }
 {
     let answer = certify_min_arrays(alloc, instance, flows);
     let mut line = MemorySink::new(alloc);
-    let put = put_certified(&mut line, &answer);
-    hand_printed(put, potentials_of(&answer), potentials, potentials_needed);
-    hand_printed(put, better_of(&answer), better, better_needed);
-    hand_printed(put, line.bytes(), out, needed)
+    let status = put_certified(&mut line, &answer);
+    hand_printed(
+        status,
+        potentials_of(&answer),
+        potentials,
+        potentials_needed,
+    );
+    hand_printed(status, better_of(&answer), better, better_needed);
+    hand_printed(status, line.bytes(), out, needed)
 }
 
 /// Writes the line of the answer, and returns its status.
@@ -68,7 +74,7 @@ fn put_certified<K: Sink>(
 {
     match answer {
         Ok(MinCertified::Optimal { cost, .. }) => put_yes(sink, &Verdict::Min(*cost)),
-        Ok(MinCertified::Wide { .. }) => put_wide(sink),
+        Ok(MinCertified::Wide { .. }) => put_unsolved(sink),
         Ok(MinCertified::Better(_)) => put_no(sink, WHOLE_FLOW, Reason::NotLeast),
         Err(error) => put_error(sink, *error),
     }
@@ -116,11 +122,16 @@ pub extern "C" fn dimacs_solve_min_arrays(
 {
     let answer = solve_min_arrays(alloc, instance, limit);
     let mut line = MemorySink::new(alloc);
-    let put = put_solved(&mut line, &answer);
-    hand_printed(put, inside_by(&answer), inside, inside_needed);
-    hand_printed(put, potentials_by(&answer), potentials, potentials_needed);
-    hand_printed(put, flow_of(&answer), flows, flows_needed);
-    hand_printed(put, line.bytes(), out, needed)
+    let status = put_solved(&mut line, &answer);
+    hand_printed(status, solved_inside(&answer), inside, inside_needed);
+    hand_printed(
+        status,
+        solved_potentials(&answer),
+        potentials,
+        potentials_needed,
+    );
+    hand_printed(status, flow_of(&answer), flows, flows_needed);
+    hand_printed(status, line.bytes(), out, needed)
 }
 
 /// Writes the line of the answer, and returns its status.
@@ -134,13 +145,13 @@ fn put_solved<K: Sink>(
     match answer {
         Ok(MinSolved::Optimal { cost, .. }) => put_yes(sink, &Verdict::Min(*cost)),
         Ok(MinSolved::Infeasible { .. }) => put_yes(sink, &Verdict::Infeasible),
-        Ok(MinSolved::Wide { .. } | MinSolved::GaveUp) => put_wide(sink),
+        Ok(MinSolved::Wide { .. } | MinSolved::GaveUp) => put_unsolved(sink),
         Err(error) => put_error(sink, *error),
     }
 }
 
 /// The bytes of the set, if no flow is feasible.
-fn inside_by(answer: &Result<MinSolved, ArrayError>) -> &[u8]
+fn solved_inside(answer: &Result<MinSolved, ArrayError>) -> &[u8]
     ensures { result.now ≡ (printed min_found answer.now).marks }
 {
     match answer {
@@ -150,7 +161,7 @@ fn inside_by(answer: &Result<MinSolved, ArrayError>) -> &[u8]
 }
 
 /// The potentials, if a flow was found and they fit into an array.
-fn potentials_by(answer: &Result<MinSolved, ArrayError>) -> &[i64]
+fn solved_potentials(answer: &Result<MinSolved, ArrayError>) -> &[i64]
     ensures { result.now ≡ (printed min_found answer.now).numbers }
 {
     match answer {

@@ -7,7 +7,7 @@ ghost use Rattle.dimacs_c.specs.Arrays.{AnswersItems, AnswersLine, paths_found, 
 ghost use Rattle.dimacs_c.specs.Calls.{handed};
 
 use crate::answer::hand_printed;
-use crate::lines::{hand_judged, put_error, put_wide, put_yes};
+use crate::lines::{hand_judged, put_error, put_unsolved, put_yes};
 use dimacs_arrays::{
     ArrayError, GraphArrays, PathsSolved, certify_paths_arrays, judge_paths_arrays,
     solve_paths_arrays,
@@ -50,14 +50,14 @@ pub extern "C" fn dimacs_certify_paths_arrays(
 {
     let answer = certify_paths_arrays(alloc, graph, source, distances);
     let mut line = MemorySink::new(alloc);
-    let put = put_certified(&mut line, &answer);
+    let status = put_certified(&mut line, &answer);
     hand_printed(
-        put,
+        status,
         predecessors_of(&answer),
         predecessors,
         predecessors_needed,
     );
-    hand_printed(put, line.bytes(), out, needed)
+    hand_printed(status, line.bytes(), out, needed)
 }
 
 /// Writes the line of the answer, and returns its status.
@@ -103,15 +103,20 @@ pub extern "C" fn dimacs_solve_paths_arrays(
 {
     let answer = solve_paths_arrays(alloc, graph, source);
     let mut line = MemorySink::new(alloc);
-    let put = put_solved(&mut line, &answer);
+    let status = put_solved(&mut line, &answer);
     hand_printed(
-        put,
-        predecessors_by(&answer),
+        status,
+        solved_predecessors(&answer),
         predecessors,
         predecessors_needed,
     );
-    hand_printed(put, distances_by(&answer), distances, distances_needed);
-    hand_printed(put, line.bytes(), out, needed)
+    hand_printed(
+        status,
+        solved_distances(&answer),
+        distances,
+        distances_needed,
+    );
+    hand_printed(status, line.bytes(), out, needed)
 }
 
 /// Writes the line of the answer, and returns its status.
@@ -124,13 +129,13 @@ fn put_solved<K: Sink>(
 {
     match answer {
         Ok(PathsSolved::Distances { .. }) => put_yes(sink, &Verdict::Sources(1)),
-        Ok(PathsSolved::Far(_)) => put_wide(sink),
+        Ok(PathsSolved::Far(_)) => put_unsolved(sink),
         Err(error) => put_error(sink, *error),
     }
 }
 
 /// The predecessors, if the distances fit into an array.
-fn predecessors_by(answer: &Result<PathsSolved, ArrayError>) -> &[u32]
+fn solved_predecessors(answer: &Result<PathsSolved, ArrayError>) -> &[u32]
     ensures { result.now ≡ (printed paths_found answer.now).marks }
 {
     match answer {
@@ -140,7 +145,7 @@ fn predecessors_by(answer: &Result<PathsSolved, ArrayError>) -> &[u32]
 }
 
 /// The distances, if they fit into an array.
-fn distances_by(answer: &Result<PathsSolved, ArrayError>) -> &[i64]
+fn solved_distances(answer: &Result<PathsSolved, ArrayError>) -> &[i64]
     ensures { result.now ≡ (printed paths_found answer.now).numbers }
 {
     match answer {

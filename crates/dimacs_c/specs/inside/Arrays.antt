@@ -5,4 +5,4 @@ use Rattle.dimacs_c.specs.Calls.{Handed, HandsNothing, HandsOut}
 
 -- the line is handed out, with its status; or memory ran out
 abbrev pub EndsLine : Printed → ℕ → Handed ℕ → Type 0
-EndsLine s answer h = ((answer ≡ s.status) × HandsOut s.line h) ⊎ ((answer ≡ 4) × HandsNothing h)
+EndsLine s exit_status h = ((exit_status ≡ s.status) × HandsOut s.line h) ⊎ ((exit_status ≡ 4) × HandsNothing h)

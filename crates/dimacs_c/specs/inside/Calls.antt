@@ -8,10 +8,10 @@ use Rattle.dimacs_c.specs.Calls.{Handed, HandsNothing, HandsOut}
 
 -- the end of a call whose run ended like this and wrote this text
 abbrev pub Ends : Result Status RunError → List ℕ → ℕ → Handed ℕ → Type 0
-Ends (Ok s) text answer h = (answer ≡ status_number (Ok s)) × HandsOut text h
-Ends (Err error) text answer h = (answer ≡ 4) × HandsNothing h
+Ends (Ok s) text exit_status h = (exit_status ≡ status_number (Ok s)) × HandsOut text h
+Ends (Err error) text exit_status h = (exit_status ≡ 4) × HandsNothing h
 
 -- the end of a part of a call over arrays that wrote its line, or failed to, and hands out these items
 abbrev pub EndsPrinted : {X : Type 0} → Result ℕ DeviceFault → List X → ℕ → Handed X → Type 0
-EndsPrinted (Ok status) items answer h = (answer ≡ status) × HandsOut items h
-EndsPrinted (Err fault) items answer h = (answer ≡ 4) × HandsNothing h
+EndsPrinted (Ok status) items exit_status h = (exit_status ≡ status) × HandsOut items h
+EndsPrinted (Err fault) items exit_status h = (exit_status ≡ 4) × HandsNothing h
