@@ -1,4 +1,4 @@
-//! The ends of calls: the status, and the bytes or items handed to the caller.
+//! The end of each call: its status, and what it copies to the caller.
 
 ghost use Rattle.std.specs.Prelude.{◌≡◌};
 ghost use Rattle.dimacs_c.specs.Calls.{HandsOut, handed};
@@ -7,14 +7,13 @@ ghost use Rattle.dimacs_c.specs.inside.Calls.{Ends, EndsPrinted};
 use dimacs_lines::DeviceFault;
 use dimacs_runs::{RunError, Status, exit_status};
 
-/// The status of a misused call. The others are the command's exit statuses.
+/// The status of a misused call.
 pub(crate) const MISUSED: u32 = 2;
 
 /// The status if memory runs out.
 pub(crate) const NO_MEMORY: u32 = 4;
 
-/// Converts the result of a run to a status and copies its output. The run writes only to memory, so that any error
-/// means out of memory.
+/// Copies the output of a run, and returns its exit status. The run writes to memory: any error is out of memory.
 pub(crate) fn end(
     ended: Result<Status, RunError>,
     bytes: &[u8],
@@ -35,8 +34,8 @@ pub(crate) fn end(
     }
 }
 
-/// Copies items of a call over arrays, unless writing its line failed, and returns the status. Writing to memory fails
-/// only if memory runs out.
+/// Copies items of a call over arrays, and returns its status. Its line, written to memory, fails only if memory runs
+/// out.
 pub(crate) fn hand_printed<T: Copy>(
     status: Result<u32, DeviceFault>,
     items: &[T],
@@ -57,7 +56,7 @@ pub(crate) fn hand_printed<T: Copy>(
     }
 }
 
-/// Ends a misused call: nothing is copied, and the length is 0.
+/// Ends a misused call, and copies nothing.
 pub(crate) fn misuse(needed: &mut usize) -> u32
     ensures needed { needed.new ≡ 0 }
     ensures status { result ≡ 2 }

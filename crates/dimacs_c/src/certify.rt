@@ -12,8 +12,8 @@ use dimacs_lines::{MemorySink, MemorySource};
 use dimacs_runs::{CertifyKind, run_certify};
 use std::alloc::Global;
 
-/// Certifies a claim, as `dimacs certify-max` and the like. `certificate` receives the text of the certificate, or of a
-/// better or a feasible solution. For kind 2 (no feasible flow) the claim isn't read.
+/// Certifies a claim, as `dimacs certify-max` and so on. `certificate` gets the certificate, or a better or a feasible
+/// solution. Kind 2 (no feasible flow) reads no claim.
 #[unsafe(no_mangle)]
 pub extern "C" fn dimacs_certify(
     alloc: Global,
@@ -46,7 +46,6 @@ pub extern "C" fn dimacs_certify(
     }
 }
 
-/// Certifies a claim of this kind.
 fn certify(
     alloc: Global,
     kind: CertifyKind,

@@ -30,8 +30,8 @@ pub extern "C" fn dimacs_judge_infeasible_arrays(
     hand_judged(alloc, answer, out, needed)
 }
 
-/// Certifies that no flow is feasible, as `certify_infeasible_arrays`. `inside` receives the bytes of a set that shows
-/// it, or `flows` a feasible flow.
+/// Certifies that no flow is feasible, as `certify_infeasible_arrays`. `inside` gets the bytes of a violated set, or
+/// `flows` a feasible flow.
 #[unsafe(no_mangle)]
 pub extern "C" fn dimacs_certify_infeasible_arrays(
     alloc: Global,
@@ -55,7 +55,7 @@ pub extern "C" fn dimacs_certify_infeasible_arrays(
     hand_printed(status, line.bytes(), out, needed)
 }
 
-/// Writes the line of the answer, and returns its status.
+/// Writes the answer's line, and returns its status.
 fn put_certified<K: Sink>(
     sink: &mut K,
     answer: &Result<InfeasibleCertified, ArrayError>,
@@ -70,7 +70,7 @@ fn put_certified<K: Sink>(
     }
 }
 
-/// The bytes of the set; none if a flow is feasible.
+/// The bytes of the set, if no flow is feasible.
 fn inside_of(answer: &Result<InfeasibleCertified, ArrayError>) -> &[u8]
     ensures { result.now ≡ (printed infeasible_printed answer.now).marks }
 {

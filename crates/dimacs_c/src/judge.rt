@@ -10,7 +10,7 @@ use dimacs_lines::{MemorySink, MemorySource};
 use dimacs_runs::{JudgeKind, run_judge};
 use std::alloc::Global;
 
-/// Judges a claim, as `dimacs judge-max` and the like. For kind 2 (no feasible flow) the claim isn't read.
+/// Judges a claim, as `dimacs judge-max` and so on. Kind 2 (no feasible flow) reads no claim.
 #[unsafe(no_mangle)]
 pub extern "C" fn dimacs_judge(
     alloc: Global,
@@ -29,7 +29,6 @@ pub extern "C" fn dimacs_judge(
     }
 }
 
-/// Judges a claim of this kind.
 fn judge(
     alloc: Global,
     kind: JudgeKind,

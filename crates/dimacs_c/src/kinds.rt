@@ -6,7 +6,6 @@ ghost use Rattle.dimacs_c.specs.Kinds.{certify_kind, judge_kind, solve_job, spre
 use dimacs_records::TextKind;
 use dimacs_runs::{CertifyKind, JudgeKind, SolveJob, SpreadKind};
 
-/// The kind of claim to judge.
 pub(crate) fn judge_of(number: u32) -> Option<JudgeKind>
     ensures { result ≡ judge_kind number }
 {
@@ -19,7 +18,6 @@ pub(crate) fn judge_of(number: u32) -> Option<JudgeKind>
     }
 }
 
-/// The kind of claim to certify.
 pub(crate) fn certify_of(number: u32) -> Option<CertifyKind>
     ensures { result ≡ certify_kind number }
 {
@@ -32,7 +30,6 @@ pub(crate) fn certify_of(number: u32) -> Option<CertifyKind>
     }
 }
 
-/// The kind of instance whose claimed flow is dealt out.
 pub(crate) fn spread_of(number: u32) -> Option<SpreadKind>
     ensures { result ≡ spread_kind number }
 {
@@ -43,7 +40,7 @@ pub(crate) fn spread_of(number: u32) -> Option<SpreadKind>
     }
 }
 
-/// The instance to solve. There is no 2: minimum cost flow also finds that no flow is feasible.
+/// There is no 2: minimum cost flow also finds that no flow is feasible.
 pub(crate) fn solve_of(number: u32, limit: u64) -> Option<SolveJob>
     ensures { result ≡ solve_job number limit }
 {
@@ -55,7 +52,6 @@ pub(crate) fn solve_of(number: u32, limit: u64) -> Option<SolveJob>
     }
 }
 
-/// The kind of text.
 pub(crate) fn text_of(number: u32) -> Option<TextKind>
     ensures { result ≡ text_kind number }
 {

@@ -1,9 +1,8 @@
-//! The functions of the library for C. `lib/include/dimacs.h` declares them and describes how to call them.
+//! The functions of the library for C, which `lib/include/dimacs.h` declares and describes.
 //!
-//! Each returns the exit status of the command that it stands for, and copies what the command would print and write to
-//! files into the caller's buffers: as much as fits, with the length of the whole. The functions over arrays copy
-//! flows, distances and certificates as arrays in the same way. They return 2 if the length of an array is wrong or a
-//! number is out of range.
+//! Each returns the exit status of a command. It copies what the command prints and writes to files into the caller's
+//! buffers, as much as fits, and sets the length of the whole. Functions over arrays copy flows, distances and
+//! certificates as arrays. They return 2 if an array's length is wrong or a number is out of range.
 #![tactic(auto)]
 
 mod answer;

@@ -15,7 +15,6 @@ use dimacs_records::{Part, Reason, put_line};
 use dimacs_runs::{put_failure, put_gave_up, put_verdict};
 use std::alloc::Global;
 
-/// The status of a yes.
 const YES: u32 = 0;
 
 /// The status of a test that fails.
@@ -24,7 +23,7 @@ const NO: u32 = 1;
 /// The status if a solver gave up, or the answer doesn't fit into arrays.
 const GAVE_UP: u32 = 5;
 
-/// The place of a refusal that concerns a flow as a whole, not one arc or node.
+/// The place of a refusal of a whole flow.
 pub(crate) const WHOLE_FLOW: Where = Where::Solution { line: 0, field: 0 };
 
 /// Copies the line of a judge's answer, and returns its status.
@@ -77,7 +76,7 @@ pub(crate) fn put_no<K: Sink>(
     Ok(NO)
 }
 
-/// Writes the line if a flow is feasible although none should be.
+/// Writes the refusal if a flow is feasible.
 pub(crate) fn put_feasible<K: Sink>(sink: &mut K) -> Result<u32, DeviceFault>
     ensures status { IfOk result (λ status. status ≡ 1) }
     ensures line { Puts result (K.seen sink.old) feasible_line (K.seen sink.new) }
@@ -104,7 +103,7 @@ pub(crate) fn put_unsolved<K: Sink>(sink: &mut K) -> Result<u32, DeviceFault>
     Ok(GAVE_UP)
 }
 
-/// Writes the line of an error, if it has one: a wrong length and out of memory have none.
+/// Writes the line of an error. A wrong length and out of memory have none.
 pub(crate) fn put_error<K: Sink>(sink: &mut K, error: ArrayError) -> Result<u32, DeviceFault>
     ensures status { IfOk result (λ status. status ≡ error_status error) }
     ensures line { Puts result (K.seen sink.old) (error_line error) (K.seen sink.new) }

@@ -33,8 +33,8 @@ pub extern "C" fn dimacs_judge_max_arrays(
     hand_judged(alloc, answer, out, needed)
 }
 
-/// Certifies that a flow is maximum, as `certify_max_arrays`. `inside` receives the bytes of a cut that shows it, or
-/// `better` a better flow.
+/// Certifies that a flow is maximum, as `certify_max_arrays`. `inside` gets the bytes of a minimum cut, or `better` a
+/// better flow.
 #[unsafe(no_mangle)]
 pub extern "C" fn dimacs_certify_max_arrays(
     alloc: Global,
@@ -59,7 +59,7 @@ pub extern "C" fn dimacs_certify_max_arrays(
     hand_printed(status, line.bytes(), out, needed)
 }
 
-/// Writes the line of the answer, and returns its status.
+/// Writes the answer's line, and returns its status.
 fn put_certified<K: Sink>(
     sink: &mut K,
     answer: &Result<MaxCertified, ArrayError>,
@@ -74,7 +74,7 @@ fn put_certified<K: Sink>(
     }
 }
 
-/// The bytes of the cut; none if the flow isn't maximum.
+/// The bytes of the cut, if the flow is maximum.
 fn inside_of(answer: &Result<MaxCertified, ArrayError>) -> &[u8]
     ensures { result.now ≡ (printed max_printed answer.now).marks }
 {
@@ -94,8 +94,7 @@ fn better_of(answer: &Result<MaxCertified, ArrayError>) -> &[i64]
     }
 }
 
-/// Finds a maximum flow, as `solve_max_arrays`. `flows` receives the flow, and `inside` the bytes of a cut that shows
-/// it.
+/// Finds a maximum flow, as `solve_max_arrays`. `flows` gets it, and `inside` the bytes of a minimum cut.
 #[unsafe(no_mangle)]
 pub extern "C" fn dimacs_solve_max_arrays(
     alloc: Global,
@@ -120,7 +119,7 @@ pub extern "C" fn dimacs_solve_max_arrays(
     hand_printed(status, line.bytes(), out, needed)
 }
 
-/// Writes the line of the answer, and returns its status.
+/// Writes the answer's line, and returns its status.
 fn put_solved<K: Sink>(
     sink: &mut K,
     answer: &Result<MaxSolved, ArrayError>,

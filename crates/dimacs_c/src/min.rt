@@ -33,8 +33,8 @@ pub extern "C" fn dimacs_judge_min_arrays(
     hand_judged(alloc, answer, out, needed)
 }
 
-/// Certifies that a flow costs least, as `certify_min_arrays`. `potentials` receives potentials that show it, or
-/// `better` a better flow. If the potentials don't fit into an array, the status is 5.
+/// Certifies that a flow costs least, as `certify_min_arrays`. `potentials` gets potentials that show it, or `better` a
+/// better flow. The status is 5 if the potentials don't fit into an array.
 #[unsafe(no_mangle)]
 pub extern "C" fn dimacs_certify_min_arrays(
     alloc: Global,
@@ -64,7 +64,7 @@ pub extern "C" fn dimacs_certify_min_arrays(
     hand_printed(status, line.bytes(), out, needed)
 }
 
-/// Writes the line of the answer, and returns its status.
+/// Writes the answer's line, and returns its status.
 fn put_certified<K: Sink>(
     sink: &mut K,
     answer: &Result<MinCertified, ArrayError>,
@@ -80,7 +80,7 @@ fn put_certified<K: Sink>(
     }
 }
 
-/// The potentials; none if the flow doesn't cost least, or if they don't fit into an array.
+/// The potentials, if the flow costs least and they fit into an array.
 fn potentials_of(answer: &Result<MinCertified, ArrayError>) -> &[i64]
     ensures { result.now ≡ (printed min_printed answer.now).numbers }
 {
@@ -100,8 +100,8 @@ fn better_of(answer: &Result<MinCertified, ArrayError>) -> &[i64]
     }
 }
 
-/// Finds a flow of least cost, as `solve_min_arrays`. `flows` receives the flow and `potentials` potentials that show
-/// it, or `inside` the bytes of a set that shows that no flow is feasible.
+/// Finds a flow of least cost, as `solve_min_arrays`. `flows` gets it and `potentials` potentials that show it, or
+/// `inside` the bytes of a violated set.
 #[unsafe(no_mangle)]
 pub extern "C" fn dimacs_solve_min_arrays(
     alloc: Global,
@@ -134,7 +134,7 @@ pub extern "C" fn dimacs_solve_min_arrays(
     hand_printed(status, line.bytes(), out, needed)
 }
 
-/// Writes the line of the answer, and returns its status.
+/// Writes the answer's line, and returns its status.
 fn put_solved<K: Sink>(
     sink: &mut K,
     answer: &Result<MinSolved, ArrayError>,

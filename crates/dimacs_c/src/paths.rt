@@ -33,7 +33,7 @@ pub extern "C" fn dimacs_judge_paths_arrays(
     hand_judged(alloc, answer, out, needed)
 }
 
-/// Certifies distances, as `certify_paths_arrays`. `predecessors` receives the predecessors that show them.
+/// Certifies distances, as `certify_paths_arrays`. `predecessors` gets those that show them.
 #[unsafe(no_mangle)]
 pub extern "C" fn dimacs_certify_paths_arrays(
     alloc: Global,
@@ -60,7 +60,7 @@ pub extern "C" fn dimacs_certify_paths_arrays(
     hand_printed(status, line.bytes(), out, needed)
 }
 
-/// Writes the line of the answer, and returns its status.
+/// Writes the answer's line, and returns its status.
 fn put_certified<K: Sink>(
     sink: &mut K,
     answer: &Result<Vec<u32>, ArrayError>,
@@ -84,7 +84,7 @@ fn predecessors_of(answer: &Result<Vec<u32>, ArrayError>) -> &[u32]
     }
 }
 
-/// Finds the distances from a source, as `solve_paths_arrays`. `distances` and `predecessors` receive them.
+/// Finds the distances from a source, as `solve_paths_arrays`. `distances` and `predecessors` get them.
 #[unsafe(no_mangle)]
 pub extern "C" fn dimacs_solve_paths_arrays(
     alloc: Global,
@@ -119,7 +119,7 @@ pub extern "C" fn dimacs_solve_paths_arrays(
     hand_printed(status, line.bytes(), out, needed)
 }
 
-/// Writes the line of the answer, and returns its status.
+/// Writes the answer's line, and returns its status.
 fn put_solved<K: Sink>(
     sink: &mut K,
     answer: &Result<PathsSolved, ArrayError>,

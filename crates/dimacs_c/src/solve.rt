@@ -12,9 +12,8 @@ use dimacs_lines::{MemorySink, MemorySource};
 use dimacs_runs::{SolveJob, run_solve};
 use std::alloc::Global;
 
-/// Solves an instance, as `dimacs solve-max` and the like. `solution` receives the text of the solution, and
-/// `certificate` that of its certificate. Distances (kind 3) have only labels, as the certificate; only they read
-/// `queries`.
+/// Solves an instance, as `dimacs solve-max` and so on. `solution` gets the solution, and `certificate` its certificate.
+/// Kind 3 (distances) reads `queries`, and has only labels, as the certificate.
 #[unsafe(no_mangle)]
 pub extern "C" fn dimacs_solve(
     alloc: Global,
@@ -54,7 +53,6 @@ pub extern "C" fn dimacs_solve(
     }
 }
 
-/// Solves an instance of this kind.
 fn solve(
     alloc: Global,
     job: SolveJob,

@@ -11,8 +11,7 @@ use dimacs_lines::{MemorySink, MemorySource};
 use dimacs_runs::{SpreadKind, run_spread};
 use std::alloc::Global;
 
-/// Deals out a claimed flow to parallel arcs, as `dimacs spread-max` and the like. `solution` receives the text of the
-/// solution.
+/// Deals out a claimed flow to parallel arcs, as `dimacs spread-max` and so on. `solution` gets the flow.
 #[unsafe(no_mangle)]
 pub extern "C" fn dimacs_spread(
     alloc: Global,
@@ -45,7 +44,6 @@ pub extern "C" fn dimacs_spread(
     }
 }
 
-/// Deals out a claimed flow of an instance of this kind.
 fn spread(
     alloc: Global,
     kind: SpreadKind,

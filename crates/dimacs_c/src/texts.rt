@@ -29,7 +29,6 @@ pub extern "C" fn dimacs_convert(
     }
 }
 
-/// Converts a text of this kind.
 fn convert(alloc: Global, kind: TextKind, text: &[u8], out: &mut [u8], needed: &mut usize) -> u32
     ensures { Answers (Prints Canonical kind text.now) result (handed out.old out.new needed.new) }
 {
@@ -56,7 +55,6 @@ pub extern "C" fn dimacs_show(
     }
 }
 
-/// Describes a text of this kind.
 fn show(alloc: Global, kind: TextKind, text: &[u8], out: &mut [u8], needed: &mut usize) -> u32
     ensures { Answers (Prints Summary kind text.now) result (handed out.old out.new needed.new) }
 {
