@@ -1,4 +1,4 @@
--- What a command does whose refusal is explained.
+-- What `explain` does beside the command that it runs.
 use Rattle.std.specs.Prelude.{ℕ, ◌≡◌, List, Option, Result}
 use Rattle.dimacs_lines.specs.Devices.{Written, after_piece}
 use Rattle.dimacs_runs.specs.declared.failure.CommandError.{CommandError}

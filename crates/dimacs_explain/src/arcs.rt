@@ -1,4 +1,4 @@
-//! Arcs of an instance and entries of a solution, found by number.
+//! Looks up arcs of an instance and entries of a solution.
 
 use crate::quote::Quote;
 use crate::texts::{ANY_LINES, TextFile, TextLines};
@@ -15,18 +15,18 @@ pub(crate) struct FoundArc {
     pub(crate) quote: Quote,
 }
 
-/// The arcs with the same ends as a given one.
+/// An arc and those parallel to it.
 #[derive(Clone, Copy)]
 pub(crate) struct Parallel {
-    /// How many there are.
+    /// How many they are.
     pub(crate) all: u64,
-    /// How many of them come before the given arc.
+    /// How many come before the arc.
     pub(crate) before: u64,
     /// The number of the first.
     pub(crate) first: u64,
 }
 
-/// An entry of a solution, with its line.
+/// An entry, with its line.
 #[derive(Drop)]
 pub(crate) struct FoundEntry {
     pub(crate) flow: i64,
@@ -94,7 +94,7 @@ pub(crate) fn find_arc<F: Files>(
     Ok(None)
 }
 
-/// The arcs from `tail` to `head`; `number`, from 1, is the given arc.
+/// The arcs from `tail` to `head`, and how many come before arc `number`, from 1.
 pub(crate) fn parallel_arcs<F: Files>(
     alloc: Global,
     files: &mut F,

@@ -1,22 +1,18 @@
-//! What the lines before a fault contain.
+//! The lines before a fault.
 
 use dimacs_records::{End, Record};
 
-/// What the lines before a fault contain, as far as the explanation needs it.
+/// What explanations need of the lines before a fault.
 #[derive(Clone, Copy)]
 pub(crate) struct Before {
-    /// The number of lines.
     pub(crate) lines: u64,
-    /// The problem line.
     pub(crate) problem: Option<ProblemLine>,
-    /// How many of the lines that the problem line counts there are.
+    /// How many arcs, queries, nodes of a set, potentials or blocks there are.
     pub(crate) counted: u64,
-    /// The lines of source and sink.
     pub(crate) source_line: Option<u64>,
     pub(crate) sink_line: Option<u64>,
-    /// The line of a solution's value.
     pub(crate) value_line: Option<u64>,
-    /// The last block of labels.
+    /// The last block.
     pub(crate) block: Option<BlockBefore>,
 }
 
@@ -29,7 +25,7 @@ pub(crate) struct ProblemLine {
     pub(crate) count: u32,
 }
 
-/// A block of labels, with the labels before the fault.
+/// A block of labels or distances.
 #[derive(Clone, Copy)]
 pub(crate) struct BlockBefore {
     pub(crate) line: u64,
@@ -83,12 +79,10 @@ impl Before {
         }
     }
 
-    /// Keeps the problem line.
     fn declare(&mut self, line: u64, nodes: Option<u32>, count: u32) {
         self.problem = Some(ProblemLine { line, nodes, count });
     }
 
-    /// Begins a block.
     fn begin(&mut self, line: u64, source: u32, declared: u32, radius: Option<i128>) {
         self.counted = self.counted.saturating_add(1);
         self.block = Some(BlockBefore {

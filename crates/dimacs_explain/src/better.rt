@@ -1,4 +1,4 @@
-//! Explaining a refusal that comes with a better or a feasible flow.
+//! Explains a refusal for which there is a better or a feasible flow.
 
 use crate::lookups::{FoundLine, Wanted, find_line};
 use crate::texts::{TextFile, Texts};
@@ -46,7 +46,7 @@ pub(crate) fn explain_feasible<F: Files>(
     Ok(())
 }
 
-/// Names the file with a better flow, if one was written, and by how much it is better.
+/// Names the file with the better flow, if one was written, and by how much it is better.
 pub(crate) fn explain_better<F: Files>(
     alloc: Global,
     files: &mut F,
@@ -90,7 +90,7 @@ pub(crate) fn explain_better<F: Files>(
     Ok(())
 }
 
-/// Compares the value of the better flow with the claimed one.
+/// Prints by how much a flow is better. A value above the claimed one is that of a maximum flow, one below is a cost.
 fn write_gain(value: i128, claimed: i128, out: &mut String) -> Result<(), AllocError> {
     if value > claimed {
         let more = value.saturating_sub(claimed);

@@ -19,9 +19,9 @@ use dimacs_records::{End, TextKind};
 use dimacs_runs::{CommandError, Files, Status, job, run_command};
 use std::alloc::Global;
 
-/// Runs the command of these arguments, and after a refusal writes lines that explain it. `again` opens the files that
-/// are read a second time. If memory runs out or the output fails during the explanation, it ends early; the result is
-/// that of the command all the same.
+/// Runs the command of these arguments, and writes lines that explain its refusal. `again` opens files the second time.
+/// If memory runs out, no explanation is written; if the output fails, at most a part. The result is the command's all
+/// the same.
 pub fn explain_command<'a, F: Files, A: Files, K: Sink>(
     alloc: Global,
     arguments: &'a [String],

@@ -8,7 +8,7 @@ use dimacs_lines::Memory;
 use dimacs_runs::Files;
 use std::alloc::Global;
 
-/// The cost of the flow of a solution; none if the texts can't be read again.
+/// The cost of a solution's flow; none if a text can't be read again.
 pub(crate) fn cost_of<F: Files>(
     alloc: Global,
     files: &mut F,

@@ -1,4 +1,4 @@
-//! Explaining the tests of claimed distances.
+//! Explains the tests of claimed distances.
 
 use crate::faults::cannot_read;
 use crate::lookups::{FoundLine, line_at};
@@ -22,7 +22,7 @@ struct ClaimedBlock {
 }
 
 impl ClaimedBlock {
-    /// A block at its t line. Arcs from its source, at distance 0, count.
+    /// A block at its t line, with the source at distance 0.
     fn begin(block_line: u64, source: u32, arcs: &[(u32, i64)]) -> ClaimedBlock {
         let mut block = ClaimedBlock {
             source,
@@ -55,7 +55,7 @@ impl ClaimedBlock {
         }
     }
 
-    /// Whether no arc has the claimed distance.
+    /// Whether the node has a distance, but no tight arc.
     fn lacks_tight_arc(&self) -> bool {
         self.dist.is_some() && self.least != self.dist
     }
@@ -96,7 +96,7 @@ pub(crate) fn explain_distance<F: Files>(
     Ok(())
 }
 
-/// The first block in which no arc has the node's distance.
+/// The first block in which the node has a distance, but no tight arc.
 fn block_without_tight_arc<F: Files>(
     alloc: Global,
     files: &mut F,

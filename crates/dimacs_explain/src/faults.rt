@@ -1,4 +1,4 @@
-//! Explaining the fault of a text.
+//! Explains the fault of a text.
 
 use crate::before::{Before, NOTHING_BEFORE};
 use crate::forms::{field_name, form_of, forms, kind_words, range_of};
@@ -14,7 +14,6 @@ use std::alloc::{AllocError, Global};
 /// A longer word is cut to this many bytes.
 const LONG_WORD: usize = 60;
 
-/// The fault of a text: its place and reason.
 #[derive(Clone, Copy)]
 pub(crate) struct Fault<'a> {
     pub(crate) line: u64,
@@ -22,26 +21,24 @@ pub(crate) struct Fault<'a> {
     pub(crate) reason: &'a str,
 }
 
-/// What was read of a text up to its fault.
+/// The line of a fault, and what comes before.
 #[derive(Drop)]
 struct FaultContext {
     before: Before,
-    /// The line of the fault; none if the fault is at the end of the text.
+    /// None if the fault is at the end of the text, or the line is too long.
     quote: Option<Quote>,
     /// The first field of the line, and the field of the fault.
     letter: String,
     word: String,
-    /// The number of fields.
     fields: u64,
-    /// The record of the line, if the line by itself has no fault.
+    /// None if the line by itself has a fault.
     record: Option<Record>,
-    /// Messages if the file is no text, is a text of another kind, or has lines that end with a carriage return.
+    /// Messages for a file that is no text or of another kind.
     odd: Option<&'static str>,
     other: Option<&'static str>,
     lone_return: bool,
 }
 
-/// Explains the fault of a text.
 pub(crate) fn explain_fault<F: Files>(
     alloc: Global,
     files: &mut F,
@@ -145,7 +142,7 @@ fn read_context<F: Files>(
     Ok(Some(context))
 }
 
-/// Adds a field, from 1, or the beginning of a long one.
+/// Adds a field, from 1, or the beginning if it is long.
 fn add_word(word: &mut String, line: &[u8], field: u64) -> Result<(), AllocError> {
     let whole = word_at(line, field);
     let shown = whole.get(..LONG_WORD).unwrap_or(whole);
@@ -156,7 +153,6 @@ fn add_word(word: &mut String, line: &[u8], field: u64) -> Result<(), AllocError
     Ok(())
 }
 
-/// The number of fields of a line.
 fn count_fields(line: &[u8]) -> u64 {
     let mut count = 0_u64;
     for _ in fields(line) {
@@ -230,7 +226,7 @@ fn named_node(record: Record) -> Option<u32> {
     }
 }
 
-/// Whether a line belongs to a block of labels or distances.
+/// Whether a line is a d line.
 fn is_in_block(record: Record) -> bool {
     matches!(
         record,
@@ -246,7 +242,6 @@ fn names(record: Option<Record>, id: u32, in_block: bool) -> bool {
     (in_block || !is_in_block(record)) && named_node(record) == Some(id)
 }
 
-/// Explains the reason, with the numbers involved.
 fn write_reason(
     alloc: Global,
     kind: TextKind,
@@ -264,7 +259,6 @@ fn write_reason(
     }
 }
 
-/// Explains what is wrong with the form of a line.
 fn write_form_fault(
     kind: TextKind,
     fault: Fault<'_>,
@@ -306,7 +300,6 @@ fn write_form_fault(
     }
 }
 
-/// Lists the lines that a text of this kind has.
 fn list_forms(kind: TextKind, out: &mut String) -> Result<(), AllocError> {
     out.push_str("its lines are")?;
     for form in forms(kind) {
@@ -315,7 +308,6 @@ fn list_forms(kind: TextKind, out: &mut String) -> Result<(), AllocError> {
     writeln!(out, " and comments, which begin with c")
 }
 
-/// Explains what is wrong with a number.
 fn write_number(
     alloc: Global,
     kind: TextKind,
@@ -347,7 +339,7 @@ fn write_number(
     Ok(())
 }
 
-/// Compares the declared number of lines with the actual one.
+/// Compares the declared and the actual number of lines.
 fn write_count(
     kind: TextKind,
     fault: Fault<'_>,
@@ -386,7 +378,7 @@ fn is_of_block(fault: Fault<'_>, context: &FaultContext) -> bool {
         || (fault.reason == "TooFew" && block.counted < u64::from(block.declared))
 }
 
-/// Compares the declared number of labels of a block with the actual one.
+/// Compares the declared and the actual number of d lines.
 fn write_block_count(context: &FaultContext, out: &mut String) -> Result<(), AllocError> {
     let Some(block) = context.before.block else {
         return Ok(());
@@ -401,7 +393,7 @@ fn write_block_count(context: &FaultContext, out: &mut String) -> Result<(), All
     )
 }
 
-/// What a problem line counts, in words.
+/// What a problem line counts.
 fn counted_lines(kind: TextKind) -> &'static str {
     match kind {
         TextKind::Max | TextKind::Min | TextKind::Graph => "arc lines",
@@ -452,7 +444,7 @@ fn write_order(
     }
 }
 
-/// The earlier line of the end that this line names.
+/// The earlier line of the same end, source or sink.
 fn end_line(context: &FaultContext) -> Option<u64> {
     match context.record {
         Some(
@@ -465,7 +457,6 @@ fn end_line(context: &FaultContext) -> Option<u64> {
     }
 }
 
-/// Refers to an earlier line.
 fn write_earlier(line: Option<u64>, what: &str, out: &mut String) -> Result<(), AllocError> {
     match line {
         Some(line) => writeln!(out, "line {line} {what}"),
@@ -473,7 +464,6 @@ fn write_earlier(line: Option<u64>, what: &str, out: &mut String) -> Result<(), 
     }
 }
 
-/// Reports which of source and sink isn't named.
 fn write_missing_ends(before: &Before, out: &mut String) -> Result<(), AllocError> {
     let missing = match (before.source_line, before.sink_line) {
         (None, None) => "`n ID s` and `n ID t`, the source and the sink, have",
@@ -483,7 +473,6 @@ fn write_missing_ends(before: &Before, out: &mut String) -> Result<(), AllocErro
     writeln!(out, "{missing} to stand before the arcs")
 }
 
-/// Explains the remaining reasons.
 fn write_rest(
     kind: TextKind,
     fault: Fault<'_>,
@@ -523,7 +512,6 @@ fn write_rest(
     }
 }
 
-/// Explains where a line belongs.
 fn write_misplaced(kind: TextKind, out: &mut String) -> Result<(), AllocError> {
     match kind {
         TextKind::Queries => writeln!(out, "an ss text has s lines alone, and a p2p text q lines"),

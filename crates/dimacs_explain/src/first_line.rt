@@ -1,13 +1,13 @@
-//! A sink that keeps the beginning of what it writes.
+//! A sink that keeps its first line.
 
 ghost use Rattle.std.specs.Prelude.{◌≡◌};
 
 use dimacs_lines::{DeviceFault, Sink};
 
-/// No line of a refusal is longer.
+/// No line of a refusal has more bytes.
 const LONGEST: usize = 128;
 
-/// A sink that passes all bytes on to another, and keeps the first 128 that were accepted.
+/// Passes all bytes on to another sink, and keeps the first 128 that it accepted.
 #[derive(Drop)]
 pub struct FirstLine<K> {
     sink: K,
@@ -16,7 +16,7 @@ pub struct FirstLine<K> {
 }
 
 impl<K> FirstLine<K> {
-    /// Wraps a sink, with nothing kept yet.
+    /// Wraps a sink.
     pub fn new(sink: K) -> FirstLine<K>
         ensures { result.sink ≡ sink }
     {
@@ -34,7 +34,7 @@ impl<K> FirstLine<K> {
         &self.sink
     }
 
-    /// The first line that was accepted, without its end; cut off after 128 bytes.
+    /// The first line that was accepted, without its end, or its first 128 bytes.
     pub(crate) fn line(&self) -> &[u8] {
         let bytes = self.first.get(..self.length).unwrap_or(&[]);
         match bytes.iter().position(|&byte| byte == b'\n') {
@@ -55,7 +55,7 @@ impl<K: Sink> Sink for FirstLine<K> {
     }
 }
 
-/// Keeps more bytes after the first `kept`, as far as they fit. Returns how many are kept then.
+/// Adds bytes after the first `length`, as many as fit. Returns the new length.
 fn append(first: &mut [u8; LONGEST], length: usize, bytes: &[u8]) -> usize {
     let mut end = length;
     for &byte in bytes {

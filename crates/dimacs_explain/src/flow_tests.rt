@@ -1,4 +1,4 @@
-//! Explaining the tests of a flow.
+//! Explains the tests of a flow.
 
 use crate::arcs::{FoundArc, Parallel, find_arc, find_entry, parallel_arcs};
 use crate::better::{explain_better, write_replaced};
@@ -13,7 +13,6 @@ use dimacs_records::{End, Record, TextKind};
 use dimacs_runs::Files;
 use std::alloc::{AllocError, Global};
 
-/// An arc with its flow, as it was tested.
 #[derive(Clone, Copy)]
 struct ArcFlow {
     number: u32,
@@ -176,7 +175,7 @@ fn potential<F: Files>(
     }
 }
 
-/// Computes the reduced cost of an arc, and names the flow that it demands.
+/// Computes the reduced cost of an arc, and the flow that it demands.
 fn write_reduced_cost(
     arc_flow: ArcFlow,
     tail: i128,
@@ -199,14 +198,14 @@ fn write_reduced_cost(
     )
 }
 
-/// The flow out of a node and into it, by the entries of a solution.
+/// The flow out of a node and into it, without loops.
 #[derive(Clone, Copy)]
 struct NodeFlow {
     outflow: i128,
     inflow: i128,
 }
 
-/// The flow out of a node and into it, without loops.
+/// None if the solution can't be read.
 fn node_flow<F: Files>(
     alloc: Global,
     files: &mut F,
@@ -234,7 +233,6 @@ fn node_flow<F: Files>(
 }
 
 impl NodeFlow {
-    /// Adds an entry.
     fn add(&mut self, node: u32, tail: u32, head: u32, flow: i128) {
         if tail == node {
             self.outflow = self.outflow.saturating_add(flow);
@@ -268,7 +266,7 @@ pub(crate) fn explain_balance<F: Files>(
     Ok(())
 }
 
-/// Quotes the node line of an instance, and returns the supply.
+/// Quotes a node's line, and returns its supply.
 fn supply_of<F: Files>(
     alloc: Global,
     files: &mut F,

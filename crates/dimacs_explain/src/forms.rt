@@ -17,7 +17,6 @@ pub(crate) fn kind_words(kind: TextKind) -> &'static str {
     }
 }
 
-/// The forms of the lines of a kind.
 pub(crate) fn forms(kind: TextKind) -> &'static [&'static str] {
     match kind {
         TextKind::Max => &["p max NODES ARCS", "n ID s|t", "a TAIL HEAD CAP"],
@@ -36,7 +35,7 @@ pub(crate) fn forms(kind: TextKind) -> &'static [&'static str] {
     }
 }
 
-/// The form of the lines that begin with this letter.
+/// The form of lines that begin with this letter.
 pub(crate) fn form_of(kind: TextKind, letter: &str) -> Option<&'static str> {
     forms(kind)
         .iter()
@@ -50,7 +49,7 @@ pub(crate) fn field_name(form: &'static str, field: u64) -> &'static str {
     form.split(' ').nth(place).unwrap_or("the field")
 }
 
-/// The range of a field with this name, in words.
+/// The range of a field.
 pub(crate) fn range_of(name: &str) -> &'static str {
     match name {
         "NODES" => "0 to 134217728 (2^27)",

@@ -1,7 +1,5 @@
-//! Explanations of refusals for people, as `dimacs explain COMMAND FILE...` prints them.
-//!
-//! `explain_command` runs a command, and after a refusal adds lines: the file and the line of the fault, and the
-//! numbers that the failed test compares. Nothing is proved about the content of these lines.
+//! Explains refusals, for `dimacs explain COMMAND FILE...`: quotes the line of the fault, and prints the numbers that the
+//! failed test compares. Nothing is proved about the content of these lines.
 #![tactic(auto)]
 
 mod arcs;

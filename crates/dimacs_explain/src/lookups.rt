@@ -1,4 +1,4 @@
-//! Finding single lines of texts.
+//! Finds single lines of texts.
 
 use crate::quote::Quote;
 use crate::texts::{ANY_LINES, TextFile, TextLines};
@@ -7,7 +7,6 @@ use dimacs_records::{End, Record};
 use dimacs_runs::Files;
 use std::alloc::Global;
 
-/// A line: its record, and a quote of it.
 #[derive(Drop)]
 pub(crate) struct FoundLine {
     pub(crate) record: Record,
@@ -17,9 +16,7 @@ pub(crate) struct FoundLine {
 /// What to look for.
 #[derive(Clone, Copy)]
 pub(crate) enum Wanted {
-    /// The problem line.
     Problem,
-    /// The value of a solution.
     Value,
     /// A line of an instance, a set or potentials about this node.
     Node(u32),
@@ -32,7 +29,6 @@ pub(crate) enum Wanted {
 }
 
 impl Wanted {
-    /// Whether the record is such a line.
     fn is(self, record: Record) -> bool {
         match (self, record) {
             (Wanted::Value, Record::SolutionValue { .. }) => true,

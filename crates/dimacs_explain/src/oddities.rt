@@ -1,4 +1,4 @@
-//! Files that aren't texts or are of another kind, recognised by their first bytes.
+//! Recognises files that are no texts, or texts of another kind.
 
 use crate::forms::form_of;
 use dimacs_lines::fields;
@@ -24,7 +24,8 @@ pub(crate) fn oddity(first: &[u8]) -> Option<&'static str> {
     }
 }
 
-/// Whether a line has a carriage return before its last byte: lines of the file end with it, and all count as one here.
+/// Whether a line has a carriage return before its last byte. If all lines of a file end by one, the file is a
+/// single line here.
 pub(crate) fn has_lone_return(line: &[u8]) -> bool {
     let front = line.split_last().map_or(line, |(_, front)| front);
     front.contains(&b'\r')

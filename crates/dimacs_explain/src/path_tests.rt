@@ -1,4 +1,4 @@
-//! Explaining the tests of labels and queries.
+//! Explains the tests of labels and queries.
 
 use crate::arcs::{FoundArc, arc_of};
 use crate::faults::cannot_read;
@@ -10,7 +10,7 @@ use dimacs_records::{Record, TextKind};
 use dimacs_runs::Files;
 use std::alloc::{AllocError, Global};
 
-/// At most this many sources of blocks are listed.
+/// The most sources of blocks that are listed.
 const SHOWN_SOURCES: u64 = 5;
 
 /// The labels of an arc's ends in one block.
@@ -36,7 +36,6 @@ impl EndLabels {
         }
     }
 
-    /// Adds a label.
     fn add(&mut self, arc: ArcView, id: u32, dist: i128) {
         if id == arc.tail {
             self.tail = Some(dist);
@@ -59,7 +58,7 @@ impl EndLabels {
     }
 }
 
-/// Explains why the test of an arc of a graph failed.
+/// Explains why the test of a graph's arc failed.
 pub(crate) fn explain_weight<F: Files>(
     alloc: Global,
     files: &mut F,
@@ -245,7 +244,7 @@ fn has_tight_arc(arcs: &[(u32, i64)], label: LabelLine) -> bool {
     }
 }
 
-/// The labels of a node, block by block, still without the distances of their PREDs.
+/// The labels of a node, still without the distances of their PREDs.
 fn labels_of<F: Files>(
     alloc: Global,
     files: &mut F,

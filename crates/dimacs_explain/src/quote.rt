@@ -3,23 +3,22 @@
 use dimacs_lines::{Memory, fields};
 use std::alloc::{AllocError, Global};
 
-/// At most this many bytes of a line are shown, those around the field in question.
+/// The most bytes of a line that a quote shows, around the field in question.
 const SHOWN: usize = 100;
 
 /// How many of them come before the field.
 const BEFORE: usize = 40;
 
-/// A quote of a line.
 #[derive(Drop)]
 pub(crate) struct Quote {
     pub(crate) line: u64,
     text: String,
-    /// The place and length of the mark below the text; none without a field.
+    /// The place and length of the mark below the text.
     mark: Option<(usize, usize)>,
 }
 
 impl Quote {
-    /// Quotes a line and marks one of its fields, from 1; 0 marks none.
+    /// Quotes a line, and marks a field, from 1; 0 marks none.
     pub(crate) fn new(alloc: Global, line: u64, bytes: &[u8], field: u64) -> Result<Quote, Memory> {
         let found = if field == 0 {
             None
@@ -61,7 +60,6 @@ impl Quote {
     }
 }
 
-/// Writes a character several times.
 fn repeat(out: &mut String, what: char, times: usize) -> Result<(), AllocError> {
     for _ in 0..times {
         out.push(what)?;

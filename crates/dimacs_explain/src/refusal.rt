@@ -1,11 +1,11 @@
-//! Parsing the line of a refusal.
+//! Parses the line of a refusal.
 
 use std::str;
 
 /// The place of a refusal.
 #[derive(Clone, Copy)]
 pub(crate) enum Place<'a> {
-    /// A line and a field of a text, by the word for the text; 0 for a text or a line as a whole.
+    /// A text, by its name in refusals, with a line and a field; 0 if the whole text or line is refused.
     Text {
         name: &'a str,
         line: u64,
@@ -17,11 +17,9 @@ pub(crate) enum Place<'a> {
     Node(u32),
 }
 
-/// A refusal.
 #[derive(Clone, Copy)]
 pub(crate) struct Refusal<'a> {
     pub(crate) place: Place<'a>,
-    /// The name of the reason.
     pub(crate) reason: &'a str,
 }
 

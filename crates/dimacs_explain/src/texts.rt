@@ -21,7 +21,7 @@ pub(crate) struct Texts<'a> {
     /// Queries, a solution or distances.
     pub(crate) claim: Option<TextFile<'a>>,
     pub(crate) certificate: Option<TextFile<'a>>,
-    /// The file for a certificate or a better solution.
+    /// The file that the run may write.
     pub(crate) written_file: Option<&'a str>,
 }
 
@@ -34,7 +34,6 @@ const NO_TEXTS: Texts<'static> = Texts {
 };
 
 impl<'a> Texts<'a> {
-    /// The texts of a job.
     pub(crate) fn of(job: Job<'a>) -> Texts<'a> {
         match job {
             Job::Convert(kind, file) | Job::Show(kind, file) => Texts {
@@ -57,7 +56,7 @@ impl<'a> Texts<'a> {
         }
     }
 
-    /// The text with this word in refusals.
+    /// The text with this name in refusals.
     pub(crate) fn by_name(&self, name: &str) -> Option<TextFile<'a>> {
         if self.single.is_some() {
             return self.single;
@@ -69,7 +68,7 @@ impl<'a> Texts<'a> {
         }
     }
 
-    /// The text that is tested against the instance as a whole: the certificate, or distances.
+    /// The text that is tested against the instance: the certificate, or distances.
     pub(crate) fn tested(&self) -> Option<TextFile<'a>> {
         match self.claim {
             Some(claim) if claim.kind == TextKind::Distances => Some(claim),
@@ -78,7 +77,6 @@ impl<'a> Texts<'a> {
     }
 }
 
-/// The texts of judging.
 fn judge_texts(kind: JudgeKind, files: &[String]) -> Texts<'_> {
     let (instance, claim, certificate) = match kind {
         JudgeKind::Max => (TextKind::Max, TextKind::Solution, TextKind::Cut),
@@ -102,7 +100,6 @@ fn judge_texts(kind: JudgeKind, files: &[String]) -> Texts<'_> {
     }
 }
 
-/// The texts of certifying.
 fn certify_texts(kind: CertifyKind, files: &[String]) -> Texts<'_> {
     match kind {
         CertifyKind::Max => claim_texts(TextKind::Max, TextKind::Solution, files),
@@ -112,7 +109,7 @@ fn certify_texts(kind: CertifyKind, files: &[String]) -> Texts<'_> {
     }
 }
 
-/// The texts of a run that reads an instance and a claim, and may write a third file.
+/// For a run that reads an instance and a claim, and may write a third file.
 fn claim_texts(instance: TextKind, claim: TextKind, files: &[String]) -> Texts<'_> {
     match files {
         [first, second, rest @ ..] => Texts {
@@ -125,7 +122,7 @@ fn claim_texts(instance: TextKind, claim: TextKind, files: &[String]) -> Texts<'
     }
 }
 
-/// The text of a run that reads an instance, and may write a second file.
+/// For a run that reads an instance, and may write a second file.
 fn instance_texts(instance: TextKind, files: &[String]) -> Texts<'_> {
     match files {
         [first, rest @ ..] => Texts {
@@ -137,7 +134,6 @@ fn instance_texts(instance: TextKind, files: &[String]) -> Texts<'_> {
     }
 }
 
-/// The texts of solving.
 fn solve_texts(job: SolveJob, files: &[String]) -> Texts<'_> {
     let (instance, claim) = match job {
         SolveJob::Max(_) => (TextKind::Max, None),
@@ -157,7 +153,6 @@ fn solve_texts(job: SolveJob, files: &[String]) -> Texts<'_> {
     }
 }
 
-/// A text of this kind in this file.
 fn text_in(kind: TextKind, file: &String) -> Option<TextFile<'_>> {
     Some(TextFile {
         kind,
@@ -174,7 +169,7 @@ pub(crate) struct TextLines<I> {
 }
 
 impl<I: Source> TextLines<I> {
-    /// The lines of a text, before the first; none if its file can't be opened.
+    /// Before the first line; none if the file can't be opened.
     pub(crate) fn open<F: Files<Input = I>>(
         alloc: Global,
         files: &mut F,
@@ -197,7 +192,6 @@ impl<I: Source> TextLines<I> {
         self.lines.next_line(&mut self.source).ok().flatten()
     }
 
-    /// The bytes of the line.
     pub(crate) fn bytes(&self) -> &[u8] {
         self.lines.line()
     }

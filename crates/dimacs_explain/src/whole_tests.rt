@@ -1,4 +1,4 @@
-//! Explaining the tests of a certificate as a whole, and of source and sink in a cut.
+//! Explains the tests of a whole certificate, and of source and sink in a cut.
 
 use crate::arcs::arc_of;
 use crate::faults::cannot_read;
@@ -11,7 +11,7 @@ use dimacs_records::{End, Record};
 use dimacs_runs::Files;
 use std::alloc::Global;
 
-/// Explains why the source isn't in the cut, or why the sink is.
+/// Explains that the cut lacks the source, or has the sink.
 pub(crate) fn explain_end<F: Files>(
     alloc: Global,
     files: &mut F,
@@ -73,7 +73,6 @@ struct SetSums {
 }
 
 impl SetSums {
-    /// Adds the supply of a node of the set.
     fn add_supply(&mut self, supply: i64) {
         self.supply = self.supply.saturating_add(i128::from(supply));
     }
@@ -120,7 +119,7 @@ fn explain_violation<F: Files>(
     Ok(())
 }
 
-/// The supply of a set, and the bounds of the net flow out of it; none if the instance can't be read.
+/// None if the instance can't be read.
 fn set_sums<F: Files>(
     alloc: Global,
     files: &mut F,
