@@ -1,5 +1,5 @@
-//! Explains refusals, for `dimacs explain COMMAND FILE...`: quotes the line of the fault, and prints the numbers that the
-//! failed test compares. Nothing is proved about the content of these lines.
+//! Explains refusals, for `dimacs explain COMMAND FILE...`: quotes the line of the fault, and prints the numbers that
+//! the failed test compares. Nothing is proved about the content of these lines.
 #![tactic(auto)]
 
 mod arcs;

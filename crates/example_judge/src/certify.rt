@@ -1,4 +1,4 @@
-//! The answer about a claimed flow, and the text that shows it.
+//! Certifies a claimed flow.
 
 ghost use Rattle.std.specs.Prelude.{◌≡◌, ℤ, List, Ok, true};
 ghost use Rattle.dimacs_claims.specs.SolutionTexts.{claimed};
@@ -14,25 +14,25 @@ use dimacs_lines::Sink;
 use dimacs_network::Network;
 use std::alloc::Global;
 
-/// Whether the solution's flow is maximum. Puts the cut that shows it, or a solution with a better flow. Yes only where the
-/// flow has the claimed value and no feasible flow has a greater one.
+/// Whether the solution's flow is maximum. Writes a minimum cut, or a solution with a better flow. The answer is yes only
+/// if the flow has the claimed value, and no feasible flow has a greater one.
 pub fn certify<N: Network, K: Sink>(
     alloc: Global,
     instance: &MaxInstance<N>,
     solution: &Solution,
-    shown: &mut K,
+    out: &mut K,
 ) -> Result<bool, Failure>
     ensures maximum { result ≡ Ok true
         → (x : List ℤ) × IsMaxClaim instance.now (claimed solution.now) x × Maximum instance.now x }
 {
     match certify_max(alloc, instance, solution)? {
         MaxDecision::Optimal(cut) => {
-            write_cut(&cut, shown)?;
+            write_cut(&cut, out)?;
             Ok(true)
         }
         MaxDecision::Better(flow) => {
             let better = max_solution(alloc, instance, &flow)?;
-            write_solution(&better, shown)?;
+            write_solution(&better, out)?;
             Ok(false)
         }
     }

@@ -1,15 +1,15 @@
-//! A device of this program's own: a sink over another one.
+//! A sink of this program's own.
 
 ghost use Rattle.std.specs.Prelude.{◌≡◌};
 
 use dimacs_lines::{DeviceFault, Sink};
 
-/// The checksum of no bytes, and what each byte multiplies it by (FNV-1a).
+/// FNV-1a: the checksum of no bytes, and the factor of each byte.
 const START: u32 = 0x811c_9dc5;
 
 const PRIME: u32 = 0x0100_0193;
 
-/// Puts to another sink, and has the checksum of what that accepted.
+/// Writes to another sink, and has the checksum of the bytes that it accepted.
 #[derive(Drop)]
 pub struct Checksum<K> {
     sink: K,
@@ -30,7 +30,7 @@ impl<K> Checksum<K> {
     }
 }
 
-/// What it accepted, and how often it failed, is what the other one states.
+/// It states the bytes and faults of the other sink.
 impl<K: Sink> Sink for Checksum<K> {
     ghost seen = { λ s. K.seen s.sink };
 
@@ -41,7 +41,7 @@ impl<K: Sink> Sink for Checksum<K> {
     }
 }
 
-/// The checksum after these bytes. Nothing is promised of it.
+/// The checksum after these bytes. Nothing is proved of it.
 fn summed(before: u32, bytes: &[u8]) -> u32 {
     let mut sum = before;
     for byte in bytes {

@@ -1,4 +1,4 @@
-//! What keeps this program from a yes.
+//! Why the answer isn't yes.
 
 use dimacs_judge::{JudgeError, Where};
 use dimacs_lines::{DeviceFault, Memory};
@@ -6,14 +6,14 @@ use dimacs_records::{At, ReadError, Reason};
 use std::io;
 use std::io::ErrorKind;
 
-/// Why there is no answer, or the refusal that is one.
+/// An error, or a refusal.
 #[derive(Clone, Copy, Debug, PartialEq, Eq)]
 pub enum Failure {
-    /// The words aren't two names.
+    /// The arguments aren't two names.
     Misused,
-    /// A file can't be opened or read, or the output written.
+    /// I/O error: a file or the output failed.
     Device,
-    /// A growth was refused.
+    /// Out of memory.
     Memory,
     /// The first fault of a text, by the text's name.
     Fault(&'static str, At, Reason),
@@ -22,7 +22,7 @@ pub enum Failure {
 }
 
 impl Failure {
-    /// Of a text of this name that wasn't read.
+    /// The error of reading this text.
     pub fn of(text: &'static str, error: ReadError) -> Failure {
         match error {
             ReadError::Refused(at, reason) => Failure::Fault(text, at, reason),
@@ -31,7 +31,7 @@ impl Failure {
         }
     }
 
-    /// Prints a refusal, and answers the exit status.
+    /// Prints a refusal, and returns the exit status.
     pub fn status(self, rt: &HostRuntime) -> u8 {
         let printed = match self {
             Failure::Fault(text, at, reason) => {

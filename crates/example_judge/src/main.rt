@@ -1,7 +1,7 @@
 //! Certifies a maximum flow by the crates: example_judge INSTANCE SOLUTION
 //!
-//! Prints the text of what shows the answer, a cut or a better solution, then the checksum of that text as a comment. The
-//! exit statuses are those of `dimacs certify-max`.
+//! Prints a minimum cut or a better solution, then its checksum as a comment. The exit statuses are those of `dimacs
+//! certify-max`.
 #![tactic(auto)]
 
 mod certify;
@@ -19,10 +19,10 @@ use std::process::ExitCode;
 use std::{env, io};
 
 fn main(rt: HostRuntime) -> ExitCode {
-    let ended = match env::args(&rt).and_then(|words| Ok(words.collect::<Vec<String>>(
+    let ended = match env::args(&rt).and_then(|arguments| Ok(arguments.collect::<Vec<String>>(
         rt.alloc(),
     )?)) {
-        Ok(words) => run(&rt, words.get(1..).unwrap_or_default()),
+        Ok(arguments) => run(&rt, arguments.get(1..).unwrap_or_default()),
         Err(_) => Err(Failure::Misused),
     };
     ExitCode::from(match ended {
@@ -32,9 +32,9 @@ fn main(rt: HostRuntime) -> ExitCode {
     })
 }
 
-/// Whether the flow of the solution in the second file is maximum in the instance in the first one.
-fn run(rt: &HostRuntime, words: &[String]) -> Result<bool, Failure> {
-    let [instance, solution] = words else {
+/// Whether the solution in the second file is a maximum flow of the instance in the first.
+fn run(rt: &HostRuntime, arguments: &[String]) -> Result<bool, Failure> {
+    let [instance, solution] = arguments else {
         return Err(Failure::Misused);
     };
     let mut instance = FileSource::new(File::open(rt, instance.as_str())?);
@@ -44,8 +44,8 @@ fn run(rt: &HostRuntime, words: &[String]) -> Result<bool, Failure> {
         "solution", it,
     ))?;
     let stdout: StdoutSink<'_, HostRuntime> = FileSink::new(io::writer(rt));
-    let mut shown = Checksum::new(stdout);
-    let is_maximum = certify(rt.alloc(), &instance, &solution, &mut shown)?;
-    println!(rt; "c checksum {:08x}", shown.sum())?;
+    let mut out = Checksum::new(stdout);
+    let is_maximum = certify(rt.alloc(), &instance, &solution, &mut out)?;
+    println!(rt; "c checksum {:08x}", out.sum())?;
     Ok(is_maximum)
 }
