@@ -69,7 +69,7 @@ a distance too few | certify | 4 | 1 1 3 | 2 3 2 | 4 1 2 | 1 | 0 3 1 | - | Lengt
 distances that are made | solve | 4 | 1 1 3 | 2 3 2 | 4 1 2 | 1 | - | - | [0, 3, 1, 9223372036854775807] [0, 3, 1, 0]";
 
 /// What is answered of arrays.
-fn told(
+fn describe(
     alloc: Global,
     what: &str,
     arrays: &GraphArrays<'_>,
@@ -87,14 +87,14 @@ fn told(
             Err(error) => error,
         },
         _ => match solve_paths_arrays(alloc, arrays, source) {
-            Ok(solved) => return told_solved(alloc, &solved),
+            Ok(solved) => return describe_solved(alloc, &solved),
             Err(error) => error,
         },
     };
     Ok(format!(in alloc; "{error:?}")?)
 }
 
-fn told_solved(alloc: Global, solved: &PathsSolved) -> Result<String, Fail> {
+fn describe_solved(alloc: Global, solved: &PathsSolved) -> Result<String, Fail> {
     match solved {
         PathsSolved::Distances {
             distances,
@@ -131,8 +131,8 @@ fn answers(rt: &impl Abort, alloc: Global, line: &str) -> Result<(), Fail> {
     };
     let list = numbers(rt, alloc, list)?;
     let preds = ids(rt, alloc, preds)?;
-    let said = told(alloc, what, &arrays, id(rt, source), &list, &preds)?;
-    same(rt, name, said.as_str(), wanted);
+    let actual = describe(alloc, what, &arrays, id(rt, source), &list, &preds)?;
+    same(rt, name, actual.as_str(), wanted);
     Ok(())
 }
 

@@ -1,10 +1,10 @@
 //! Claims that are certified. A flow's certificate is judged, and what is put in its place is certified in turn.
 
+use crate::arguments::status;
 use crate::checks::{holds, same};
 use crate::judging::judge;
 use crate::solving::{Outputs, new_outputs};
 use crate::tables::{case, cell, rows};
-use crate::words::status;
 use dimacs_lines::{FlakySink, FlakySource};
 use dimacs_runs::{CertifyKind, JudgeKind, RunError, Status, run_certify};
 use std::alloc::Global;
@@ -283,8 +283,8 @@ fn shows(rt: &impl Abort, alloc: Global, line: &str, sizes: &[usize]) -> Result<
         solution,
     };
     let mut outputs = new_outputs(alloc, sizes);
-    let said = certify(alloc, claimed, sizes, &mut outputs);
-    same(rt, name, said, Ok(status(rt, ended)));
+    let actual = certify(alloc, claimed, sizes, &mut outputs);
+    same(rt, name, actual, Ok(status(rt, ended)));
     holds(rt, name, outputs.report.bytes() == report.as_bytes());
     let put = outputs.certificate.bytes();
     holds(rt, name, put == certificate.as_bytes());

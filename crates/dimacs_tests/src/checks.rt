@@ -5,8 +5,8 @@ use std::fmt::Debug;
 use std::process::Abort;
 
 /// Whether two values are the same.
-pub fn same<T: PartialEq + Debug + Drop>(rt: &impl Abort, name: &str, said: T, wanted: T) {
-    assert_eq!(rt; said, wanted, "{name}");
+pub fn same<T: PartialEq + Debug + Drop>(rt: &impl Abort, name: &str, actual: T, wanted: T) {
+    assert_eq!(rt; actual, wanted, "{name}");
 }
 
 /// Whether two values are the same, at this number.
@@ -14,10 +14,10 @@ pub fn same_at<T: PartialEq + Debug + Drop>(
     rt: &impl Abort,
     name: &str,
     number: u64,
-    said: T,
+    actual: T,
     wanted: T,
 ) {
-    assert_eq!(rt; said, wanted, "{name} {number}");
+    assert_eq!(rt; actual, wanted, "{name} {number}");
 }
 
 /// Whether a condition holds.

@@ -5,10 +5,10 @@ ghost use Rattle.std.specs.String.{string_bytes};
 ghost use Rattle.dimacs_lines.specs.Devices.{one_more};
 ghost use Rattle.dimacs_tests.specs.MemoryFiles.{event_of, is_device, text_of};
 
+use crate::arguments::arguments;
 use crate::checks::{holds, same};
 use crate::memory_files::{Done, held};
 use crate::tables::{case, cell, rows};
-use crate::words::words;
 use dimacs_lines::{FlakySink, FlakySource, MemorySink};
 use dimacs_runs::{CommandError, Files, RunError, Status, command_status, run_command};
 use std::alloc::{AllocError, Global};
@@ -286,11 +286,11 @@ fn ends(rt: &impl Abort, alloc: Global, line: &str) -> Result<(), Fail> {
     let (command, rest) = cell(rt, &case);
     let (done, rest) = cell(rt, rest);
     let (output, rest) = cell(rt, rest);
-    let (told, status) = cell(rt, rest);
+    let (operation, status) = cell(rt, rest);
     let mut files = MemoryFiles::new(rt, alloc, &HELD);
     let mut printed = MemorySink::new(alloc);
-    let given = words(alloc, command)?;
-    let ended = run_command(alloc, &given, &mut files, &mut printed);
+    let arguments = arguments(alloc, command)?;
+    let ended = run_command(alloc, &arguments, &mut files, &mut printed);
     let wanted = status.parse::<u8>().expect(rt, command);
     same(rt, command, command_status(&ended), wanted);
     holds(rt, command, printed.bytes() == output.as_bytes());
@@ -301,7 +301,7 @@ fn ends(rt: &impl Abort, alloc: Global, line: &str) -> Result<(), Fail> {
         }
         _ => String::new(alloc),
     };
-    same(rt, command, failure.as_str(), told);
+    same(rt, command, failure.as_str(), operation);
     Ok(())
 }
 

@@ -34,31 +34,31 @@ nothing after the arc with room | p max 8 10; n 1 s; n 8 t; a 1 2 1; a 1 3 1; a 
 a third pair by moving the other two | p max 8 11; n 1 s; n 8 t; a 1 2 1; a 1 3 1; a 1 4 1; a 2 5 1; a 2 6 1; a 3 6 1; a 3 7 1; a 4 7 1; a 5 8 1; a 6 8 1; a 7 8 1 | 1 1 0 0 1 0 1 0 0 1 1 | flow 1 1 1 1 0 1 0 1 1 1 1";
 
 /// The nodes of a cut after the word, or the word alone where no nodes are wanted.
-fn told_cut(alloc: Global, cut: &Cut, wanted: &str) -> Result<String, Fail> {
-    let mut told = String::from_str(alloc, "cut")?;
+fn describe_cut(alloc: Global, cut: &Cut, wanted: &str) -> Result<String, Fail> {
+    let mut text = String::from_str(alloc, "cut")?;
     if wanted != "cut" {
         for id in 1..cut.nodes().saturating_add(1) {
             if cut.contains(id) {
-                write!(told, " {id}")?;
+                write!(text, " {id}")?;
             }
         }
     }
-    Ok(told)
+    Ok(text)
 }
 
 /// The amounts of a flow after the word, or the word alone where no amounts are wanted.
-fn told_flow(alloc: Global, flow: &Flow, wanted: &str) -> Result<String, Fail> {
-    let mut told = String::from_str(alloc, "flow")?;
+fn describe_flow(alloc: Global, flow: &Flow, wanted: &str) -> Result<String, Fail> {
+    let mut text = String::from_str(alloc, "flow")?;
     if wanted != "flow" {
         for amount in flow.amounts() {
-            write!(told, " {amount}")?;
+            write!(text, " {amount}")?;
         }
     }
-    Ok(told)
+    Ok(text)
 }
 
 /// What is decided of a flow.
-fn told<N: Network>(
+fn describe<N: Network>(
     rt: &impl Abort,
     alloc: Global,
     instance: &MaxInstance<N>,
@@ -71,8 +71,8 @@ fn told<N: Network>(
     );
     feasible_max(alloc, instance, flow)?;
     match decide_max(alloc, instance, flow)? {
-        MaxDecision::Optimal(cut) => told_cut(alloc, &cut, wanted),
-        MaxDecision::Better(better) => told_flow(alloc, &better, wanted),
+        MaxDecision::Optimal(cut) => describe_cut(alloc, &cut, wanted),
+        MaxDecision::Better(better) => describe_flow(alloc, &better, wanted),
     }
 }
 
@@ -84,8 +84,8 @@ fn decides_flow(rt: &impl Abort, alloc: Global, line: &str) -> Result<(), Fail> 
     let (amounts, wanted) = cell(rt, rest);
     let instance = read_max(alloc, &mut MemorySource::new(text.as_bytes()))?;
     let flow = Flow::from_vec(numbers(rt, alloc, amounts)?);
-    let said = told(rt, alloc, &instance, &flow, wanted)?;
-    same(rt, name, said.as_str(), wanted);
+    let actual = describe(rt, alloc, &instance, &flow, wanted)?;
+    same(rt, name, actual.as_str(), wanted);
     Ok(())
 }
 
@@ -220,8 +220,8 @@ fn answers(
             same(rt, name, sink.bytes(), wanted.as_bytes());
         }
         Err(error) => {
-            let said = format!(in alloc; "{error:?}")?;
-            same(rt, name, said.as_str(), wanted);
+            let actual = format!(in alloc; "{error:?}")?;
+            same(rt, name, actual.as_str(), wanted);
         }
     }
     Ok(())

@@ -3,7 +3,7 @@
 use crate::certifying::{Claimed, certify_from};
 use crate::checks::{holds, holds_at, same_at};
 use crate::judging::{Texts, judge};
-use crate::solving::{CYCLE, Given, MAX, MIN, Outputs, SOURCE, solve_from};
+use crate::solving::{CYCLE, MAX, MIN, Outputs, SOURCE, SolveInput, solve_from};
 use dimacs_lines::{FlakySink, FlakySource};
 use dimacs_runs::{CertifyKind, JudgeKind, RunError, SolveJob, Status};
 use std::alloc::Global;
@@ -13,7 +13,7 @@ use std::test::Fail;
 /// A source or a sink of a run. A producer's queries stand in place of the claim that is read; nothing is made as a claim
 /// where one is certified.
 #[derive(Clone, Copy, PartialEq, Eq)]
-enum Device {
+enum Stream {
     Instance,
     Claim,
     Certificate,
@@ -25,14 +25,14 @@ enum Device {
 /// The calls of one device that fail.
 #[derive(Clone, Copy)]
 struct Failing<'a> {
-    device: Device,
+    stream: Stream,
     calls: &'a [u64],
 }
 
 impl<'a> Failing<'a> {
     /// Those of this device.
-    fn of(self, device: Device) -> &'a [u64] {
-        if self.device == device {
+    fn of(self, stream: Stream) -> &'a [u64] {
+        if self.stream == stream {
             self.calls
         } else {
             &[]
@@ -48,9 +48,9 @@ fn judge_failing(
     failing: Failing<'_>,
     sink: &mut FlakySink<'_>,
 ) -> Result<Status, RunError> {
-    let instance = failing.of(Device::Instance);
-    let claim = failing.of(Device::Claim);
-    let certificate = failing.of(Device::Certificate);
+    let instance = failing.of(Stream::Instance);
+    let claim = failing.of(Stream::Claim);
+    let certificate = failing.of(Stream::Certificate);
     judge(
         alloc,
         texts.kind,
@@ -62,13 +62,13 @@ fn judge_failing(
 }
 
 /// How many bytes were put to each sink before this call of a device, given what is put in all.
-fn put_before(device: Device, call: u64, whole: [usize; 3]) -> [usize; 3] {
+fn put_before(stream: Stream, call: u64, whole: [usize; 3]) -> [usize; 3] {
     let [claim, certificate, _] = whole;
     let last = (call as usize).saturating_sub(1);
-    match device {
-        Device::MadeClaim => [last, 0, 0],
-        Device::MadeCertificate => [claim, last, 0],
-        Device::Report => [claim, certificate, last],
+    match stream {
+        Stream::MadeClaim => [last, 0, 0],
+        Stream::MadeCertificate => [claim, last, 0],
+        Stream::Report => [claim, certificate, last],
         _ => [0, 0, 0],
     }
 }
@@ -83,25 +83,25 @@ fn judge_fails_in_turn(
     rt: &impl Abort,
     alloc: Global,
     texts: Texts<'_>,
-    device: Device,
+    stream: Stream,
 ) -> Result<(), Fail> {
     let name = texts.certificate;
     let ones = Vec::from_elem(alloc, 1, 1000)?;
     let mut whole = FlakySink::new(alloc, &ones, &[]);
-    let none = Failing { device, calls: &[] };
+    let none = Failing { stream, calls: &[] };
     let wanted = judge_failing(alloc, texts, &ones, none, &mut whole);
     for call in 1..=1000 {
         let calls = [call];
         let calls = calls.as_slice();
-        let failing = Failing { device, calls };
-        let mut sink = FlakySink::new(alloc, &ones, failing.of(Device::Report));
+        let failing = Failing { stream, calls };
+        let mut sink = FlakySink::new(alloc, &ones, failing.of(Stream::Report));
         let ended = judge_failing(alloc, texts, &ones, failing, &mut sink);
         if ended == wanted {
             holds(rt, name, sink.bytes() == whole.bytes());
             return Ok(());
         }
         same_at(rt, name, call, ended, Err(RunError::Device));
-        let [_, _, put] = put_before(device, call, [0, 0, 0]);
+        let [_, _, put] = put_before(stream, call, [0, 0, 0]);
         holds_at(rt, name, call, has_front(&sink, &whole, put));
     }
     Err(Fail::new("each run meets a failure"))
@@ -143,13 +143,13 @@ static JUDGED: [Texts<'static>; 5] = [
 #[test]
 fn each_call_of_a_judge_that_fails_is_told(rt: HostRuntime) -> Result<(), Fail> {
     for texts in &JUDGED {
-        for device in [
-            Device::Instance,
-            Device::Claim,
-            Device::Certificate,
-            Device::Report,
+        for stream in [
+            Stream::Instance,
+            Stream::Claim,
+            Stream::Certificate,
+            Stream::Report,
         ] {
-            judge_fails_in_turn(&rt, rt.alloc(), *texts, device)?;
+            judge_fails_in_turn(&rt, rt.alloc(), *texts, stream)?;
         }
     }
     Ok(())
@@ -158,7 +158,7 @@ fn each_call_of_a_judge_that_fails_is_told(rt: HostRuntime) -> Result<(), Fail> 
 /// A run that makes texts.
 #[derive(Clone, Copy)]
 enum Making<'a> {
-    Solves(Given<'a>),
+    Solves(SolveInput<'a>),
     Certifies(Claimed<'a>),
 }
 
@@ -166,7 +166,7 @@ impl<'a> Making<'a> {
     /// The texts that are read.
     fn texts(self) -> [&'a str; 2] {
         match self {
-            Making::Solves(given) => [given.instance, given.queries],
+            Making::Solves(input) => [input.instance, input.queries],
             Making::Certifies(claimed) => [claimed.instance, claimed.solution],
         }
     }
@@ -181,10 +181,10 @@ fn make_failing(
     outputs: &mut Outputs<'_>,
 ) -> Result<Status, RunError> {
     let [first, second] = making.texts();
-    let mut first = FlakySource::new(first.as_bytes(), ones, failing.of(Device::Instance));
-    let mut second = FlakySource::new(second.as_bytes(), ones, failing.of(Device::Claim));
+    let mut first = FlakySource::new(first.as_bytes(), ones, failing.of(Stream::Instance));
+    let mut second = FlakySource::new(second.as_bytes(), ones, failing.of(Stream::Claim));
     match making {
-        Making::Solves(given) => solve_from(alloc, given.job, &mut first, &mut second, outputs),
+        Making::Solves(input) => solve_from(alloc, input.job, &mut first, &mut second, outputs),
         Making::Certifies(claimed) => {
             certify_from(alloc, claimed.kind, &mut first, &mut second, outputs)
         }
@@ -194,9 +194,9 @@ fn make_failing(
 /// Sinks of which one fails.
 fn failing_outputs<'a>(alloc: Global, ones: &'a [usize], failing: Failing<'a>) -> Outputs<'a> {
     Outputs {
-        claim: FlakySink::new(alloc, ones, failing.of(Device::MadeClaim)),
-        certificate: FlakySink::new(alloc, ones, failing.of(Device::MadeCertificate)),
-        report: FlakySink::new(alloc, ones, failing.of(Device::Report)),
+        claim: FlakySink::new(alloc, ones, failing.of(Stream::MadeClaim)),
+        certificate: FlakySink::new(alloc, ones, failing.of(Stream::MadeCertificate)),
+        report: FlakySink::new(alloc, ones, failing.of(Stream::Report)),
     }
 }
 
@@ -222,17 +222,17 @@ fn making_fails_in_turn(
     rt: &impl Abort,
     alloc: Global,
     making: Making<'_>,
-    device: Device,
+    stream: Stream,
 ) -> Result<(), Fail> {
     let [name, _] = making.texts();
     let ones = Vec::from_elem(alloc, 1, 1000)?;
-    let none = Failing { device, calls: &[] };
+    let none = Failing { stream, calls: &[] };
     let mut whole = failing_outputs(alloc, &ones, none);
     let wanted = make_failing(alloc, making, &ones, none, &mut whole);
     for call in 1..=1000 {
         let calls = [call];
         let calls = calls.as_slice();
-        let failing = Failing { device, calls };
+        let failing = Failing { stream, calls };
         let mut outputs = failing_outputs(alloc, &ones, failing);
         let ended = make_failing(alloc, making, &ones, failing, &mut outputs);
         if ended == wanted {
@@ -240,44 +240,44 @@ fn making_fails_in_turn(
             return Ok(());
         }
         same_at(rt, name, call, ended, Err(RunError::Device));
-        let put = put_before(device, call, lengths(&whole));
+        let put = put_before(stream, call, lengths(&whole));
         holds_at(rt, name, call, have_fronts(&outputs, &whole, put));
     }
     Err(Fail::new("each run meets a failure"))
 }
 
-static SOLVED: [Given<'static>; 7] = [
-    Given {
+static SOLVED: [SolveInput<'static>; 7] = [
+    SolveInput {
         job: SolveJob::Max(10),
         instance: MAX,
         queries: "",
     },
-    Given {
+    SolveInput {
         job: SolveJob::Max(1),
         instance: MAX,
         queries: "",
     },
-    Given {
+    SolveInput {
         job: SolveJob::Min(10),
         instance: MIN,
         queries: "",
     },
-    Given {
+    SolveInput {
         job: SolveJob::Min(10),
         instance: "p min 2 1\nn 1 1\na 1 2 0 5 1\n",
         queries: "",
     },
-    Given {
+    SolveInput {
         job: SolveJob::Min(10),
         instance: "p min 2 1\nn 1 -1\na 1 2 0 5 1\n",
         queries: "",
     },
-    Given {
+    SolveInput {
         job: SolveJob::Paths,
         instance: CYCLE,
         queries: SOURCE,
     },
-    Given {
+    SolveInput {
         job: SolveJob::Paths,
         instance: "p sp 2 2\na 1 2 -4\na 2 1 3\n",
         queries: SOURCE,
@@ -286,15 +286,15 @@ static SOLVED: [Given<'static>; 7] = [
 
 #[test]
 fn each_call_of_a_producer_that_fails_is_told(rt: HostRuntime) -> Result<(), Fail> {
-    for given in &SOLVED {
-        for device in [
-            Device::Instance,
-            Device::Claim,
-            Device::MadeClaim,
-            Device::MadeCertificate,
-            Device::Report,
+    for input in &SOLVED {
+        for stream in [
+            Stream::Instance,
+            Stream::Claim,
+            Stream::MadeClaim,
+            Stream::MadeCertificate,
+            Stream::Report,
         ] {
-            making_fails_in_turn(&rt, rt.alloc(), Making::Solves(*given), device)?;
+            making_fails_in_turn(&rt, rt.alloc(), Making::Solves(*input), stream)?;
         }
     }
     Ok(())
@@ -346,13 +346,13 @@ static CERTIFIED: [Claimed<'static>; 8] = [
 #[test]
 fn each_call_of_a_certifier_that_fails_is_told(rt: HostRuntime) -> Result<(), Fail> {
     for claimed in &CERTIFIED {
-        for device in [
-            Device::Instance,
-            Device::Claim,
-            Device::MadeCertificate,
-            Device::Report,
+        for stream in [
+            Stream::Instance,
+            Stream::Claim,
+            Stream::MadeCertificate,
+            Stream::Report,
         ] {
-            making_fails_in_turn(&rt, rt.alloc(), Making::Certifies(*claimed), device)?;
+            making_fails_in_turn(&rt, rt.alloc(), Making::Certifies(*claimed), stream)?;
         }
     }
     Ok(())

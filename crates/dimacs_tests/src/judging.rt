@@ -1,9 +1,9 @@
 //! What the tests of judges share.
 
+use crate::arguments::status;
 use crate::checks::{holds, same};
 use crate::pieces::{SIZES, pieces};
 use crate::tables::{case, cell, rows};
-use crate::words::status;
 use dimacs_claims::{
     Cut, Potentials, Solution, read_cut, read_labels, read_potentials, read_solution,
 };

@@ -4,6 +4,8 @@
 #![tactic(auto)]
 
 #[cfg(test)]
+mod arguments;
+#[cfg(test)]
 mod arrays;
 #[cfg(test)]
 mod canonical;
@@ -46,5 +48,3 @@ mod tables;
 mod texts;
 #[cfg(test)]
 mod truncations;
-#[cfg(test)]
-mod words;

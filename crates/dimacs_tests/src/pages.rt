@@ -27,8 +27,8 @@ fn nothing_is_put_before_a_page_is_full_or_after_a_fault(rt: HostRuntime) {
     for &(count, fail, early, answer, all) in &PUTS {
         let fails = [fail];
         let mut sink = FlakySink::new(rt.alloc(), &[10], &fails);
-        let told = write_lines(&mut sink, count);
-        same(&rt, "bytes before the end", told, (early, answer));
+        let written = write_lines(&mut sink, count);
+        same(&rt, "bytes before the end", written, (early, answer));
         same(&rt, "bytes", sink.bytes().len(), all);
     }
 }

@@ -58,7 +58,7 @@ fn take_line<R: Reading>(
     ensures { R.kind reading.new ≡ kind }
 {
     match record(kind, line.as_bytes()) {
-        Ok(Some(said)) => reading.take(number, said),
+        Ok(Some(it)) => reading.take(number, it),
         Ok(None) => Ok(()),
         Err(fault) => Err(TakeError::Refused(fault)),
     }

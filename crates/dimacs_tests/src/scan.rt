@@ -30,14 +30,14 @@ static FIELDS: [(
 const LINE: &[u8] = b" a\t -12345678 123456789 9223372036854775808\r+7";
 
 /// The description of a token: its text, where it starts, and its numbers.
-type Told<'a> = (
+type TokenParts<'a> = (
     &'a [u8],
     usize,
     Result<i64, NumberFault>,
     Result<i128, NumberFault>,
 );
 
-fn told<'a>(token: Token<'a>) -> Told<'a> {
+fn parts<'a>(token: Token<'a>) -> TokenParts<'a> {
     let field = token.field;
     (field.text, field.start, token.number(), token.wide())
 }
@@ -51,7 +51,7 @@ fn tokens_are_the_fields_of_a_line(rt: HostRuntime) {
         let token = scan.next_token();
         let field = token.map(|it| it.field);
         same(&rt, text, fields.next(), field);
-        same(&rt, text, token.map(told), wanted);
+        same(&rt, text, token.map(parts), wanted);
     }
-    same(&rt, "after the last", scan.next_token().map(told), None);
+    same(&rt, "after the last", scan.next_token().map(parts), None);
 }

@@ -1,10 +1,10 @@
 //! Claims that are made. What was made is judged again.
 
+use crate::arguments::status;
 use crate::checks::{holds, same};
 use crate::judging::judge;
 use crate::pieces::{SIZES, pieces};
 use crate::tables::{case, cell, number, rows};
-use crate::words::status;
 use dimacs_lines::{FlakySink, FlakySource};
 use dimacs_runs::{JudgeKind, RunError, SolveJob, Status, run_solve};
 use std::alloc::Global;
@@ -24,9 +24,9 @@ pub const CYCLE: &str = "p sp 4 3\na 1 2 5\na 3 4 0\na 4 3 0\n";
 /// The distances from node 1 are asked for.
 pub const SOURCE: &str = "p aux sp ss 1\ns 1\n";
 
-/// What a producer is given.
+/// What a producer is input.
 #[derive(Clone, Copy)]
-pub struct Given<'a> {
+pub struct SolveInput<'a> {
     pub job: SolveJob,
     pub instance: &'a str,
     pub queries: &'a str,
@@ -71,15 +71,15 @@ pub fn solve_from(
 /// Solves texts that come in pieces of these sizes.
 fn solve(
     alloc: Global,
-    given: Given<'_>,
+    input: SolveInput<'_>,
     sizes: &[usize],
     outputs: &mut Outputs<'_>,
 ) -> Result<Status, RunError> {
     solve_from(
         alloc,
-        given.job,
-        &mut FlakySource::new(given.instance.as_bytes(), sizes, &[]),
-        &mut FlakySource::new(given.queries.as_bytes(), sizes, &[]),
+        input.job,
+        &mut FlakySource::new(input.instance.as_bytes(), sizes, &[]),
+        &mut FlakySource::new(input.queries.as_bytes(), sizes, &[]),
         outputs,
     )
 }
@@ -89,13 +89,13 @@ fn puts(
     rt: &impl Abort,
     alloc: Global,
     name: &str,
-    given: Given<'_>,
+    input: SolveInput<'_>,
     status: Status,
     texts: [&str; 3],
 ) -> Result<(), Fail> {
     for size in SIZES {
         let sizes = pieces(alloc, size, 1000)?;
-        puts_pieces(rt, alloc, name, given, &sizes, status, texts);
+        puts_pieces(rt, alloc, name, input, &sizes, status, texts);
     }
     Ok(())
 }
@@ -104,14 +104,14 @@ fn puts_pieces(
     rt: &impl Abort,
     alloc: Global,
     name: &str,
-    given: Given<'_>,
+    input: SolveInput<'_>,
     sizes: &[usize],
     status: Status,
     texts: [&str; 3],
 ) {
     let [claim, certificate, report] = texts;
     let mut sinks = new_outputs(alloc, sizes);
-    let ended = solve(alloc, given, sizes, &mut sinks);
+    let ended = solve(alloc, input, sizes, &mut sinks);
     same(rt, name, ended, Ok(status));
     holds(rt, name, sinks.claim.bytes() == claim.as_bytes());
     holds(
@@ -194,13 +194,13 @@ fn ends(rt: &impl Abort, alloc: Global, line: &str) -> Result<(), Fail> {
     let (ended, rest) = cell(rt, rest);
     let (claim, rest) = cell(rt, rest);
     let (certificate, report) = cell(rt, rest);
-    let given = Given {
+    let input = SolveInput {
         job: producer(rt, named),
         instance,
         queries,
     };
     let texts = [claim, certificate, report];
-    puts(rt, alloc, name, given, status(rt, ended), texts)
+    puts(rt, alloc, name, input, status(rt, ended), texts)
 }
 
 #[test]
@@ -216,12 +216,12 @@ fn is_made(
     rt: &impl Abort,
     alloc: Global,
     kind: JudgeKind,
-    given: Given<'_>,
+    input: SolveInput<'_>,
     report: &str,
 ) -> Result<(), Fail> {
     for size in SIZES {
         let sizes = pieces(alloc, size, 1000)?;
-        is_made_in_pieces(rt, alloc, kind, given, &sizes, report);
+        is_made_in_pieces(rt, alloc, kind, input, &sizes, report);
     }
     Ok(())
 }
@@ -230,25 +230,34 @@ fn is_made_in_pieces(
     rt: &impl Abort,
     alloc: Global,
     kind: JudgeKind,
-    given: Given<'_>,
+    input: SolveInput<'_>,
     sizes: &[usize],
     report: &str,
 ) {
-    let instance = given.instance;
-    let mut made = new_outputs(alloc, sizes);
-    let ended = solve(alloc, given, sizes, &mut made);
+    let instance = input.instance;
+    let mut outputs = new_outputs(alloc, sizes);
+    let ended = solve(alloc, input, sizes, &mut outputs);
     same(rt, instance, ended, Ok(Status::Done));
-    holds(rt, instance, made.report.bytes() == report.as_bytes());
-    let claim = made.claim.bytes();
-    let shown = made.certificate.bytes();
+    holds(rt, instance, outputs.report.bytes() == report.as_bytes());
+    let claim = outputs.claim.bytes();
+    let certificate = outputs.certificate.bytes();
     match kind {
         JudgeKind::Max | JudgeKind::Min => {
-            is_judged(rt, alloc, kind, instance, claim, shown, sizes, report);
+            is_judged(rt, alloc, kind, instance, claim, certificate, sizes, report);
         }
         JudgeKind::Infeasible | JudgeKind::Paths => {
             holds(rt, instance, claim.is_empty());
-            let queries = given.queries.as_bytes();
-            is_judged(rt, alloc, kind, instance, queries, shown, sizes, report);
+            let queries = input.queries.as_bytes();
+            is_judged(
+                rt,
+                alloc,
+                kind,
+                instance,
+                queries,
+                certificate,
+                sizes,
+                report,
+            );
         }
     }
 }
@@ -260,7 +269,7 @@ fn is_judged(
     kind: JudgeKind,
     instance: &str,
     claim: &[u8],
-    shown: &[u8],
+    certificate: &[u8],
     sizes: &[usize],
     report: &str,
 ) {
@@ -270,7 +279,7 @@ fn is_judged(
         kind,
         &mut FlakySource::new(instance.as_bytes(), sizes, &[]),
         &mut FlakySource::new(claim, sizes, &[]),
-        &mut FlakySource::new(shown, sizes, &[]),
+        &mut FlakySource::new(certificate, sizes, &[]),
         &mut verdict,
     );
     same(rt, instance, judged, Ok(Status::Done));
@@ -357,12 +366,12 @@ fn makes(rt: &impl Abort, alloc: Global, line: &str) -> Result<(), Fail> {
     let (named, rest) = cell(rt, rest);
     let (instance, rest) = cell(rt, rest);
     let (queries, report) = cell(rt, rest);
-    let given = Given {
+    let input = SolveInput {
         job: producer(rt, named),
         instance,
         queries,
     };
-    is_made(rt, alloc, judge_named(rt, judge), given, report)
+    is_made(rt, alloc, judge_named(rt, judge), input, report)
 }
 
 #[test]

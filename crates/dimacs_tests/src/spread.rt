@@ -52,7 +52,7 @@ fn solution(alloc: Global, lines: &str) -> Result<Solution, Fail> {
 }
 
 /// What is answered, in words.
-fn told(alloc: Global, spread: Result<Flow, JudgeError>) -> Result<String, Fail> {
+fn describe(alloc: Global, spread: Result<Flow, JudgeError>) -> Result<String, Fail> {
     match spread {
         Ok(flow) => Ok(format!(in alloc; "{:?}", flow.amounts())?),
         Err(error) => Ok(format!(in alloc; "{error:?}")?),
@@ -68,10 +68,10 @@ fn spreads_max(rt: &impl Abort, alloc: Global, line: &str) -> Result<(), Fail> {
     let indexed = read_max(alloc, &mut MemorySource::new(text.as_bytes()))?;
     let plain = read_plain_max(alloc, &mut MemorySource::new(text.as_bytes()))?;
     let solution = solution(alloc, claim)?;
-    let said = told(alloc, spread_max(alloc, &indexed, &solution))?;
-    same(rt, name, said.as_str(), wanted);
-    let said = told(alloc, spread_max(alloc, &plain, &solution))?;
-    same(rt, name, said.as_str(), wanted);
+    let actual = describe(alloc, spread_max(alloc, &indexed, &solution))?;
+    same(rt, name, actual.as_str(), wanted);
+    let actual = describe(alloc, spread_max(alloc, &plain, &solution))?;
+    same(rt, name, actual.as_str(), wanted);
     Ok(())
 }
 
@@ -84,10 +84,10 @@ fn spreads_min(rt: &impl Abort, alloc: Global, line: &str) -> Result<(), Fail> {
     let indexed = read_min(alloc, &mut MemorySource::new(text.as_bytes()))?;
     let plain = read_plain_min(alloc, &mut MemorySource::new(text.as_bytes()))?;
     let solution = solution(alloc, claim)?;
-    let said = told(alloc, spread_min(alloc, &indexed, &solution))?;
-    same(rt, name, said.as_str(), wanted);
-    let said = told(alloc, spread_min(alloc, &plain, &solution))?;
-    same(rt, name, said.as_str(), wanted);
+    let actual = describe(alloc, spread_min(alloc, &indexed, &solution))?;
+    same(rt, name, actual.as_str(), wanted);
+    let actual = describe(alloc, spread_min(alloc, &plain, &solution))?;
+    same(rt, name, actual.as_str(), wanted);
     Ok(())
 }
 

@@ -20,12 +20,12 @@ pub fn status(rt: &impl Abort, name: &str) -> Status {
 }
 
 /// The words of a line, parted by one blank.
-pub fn words(alloc: Global, line: &str) -> Result<Vec<String>, Fail> {
-    let mut words = Vec::new(alloc);
+pub fn arguments(alloc: Global, line: &str) -> Result<Vec<String>, Fail> {
+    let mut list = Vec::new(alloc);
     for word in line.split(' ') {
-        words.push(String::from_str(alloc, word)?)?;
+        list.push(String::from_str(alloc, word)?)?;
     }
-    Ok(words)
+    Ok(list)
 }
 
 /// Command lines, each with what it asks for.
@@ -137,9 +137,9 @@ solve instance solution cut | None";
 fn words_ask_for_jobs(rt: HostRuntime) -> Result<(), Fail> {
     for row in rows(&rt, LINES, 102) {
         let (line, wanted) = cell(&rt, row);
-        let given = words(rt.alloc(), line)?;
-        let said = format!(in rt.alloc(); "{:?}", job(&given))?;
-        same(&rt, line, said.as_str(), wanted);
+        let arguments = arguments(rt.alloc(), line)?;
+        let actual = format!(in rt.alloc(); "{:?}", job(&arguments))?;
+        same(&rt, line, actual.as_str(), wanted);
     }
     let none = Vec::new(rt.alloc());
     same(&rt, "no words at all", job(&none), None);
