@@ -1,15 +1,14 @@
-//! Assertions for tests. A test states here what it expects in one call, which costs the checker less than an
-//! `assert_eq!` in its place.
+//! Assertions in one call, which costs the checker less than an `assert_eq!` in its place.
 
 use std::fmt::Debug;
 use std::process::Abort;
 
-/// Whether two values are the same.
+/// Asserts that two values are equal.
 pub fn same<T: PartialEq + Debug + Drop>(rt: &impl Abort, name: &str, said: T, wanted: T) {
     assert_eq!(rt; said, wanted, "{name}");
 }
 
-/// Whether two values are the same, at this number.
+/// Asserts it of the case with this number.
 pub fn same_at<T: PartialEq + Debug + Drop>(
     rt: &impl Abort,
     name: &str,
@@ -20,12 +19,12 @@ pub fn same_at<T: PartialEq + Debug + Drop>(
     assert_eq!(rt; said, wanted, "{name} {number}");
 }
 
-/// Whether a condition holds.
+/// Asserts a condition.
 pub fn holds(rt: &impl Abort, name: &str, condition: bool) {
     assert!(rt; condition, "{name}");
 }
 
-/// Whether a condition holds, at this number.
+/// Asserts it of the case with this number.
 pub fn holds_at(rt: &impl Abort, name: &str, number: u64, condition: bool) {
     assert!(rt; condition, "{name} {number}");
 }

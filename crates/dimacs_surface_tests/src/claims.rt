@@ -1,6 +1,6 @@
-//! Claims and certificates: their look-ups, how they are made, and how they are written.
+//! Claims and certificates: how they are made, looked up and written.
 //!
-//! Each function makes few calls: what one promises is looked at again for every call after it.
+//! Each function makes few calls, since the checker goes over the promises of one at each later call.
 
 use crate::checks::{holds, same};
 use dimacs_claims::{
@@ -53,7 +53,7 @@ fn a_solution_knows_the_lines_of_its_text(rt: HostRuntime) -> Result<(), Fail> {
     Ok(())
 }
 
-/// The entries of a text, in a list that they are placed in.
+/// The solution of a text, with its entries placed in a list.
 fn placed(alloc: Global, text: &[u8]) -> Result<Placed<Vec<Entry>>, ReadError> {
     read_solution_into(alloc, Vec::new(alloc), &mut MemorySource::new(text))
 }
@@ -88,7 +88,7 @@ fn open_solutions_are_written_as_they_are(rt: HostRuntime) -> Result<(), Fail> {
     Ok(())
 }
 
-/// Three nodes of 300, one of them put in twice.
+/// Two nodes of 300, one of them added twice.
 fn cut(alloc: Global) -> Result<Cut, Memory> {
     let mut cut = Cut::new(alloc, 300);
     cut.add(300)?;
@@ -109,7 +109,7 @@ fn cut_read(alloc: Global) -> Result<Cut, ReadError> {
     read_cut(alloc, &mut MemorySource::new(CUT))
 }
 
-/// Whether the three nodes and no others are in a cut.
+/// Tests that a cut has these two nodes alone.
 fn has_nodes(rt: &impl Abort, cut: &Cut) {
     same(rt, "nodes", cut.nodes(), 300);
     for id in [0, 2, 255, 256, 299, 301, u32::MAX] {
@@ -128,7 +128,7 @@ fn a_cut_has_the_nodes_that_were_put_in(rt: HostRuntime) -> Result<(), Fail> {
     Ok(())
 }
 
-/// Potentials of which one is set twice, and one back to 0.
+/// Potentials, one of them set twice, and one to 0.
 fn potentials(alloc: Global) -> Result<Potentials, Memory> {
     let mut potentials = Potentials::new(alloc, 300);
     potentials.set(300, 7)?;
@@ -150,7 +150,7 @@ fn potentials_read(alloc: Global) -> Result<Potentials, ReadError> {
     read_potentials(alloc, &mut MemorySource::new(POTENTIALS))
 }
 
-/// Whether these are the potentials.
+/// Tests each potential.
 fn has_potentials(rt: &impl Abort, potentials: &Potentials) {
     same(rt, "nodes", potentials.nodes(), 300);
     for (id, value) in [
@@ -176,7 +176,7 @@ fn potentials_are_those_that_were_set(rt: HostRuntime) -> Result<(), Fail> {
     Ok(())
 }
 
-/// A block up to 8, one without a radius, and one up to 0.
+/// Blocks with the radius 8, without one, and with 0.
 const BLOCKS: &[u8] = b"p dist 4 3\nt 1 2 8\nd 2 5 1\nd 3 -7 2\nt 2 1\nd 3 1000 2\nt 3 0 0\n";
 
 fn labels(alloc: Global) -> Result<Labels, ReadError> {
@@ -202,7 +202,7 @@ static DISTANCES: [(usize, u32, Option<i128>); 9] = [
     (usize::MAX, u32::MAX, None),
 ];
 
-/// Whether these are the distances.
+/// Tests the rows of `DISTANCES`.
 fn has_distances(rt: &impl Abort, labels: &Labels) {
     same(rt, "nodes", labels.nodes(), 4);
     for &(block, id, dist) in &DISTANCES {
@@ -219,14 +219,14 @@ fn labels_are_those_of_the_text(rt: HostRuntime) -> Result<(), Fail> {
     Ok(())
 }
 
-/// Whether a block has this source, this radius, and so many labels.
+/// Tests a block's source, radius and number of labels.
 fn is_block(rt: &impl Abort, block: &Block, source: u32, radius: Option<i128>, count: usize) {
     same(rt, "source", block.source(), source);
     same(rt, "radius", block.radius(), radius);
     same(rt, "labels", block.labels().len(), count);
 }
 
-/// Whether the labels of the first block are looked up and gone over in their order.
+/// Tests the labels of the first block, by look-ups and in order.
 fn has_labels(rt: &impl Abort, block: &Block) {
     let labels = block.labels();
     let (dist, id, pred) = (5, 2, 1);

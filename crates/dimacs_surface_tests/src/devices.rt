@@ -1,4 +1,4 @@
-//! Sources and sinks over memory: the pieces that they give and take, and their faults in mid-stream.
+//! Sources and sinks over memory: their pieces, and their faults in mid-stream.
 
 use crate::checks::same;
 use crate::spelling::spell_pulls;
@@ -10,8 +10,7 @@ use std::alloc::{AllocError, Global};
 use std::process::Abort;
 use std::test::Fail;
 
-/// A source of `abcdefg` in each line: what it shows, which it is, the sizes of its pieces, the pulls that fail, the room
-/// at each pull, and what is given.
+/// Sources of `abcdefg`: name, which source, sizes of its pieces, pulls that fail, space for each pull, what is read.
 static SOURCES: &str = "\
 room for all | memory |  |  | 9 | abcdefg|
 room for just all | memory |  |  | 7 | abcdefg|
@@ -32,7 +31,6 @@ a fault at the end | flaky | 2 1 | 4 | 9 | ab|c|defg|fault|
 a fault after the end | flaky | 2 1 | 5 | 9 | ab|c|defg|
 a fault at pull 0, which there is not | flaky | 2 1 | 0 | 9 | ab|c|defg|";
 
-/// Sizes of pieces.
 fn sizes(rt: &impl Abort, alloc: Global, cell: &str) -> Result<Vec<usize>, AllocError> {
     let mut list = Vec::new(alloc);
     for word in cell.split_whitespace() {
@@ -41,7 +39,7 @@ fn sizes(rt: &impl Abort, alloc: Global, cell: &str) -> Result<Vec<usize>, Alloc
     Ok(list)
 }
 
-/// Whether a source behaves as its row of a table expects.
+/// Tests a row of `SOURCES`.
 fn gives(rt: &impl Abort, alloc: Global, line: &str) -> Result<(), Fail> {
     let (name, rest) = cell(rt, line);
     let (which, rest) = cell(rt, rest);
@@ -66,8 +64,7 @@ fn gives(rt: &impl Abort, alloc: Global, line: &str) -> Result<(), Fail> {
     Ok(())
 }
 
-/// Puts of `abcdefg` in each line: what it shows, the sizes that are taken, the puts that fail, the answer, and what the
-/// sink has then.
+/// Puts of `abcdefg`: name, sizes that are accepted, puts that fail, result, content of the sink.
 static PUTS: &str = "\
 whole |  |  | Ok(()) | abcdefg
 a byte at a time | 1 1 1 1 1 1 1 |  | Ok(()) | abcdefg
@@ -77,7 +74,7 @@ a fault at once |  | 1 | Err(DeviceFault) |\x20
 a fault in mid-stream | 3 1 | 3 | Err(DeviceFault) | abcd
 a fault after the last put | 3 1 | 4 | Ok(()) | abcdefg";
 
-/// Whether a sink behaves as its row of a table expects.
+/// Tests a row of `PUTS`.
 fn takes(rt: &impl Abort, alloc: Global, line: &str) -> Result<(), Fail> {
     let (name, rest) = cell(rt, line);
     let (pieces, rest) = cell(rt, rest);

@@ -24,7 +24,7 @@ bytes that are no blanks | a\u{b}b\u{c}c\u{0}d | 0:a\u{b}b\u{c}c\u{0}d|
 a space that is not ASCII | a\u{a0}b | 0:aÂ\u{a0}b|
 numbers of many digits | 123456789 -1 | 0:123456789|10:-1|";
 
-/// Each field after the place where it starts, as in `0:a|2:12|`.
+/// Each field after its start, as in `0:a|2:12|`.
 fn spell_fields(alloc: Global, line: &[u8]) -> Result<String, Fail> {
     let mut spelled = String::new(alloc);
     for field in fields(line) {
@@ -35,7 +35,7 @@ fn spell_fields(alloc: Global, line: &[u8]) -> Result<String, Fail> {
     Ok(spelled)
 }
 
-/// Fields, each with its value as a number and as a wide number. `~` stands for 700 zeros.
+/// Fields, each as a 64-bit and a 128-bit number. `~` stands for 700 zeros.
 static NUMBERS: &str = "\
 nothing |  | Err(BadNumber) | Err(BadNumber)
 a minus alone | - | Err(BadNumber) | Err(BadNumber)
@@ -85,7 +85,7 @@ a letter after them | ~x | Err(BadNumber) | Err(BadNumber)
 one past the greatest after them | ~9223372036854775808 | Err(NumberRange) | Ok(9223372036854775808)
 hundreds of digits | 9~ | Err(NumberRange) | Err(NumberRange)";
 
-/// Whether a field spells the numbers of its row.
+/// Tests a row of `NUMBERS`.
 fn spells(rt: &impl Abort, alloc: Global, line: &str, noughts: &str) -> Result<(), Fail> {
     let (name, rest) = cell(rt, line);
     let (text, wanted) = cell(rt, rest);

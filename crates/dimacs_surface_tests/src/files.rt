@@ -7,8 +7,8 @@ use std::io;
 use std::io::{ErrorKind, Read, Write};
 use std::test::Fail;
 
-/// Moves at most two bytes a call to or from another file. Its calls are interrupted in turn, and the listed ones,
-/// counted from 1, fail.
+/// Reads or writes another file, at most two bytes a call. The calls in `fails`, from 1, fail; other odd calls are
+/// interrupted.
 #[derive(Drop)]
 struct Troubled<'a, T> {
     inner: T,
@@ -57,7 +57,7 @@ impl<'a, T: Write> Write for Troubled<'a, T> {
     }
 }
 
-/// The calls that are refused, and what is given.
+/// The calls that fail, and what is read.
 static REFUSED_READS: [(&[u8], &str); 4] = [
     (&[], "ab|cd|e|"),
     (&[1], "fault|ab|cd|e|"),
@@ -65,7 +65,7 @@ static REFUSED_READS: [(&[u8], &str); 4] = [
     (&[8], "ab|cd|e|fault|"),
 ];
 
-/// The calls that are refused, the answer, and what the file has then.
+/// The calls that fail, the result, and what is written.
 static REFUSED_WRITES: [(&[u8], Result<(), DeviceFault>, &str); 4] = [
     (&[], Ok(()), "abcde"),
     (&[1], Err(DeviceFault), ""),

@@ -1,4 +1,4 @@
-//! Instances and queries: their networks, their look-ups, and how they are written.
+//! Instances and queries: their networks, look-ups, and how they are written.
 
 use crate::checks::{holds, same};
 use crate::tables::{cell, rows};
@@ -18,7 +18,7 @@ const MIN: &[u8] =
 
 const GRAPH: &[u8] = b"p sp 2 3\na 1 2 5\na 2 1 -6\na 1 2 7\n";
 
-/// Arcs of the three instances, each with its description.
+/// Arcs: instance, index, description.
 static ARCS: &str = "\
 max | 0 | ArcView { tail: 1, head: 2, low: 0, cap: 4, cost: 0 }
 max | 4 | ArcView { tail: 3, head: 4, low: 0, cap: 5, cost: 0 }
@@ -36,25 +36,22 @@ fn told<N: Network>(alloc: Global, network: &N, i: u32) -> Result<String, Fail> 
     Ok(String::from_str(alloc, "no arc")?)
 }
 
-/// The description of an arc of the first instance.
 fn max_arc(alloc: Global, i: u32) -> Result<String, Fail> {
     let max = read_max(alloc, &mut MemorySource::new(MAX))?;
     told(alloc, max.network(), i)
 }
 
-/// The same of the second.
 fn min_arc(alloc: Global, i: u32) -> Result<String, Fail> {
     let min = read_min(alloc, &mut MemorySource::new(MIN))?;
     told(alloc, min.network(), i)
 }
 
-/// The same of the graph.
 fn graph_arc(alloc: Global, i: u32) -> Result<String, Fail> {
     let graph = read_graph(alloc, &mut MemorySource::new(GRAPH))?;
     told(alloc, graph.network(), i)
 }
 
-/// Whether an arc has the description in its row.
+/// Tests a row of `ARCS`.
 fn has_arc(rt: &impl Abort, alloc: Global, line: &str) -> Result<(), Fail> {
     let (which, rest) = cell(rt, line);
     let (i, wanted) = cell(rt, rest);
@@ -92,7 +89,7 @@ fn an_instance_of_least_cost_has_its_supplies(rt: HostRuntime) -> Result<(), Fai
     Ok(())
 }
 
-/// The text of the first instance, read and written without its index.
+/// The text of an instance, read and written without its index.
 fn max_text(alloc: Global) -> Result<MemorySink, Fail> {
     let mut sink = MemorySink::new(alloc);
     let max = read_max(alloc, &mut MemorySource::new(MAX))?;
@@ -100,7 +97,6 @@ fn max_text(alloc: Global) -> Result<MemorySink, Fail> {
     Ok(sink)
 }
 
-/// The same of the second.
 fn min_text(alloc: Global) -> Result<MemorySink, Fail> {
     let mut sink = MemorySink::new(alloc);
     let min = read_min(alloc, &mut MemorySource::new(MIN))?;
@@ -108,7 +104,6 @@ fn min_text(alloc: Global) -> Result<MemorySink, Fail> {
     Ok(sink)
 }
 
-/// The same of the graph.
 fn graph_text(alloc: Global) -> Result<MemorySink, Fail> {
     let mut sink = MemorySink::new(alloc);
     let graph = read_graph(alloc, &mut MemorySource::new(GRAPH))?;
@@ -133,7 +128,7 @@ fn instances_are_written_as_they_were_read(rt: HostRuntime) -> Result<(), Fail> 
     Ok(())
 }
 
-/// What a text of queries asks.
+/// The queries of a text.
 fn asked(alloc: Global, text: &[u8]) -> Result<String, Fail> {
     match read_queries(alloc, &mut MemorySource::new(text))? {
         Queries::Sources(ids) => Ok(format!(in alloc; "{:?}", ids.as_slice())?),
@@ -156,7 +151,7 @@ fn queries_keep_their_order_and_open_lists_are_written(rt: HostRuntime) -> Resul
     Ok(())
 }
 
-/// Two nodes, how many arcs between them are passed over, and the arc that is found.
+/// Tail, head, how many such arcs are skipped, and the index of the arc that is found.
 static FOUND: [(u32, u32, u32, Option<u32>); 7] = [
     (1, 2, 0, Some(0)),
     (1, 2, 1, Some(2)),
@@ -167,7 +162,7 @@ static FOUND: [(u32, u32, u32, Option<u32>); 7] = [
     (0, 5, 0, None),
 ];
 
-/// Whether a network finds the arcs between two nodes in the order of its list.
+/// Tests that a network finds parallel arcs in the order of its list.
 fn finds<N: Network>(rt: &impl Abort, network: &N) {
     for &(tail, head, k, found) in &FOUND {
         same(rt, "an arc", network.find(tail, head, k), found);

@@ -23,7 +23,7 @@ use std::test::Fail;
 /// A network of three nodes.
 const MAX: &[u8] = b"p max 3 3\nn 1 s\nn 3 t\na 1 2 4\na 2 3 2\na 1 3 1\n";
 
-/// A maximum flow in it, and a cut that is tight for it.
+/// A maximum flow in it, and its tight cut.
 const MAXIMUM: &[u8] = b"f 1 3 1\nf 1 2 2\nf 2 3 2\ns 3\n";
 
 const CUT: &[u8] = b"p cut 3 2\nu 1\nu 2\n";
@@ -32,7 +32,7 @@ fn solution(alloc: Global, text: &[u8]) -> Result<Solution, ReadError> {
     read_solution(alloc, &mut MemorySource::new(text))
 }
 
-/// The amounts that a solution gives the arcs of a network, where they are as many as its arcs.
+/// The flow of a solution, with an amount for each arc.
 fn flow_in<N: Network>(alloc: Global, network: &N, text: &[u8]) -> Result<Flow, Fail>
     ensures { IfOk result (λ flow. length flow ≡ length (N.list network.now)) }
 {
@@ -43,7 +43,7 @@ fn flow_in<N: Network>(alloc: Global, network: &N, text: &[u8]) -> Result<Flow, 
     Ok(flow)
 }
 
-/// The judge's answers to a claimed maximum flow whose entries are kept.
+/// Judges a claimed maximum flow whose entries are in a list.
 fn kept_max<N: Network>(
     alloc: Global,
     instance: &MaxInstance<N>,
@@ -54,7 +54,7 @@ fn kept_max<N: Network>(
     Ok(judge_max(alloc, instance, &solution, cut))
 }
 
-/// The same, as its entries are placed.
+/// The same, with its entries placed while they are read.
 fn placed_max<N: Network>(
     alloc: Global,
     instance: &MaxInstance<N>,
@@ -66,7 +66,7 @@ fn placed_max<N: Network>(
     Ok(judge_max_placed(alloc, instance, &placed, cut))
 }
 
-/// The judge's answers to a claim in the first network, with its entries kept and with its entries placed.
+/// Judges a claim both ways.
 fn judged_max(alloc: Global, claim: &[u8]) -> Result<[Result<Verdict, JudgeError>; 2], Fail> {
     let instance = read_max(alloc, &mut MemorySource::new(MAX))?;
     let cut = read_cut(alloc, &mut MemorySource::new(CUT))?;
@@ -92,7 +92,7 @@ fn a_maximum_flow_is_judged_by_a_cut(rt: HostRuntime) -> Result<(), Fail> {
     Ok(())
 }
 
-/// The amount of the first arc in the maximum flow, and the judge's answers to the flow and to a cut for it.
+/// Tests that the maximum flow is feasible, and returns the judge's answer to a cut for it.
 fn tests_of_max(alloc: Global, cut: &[u8]) -> Result<Result<(), (Where, Reason)>, Fail> {
     let instance = read_max(alloc, &mut MemorySource::new(MAX))?;
     let flow = flow_in(alloc, instance.network(), MAXIMUM)?;
@@ -116,7 +116,7 @@ fn a_maximum_flow_is_feasible_and_its_cut_is_tight(rt: HostRuntime) -> Result<()
     Ok(())
 }
 
-/// What is decided of a flow in the first network without a cut.
+/// Decides a flow without a cut.
 fn decided(alloc: Global, claim: &[u8]) -> Result<Decision, Fail> {
     let instance = read_max(alloc, &mut MemorySource::new(MAX))?;
     let flow = flow_in(alloc, instance.network(), claim)?;
@@ -163,7 +163,7 @@ const MIN: &[u8] = b"p min 2 2\nn 1 1\nn 2 -1\na 1 2 0 1 3\na 2 1 0 1 0\n";
 /// A flow of least cost in it.
 const LEAST: &[u8] = b"s 3\nf 1 2 1\n";
 
-/// The judge's answers to a claimed least cost flow whose entries are kept.
+/// Judges the flow of least cost with its entries in a list.
 fn kept_min<N: Network>(
     alloc: Global,
     instance: &MinInstance<N>,
@@ -173,7 +173,7 @@ fn kept_min<N: Network>(
     Ok(judge_min(alloc, instance, &solution, potentials))
 }
 
-/// The same, as its entries are placed.
+/// The same, with its entries placed.
 fn placed_min<N: Network>(
     alloc: Global,
     instance: &MinInstance<N>,
@@ -184,7 +184,7 @@ fn placed_min<N: Network>(
     Ok(judge_min_placed(alloc, instance, &placed, potentials))
 }
 
-/// The judge's answers to the least cost flow with potentials, with its entries kept and with its entries placed.
+/// Judges the flow of least cost both ways.
 fn judged_min(alloc: Global, potentials: &[u8]) -> Result<[Result<Verdict, JudgeError>; 2], Fail> {
     let instance = read_min(alloc, &mut MemorySource::new(MIN))?;
     let potentials = read_potentials(alloc, &mut MemorySource::new(potentials))?;
@@ -192,7 +192,7 @@ fn judged_min(alloc: Global, potentials: &[u8]) -> Result<[Result<Verdict, Judge
     Ok([kept, placed_min(alloc, &instance, &potentials)?])
 }
 
-/// The judge's answers to the least cost flow, and to potentials for it.
+/// Tests that the flow of least cost is feasible, and returns the judge's answer to potentials for it.
 fn tests_of_min(alloc: Global, potentials: &[u8]) -> Result<Result<(), (Where, Reason)>, Fail> {
     let instance = read_min(alloc, &mut MemorySource::new(MIN))?;
     let flow = flow_in(alloc, instance.network(), LEAST)?;

@@ -1,5 +1,5 @@
-//! The tests of the calls that a Rust program makes: each is called by its path, with nothing else of the crates, and has
-//! answers that were worked out by hand.
+//! Tests of the calls that a Rust program makes, by their paths, with nothing else of the crates. The answers were
+//! worked out by hand.
 #![tactic(auto)]
 
 #[cfg(test)]

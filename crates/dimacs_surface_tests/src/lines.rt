@@ -26,7 +26,7 @@ lines of blanks |  ;\t; \t | 1: |2:\t|3: \t|end
 comments | c one;c; | 1:c one|2:c|end
 bytes of several a character | é;ß | 1:Ã©|2:Ã\u{9f}|end";
 
-/// Whether a text has the lines in its row, in one piece and in small pieces.
+/// Tests a row of `TEXTS`, in one piece and in small ones.
 fn gives(rt: &impl Abort, alloc: Global, line: &str) -> Result<(), Fail> {
     let case = case(alloc, line)?;
     let (name, rest) = cell(rt, &case);
@@ -39,7 +39,7 @@ fn gives(rt: &impl Abort, alloc: Global, line: &str) -> Result<(), Fail> {
     Ok(())
 }
 
-/// Whether a text that comes in pieces of this size has these lines.
+/// Tests the lines of a text in pieces of this size.
 fn gives_in_pieces(
     rt: &impl Abort,
     alloc: Global,
@@ -69,7 +69,7 @@ fn lines_are_those_of_the_text(rt: HostRuntime) -> Result<(), Fail> {
     Ok(())
 }
 
-/// What stands before a line, the length of the line, what stands after it, and the result.
+/// What comes before a line, the line's length, what comes after it, and the result.
 static LONG_LINES: &str = "\
 the longest |  | 1048576 | ;z | 1:(1048576 bytes)|2:z|end
 the longest, with its end alone |  | 1048576 | ; | 1:(1048576 bytes)|end
@@ -79,7 +79,7 @@ a byte more, without its end |  | 1048577 |  | TooLong(1)
 a CR more |  | 1048576 | \r; | TooLong(1)
 a byte more, on the third line | a;; | 1048577 |  | 1:a|2:|TooLong(3)";
 
-/// Whether a text with a long line has the result in its row.
+/// Tests a row of `LONG_LINES`.
 fn gives_long(rt: &impl Abort, alloc: Global, line: &str) -> Result<(), Fail> {
     let case = case(alloc, line)?;
     let (name, rest) = cell(rt, &case);
@@ -108,7 +108,7 @@ fn a_line_has_a_greatest_length(rt: HostRuntime) -> Result<(), Fail> {
     Ok(())
 }
 
-/// Returns blanks for ever, at most so many at once, and states none of them in its contract.
+/// Returns blanks for ever, at most so many at once, none of them stated in its contract.
 #[derive(Drop)]
 struct EndlessBlanks {
     most: usize,
@@ -126,8 +126,7 @@ impl Source for EndlessBlanks {
     }
 }
 
-/// The size of the first piece of a text, the pull that fails, the result, and how many pulls there were in all: none
-/// after the end or a fault.
+/// Text, size of its first piece, pull that fails, result, and number of pulls: none after the end or a fault.
 static FAULTS: &str = "\
 at the first pull | ab;cd;ef | 8 | 1 | Device | 1
 within the first line | ab;cd;ef | 1 | 2 | Device | 2
@@ -138,7 +137,7 @@ in place of the end | ab;cd;ef | 8 | 2 | 1:ab|2:cd|Device | 2
 the end of the empty text |  | 8 | 9 | end | 1
 the end | ab;cd; | 8 | 9 | 1:ab|2:cd|end | 2";
 
-/// Whether a text from a failing source has the result in its row.
+/// Tests a row of `FAULTS`.
 fn tells_fault(rt: &impl Abort, alloc: Global, line: &str) -> Result<(), Fail> {
     let case = case(alloc, line)?;
     let (name, rest) = cell(rt, &case);
@@ -156,7 +155,7 @@ fn tells_fault(rt: &impl Abort, alloc: Global, line: &str) -> Result<(), Fail> {
     Ok(())
 }
 
-/// Another source, and how often it was pulled.
+/// Counts the pulls of another source.
 #[derive(Drop)]
 struct Counted<S> {
     source: S,

@@ -9,7 +9,7 @@ use dimacs_solve::{MaxAnswer, MinAnswer, SolveError, solve_max, solve_min, solve
 use std::alloc::Global;
 use std::test::Fail;
 
-/// The value of a maximum flow and whether its cut has node 1, where one is made within a limit.
+/// The value of a maximum flow, and whether its cut has node 1; none after giving up.
 fn maximum(alloc: Global, limit: u64) -> Result<Option<(i128, bool)>, Fail> {
     let text = b"p max 4 5\nn 1 s\nn 4 t\na 1 2 4\na 1 3 2\na 2 3 2\na 2 4 3\na 3 4 5\n";
     let instance = read_max(alloc, &mut MemorySource::new(text))?;
@@ -34,7 +34,7 @@ fn maximum_flows_are_made(rt: HostRuntime) -> Result<(), Fail> {
     Ok(())
 }
 
-/// What is made of an instance: the cost of a least flow, or whether a set that shows that there is none has node 1.
+/// The least cost, or 0 and whether the violated set has node 1; none after giving up.
 fn least(alloc: Global, text: &[u8], limit: u64) -> Result<Option<(i128, bool)>, Fail> {
     let instance = read_min(alloc, &mut MemorySource::new(text))?;
     made_min(alloc, &instance, limit)
@@ -68,7 +68,7 @@ fn least_flows_are_made(rt: HostRuntime) -> Result<(), Fail> {
     Ok(())
 }
 
-/// The distance of node 2 from node 1 in the labels that are made of a graph with this weight, and the error where none are.
+/// The distance of node 2 from node 1 in a graph, or the error.
 fn distance(alloc: Global, text: &[u8]) -> Result<Result<Option<i128>, SolveError>, Fail> {
     let graph = read_graph(alloc, &mut MemorySource::new(text))?;
     let queries = read_queries(alloc, &mut MemorySource::new(b"p aux sp ss 1\ns 1\n"))?;

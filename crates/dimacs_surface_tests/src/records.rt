@@ -155,7 +155,7 @@ fn take(reading: &mut GraphReading, number: u64, line: &str) -> Result<(), TakeE
     }
 }
 
-/// Lines that are given to a reading in turn, each with the field and the reason of its refusal, if it is refused.
+/// Lines for a reading in turn, each with the field and the reason if it is refused.
 static TAKEN: [(&str, u32, Option<Reason>); 7] = [
     ("a 1 1 0", 0, Some(Reason::ProblemMissing)),
     ("p sp 2 2", 0, None),
@@ -183,7 +183,7 @@ fn a_refused_record_leaves_the_reading_as_it_was(rt: HostRuntime) -> Result<(), 
     Ok(())
 }
 
-/// Texts that come in pieces of four bytes, the pulls that fail, and the error.
+/// Texts in pieces of four bytes, the pulls that fail, and the error.
 static READ: [(&str, &[u64], Option<ReadError>); 3] = [
     ("p sp 3 1\na 3 2 8\n", &[], None),
     (

@@ -1,4 +1,4 @@
-//! Answers spelled as one text, so that a case stands in one line with what is wanted of it.
+//! Spells answers as one text, to compare them with one cell.
 
 use crate::checks::{holds, same};
 use dimacs_lines::{Lines, Source};
@@ -6,10 +6,10 @@ use std::alloc::{AllocError, Global};
 use std::process::Abort;
 use std::test::Fail;
 
-/// The lines that a reader gives, each after its number, and how the text ends, as in `1:first|2:second|end`.
+/// The lines of a reader, each after its number, and how the text ends, as in `1:first|2:second|end`.
 ///
-/// On the way it tests what holds for every text: the reader holds no more than it may, its line is empty before the
-/// first and after the last, and the last answer comes again at each later call.
+/// Tests what holds for every text: the reader holds no more than it may, its line is empty before the first and after
+/// the last, and later calls repeat the last answer.
 pub fn spell_lines<S: Source>(
     rt: &impl Abort,
     alloc: Global,
@@ -45,7 +45,7 @@ pub fn spell_lines<S: Source>(
     Ok(spelled)
 }
 
-/// The pieces that a source gives where there is room for so many bytes, up to its end: `abc|fault|de|`.
+/// The pieces of a source up to its end, with space for `room` bytes: `abc|fault|de|`.
 pub fn spell_pulls<S: Source>(
     rt: &impl Abort,
     alloc: Global,
@@ -68,7 +68,7 @@ pub fn spell_pulls<S: Source>(
     Ok(spelled)
 }
 
-/// Each byte as the character of its number, and many bytes as their number.
+/// Each byte as the character of its number, but only the count of more than 100 bytes.
 pub fn spell_bytes(spelled: &mut String, bytes: &[u8]) -> Result<(), AllocError> {
     let count = bytes.len();
     if count > 100 {

@@ -1,4 +1,4 @@
-//! What the command's words mean, and its exit statuses.
+//! The meaning of the command's arguments, and its exit statuses.
 
 use crate::checks::same;
 use crate::tables::{cell, rows};
@@ -19,7 +19,7 @@ pub fn status(rt: &impl Abort, name: &str) -> Status {
     }
 }
 
-/// The words of a line, parted by one blank.
+/// The arguments of a line, with one blank between them.
 pub fn arguments(alloc: Global, line: &str) -> Result<Vec<String>, Fail> {
     let mut list = Vec::new(alloc);
     for word in line.split(' ') {
@@ -28,7 +28,7 @@ pub fn arguments(alloc: Global, line: &str) -> Result<Vec<String>, Fail> {
     Ok(list)
 }
 
-/// Command lines, each with what it asks for.
+/// Command lines, each with its job.
 static LINES: &str = "\
 convert max file | Some(Convert(Max, \"file\"))
 show max file | Some(Show(Max, \"file\"))

@@ -1,4 +1,4 @@
-//! Calls over arrays: which arrays are refused, and what is answered of the others.
+//! Calls over arrays: which arrays are refused, and the answers to others.
 
 use crate::checks::{holds, same};
 use crate::tables::{cell, ids, numbers, rows};
@@ -14,8 +14,7 @@ use std::alloc::Global;
 use std::process::Abort;
 use std::test::Fail;
 
-/// Arrays in each line: what it shows, what is done with them, the number of nodes, the tails, the heads, the weights, the
-/// source, the distances, `x` for none, the predecessors, and the answer.
+/// Arrays: name, call, number of nodes, tails, heads, weights, source, distances, `x` for none, predecessors, answer.
 static PATHS: &str = "\
 two arcs | judge | 3 | 1 1 | 2 3 | 5 -7 | 1 | 0 5 -7 | 0 1 1 | Sources(1)
 from another node | judge | 3 | 2 2 | 1 3 | 5 -7 | 2 | 5 0 -7 | 2 0 2 | Sources(1)
@@ -68,7 +67,7 @@ a distance too great | certify | 4 | 1 1 3 | 2 3 2 | 4 1 2 | 1 | 0 4 1 x | - | R
 a distance too few | certify | 4 | 1 1 3 | 2 3 2 | 4 1 2 | 1 | 0 3 1 | - | Length(Distances)
 distances that are made | solve | 4 | 1 1 3 | 2 3 2 | 4 1 2 | 1 | - | - | [0, 3, 1, 9223372036854775807] [0, 3, 1, 0]";
 
-/// What is answered of arrays.
+/// The answer to a call.
 fn describe(
     alloc: Global,
     what: &str,
@@ -109,7 +108,7 @@ fn id(rt: &impl Abort, cell: &str) -> u32 {
     cell.parse::<u32>().expect(rt, cell)
 }
 
-/// Whether the arrays of a row have the answer in that row.
+/// Tests a row of `PATHS`.
 fn answers(rt: &impl Abort, alloc: Global, line: &str) -> Result<(), Fail> {
     let (name, rest) = cell(rt, line);
     let (what, rest) = cell(rt, rest);
@@ -144,7 +143,7 @@ fn distances_over_arrays_are_answered(rt: HostRuntime) -> Result<(), Fail> {
     Ok(())
 }
 
-/// Two arcs, one after the other, of which the first is narrower.
+/// Two arcs, one after the other; the first has less capacity.
 fn pipes() -> MaxArrays<'static> {
     MaxArrays {
         nodes: 3,
@@ -178,7 +177,7 @@ fn betters_pipes(alloc: Global) -> bool {
     }
 }
 
-/// The value of the flow that is made within a limit.
+/// The value of the flow that is found within a limit.
 fn value_of_pipes(alloc: Global, limit: u64) -> Option<i128> {
     match solve_max_arrays(alloc, &pipes(), limit) {
         Ok(MaxSolved::Optimal { value, .. }) => Some(value),
@@ -200,7 +199,7 @@ fn maximum_flows_over_arrays_are_answered(rt: HostRuntime) {
     same(&rt, "one flow", value_of_pipes(alloc, 1), None);
 }
 
-/// Two arcs from node 1 to node 2, of which the first is cheaper.
+/// Two parallel arcs; the first is cheaper.
 fn ways(supplies: &[i64]) -> MinArrays<'_> {
     MinArrays {
         nodes: 2,
@@ -225,7 +224,7 @@ fn certifies_ways(alloc: Global) -> bool {
     }
 }
 
-/// Whether a flow by the other way is certified not to be least.
+/// Whether a flow by the other arc is certified not to be least.
 fn betters_ways(alloc: Global) -> bool {
     match certify_min_arrays(alloc, &ways(&[2, -2]), &[1, 1]) {
         Ok(MinCertified::Better(flow)) => flow.amounts() == [2, 0].as_slice(),
@@ -233,7 +232,7 @@ fn betters_ways(alloc: Global) -> bool {
     }
 }
 
-/// The cost of the flow that is made, or none and whether a set with node 1 alone shows that there is none.
+/// The cost of the flow that is found, or none and whether the set of node 1 shows that none is feasible.
 fn made_of_ways(alloc: Global, supplies: &[i64]) -> (Option<i128>, bool) {
     match solve_min_arrays(alloc, &ways(supplies), 9) {
         Ok(MinSolved::Optimal { cost, .. }) => (Some(cost), false),

@@ -1,4 +1,4 @@
-//! Claims that are certified. A flow's certificate is judged, and what is put in its place is certified in turn.
+//! Claims that are certified. A flow's certificate is judged, and a better flow in its place is certified in turn.
 
 use crate::arguments::status;
 use crate::checks::{holds, same};
@@ -19,7 +19,7 @@ pub struct Claimed<'a> {
     pub solution: &'a str,
 }
 
-/// Certifies what sources give. Nothing is put as a claim.
+/// Certifies what sources give. Writes no claim.
 pub fn certify_from(
     alloc: Global,
     kind: CertifyKind,
@@ -37,7 +37,7 @@ pub fn certify_from(
     )
 }
 
-/// Certifies texts that come and go in pieces of these sizes.
+/// Certifies texts that are read and written in pieces of these sizes.
 fn certify(
     alloc: Global,
     claimed: Claimed<'_>,
@@ -53,7 +53,7 @@ fn certify(
     )
 }
 
-/// Whether the judge answers yes to a claim with this certificate, in these words.
+/// Tests that the judge prints this verdict on a claim with this certificate.
 fn judged(rt: &impl Abort, alloc: Global, claimed: Claimed<'_>, certificate: &[u8], report: &str) {
     let kind = if claimed.kind == CertifyKind::Max {
         JudgeKind::Max
@@ -73,7 +73,7 @@ fn judged(rt: &impl Abort, alloc: Global, claimed: Claimed<'_>, certificate: &[u
     holds(rt, report, verdict.bytes() == report.as_bytes());
 }
 
-/// The line that refuses a claim whose value stands first.
+/// The line that refuses a claim with its value in the first line.
 fn better(kind: CertifyKind) -> &'static [u8] {
     if kind == CertifyKind::Max {
         b"x solution 1 2 NotMaximum\n"
@@ -82,7 +82,7 @@ fn better(kind: CertifyKind) -> &'static [u8] {
     }
 }
 
-/// Whether one better solution after another is claimed, up to one with this verdict.
+/// Tests that the claims of one better solution after another end in this verdict.
 fn leads_to(
     rt: &impl Abort,
     alloc: Global,
@@ -110,9 +110,8 @@ fn leads_to(
     Err(Fail::from("steps without end"))
 }
 
-/// Claims, each with its name, the word after `certify-`, the instance, the solution, the report, and the verdict of the
-/// judge: on the claim, or on the last where each better solution is claimed in turn; `nothing` where nothing is put
-/// beside the report.
+/// Claims: name, the word after `certify-`, instance, solution, report, and the judge's verdict on the claim, or on the
+/// last if each better solution is claimed in turn; `nothing` if only the report is written.
 static CLAIMS: &str = "\
 a maximum flow | max | p max 4 5;n 1 s;n 4 t;a 1 2 4;a 1 3 2;a 2 3 2;a 2 4 3;a 3 4 5; | s 6;f 1 2 4;f 1 3 2;f 2 3 1;f 2 4 3;f 3 4 3; | v max 6; | v max 6;
 no flow at all | max | p max 4 5;n 1 s;n 4 t;a 1 2 4;a 1 3 2;a 2 3 2;a 2 4 3;a 3 4 5; | s 0; | x solution 1 2 NotMaximum; | v max 6;
@@ -189,12 +188,12 @@ an entry too many | min | p min 2 1;n 1 1;n 2 -1;a 1 2 0 1 3; | s 3;f 1 2 1;f 1 
 an entry without an arc | min | p min 2 1;n 1 1;n 2 -1;a 1 2 0 1 3; | s 3;f 2 1 1;f 1 2 1; | x solution 2 0 UnknownArc; | nothing
 no nodes | min | p min 0 0; | s 0; | v min 0; | v min 0;";
 
-/// Two more, with as many nodes as there may be.
+/// Two more, with the most nodes.
 static MANY_NODES: &str = "\
 values | max | p max 134217728 1;n 1 s;n 134217728 t;a 1 134217728 7; | s 7;f 1 134217728 7; | v max 7; | v max 7;
 costs | min | p min 134217728 1;n 1 1;n 134217728 -1;a 1 134217728 0 1 5; | s 5;f 1 134217728 1; | v min 5; | v min 5;";
 
-/// The kind that this word stands for.
+/// The kind of this name.
 fn certified(rt: &impl Abort, word: &str) -> CertifyKind {
     if word == "max" {
         return CertifyKind::Max;
@@ -203,7 +202,7 @@ fn certified(rt: &impl Abort, word: &str) -> CertifyKind {
     CertifyKind::Min
 }
 
-/// Whether the claim of a row is certified as the row expects, if output is taken in pieces of these sizes.
+/// Tests a row of `CLAIMS`, in pieces of these sizes.
 fn certifies(rt: &impl Abort, alloc: Global, line: &str, sizes: &[usize]) -> Result<(), Fail> {
     let case = case(alloc, line)?;
     let (name, rest) = cell(rt, &case);
@@ -243,8 +242,7 @@ fn claims_are_certified(rt: HostRuntime) -> Result<(), Fail> {
     Ok(())
 }
 
-/// Instances and distances in each line: what it shows, the word after `certify-`, the instance, the distances, how the run
-/// ends, what it puts beside the report, and the report.
+/// Instances and distances: name, the word after `certify-`, instance, distances, status, what is written, report.
 static OTHERS: &str = "\
 a supply that nobody asks for | infeasible | p min 2 1;n 1 1;a 1 2 0 5 1; |  | Done | p cut 2 2;u 1;u 2; | v infeasible;
 a demand that nobody meets | infeasible | p min 2 1;n 1 -1;a 1 2 0 5 1; |  | Done | p cut 2 2;u 1;u 2; | v infeasible;
@@ -263,7 +261,7 @@ the first of two blocks that fail | paths | p sp 3 2;a 1 3 1;a 3 2 1; | p distan
 a fault in each text | paths | p sp 3 2; | p distances; | Refused |  | x instance 2 0 TooFew;
 faulty distances | paths | p sp 3 1;a 1 3 1; | p distances 3 1; | Refused |  | x distances 2 0 TooFew;";
 
-/// Whether the case of a row is certified as the row expects, if output is taken in pieces of these sizes.
+/// Tests a row of `OTHERS`, in pieces of these sizes.
 fn shows(rt: &impl Abort, alloc: Global, line: &str, sizes: &[usize]) -> Result<(), Fail> {
     let case = case(alloc, line)?;
     let (name, rest) = cell(rt, &case);
@@ -301,7 +299,7 @@ fn sets_and_distances_are_certified(rt: HostRuntime) -> Result<(), Fail> {
     Ok(())
 }
 
-/// Takes time by the IDs, a second or so once it is built.
+/// Its time grows with the IDs: about a second, once it is built.
 #[test]
 fn claims_about_many_nodes_are_certified(rt: HostRuntime) -> Result<(), Fail> {
     for line in rows(&rt, MANY_NODES, 2) {

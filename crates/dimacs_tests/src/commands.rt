@@ -1,4 +1,4 @@
-//! The command from its words to its exit status, over files in memory.
+//! The command from its arguments to its exit status, over files in memory.
 
 ghost use Rattle.std.specs.Prelude.{◌≡◌, ◌++◌, ◌∷◌, [], ◌==◌, if◌then◌else◌, map, not, Some};
 ghost use Rattle.std.specs.String.{string_bytes};
@@ -52,8 +52,8 @@ static HELD: [(&str, &str); 24] = [
     ("greedy", ""),
 ];
 
-/// Files in memory, with the names of those that are there and what was done so far. Each name that is not there can be
-/// created, but for `denied`; a text that is written can't be read again.
+/// Files in memory, and what was done with them. Files of other names can be created, but for `denied`. A text that is
+/// written can't be read again.
 #[derive(Drop)]
 struct MemoryFiles<'a, A> {
     rt: &'a A,
@@ -74,7 +74,7 @@ impl<'a, A: Abort> MemoryFiles<'a, A> {
         }
     }
 
-    /// A name of one's own.
+    /// A copy of a name.
     fn named(&self, name: &str) -> String
         ensures { string_bytes result ≡ name.now }
     {
@@ -84,7 +84,6 @@ impl<'a, A: Abort> MemoryFiles<'a, A> {
         }
     }
 
-    /// Adds to what was done.
     fn note(&mut self, done: Done)
         ensures done { self.new.done.items ≡ self.old.done.items ++ done ∷ [] }
         ensures held { self.new.held.now ≡ self.old.held.now }
@@ -95,7 +94,7 @@ impl<'a, A: Abort> MemoryFiles<'a, A> {
         }
     }
 
-    /// Counts a file that was refused for this reason.
+    /// Counts an I/O error, but not out of memory.
     fn refuse(&mut self, error: RunError) -> RunError
         ensures error { result ≡ error }
         ensures fault { self.new.faults ≡ (if is_device error then one_more self.old.faults else self.old.faults) }
@@ -108,7 +107,7 @@ impl<'a, A: Abort> MemoryFiles<'a, A> {
         error
     }
 
-    /// Counts a file that is closed after so many faults, and answers whether there were any.
+    /// Counts a closed file, if it had faults, and returns whether it had.
     fn count(&mut self, faults: u64) -> bool
         ensures failed { result ≡ not (faults == 0) }
         ensures fault { self.new.faults ≡ (if faults == 0 then self.old.faults else one_more self.old.faults) }
@@ -183,9 +182,8 @@ impl<'a, A: Abort> Files for MemoryFiles<'a, A> {
     }
 }
 
-/// A line for each thing done with files: `<` and the name of a file that was opened, `>` and that of one that was
-/// created, `-` and that of one that was closed after it was read, `=` and that of one that was closed after it was
-/// written, and after that line its text; `!` for what was refused.
+/// A line for each operation, with the file's name: `<` opened, `>` created, `-` closed after it was read, `=` closed
+/// after it was written, and then its text; `!` refused.
 fn shown(alloc: Global, done: &[Done]) -> Result<String, Fail> {
     let mut lines = String::new(alloc);
     for it in done {
@@ -204,15 +202,13 @@ fn shown(alloc: Global, done: &[Done]) -> Result<String, Fail> {
     Ok(lines)
 }
 
-/// Adds a line with the name of a file.
 fn add(lines: &mut String, sign: &str, name: &str) -> Result<(), AllocError> {
     lines.push_str(sign)?;
     lines.push_str(name)?;
     lines.push('\n')
 }
 
-/// Command lines, each with what is done with files, what it prints, the device that fails and what could not be done
-/// with it, and its exit status.
+/// Command line, what is done with files, output, the operation that fails, exit status.
 static COMMANDS: &str = "\
 convert gr road | < road;- road; | p sp 2 1;a 1 2 7; |  | 0
 convert gr nothing | < nothing;- nothing; | x instance 1 0 ProblemMissing; |  | 1
@@ -280,7 +276,7 @@ certify-max max flow a b |  |  |  | 2
 --help |  |  |  | 2
 solve-max pipe a b --limit |  |  |  | 2";
 
-/// Whether the command line of a case ends as the case expects.
+/// Tests a row of `COMMANDS`.
 fn ends(rt: &impl Abort, alloc: Global, line: &str) -> Result<(), Fail> {
     let case = case(alloc, line)?;
     let (command, rest) = cell(rt, &case);

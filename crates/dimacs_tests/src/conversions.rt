@@ -1,4 +1,4 @@
-//! Texts of each kind: what they become, how they are refused and shown, and the faults of their devices in mid-stream.
+//! Texts of each kind: their canonical form, refusal and summary, and I/O errors in mid-stream.
 
 use crate::checks::{holds, holds_at, same, same_at};
 use crate::pieces::{SIZES, pieces};
@@ -34,7 +34,7 @@ fn answer(
     }
 }
 
-/// Whether a run over a text, in pieces of each size, ends so and puts this.
+/// Tests a run's status and output, over a text in pieces of each size.
 fn puts(
     rt: &impl Abort,
     alloc: Global,
@@ -56,7 +56,7 @@ fn puts(
     Ok(())
 }
 
-/// Whether the case in a line of a table holds: its name, the text, what is asked of it, and what is wanted.
+/// Tests a case: name, text, what is asked, what is wanted.
 fn it_holds(
     rt: &impl Abort,
     alloc: Global,
@@ -137,7 +137,7 @@ fn it_holds(
     }
 }
 
-/// Converts and shows a text byte by byte, with each pull failing in turn: one for each byte, and one that finds the end.
+/// Converts and shows a text byte by byte, with each pull failing in turn: one a byte, and one that finds the end.
 fn pulls_fail_in_turn(
     rt: &impl Abort,
     alloc: Global,
@@ -187,7 +187,7 @@ fn puts_fail_in_turn(
     Ok(())
 }
 
-/// Whether the texts of a kind have the results in a table. A refusal names the text so.
+/// Tests the rows of a table. A refusal names the text `named`.
 fn each_holds(
     rt: &impl Abort,
     alloc: Global,
@@ -260,7 +260,7 @@ fn labels_and_distances_are_converted_refused_and_shown(rt: HostRuntime) -> Resu
     )
 }
 
-/// Texts of graphs that come byte by byte: the number of pulls, and what is put.
+/// Texts of graphs, read byte by byte: name, text, number of pulls, output.
 static LAST_PULLS: &str = "\
 a fault in the first line | x;p sp 1 0; | 2 | x instance 1 1 UnknownLine;
 a fault in the second line | p sp 1 1;e 1 1 0;a 1 1 0; | 17 | x instance 2 1 UnknownLine;
@@ -268,7 +268,7 @@ an arc too many | p sp 1 0;a 1 1 0;; | 17 | x instance 2 0 TooMany;
 a fault at the end | p sp 1 1; | 10 | x instance 2 0 TooFew;
 a fault at the end, after a line without its end | p sp 1 1 | 10 | x instance 2 0 TooFew;";
 
-/// Whether the text in a line of a table is refused without a pull after its fault.
+/// Tests that a text is refused without a pull after its fault.
 fn pulls_no_more(rt: &impl Abort, alloc: Global, line: &str) -> Result<(), Fail> {
     let case = case(alloc, line)?;
     let (name, rest) = cell(rt, &case);
@@ -298,8 +298,8 @@ fn nothing_is_pulled_after_a_fault(rt: HostRuntime) -> Result<(), Fail> {
     Ok(())
 }
 
-/// Texts of graphs with bytes past 127, and with many: what stands before a byte, the byte, how often it stands there, what
-/// stands after it, how the run ends and what is put.
+/// Texts of graphs with bytes past 127, and with many bytes: what comes before a byte, the byte, how often it comes, what
+/// comes after it, status, output.
 static BYTES: [(&[u8], u8, usize, &[u8], Status, &str); 5] = [
     (
         b"p sp 2 1\na 1",

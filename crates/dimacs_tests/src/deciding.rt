@@ -1,5 +1,4 @@
-//! What is decided without a certificate: whether a flow is maximum, whether there is a feasible one, and whether distances
-//! are true.
+//! Decisions without a certificate: is a flow maximum, is any feasible, are distances true?
 
 use crate::checks::same;
 use crate::tables::{case, cell, numbers, rows};
@@ -17,8 +16,8 @@ use std::alloc::Global;
 use std::process::Abort;
 use std::test::Fail;
 
-/// A flow in each line: what it shows, the lines of the instance, an amount for each arc, and what is decided: the nodes
-/// of the only tight cut, or the amounts of the only better flow; else a word alone.
+/// Flows: name, instance, an amount for each arc, and the decision: the nodes of the only tight cut, the amounts of the
+/// only better flow, or just the word.
 static FLOWS: &str = "\
 one tight cut | p max 4 5; n 1 s; n 4 t; a 1 2 4; a 1 3 2; a 2 3 2; a 2 4 3; a 3 4 5 | 4 2 1 3 3 | cut 1
 a flow that carries nothing | p max 4 5; n 1 s; n 4 t; a 1 2 4; a 1 3 2; a 2 3 2; a 2 4 3; a 3 4 5 | 0 0 0 0 0 | flow
@@ -33,7 +32,7 @@ a loop | p max 2 2; n 1 s; n 2 t; a 1 1 5; a 1 2 1 | 3 1 | cut 1
 nothing after the arc with room | p max 8 10; n 1 s; n 8 t; a 1 2 1; a 1 3 1; a 1 4 1; a 2 5 1; a 2 6 1; a 3 6 1; a 3 7 1; a 5 8 1; a 6 8 1; a 7 8 1 | 1 1 0 0 1 0 1 0 1 1 | cut 1 4
 a third pair by moving the other two | p max 8 11; n 1 s; n 8 t; a 1 2 1; a 1 3 1; a 1 4 1; a 2 5 1; a 2 6 1; a 3 6 1; a 3 7 1; a 4 7 1; a 5 8 1; a 6 8 1; a 7 8 1 | 1 1 0 0 1 0 1 0 0 1 1 | flow 1 1 1 1 0 1 0 1 1 1 1";
 
-/// The nodes of a cut after the word, or the word alone where no nodes are wanted.
+/// The word, and the nodes of a cut if they are wanted.
 fn describe_cut(alloc: Global, cut: &Cut, wanted: &str) -> Result<String, Fail> {
     let mut text = String::from_str(alloc, "cut")?;
     if wanted != "cut" {
@@ -46,7 +45,7 @@ fn describe_cut(alloc: Global, cut: &Cut, wanted: &str) -> Result<String, Fail> 
     Ok(text)
 }
 
-/// The amounts of a flow after the word, or the word alone where no amounts are wanted.
+/// The word, and the amounts of a flow if they are wanted.
 fn describe_flow(alloc: Global, flow: &Flow, wanted: &str) -> Result<String, Fail> {
     let mut text = String::from_str(alloc, "flow")?;
     if wanted != "flow" {
@@ -57,7 +56,7 @@ fn describe_flow(alloc: Global, flow: &Flow, wanted: &str) -> Result<String, Fai
     Ok(text)
 }
 
-/// What is decided of a flow.
+/// The decision about a flow.
 fn describe<N: Network>(
     rt: &impl Abort,
     alloc: Global,
@@ -76,7 +75,7 @@ fn describe<N: Network>(
     }
 }
 
-/// Whether the flow of a row is decided as the row expects.
+/// Tests a row of `FLOWS`.
 fn decides_flow(rt: &impl Abort, alloc: Global, line: &str) -> Result<(), Fail> {
     let case = case(alloc, line)?;
     let (name, rest) = cell(rt, &case);
@@ -97,7 +96,7 @@ fn flows_are_decided(rt: HostRuntime) -> Result<(), Fail> {
     Ok(())
 }
 
-/// An instance in each line: what it shows, its lines, and what is decided.
+/// Instances: name, instance, decision.
 static INSTANCES: &str = "\
 no node | p min 0 0 | feasible
 no arc and no supply | p min 2 0 | feasible
@@ -136,7 +135,7 @@ lower bounds that sum beyond 64 bits | p min 2 4; a 1 2 9223372036854775807 9223
 the same, and one unit is held back | p min 2 4; a 1 2 9223372036854775807 9223372036854775807 1; a 1 2 9223372036854775807 9223372036854775807 1; a 2 1 0 9223372036854775807 0; a 2 1 0 9223372036854775806 0 | infeasible
 a cost that no text of a solution can say | p min 1 1; a 1 1 9000000000000000000 9000000000000000000 -9000000000000000000 | feasible";
 
-/// What is decided of an instance. A set passes the judge's tests, and a flow those of a feasible one.
+/// The decision about an instance. Its set must pass the judge's tests, and its flow must be feasible.
 fn decided<N: Network>(
     rt: &impl Abort,
     alloc: Global,
@@ -155,7 +154,7 @@ fn decided<N: Network>(
     }
 }
 
-/// Whether the instance of a row is decided as the row expects.
+/// Tests a row of `INSTANCES`.
 fn decides_instance(rt: &impl Abort, alloc: Global, line: &str) -> Result<(), Fail> {
     let case = case(alloc, line)?;
     let (name, rest) = cell(rt, &case);
@@ -178,7 +177,7 @@ static MANY_NODES: &str = "\
 as many nodes as there may be, and one arc | p min 134217728 1; n 1 5; n 134217728 -5; a 1 134217728 0 9 3 | feasible
 the same, and the arc leads back | p min 134217728 1; n 1 5; n 134217728 -5; a 134217728 1 0 9 3 | infeasible";
 
-/// Takes time by the IDs, a second or so once it is built.
+/// Its time grows with the IDs: about a second, once it is built.
 #[test]
 fn feasibility_is_decided_of_many_nodes(rt: HostRuntime) -> Result<(), Fail> {
     for line in rows(&rt, MANY_NODES, 2) {
@@ -187,8 +186,7 @@ fn feasibility_is_decided_of_many_nodes(rt: HostRuntime) -> Result<(), Fail> {
     Ok(())
 }
 
-/// A claim of distances from node 1 in each line: what it shows, the lines of the graph, a distance for each node, `x` for
-/// none, and the lines of the labels, each with a semicolon, or the error.
+/// Distances from node 1: name, graph, a distance for each node, `x` for none, and the labels, or the error.
 static DISTANCES: &str = "\
 an arc | p sp 2 1;a 1 2 5 | 0 5 | p dist 2 1;t 1 1;d 2 5 1;
 a cycle of weight 0 | p sp 3 3;a 1 2 0;a 2 3 0;a 3 1 0 | 0 0 0 | p dist 3 1;t 1 2;d 2 0 1;d 3 0 2;
@@ -205,7 +203,6 @@ the source without a distance | p sp 2 1;a 1 2 1 | x 1 | Refused(Node(1), NotSho
 a cycle of negative weight | p sp 2 2;a 1 2 -1;a 2 1 0 | 0 -1 | Refused(Arc(2), NotShortest)
 a predecessor with a greater ID | p sp 3 2;a 1 3 1;a 3 2 1 | 0 2 1 | p dist 3 1;t 1 2;d 3 1 1;d 2 2 3;";
 
-/// Whether an answer is what is wanted.
 fn answers(
     rt: &impl Abort,
     alloc: Global,
@@ -227,7 +224,7 @@ fn answers(
     Ok(())
 }
 
-/// Whether it is decided of a claim of distances from node 1 what is wanted.
+/// Tests the decision about distances from node 1.
 fn decides<N: Network, C: DistanceClaim>(
     rt: &impl Abort,
     alloc: Global,
@@ -241,7 +238,7 @@ fn decides<N: Network, C: DistanceClaim>(
     answers(rt, alloc, name, answer, wanted)
 }
 
-/// Whether the claim of a row is decided as the row expects.
+/// Tests a row of `DISTANCES`.
 fn decides_claim(rt: &impl Abort, alloc: Global, line: &str) -> Result<(), Fail> {
     let case = case(alloc, line)?;
     let (name, rest) = cell(rt, &case);

@@ -1,4 +1,4 @@
-//! Runs in which one pull or one put fails, each of them in turn. Texts come and go byte by byte.
+//! Runs in which each pull and each put fails in turn. Texts are read and written byte by byte.
 
 use crate::certifying::{Claimed, certify_from};
 use crate::checks::{holds, holds_at, same_at};
@@ -10,8 +10,7 @@ use std::alloc::Global;
 use std::process::Abort;
 use std::test::Fail;
 
-/// A source or a sink of a run. A producer's queries stand in place of the claim that is read; nothing is made as a claim
-/// where one is certified.
+/// A source or a sink of a run. A producer's queries are its `Claim`. A certifier has no `MadeClaim`.
 #[derive(Clone, Copy, PartialEq, Eq)]
 enum Stream {
     Instance,
@@ -22,7 +21,7 @@ enum Stream {
     Report,
 }
 
-/// The calls of one device that fail.
+/// The calls of one stream that fail.
 #[derive(Clone, Copy)]
 struct Failing<'a> {
     stream: Stream,
@@ -30,7 +29,7 @@ struct Failing<'a> {
 }
 
 impl<'a> Failing<'a> {
-    /// Those of this device.
+    /// Those of this stream.
     fn of(self, stream: Stream) -> &'a [u64] {
         if self.stream == stream {
             self.calls
@@ -40,7 +39,6 @@ impl<'a> Failing<'a> {
     }
 }
 
-/// Judges texts.
 fn judge_failing(
     alloc: Global,
     texts: Texts<'_>,
@@ -61,7 +59,7 @@ fn judge_failing(
     )
 }
 
-/// How many bytes were put to each sink before this call of a device, given what is put in all.
+/// How many bytes each sink has before this call of a stream; `whole` is how many it has at the end.
 fn put_before(stream: Stream, call: u64, whole: [usize; 3]) -> [usize; 3] {
     let [claim, certificate, _] = whole;
     let last = (call as usize).saturating_sub(1);
@@ -73,12 +71,12 @@ fn put_before(stream: Stream, call: u64, whole: [usize; 3]) -> [usize; 3] {
     }
 }
 
-/// Whether a sink was given the first bytes of what another was given, and no more.
+/// Whether a sink has exactly the first `count` bytes of another.
 fn has_front(sink: &FlakySink<'_>, whole: &FlakySink<'_>, count: usize) -> bool {
     whole.bytes().get(..count) == Some(sink.bytes())
 }
 
-/// Fails each call of a device of a judge in turn, until a run meets no failure, which ends as the whole one.
+/// Lets each call of a judge's stream fail in turn, until a run meets no failure: it must end as the whole one.
 fn judge_fails_in_turn(
     rt: &impl Abort,
     alloc: Global,
@@ -155,7 +153,6 @@ fn each_call_of_a_judge_that_fails_is_told(rt: HostRuntime) -> Result<(), Fail> 
     Ok(())
 }
 
-/// A run that makes texts.
 #[derive(Clone, Copy)]
 enum Making<'a> {
     Solves(SolveInput<'a>),
@@ -163,7 +160,7 @@ enum Making<'a> {
 }
 
 impl<'a> Making<'a> {
-    /// The texts that are read.
+    /// What it reads.
     fn texts(self) -> [&'a str; 2] {
         match self {
             Making::Solves(input) => [input.instance, input.queries],
@@ -172,7 +169,6 @@ impl<'a> Making<'a> {
     }
 }
 
-/// Makes texts.
 fn make_failing(
     alloc: Global,
     making: Making<'_>,
@@ -191,7 +187,6 @@ fn make_failing(
     }
 }
 
-/// Sinks of which one fails.
 fn failing_outputs<'a>(alloc: Global, ones: &'a [usize], failing: Failing<'a>) -> Outputs<'a> {
     Outputs {
         claim: FlakySink::new(alloc, ones, failing.of(Stream::MadeClaim)),
@@ -200,7 +195,7 @@ fn failing_outputs<'a>(alloc: Global, ones: &'a [usize], failing: Failing<'a>) -
     }
 }
 
-/// How many bytes each sink was given.
+/// How many bytes each sink has.
 fn lengths(outputs: &Outputs<'_>) -> [usize; 3] {
     [
         outputs.claim.bytes().len(),
@@ -209,7 +204,7 @@ fn lengths(outputs: &Outputs<'_>) -> [usize; 3] {
     ]
 }
 
-/// Whether the sinks were given the first bytes of what others were given, and no more.
+/// Whether sinks have exactly the first bytes of others.
 fn have_fronts(outputs: &Outputs<'_>, whole: &Outputs<'_>, counts: [usize; 3]) -> bool {
     let [claim, certificate, report] = counts;
     has_front(&outputs.claim, &whole.claim, claim)
@@ -217,7 +212,7 @@ fn have_fronts(outputs: &Outputs<'_>, whole: &Outputs<'_>, counts: [usize; 3]) -
         && has_front(&outputs.report, &whole.report, report)
 }
 
-/// Fails each call of a device of a run in turn, until a run meets no failure, which ends as the whole one.
+/// The same for a solver or a certifier.
 fn making_fails_in_turn(
     rt: &impl Abort,
     alloc: Global,

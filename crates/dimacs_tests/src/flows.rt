@@ -4,7 +4,7 @@ use crate::judging::judges_each;
 use dimacs_runs::JudgeKind;
 use std::test::Fail;
 
-/// Flows that are claimed to be maximum, each with a cut.
+/// Claimed maximum flows, each with a cut.
 static FLOWS_BY_CUTS: &str = "\
 a tight cut | p max 4 5;n 1 s;n 4 t;a 1 2 4;a 1 3 2;a 2 3 2;a 2 4 3;a 3 4 5; | s 6;f 1 2 4;f 1 3 2;f 2 3 1;f 2 4 3;f 3 4 3; | p cut 4 1;u 1; | Done | v max 6;
 an arc that leaves the cut and isn't full | p max 4 5;n 1 s;n 4 t;a 1 2 4;a 1 3 2;a 2 3 2;a 2 4 3;a 3 4 5; | s 6;f 1 2 4;f 1 3 2;f 2 3 1;f 2 4 3;f 3 4 3; | p cut 4 2;u 1;u 2; | Refused | x arc 3 NotSaturated;
@@ -25,7 +25,7 @@ a fault in the solution after an entry of no arc | p max 4 5;n 1 s;n 4 t;a 1 2 4
 a fault in the cut beside an entry of no arc | p max 4 5;n 1 s;n 4 t;a 1 2 4;a 1 3 2;a 2 3 2;a 2 4 3;a 3 4 5; | s 6;f 1 4 1; | p cut 4 1; | Refused | x certificate 2 0 TooFew;
 faults in all texts | p max 4 5; | s; | p cut; | Refused | x instance 2 0 EndMissing;";
 
-/// Flows over several arcs between two nodes, each with the cut that has the source alone.
+/// Flows over parallel arcs, each with the cut that has only the source.
 static FLOWS_OF_PARALLELS: &str = "\
 an entry for each of two arcs | p max 2 2;n 1 s;n 2 t;a 1 2 1;a 1 2 1; | s 2;f 1 2 1;f 1 2 1; | p cut 2 1;u 1; | Done | v max 2;
 one entry too many | p max 2 2;n 1 s;n 2 t;a 1 2 1;a 1 2 1; | s 2;f 1 2 1;f 1 2 1;f 1 2 1; | p cut 2 1;u 1; | Refused | x solution 4 0 ArcTwice;
@@ -40,7 +40,7 @@ two entries in order, and one too many | p max 3 4;n 1 s;n 3 t;a 1 2 1;a 2 3 4;a
 entries out of order, and one too many | p max 3 4;n 1 s;n 3 t;a 1 2 1;a 2 3 4;a 1 2 3;a 2 3 0; | s 4;f 2 3 4;f 2 3 0;f 2 3 0;f 1 4 0; | p cut 3 1;u 1; | Refused | x solution 4 0 ArcTwice;
 an entry of no arc before one too many | p max 3 4;n 1 s;n 3 t;a 1 2 1;a 2 3 4;a 1 2 3;a 2 3 0; | f 1 3 0;f 1 2 0;f 1 2 0;f 1 2 0;s 4; | p cut 3 1;u 1; | Refused | x solution 1 0 UnknownArc;";
 
-/// Flows that are claimed to be of least cost, each with potentials.
+/// Claimed flows of least cost, each with potentials.
 static COSTS_BY_POTENTIALS: &str = "\
 a zero on the dear arc, and all on the cheap one | p min 2 2;n 1 2;n 2 -2;a 1 2 0 1 5;a 1 2 0 2 3; | s 6;f 1 2 0;f 1 2 2; | p pot 2 1;y 1 4; | Done | v min 6;
 the same entries exchanged | p min 2 2;n 1 2;n 2 -2;a 1 2 0 1 5;a 1 2 0 2 3; | s 6;f 1 2 2;f 1 2 0; | p pot 2 1;y 1 4; | Refused | x arc 1 AboveCap;
@@ -55,7 +55,7 @@ a cost that leaves the range and comes back | p min 2 2;a 1 1 0 9000000000000000
 a supply that isn't sent | p min 4 5;n 1 4;n 4 -4;a 1 2 0 4 2;a 1 3 0 2 2;a 2 3 0 2 1;a 2 4 0 3 3;a 3 4 0 5 1; | s 0; | p pot 4 3;y 1 4;y 2 2;y 3 1; | Refused | x node 1 Balance;
 potentials of more nodes | p min 4 5;n 1 4;n 4 -4;a 1 2 0 4 2;a 1 3 0 2 2;a 2 3 0 2 1;a 2 4 0 3 3;a 3 4 0 5 1; | s 14;f 1 2 2;f 1 3 2;f 2 3 2;f 3 4 4; | p pot 5 0; | Refused | x certificate 0 0 NodesDiffer;";
 
-/// Sets that are claimed to be violated. Nothing is claimed beside them.
+/// Sets, each with an empty claim.
 static VIOLATED_SETS: &str = "\
 a supply that can't leave | p min 2 1;n 1 1;a 1 2 0 5 1; |  | p cut 2 2;u 1;u 2; | Done | v infeasible;
 a supply that can leave | p min 4 5;n 1 4;n 4 -4;a 1 2 0 4 2;a 1 3 0 2 2;a 2 3 0 2 1;a 2 4 0 3 3;a 3 4 0 5 1; |  | p cut 4 1;u 1; | Refused | x certificate 0 0 NotViolated;

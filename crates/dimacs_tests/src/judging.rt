@@ -18,7 +18,7 @@ use std::alloc::Global;
 use std::process::Abort;
 use std::test::Fail;
 
-/// What a judge is given.
+/// The texts of a judge.
 #[derive(Clone, Copy)]
 pub struct Texts<'a> {
     pub kind: JudgeKind,
@@ -39,7 +39,7 @@ pub fn judge(
     run_judge(alloc, kind, instance, claim, certificate, sink)
 }
 
-/// Judges texts that come in pieces of these sizes.
+/// Judges texts in pieces of these sizes.
 pub fn judge_texts(
     alloc: Global,
     texts: Texts<'_>,
@@ -56,7 +56,7 @@ pub fn judge_texts(
     )
 }
 
-/// Whether texts are judged so that come in pieces of these sizes, as the verdict goes.
+/// Tests a judge's status and output, with texts and output in pieces of these sizes.
 fn judges_pieces(
     rt: &impl Abort,
     alloc: Global,
@@ -72,7 +72,7 @@ fn judges_pieces(
     holds(rt, name, sink.bytes() == output.as_bytes());
 }
 
-/// Whether texts are judged so in pieces of each size.
+/// The same in pieces of each size.
 pub fn judges(
     rt: &impl Abort,
     alloc: Global,
@@ -88,12 +88,11 @@ pub fn judges(
     Ok(())
 }
 
-/// What comes of a text.
 fn source(text: &str) -> MemorySource<'_> {
     MemorySource::new(text.as_bytes())
 }
 
-/// Whether a claim about a maximum flow is judged alike with an index of the arcs and without one.
+/// Tests that a maximum flow is judged alike with an index of the arcs and without.
 fn judges_max_alike(
     rt: &impl Abort,
     alloc: Global,
@@ -123,7 +122,7 @@ fn max_alike(
     Ok(())
 }
 
-/// Whether a claim about a flow of least cost is judged alike with an index of the arcs and without one.
+/// The same for a flow of least cost.
 fn judges_min_alike(
     rt: &impl Abort,
     alloc: Global,
@@ -153,7 +152,7 @@ fn min_alike(
     Ok(())
 }
 
-/// Whether a violated set is judged alike with an index of the arcs and without one.
+/// The same for a set.
 fn judges_infeasible_alike(
     rt: &impl Abort,
     alloc: Global,
@@ -181,7 +180,7 @@ fn sets_alike(
     Ok(())
 }
 
-/// Whether labels are judged alike with an index of the arcs and without one.
+/// The same for labels.
 fn judges_paths_alike(
     rt: &impl Abort,
     alloc: Global,
@@ -200,7 +199,7 @@ fn judges_paths_alike(
     Ok(())
 }
 
-/// Whether texts are judged alike by both networks, unless one has a fault.
+/// Tests that texts are judged alike over both networks, unless one has a fault.
 fn judges_alike(rt: &impl Abort, alloc: Global, name: &str, texts: Texts<'_>) -> Result<(), Fail> {
     match texts.kind {
         JudgeKind::Max => judges_max_alike(rt, alloc, name, texts),
@@ -210,8 +209,7 @@ fn judges_alike(rt: &impl Abort, alloc: Global, name: &str, texts: Texts<'_>) ->
     }
 }
 
-/// Whether the case in a row is judged as the row expects, by both networks: its name, the instance, the claim, the
-/// certificate, how the run ends and what it puts.
+/// Tests a row, over both networks: name, instance, claim, certificate, status, output.
 fn judges_case(rt: &impl Abort, alloc: Global, kind: JudgeKind, line: &str) -> Result<(), Fail> {
     let case = case(alloc, line)?;
     let (name, rest) = cell(rt, &case);
@@ -229,7 +227,7 @@ fn judges_case(rt: &impl Abort, alloc: Global, kind: JudgeKind, line: &str) -> R
     judges(rt, alloc, name, texts, status(rt, ended), output)
 }
 
-/// Whether each case of a table is judged as its row expects.
+/// Tests the rows of a table.
 pub fn judges_each(
     rt: &impl Abort,
     alloc: Global,

@@ -1,6 +1,6 @@
-//! The tests of runs, of what is decided, and of inner calls, a file for each subject. They test what no contract
-//! states: that a call succeeds while memory lasts, what a device does in mid-stream, and that the contracts mean what
-//! was meant, by answers worked out by hand.
+//! Tests of runs, decisions and inner calls, a file for each subject. They test what no contract states: that a call
+//! succeeds while memory lasts, what follows if a source or a sink fails in mid-stream, and, by answers worked out by
+//! hand, that the contracts mean what was meant.
 #![tactic(auto)]
 
 #[cfg(test)]

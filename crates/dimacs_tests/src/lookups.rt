@@ -1,4 +1,4 @@
-//! Distances that are looked up, with an index and without.
+//! Look-ups of distances, with an index and without.
 
 use crate::checks::same_at;
 use dimacs_claims::{Distances, read_distances};

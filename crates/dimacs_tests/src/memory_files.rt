@@ -1,4 +1,4 @@
-//! Files in memory, which record what they hold and what was done with them.
+//! Files in memory, and what was done with them.
 
 ghost use Rattle.std.specs.Prelude.{◌≡◌, map, IfNone, IfSome, None, Some};
 ghost use Rattle.dimacs_tests.specs.MemoryFiles.{text_of};
@@ -12,13 +12,13 @@ pub enum Done {
     NotOpened(String, RunError),
     Created(String),
     NotCreated(String, RunError),
-    /// It was closed after it was read, with so many faults.
+    /// Closed after it was read, with so many faults.
     Read(String, u64),
-    /// It was closed with this text, after so many faults.
+    /// Closed with this text, after so many faults.
     Wrote(String, Vec<u8>, u64),
 }
 
-/// The text of the file of this name, among files with their names.
+/// The text of the file of this name.
 pub fn held<'a>(files: &[(&'a str, &'a str)], name: &str) -> Option<&'a str>
     ensures some { IfSome result (λ text. text_of (map (λ f. (f.0.now, f.1.now)) files.now) name.now ≡ Some text.now) }
     ensures none { IfNone result (text_of (map (λ f. (f.0.now, f.1.now)) files.now) name.now ≡ None) }

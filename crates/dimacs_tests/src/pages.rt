@@ -1,9 +1,9 @@
-//! What is written through a page: nothing before it is full, and nothing after a fault.
+//! A page puts nothing before it is full, and nothing after a fault.
 
 use crate::checks::same;
 use dimacs_lines::{DeviceFault, FlakySink, OutputBuffer};
 
-/// Writes so many lines of eight bytes, of which a page takes 2,048, and answers what was put before the end.
+/// Writes lines of eight bytes; a page takes 2,048. Returns how many bytes were put before the end, and the result.
 fn write_lines(sink: &mut FlakySink<'_>, count: usize) -> (usize, Result<(), DeviceFault>) {
     let mut page = OutputBuffer::new();
     for _ in 0..count {
@@ -13,7 +13,7 @@ fn write_lines(sink: &mut FlakySink<'_>, count: usize) -> (usize, Result<(), Dev
     (put, page.finish(sink))
 }
 
-/// How many lines are written, the put that fails, what is put before the end, the answer and what is put then.
+/// Lines, the put that fails, bytes before the end, result, bytes at the end.
 static PUTS: [(usize, u64, usize, Result<(), DeviceFault>, usize); 5] = [
     (0, 1, 0, Ok(()), 0),
     (2_000, 9, 0, Ok(()), 16_000),

@@ -1,4 +1,4 @@
-//! Queries that are answered by labels, where these are judged to be distances, all of them or those up to a radius.
+//! Queries that are answered by judged labels, of all distances or of those up to a radius.
 
 use crate::judging::judges_each;
 use dimacs_runs::JudgeKind;

@@ -1,8 +1,8 @@
-//! How texts come and go: whole, and in small pieces.
+//! Texts whole and in small pieces.
 
 use std::alloc::{AllocError, Global};
 
-/// The sizes of the pieces in which each text comes in turn, the last for all of it at once.
+/// The sizes of pieces that each text is read in, in turn, the last for the whole.
 pub static SIZES: [usize; 4] = [1, 2, 7, usize::MAX];
 
 /// Pieces of this size, enough for so many bytes.

@@ -1,5 +1,5 @@
-//! Records that are taken once more where there was no memory for them. `tests/refusals.py` runs these tests with each growth
-//! refused in turn; by themselves they meet no refusal.
+//! Records that a reading takes again after memory ran out. `tests/refusals.py` runs these tests with each allocation
+//! failing in turn; by themselves they meet no failure.
 
 ghost use Rattle.std.specs.Prelude.{◌≡◌, None};
 
@@ -29,7 +29,7 @@ impl<'a> Comparing<'a> {
         }
     }
 
-    /// Whether the text was put, and nothing else.
+    /// Whether exactly the text was put.
     fn was_put(&self) -> bool {
         self.rest.is_empty() && !self.differs
     }
@@ -64,7 +64,7 @@ fn take_line<R: Reading>(
     }
 }
 
-/// Gives a reading a line, and once more where there was no memory for it.
+/// Gives a reading a line, and again if memory ran out.
 fn take_at_last<R: Reading>(
     rt: &impl Abort,
     reading: &mut R,
@@ -82,7 +82,7 @@ fn take_at_last<R: Reading>(
     same_at(rt, line, number, answer, Ok(()));
 }
 
-/// Gives a reading the lines of a text, each once more where there was no memory for it.
+/// Gives a reading the lines of a text.
 fn take_lines<R: Reading>(rt: &impl Abort, reading: &mut R, kind: TextKind, text: &str)
     requires { R.kind reading.old ≡ kind }
 {
@@ -91,7 +91,7 @@ fn take_lines<R: Reading>(rt: &impl Abort, reading: &mut R, kind: TextKind, text
     }
 }
 
-/// The value of a reading that is given the lines of a text; none where there was no memory at its end.
+/// The value of a reading of a text; none if memory ran out at its end.
 fn read_lines<R: Reading>(
     rt: &impl Abort,
     mut reading: R,
@@ -110,7 +110,7 @@ fn read_lines<R: Reading>(
     }
 }
 
-/// Whether this text is written of a value, where there is one.
+/// Tests that a value, if there is one, is written as this text.
 fn is_whole<T: Text>(rt: &impl Abort, value: Option<T>, text: &str) -> Result<(), Fail> {
     if let Some(value) = value {
         let mut sink = Comparing::new(text);
@@ -250,7 +250,7 @@ d 1500 1
 d 70000 1
 ";
 
-/// A solution whose entries were put in a list.
+/// The solution with these entries.
 fn solution(placed: Placed<Vec<Entry>>) -> Solution {
     Solution {
         value: placed.value,

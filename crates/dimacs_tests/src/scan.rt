@@ -3,7 +3,7 @@
 use crate::checks::same;
 use dimacs_lines::{Fields, NumberFault, Scan, Token};
 
-/// Each field of a line, with the number and the wide number that it spells.
+/// The fields of a line, each with its start and as a 64-bit and a 128-bit number.
 static FIELDS: [(
     &str,
     usize,
@@ -29,7 +29,7 @@ static FIELDS: [(
 
 const LINE: &[u8] = b" a\t -12345678 123456789 9223372036854775808\r+7";
 
-/// The description of a token: its text, where it starts, and its numbers.
+/// A token's text, its start, and its numbers.
 type TokenParts<'a> = (
     &'a [u8],
     usize,

@@ -1,4 +1,4 @@
-//! Claims that are made. What was made is judged again.
+//! Instances that are solved. The answers are judged again.
 
 use crate::arguments::status;
 use crate::checks::{holds, same};
@@ -21,10 +21,10 @@ pub const MIN: &str =
 /// An arc, and a cycle of weight 0 beside it.
 pub const CYCLE: &str = "p sp 4 3\na 1 2 5\na 3 4 0\na 4 3 0\n";
 
-/// The distances from node 1 are asked for.
+/// Asks for the distances from node 1.
 pub const SOURCE: &str = "p aux sp ss 1\ns 1\n";
 
-/// What a producer is input.
+/// What a producer reads.
 #[derive(Clone, Copy)]
 pub struct SolveInput<'a> {
     pub job: SolveJob,
@@ -68,7 +68,7 @@ pub fn solve_from(
     )
 }
 
-/// Solves texts that come in pieces of these sizes.
+/// Solves texts in pieces of these sizes.
 fn solve(
     alloc: Global,
     input: SolveInput<'_>,
@@ -84,7 +84,7 @@ fn solve(
     )
 }
 
-/// Whether a run ends so and puts these texts, in pieces of each size.
+/// Tests a run's status and output, in pieces of each size.
 fn puts(
     rt: &impl Abort,
     alloc: Global,
@@ -122,8 +122,7 @@ fn puts_pieces(
     holds(rt, name, sinks.report.bytes() == report.as_bytes());
 }
 
-/// Runs in each line: what it shows, the producer and its limit, the instance, the queries, how the run ends, the claim,
-/// the certificate and the report.
+/// Runs: name, producer and its limit, instance, queries, status, claim, certificate, report.
 static RUNS: &str = "\
 one source | paths | p sp 4 3;a 1 2 5;a 3 4 0;a 4 3 0; | p aux sp ss 1;s 1; | Done |  | p dist 4 1;t 1 1;d 2 5 1; | v sp ss 1;
 pairs of one source | paths | p sp 4 3;a 1 2 5;a 3 4 0;a 4 3 0; | p aux sp p2p 2;q 1 2;q 1 4; | Done |  | p dist 4 1;t 1 1;d 2 5 1; | v 1 2 5;v 1 4 unreachable;
@@ -170,7 +169,7 @@ the least product past 64 bits | paths | p sp 3 2;a 1 2 6148914691236517206;a 2 
 the greatest weights on the longest walk | paths | p sp 5 4;a 4 5 9223372036854775807;a 3 4 9223372036854775807;a 2 3 9223372036854775807;a 1 2 9223372036854775807; | p aux sp ss 1;s 1; | Done |  | p dist 5 1;t 1 4;d 2 9223372036854775807 1;d 3 18446744073709551614 2;d 4 27670116110564327421 3;d 5 36893488147419103228 4; | v sp ss 1;
 the greatest IDs | paths | p sp 134217728 2;a 134217728 1 5;a 1 134217727 0; | p aux sp ss 1;s 134217728; | Done |  | p dist 134217728 1;t 134217728 2;d 1 5 134217728;d 134217727 5 1; | v sp ss 1;";
 
-/// The producer that a case names, with its limit.
+/// The producer of this name, with its limit.
 fn producer(rt: &impl Abort, named: &str) -> SolveJob {
     let Some((word, limit)) = named.split_once(' ') else {
         same(rt, "a producer", named, "paths");
@@ -184,7 +183,7 @@ fn producer(rt: &impl Abort, named: &str) -> SolveJob {
     SolveJob::Min(limit)
 }
 
-/// Whether the run of a row ends as the row expects, and writes these texts.
+/// Tests a row of `RUNS`.
 fn ends(rt: &impl Abort, alloc: Global, line: &str) -> Result<(), Fail> {
     let case = case(alloc, line)?;
     let (name, rest) = cell(rt, &case);
@@ -211,7 +210,7 @@ fn runs_end_and_put_texts(rt: HostRuntime) -> Result<(), Fail> {
     Ok(())
 }
 
-/// Whether what is made is judged with this verdict, which is also reported, in pieces of each size.
+/// Tests that the answer is judged with the verdict that is also reported, in pieces of each size.
 fn is_made(
     rt: &impl Abort,
     alloc: Global,
@@ -262,7 +261,7 @@ fn is_made_in_pieces(
     }
 }
 
-/// Whether a claim that was made, or queries, are judged with this verdict by what was made to show it.
+/// Tests that a claim or queries are judged with this verdict by the certificate.
 fn is_judged(
     rt: &impl Abort,
     alloc: Global,
@@ -286,8 +285,8 @@ fn is_judged(
     holds(rt, instance, verdict.bytes() == report.as_bytes());
 }
 
-/// What is made, in each line: the judge, the producer, the instance, the queries and the verdict. In the seventh case the
-/// first choice takes the only partner of the second; nodes of one distance may stand in any order.
+/// Answers: judge, producer, instance, queries, verdict. In the seventh case the first choice takes the only partner of
+/// the second; nodes of one distance may stand in any order.
 static MADE: &str = "\
 max | max 7 | p max 4 5;n 1 s;n 4 t;a 1 2 4;a 1 3 2;a 2 3 2;a 2 4 3;a 3 4 5; |  | v max 6;
 max | max 10 | p max 4 5;n 1 s;n 4 t;a 1 2 4;a 1 3 2;a 2 3 2;a 2 4 3;a 3 4 5; |  | v max 6;
@@ -346,7 +345,7 @@ infeasible | min 1 | p min 2 1;n 1 3;n 2 -1;a 1 2 0 5 1; |  | v infeasible;
 infeasible | min 1 | p min 3 2;n 1 1;n 2 -1;n 3 -2;a 1 2 0 5 1;a 2 3 0 5 1; |  | v infeasible;
 infeasible | min 1 | p min 4 3;n 1 2;n 2 -2;n 3 5;n 4 -5;a 1 2 0 9 1;a 3 4 0 4 1;a 2 3 0 9 1; |  | v infeasible;";
 
-/// The judge that a case names.
+/// The judge of this name.
 fn judge_named(rt: &impl Abort, word: &str) -> JudgeKind {
     match word {
         "max" => JudgeKind::Max,
@@ -359,7 +358,7 @@ fn judge_named(rt: &impl Abort, word: &str) -> JudgeKind {
     }
 }
 
-/// Whether what a case makes is judged as the case expects.
+/// Tests a row of `MADE`.
 fn makes(rt: &impl Abort, alloc: Global, line: &str) -> Result<(), Fail> {
     let case = case(alloc, line)?;
     let (judge, rest) = cell(rt, &case);

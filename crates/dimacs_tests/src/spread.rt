@@ -1,4 +1,4 @@
-//! Whether the sums between any two nodes are dealt out to their arcs.
+//! Sums between two nodes, dealt out to parallel arcs.
 
 use crate::checks::same;
 use crate::tables::{case, cell, rows};
@@ -11,8 +11,7 @@ use std::alloc::Global;
 use std::process::Abort;
 use std::test::Fail;
 
-/// A solution in each line: what it shows, the lines of the instance, those of the solution, and the amounts of the arcs in
-/// the order of the instance, or the error.
+/// Solutions: name, instance, solution, and the flow in the order of the arcs, or the error.
 static OF_MAX: &str = "\
 one sum for three arcs | p max 2 3; n 1 s; n 2 t; a 1 2 2; a 1 2 2; a 1 2 2 | s 5; f 1 2 5 | [2, 2, 1]
 entries in another order | p max 2 2; n 1 s; n 2 t; a 1 2 3; a 1 2 5 | s 8; f 1 2 5; f 1 2 3 | [3, 5]
@@ -51,7 +50,6 @@ fn solution(alloc: Global, lines: &str) -> Result<Solution, Fail> {
     Ok(solution)
 }
 
-/// What is answered, in words.
 fn describe(alloc: Global, spread: Result<Flow, JudgeError>) -> Result<String, Fail> {
     match spread {
         Ok(flow) => Ok(format!(in alloc; "{:?}", flow.amounts())?),
@@ -59,7 +57,7 @@ fn describe(alloc: Global, spread: Result<Flow, JudgeError>) -> Result<String, F
     }
 }
 
-/// Whether the solution of a row is spread as the row expects, over a network with an index and over one without.
+/// Tests a row of `OF_MAX`, over a network with an index and one without.
 fn spreads_max(rt: &impl Abort, alloc: Global, line: &str) -> Result<(), Fail> {
     let (name, rest) = cell(rt, line);
     let (lines, rest) = cell(rt, rest);
@@ -75,7 +73,7 @@ fn spreads_max(rt: &impl Abort, alloc: Global, line: &str) -> Result<(), Fail> {
     Ok(())
 }
 
-/// The same of a minimum cost flow.
+/// The same for `OF_MIN`.
 fn spreads_min(rt: &impl Abort, alloc: Global, line: &str) -> Result<(), Fail> {
     let (name, rest) = cell(rt, line);
     let (lines, rest) = cell(rt, rest);

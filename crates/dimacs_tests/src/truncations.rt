@@ -22,7 +22,7 @@ const MIN: Texts<'static> = Texts {
     certificate: "p pot 4 3\ny 1 4\ny 2 2\ny 3 1\n",
 };
 
-/// The labels of two nodes that are each other's predecessor.
+/// Two of the labels are each other's predecessor.
 const PATHS: Texts<'static> = Texts {
     kind: JudgeKind::Paths,
     instance: "p sp 4 3\na 1 2 5\na 3 4 0\na 4 3 0\n",
@@ -30,7 +30,7 @@ const PATHS: Texts<'static> = Texts {
     certificate: "p dist 4 1\nt 1 3\nd 2 5 1\nd 3 0 4\nd 4 0 3\n",
 };
 
-/// The instance up to a byte, how the run ends and what it puts.
+/// The instance up to a byte, the status and the output.
 static CUT_INSTANCES: [(usize, Status, &str); 7] = [
     (61, Status::Done, "v max 6\n"),
     (60, Status::Refused, "x instance 8 0 FieldCount\n"),
@@ -75,7 +75,7 @@ fn texts_cut_off_are_refused_at_their_end(rt: HostRuntime) -> Result<(), Fail> {
     Ok(())
 }
 
-/// Whether texts are judged alike in one piece and byte by byte.
+/// Tests that texts are judged alike in one piece and byte by byte.
 fn alike(rt: &impl Abort, alloc: Global, texts: Texts<'_>) -> Result<(), Fail> {
     let ones = Vec::from_elem(alloc, 1, 1000)?;
     let mut whole = FlakySink::new(alloc, &[], &[]);
@@ -91,7 +91,7 @@ fn alike(rt: &impl Abort, alloc: Global, texts: Texts<'_>) -> Result<(), Fail> {
     Ok(())
 }
 
-/// Whether texts are judged alike in any pieces, each of the three cut off at every byte.
+/// Tests the same with each of the texts cut off at every byte.
 fn alike_cut_off(rt: &impl Abort, alloc: Global, texts: Texts<'_>) -> Result<(), Fail> {
     for end in 0..texts.instance.len() {
         let instance = texts.instance.get(..end).unwrap_or_default();

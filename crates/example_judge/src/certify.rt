@@ -14,8 +14,8 @@ use dimacs_lines::Sink;
 use dimacs_network::Network;
 use std::alloc::Global;
 
-/// Whether the solution's flow is maximum. Writes a minimum cut, or a solution with a better flow. The answer is yes only
-/// if the flow has the claimed value, and no feasible flow has a greater one.
+/// Whether the solution's flow is maximum. Writes a minimum cut, or a solution with a better flow. The answer is yes
+/// only if the flow has the claimed value, and no feasible flow has a greater one.
 pub fn certify<N: Network, K: Sink>(
     alloc: Global,
     instance: &MaxInstance<N>,

@@ -1,6 +1,6 @@
 //! Texts of cuts.
 
-/// A case in each line: its name, a text, what is asked of it, and what is wanted.
+/// Cases: name, text, what is asked, what is wanted.
 pub static CASES: &str = "\
 already canonical | p cut 4 2;u 1;u 3; | becomes | p cut 4 2;u 1;u 3;
 the nodes by ID | p cut 4 2;u 3;u 1; | becomes | p cut 4 2;u 1;u 3;

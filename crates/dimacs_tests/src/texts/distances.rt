@@ -1,6 +1,6 @@
 //! Texts of distances.
 
-/// A case in each line: its name, a text, what is asked of it, and what is wanted.
+/// Cases: name, text, what is asked, what is wanted.
 pub static CASES: &str = "\
 two blocks | p distances 4 2;t 1 2;d 2 5;d 3 -7;t 4 0; | becomes | p distances 4 2;t 1 2;d 2 5;d 3 -7;t 4 0;
 no block | p distances 0 0 | becomes | p distances 0 0;

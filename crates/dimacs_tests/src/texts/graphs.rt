@@ -1,6 +1,6 @@
 //! Texts of graphs.
 
-/// A case in each line: its name, a text, what is asked of it, and what is wanted.
+/// Cases: name, text, what is asked, what is wanted.
 pub static CASES: &str = "\
 comment, blanks, CR, empty line, sign, zeros, no last line end | c x;  p  sp 2 1\r;;a 1 2 +007 | becomes | p sp 2 1;a 1 2 7;
 the greatest weight | p sp 2 1;a 1 2 9223372036854775807; | becomes | p sp 2 1;a 1 2 9223372036854775807;

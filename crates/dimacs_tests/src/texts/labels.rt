@@ -1,6 +1,6 @@
 //! Texts of labels.
 
-/// A case in each line: its name, a text, what is asked of it, and what is wanted.
+/// Cases: name, text, what is asked, what is wanted.
 pub static CASES: &str = "\
 two blocks | p dist 4 2;t 1 2;d 2 5 1;d 3 -7 2;t 4 0; | becomes | p dist 4 2;t 1 2;d 2 5 1;d 3 -7 2;t 4 0;
 no block | p dist 0 0 | becomes | p dist 0 0;

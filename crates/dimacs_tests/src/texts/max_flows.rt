@@ -1,6 +1,6 @@
 //! Texts of maximum flow.
 
-/// A case in each line: its name, a text, what is asked of it, and what is wanted.
+/// Cases: name, text, what is asked, what is wanted.
 pub static CASES: &str = "\
 already canonical | p max 4 5;n 1 s;n 4 t;a 1 2 4;a 1 3 2;a 2 3 2;a 2 4 3;a 3 4 5; | becomes | p max 4 5;n 1 s;n 4 t;a 1 2 4;a 1 3 2;a 2 3 2;a 2 4 3;a 3 4 5;
 node lines stand by ID, the sink's line first | p max 2 1;n 2 t;n 1 s;a 1 2 1; | becomes | p max 2 1;n 1 s;n 2 t;a 1 2 1;

@@ -1,6 +1,6 @@
 //! Texts of minimum cost flow.
 
-/// A case in each line: its name, a text, what is asked of it, and what is wanted.
+/// Cases: name, text, what is asked, what is wanted.
 pub static CASES: &str = "\
 the same ends again | p min 2 2;a 1 2 0 1 0;a 1 2 0 2 5; | becomes | p min 2 2;a 1 2 0 1 0;a 1 2 0 2 5;
 already canonical | p min 4 5;n 1 4;n 4 -4;a 1 2 0 4 2;a 1 3 0 2 2;a 2 3 0 2 1;a 2 4 0 3 3;a 3 4 0 5 1; | becomes | p min 4 5;n 1 4;n 4 -4;a 1 2 0 4 2;a 1 3 0 2 2;a 2 3 0 2 1;a 2 4 0 3 3;a 3 4 0 5 1;

@@ -1,6 +1,6 @@
 //! Texts of potentials.
 
-/// A case in each line: its name, a text, what is asked of it, and what is wanted.
+/// Cases: name, text, what is asked, what is wanted.
 pub static CASES: &str = "\
 already canonical | p pot 4 2;y 1 4;y 3 -2; | becomes | p pot 4 2;y 1 4;y 3 -2;
 the nodes by ID | p pot 4 2;y 3 -2;y 1 4; | becomes | p pot 4 2;y 1 4;y 3 -2;

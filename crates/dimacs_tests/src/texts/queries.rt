@@ -1,6 +1,6 @@
 //! Texts of queries.
 
-/// A case in each line: its name, a text, what is asked of it, and what is wanted.
+/// Cases: name, text, what is asked, what is wanted.
 pub static CASES: &str = "\
 a source | p aux sp ss 1;s 1; | becomes | p aux sp ss 1;s 1;
 a source that is repeated | p aux sp ss 2;s 1;s 1 | becomes | p aux sp ss 2;s 1;s 1;

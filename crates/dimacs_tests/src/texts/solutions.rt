@@ -1,6 +1,6 @@
 //! Texts of solutions.
 
-/// A case in each line: its name, a text, what is asked of it, and what is wanted.
+/// Cases: name, text, what is asked, what is wanted.
 pub static CASES: &str = "\
 already canonical | s 6;f 1 2 4;f 1 3 2;f 2 3 1;f 2 4 3;f 3 4 3; | becomes | s 6;f 1 2 4;f 1 3 2;f 2 3 1;f 2 4 3;f 3 4 3;
 a value alone | s 0 | becomes | s 0;
