@@ -32,13 +32,13 @@ use Rattle.dimacs_decide.specs.CertifiedMin.{CertifiesMin}
 use Rattle.dimacs_decide.specs.CertifiedPaths.{AreAllDistances, AreLabelsOfAll, CertifiesPaths}
 use Rattle.dimacs_runs.specs.declared.outcome.Status.{Status}
 use Rattle.dimacs_runs.specs.declared.outcome.Status.TheVariants.{Done, Refused, GaveUp}
-use Rattle.dimacs_runs.specs.declared.made.Made.TheVariants as made
+use Rattle.dimacs_runs.specs.declared.run_outcome.OutputText.TheVariants as output_texts
 use Rattle.dimacs_runs.specs.declared.report.Report.TheVariants as reports
 use Rattle.dimacs_runs.specs.Certified.{CertificateOr, CertifiesDistances, CertifiesInfeasible, CertifiesLeast, CertifiesMaximum, SaysCheaper, SaysCut, SaysFeasible, SaysGreater, SaysPotentials, SaysSet, uncertified}
 use Rattle.dimacs_runs.specs.Outputs.{WritesAlike, report_of}
 use Rattle.dimacs_runs.specs.Refusals.{refusal_line}
 use Rattle.dimacs_runs.specs.Verdicts.{distances_line, failure_line}
-use Rattle.dimacs_runs.specs.inside.Outcomes.{MayCertify, certified, judge_stop, settled}
+use Rattle.dimacs_runs.specs.inside.Outcomes.{MayCertify, with_text, judge_stop, outcome_of}
 
 -- ---- the claim
 -- if a text of one kind exists, no test of the claim fails, and no text of the other kind exists
@@ -77,7 +77,7 @@ module _ {shows better : List ℕ → Type 0} {rows : List Row} {verdict refusal
 
 -- the claim was refused, or memory ran out
 error_writes : {shows better : List ℕ → Type 0} {rows : List Row} {X : Type 0} (apart : AreApart shows better rows) (verdict refusal : List ℕ) (holds : X → Type 0) (error : JudgeError) → Refutes holds rows error
-    → MayCertify (CertificateOr shows verdict rows better refusal) (settled (Err (judge_stop error)))
+    → MayCertify (CertificateOr shows verdict rows better refusal) (outcome_of (Err (judge_stop error)))
 error_writes apart verdict refusal holds (judge_errors.Refused place reason) refutes = failing_writes apart place reason refutes.0
 error_writes apart verdict refusal holds judge_errors.Memory refutes = tt
 
@@ -90,16 +90,16 @@ module _ (i : MaxValue) (law : IsMax i) (s : SolutionValue) where
   }
 
   -- a cut shows the claim
-  pub cut_certifies : (cut : CutValue) (value : ℤ) → value ≡ s.value → ShowsMaximum i s cut → MayCertify (CertifiesMaximum i s) (Ok (certified (made.Cut cut) (reports.Yes (verdicts.Max value))))
+  pub cut_certifies : (cut : CutValue) (value : ℤ) → value ≡ s.value → ShowsMaximum i s cut → MayCertify (CertifiesMaximum i s) (Ok (with_text (output_texts.Cut cut) (reports.Yes (verdicts.Max value))))
   cut_certifies cut value is shown = rw is (yes_writes cut_apart (canonical_cut cut) (cut, shown, refl))
 
   -- a solution is better
   pub greater_certifies : (solution : Solution) (place : Where) → place ≡ places.Solution s.value_line 2 → SaysGreater i s (canonical_solution (claimed solution))
-      → MayCertify (CertifiesMaximum i s) (Ok (certified (made.Solution solution) (reports.No place NotMaximum)))
+      → MayCertify (CertifiesMaximum i s) (Ok (with_text (output_texts.Solution solution) (reports.No place NotMaximum)))
   greater_certifies solution place is says = rw is (better_writes cut_apart (canonical_solution (claimed solution)) says)
 
   -- a test refused the claim, or memory ran out
-  pub maximum_error : (error : JudgeError) → Refutes (CertifiesMax i s) (max_claim_rows i s) error → MayCertify (CertifiesMaximum i s) (settled (Err (judge_stop error)))
+  pub maximum_error : (error : JudgeError) → Refutes (CertifiesMax i s) (max_claim_rows i s) error → MayCertify (CertifiesMaximum i s) (outcome_of (Err (judge_stop error)))
   maximum_error error refutes = error_writes cut_apart _ _ (CertifiesMax i s) error refutes
 
 module _ (i : MinValue) (s : SolutionValue) where
@@ -111,20 +111,20 @@ module _ (i : MinValue) (s : SolutionValue) where
   }
 
   -- potentials show the claim
-  pub potentials_certify : (potentials : PotentialsValue) (cost : ℤ) → cost ≡ s.value → ShowsLeast i s potentials → MayCertify (CertifiesLeast i s) (Ok (certified (made.Potentials potentials) (reports.Yes (verdicts.Min cost))))
+  pub potentials_certify : (potentials : PotentialsValue) (cost : ℤ) → cost ≡ s.value → ShowsLeast i s potentials → MayCertify (CertifiesLeast i s) (Ok (with_text (output_texts.Potentials potentials) (reports.Yes (verdicts.Min cost))))
   potentials_certify potentials cost is shown = rw is (yes_writes potentials_apart (canonical_potentials potentials) (potentials, shown, refl))
 
   -- a solution is better
   pub cheaper_certifies : (solution : Solution) (place : Where) → place ≡ places.Solution s.value_line 2 → SaysCheaper i s (canonical_solution (claimed solution))
-      → MayCertify (CertifiesLeast i s) (Ok (certified (made.Solution solution) (reports.No place NotLeast)))
+      → MayCertify (CertifiesLeast i s) (Ok (with_text (output_texts.Solution solution) (reports.No place NotLeast)))
   cheaper_certifies solution place is says = rw is (better_writes potentials_apart (canonical_solution (claimed solution)) says)
 
   -- a flow is better, but no solution can have its cost
-  pub unsaid_certifies : (place : Where) → place ≡ places.Solution s.value_line 2 → SaysCheaper i s [] → MayCertify (CertifiesLeast i s) (Ok (certified made.Nothing (reports.No place NotLeast)))
-  unsaid_certifies place is says = rw is (better_writes potentials_apart [] says)
+  pub no_solution_certifies : (place : Where) → place ≡ places.Solution s.value_line 2 → SaysCheaper i s [] → MayCertify (CertifiesLeast i s) (Ok (with_text output_texts.Nothing (reports.No place NotLeast)))
+  no_solution_certifies place is says = rw is (better_writes potentials_apart [] says)
 
   -- a test refused the claim, or memory ran out
-  pub least_error : (error : JudgeError) → Refutes (CertifiesMin i s) (min_claim_rows i s) error → MayCertify (CertifiesLeast i s) (settled (Err (judge_stop error)))
+  pub least_error : (error : JudgeError) → Refutes (CertifiesMin i s) (min_claim_rows i s) error → MayCertify (CertifiesLeast i s) (outcome_of (Err (judge_stop error)))
   least_error error refutes = error_writes potentials_apart _ _ (CertifiesMin i s) error refutes
 
 -- a text as a whole
@@ -141,20 +141,20 @@ module _ (i : MinValue) where
   }
 
   -- a set shows it
-  pub set_certifies : (set : CutValue) → ShowsNoFlow i set → MayCertify (CertifiesInfeasible i) (Ok (certified (made.Cut set) (reports.Yes verdicts.Infeasible)))
+  pub set_certifies : (set : CutValue) → ShowsNoFlow i set → MayCertify (CertifiesInfeasible i) (Ok (with_text (output_texts.Cut set) (reports.Yes verdicts.Infeasible)))
   set_certifies set shown = yes_writes set_apart (canonical_cut set) (set, shown, refl)
 
   -- a flow is feasible
-  pub feasible_certifies : (solution : Solution) → SaysFeasible i (canonical_solution (claimed solution)) → MayCertify (CertifiesInfeasible i) (Ok (certified (made.Solution solution) (reports.Fault kinds.Min start Feasible)))
+  pub feasible_certifies : (solution : Solution) → SaysFeasible i (canonical_solution (claimed solution)) → MayCertify (CertifiesInfeasible i) (Ok (with_text (output_texts.Solution solution) (reports.Fault kinds.Min start Feasible)))
   feasible_certifies solution says = better_writes set_apart (canonical_solution (claimed solution)) says
 
   -- a flow is feasible, but no solution can have its cost
-  pub unsaid_feasible_certifies : SaysFeasible i [] → MayCertify (CertifiesInfeasible i) (Ok (certified made.Nothing (reports.Fault kinds.Min start Feasible)))
-  unsaid_feasible_certifies says = better_writes set_apart [] says
+  pub no_solution_feasible : SaysFeasible i [] → MayCertify (CertifiesInfeasible i) (Ok (with_text output_texts.Nothing (reports.Fault kinds.Min start Feasible)))
+  no_solution_feasible says = better_writes set_apart [] says
 
 module _ (g : NetworkValue) (d : LabelsValue) where
   -- the distances are of a graph with another number of nodes
-  pub other_nodes_certify : d.nodes ≢ g.nodes → MayCertify (CertifiesDistances g d) (Ok (certified made.Nothing (reports.Fault kinds.Distances start NodesDiffer)))
+  pub other_nodes_certify : d.nodes ≢ g.nodes → MayCertify (CertifiesDistances g d) (Ok (with_text output_texts.Nothing (reports.Fault kinds.Distances start NodesDiffer)))
   other_nodes_certify other = ((inl (other, refl)), alike)
     where
       alike : (s : Status) (out : List (List ℕ)) → CertifiesDistances g d s out → (s ≡ Refused) × (report_of out ≡ refusal_line (codes "distances") 0 0 NodesDiffer)
@@ -165,7 +165,7 @@ module _ (g : NetworkValue) (d : LabelsValue) where
 
   -- labels show that the distances are right
   pub labels_certify : (labels : LabelsValue) (sources : ℕ) → sources ≡ length d.blocks → d.nodes ≡ g.nodes → AreAllDistances g d.blocks × AreLabelsOfAll g d.blocks labels
-      → MayCertify (CertifiesDistances g d) (Ok (certified (made.Labels labels) (reports.Distances sources)))
+      → MayCertify (CertifiesDistances g d) (Ok (with_text (output_texts.Labels labels) (reports.Distances sources)))
   labels_certify labels sources count same shown = rw count ((same, (canonical_labels labels, (shown.0, (labels, shown.1, refl)), refl)), alike)
     where
       alike : (s : Status) (out : List (List ℕ)) → CertifiesDistances g d s out → (s ≡ Done) × (report_of out ≡ distances_line (length d.blocks))
@@ -175,7 +175,7 @@ module _ (g : NetworkValue) (d : LabelsValue) where
       alike GaveUp out h = absurd h
 
   -- a test fails, or memory ran out
-  pub distances_error : (error : JudgeError) → d.nodes ≡ g.nodes → CertifiesPaths g d.blocks (Err error) → MayCertify (CertifiesDistances g d) (settled (Err (judge_stop error)))
+  pub distances_error : (error : JudgeError) → d.nodes ≡ g.nodes → CertifiesPaths g d.blocks (Err error) → MayCertify (CertifiesDistances g d) (outcome_of (Err (judge_stop error)))
   distances_error (judge_errors.Refused place reason) same refutes = (inr (same, refutes.1, (place, reason, refutes.0.0, refl)), alike)
     where
       alike : (s : Status) (out : List (List ℕ)) → CertifiesDistances g d s out → (s ≡ Refused) × (report_of out ≡ failure_line place reason)

@@ -21,7 +21,7 @@ use Rattle.dimacs_runs.specs.Judgings.{CountsDevices, VerdictOr}
 use Rattle.dimacs_runs.specs.Runs.{TextSays}
 use Rattle.dimacs_runs.specs.inside.Judgings.{ReadsIn}
 use Rattle.dimacs_runs.specs.Runs.{ReportsAlone}
-use Rattle.dimacs_runs.specs.inside.Outcomes.{MayReport, judged, settled}
+use Rattle.dimacs_runs.specs.inside.Outcomes.{MayReport, judge_outcome, outcome_of}
 use Rattle.dimacs_runs.specs.Verdicts.{answer_line, failure_line, sources_line, verdict_lines}
 use Rattle.dimacs_optimality.proofs.Firsts.{none_first}
 
@@ -46,7 +46,7 @@ module _ (holds : Type 0) (rows : List Row) (says : Verdict → Type 0) (lines :
       alone GaveUp other h = absurd h
 
   -- the judge answered
-  pub answer_alone : (answer : Result Verdict JudgeError) → Judges rows holds says answer → MayReport possible (settled (judged answer))
+  pub answer_alone : (answer : Result Verdict JudgeError) → Judges rows holds says answer → MayReport possible (outcome_of (judge_outcome answer))
   answer_alone (Ok verdict) answer = yes_alone verdict answer
   answer_alone (Err (judge_errors.Refused place reason)) answer = no_alone place reason answer
   answer_alone (Err judge_errors.Memory) answer = tt
@@ -68,7 +68,7 @@ paths_said blocks (queries.Pairs pairs) (verdicts.Pairs answers) is = ap (flat_m
 paths_said blocks q verdict is = absurd is
 
 -- a judge's answer is no I/O error
-pub judged_counts : (answer : Result Verdict JudgeError) (p q : ℕ) (old new : List ℕ) → p ∷ [] ≡ q ∷ [] → new ≡ old → CountsDevices (settled (judged answer)) (q ∷ old) (p ∷ new)
-judged_counts (Ok verdict) p q old new first rest = cc
-judged_counts (Err (judge_errors.Refused place reason)) p q old new first rest = cc
-judged_counts (Err judge_errors.Memory) p q old new first rest = cc
+pub judge_outcome_counts : (answer : Result Verdict JudgeError) (p q : ℕ) (old new : List ℕ) → p ∷ [] ≡ q ∷ [] → new ≡ old → CountsDevices (outcome_of (judge_outcome answer)) (q ∷ old) (p ∷ new)
+judge_outcome_counts (Ok verdict) p q old new first rest = cc
+judge_outcome_counts (Err (judge_errors.Refused place reason)) p q old new first rest = cc
+judge_outcome_counts (Err judge_errors.Memory) p q old new first rest = cc

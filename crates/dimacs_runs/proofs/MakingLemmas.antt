@@ -8,17 +8,17 @@ use Rattle.dimacs_runs.specs.declared.failure.Failure.{Failure}
 use Rattle.dimacs_runs.specs.declared.outcome.RunError.{RunError}
 use Rattle.dimacs_runs.specs.declared.outcome.RunError.TheVariants.{Device, Memory}
 use Rattle.dimacs_runs.specs.declared.outcome.Status.{Status}
-use Rattle.dimacs_runs.specs.declared.made.Made.{Made}
-use Rattle.dimacs_runs.specs.declared.made.Made.TheVariants.{Cut, Labels, Nothing, Potentials, Solution}
-use Rattle.dimacs_runs.specs.declared.made.Outcome.{Outcome}
+use Rattle.dimacs_runs.specs.declared.run_outcome.OutputText.{OutputText}
+use Rattle.dimacs_runs.specs.declared.run_outcome.OutputText.TheVariants.{Cut, Labels, Nothing, Potentials, Solution}
+use Rattle.dimacs_runs.specs.declared.run_outcome.Outcome.{Outcome}
 use Rattle.dimacs_runs.specs.Commands.{Contents, Making, MakesOfFiles, files_for, seen_by}
 use Rattle.dimacs_runs.specs.Files.{Created, FileEvent, FilesSeen, NotCreated, NotOpened, Opened, Read, ReadFile, Sees, WrittenFile, closed_written, failures}
 use Rattle.dimacs_runs.specs.Judgings.{CountsDevices, OneMore}
 use Rattle.dimacs_runs.specs.Outputs.{ReportsAll}
 use Rattle.dimacs_runs.specs.inside.Commands.{FailsWith, IsFirstOf, named}
-use Rattle.dimacs_runs.specs.inside.Making.{AnswersFiles, IsWritten, WritesMade, WritesReport}
+use Rattle.dimacs_runs.specs.inside.Making.{AnswersFiles, IsWritten, WritesOutcome, WritesReport}
 use Rattle.dimacs_runs.specs.inside.Reports.{report_lines}
-use Rattle.dimacs_runs.specs.inside.Outcomes.{EndsWriting, IfEnds, faults_by, made_text, nowhere, unclaimed_texts}
+use Rattle.dimacs_runs.specs.inside.Outcomes.{EndsWriting, IfEnds, faults_by, text_bytes, nowhere, unclaimed_texts}
 use Rattle.dimacs_runs.proofs.FileLemmas.{all_after, all_before, closings, one_first, sees_then, sees_two, names_failure, why_nothing}
 use Rattle.dimacs_runs.proofs.PlanLemmas.{is_error, opened_none, reports_all_named, sees_nothing}
 use Rattle.dimacs_runs.proofs.WritingLemmas.{unclaimed_written}
@@ -61,14 +61,14 @@ module _ {opened : List (List ℕ)} {holds : Contents} {makes : Making} {result 
       → CountsDevices answer (map (λ (file : ReadFile). 0) read) (map (λ (file : ReadFile). file.faults) read)
       → ((texts : List (List ℕ)) → map holds opened ≡ map Some texts → IfEnds unclaimed_texts (makes texts) answer)
       → AnswersFiles opened holds makes result a c
-  answers_files {b} {c} read answer failure all_read opens closes is first counts made =
+  answers_files {b} {c} read answer failure all_read opens closes is first counts possible =
       let fails = λ (n : ℕ). names_failure n n (map inl read) answer failure (rw (closings_read read) first) (rw (before_read n read, after_read n read) (counts_with answer n _ _ counts)) in
       rw is record {
         events = map Opened opened ++ map Read read;
         seen = sees_then (map Opened opened) (map Read read) a b c opens closes;
         failure = flat_map-append failures (map Opened opened) (map Read read) ∙ rw (opened_none opened) (ap (flat_map failures) (sym (closings_read read)) ∙ (fails 0).0);
         output = λ faults. (fails faults).1;
-        ends = inr (record { read = read; all_read = all_read; happened = refl; made = λ texts same. may_name texts answer failure (made texts same) });
+        ends = inr (record { read = read; all_read = all_read; happened = refl; possible = λ texts same. may_name texts answer failure (possible texts same) });
       }
     where
       closings_read : (read : List ReadFile) → closings (map inl read) ≡ map Read read
@@ -112,7 +112,7 @@ module _ (opened created : List (List ℕ)) {holds : Contents} {empty : Option (
   }
 
   -- the outcome was written
-  pub makes_of_files : {c : FilesSeen} {new : Written} (p : Outcome) → AnswersFiles opened holds makes (Ok p) a b → WritesMade p created empty result (seen_by b old) (seen_by c new)
+  pub makes_of_files : {c : FilesSeen} {new : Written} (p : Outcome) → AnswersFiles opened holds makes (Ok p) a b → WritesOutcome p created empty result (seen_by b old) (seen_by c new)
       → MakesOfFiles (record { opened = opened; created = created }) holds empty makes result (seen_by a old) (seen_by c new)
   makes_of_files {c} {new} p answers puts = elim answers.ends [
     | inl stops ↦ let never = stops.1 in absurd cc
@@ -130,7 +130,7 @@ module _ (opened created : List (List ℕ)) {holds : Contents} {empty : Option (
             all_read = read.all_read;
             whole = nowhere.whole;
             happened = rw (read.happened, nowhere.happened) refl;
-            made = λ texts same. (_, _, read.made texts same, nowhere.text);
+            possible = λ texts same. (_, _, read.possible texts same, nowhere.text);
           }),
           nowhere.failed,
           nowhere.nothing_written,
@@ -140,7 +140,7 @@ module _ (opened created : List (List ℕ)) {holds : Contents} {empty : Option (
           written = text.written;
           all_read = read.all_read;
           happened = rw (read.happened, text.happened) refl;
-          reports = λ texts same. reports_all_from (IsWritten p) _ result _ _ (λ s o is. (rw (is.0, is.1) (read.made texts same), rw is.1 text.all_written)) text.reports;
+          reports = λ texts same. reports_all_from (IsWritten p) _ result _ _ (λ s o is. (rw (is.0, is.1) (read.possible texts same), rw is.1 text.all_written)) text.reports;
           nothing_written = λ nothing. absurd (text.something_written nothing);
         })
       ];
@@ -148,16 +148,16 @@ module _ (opened created : List (List ℕ)) {holds : Contents} {empty : Option (
   ]
 
 -- ---- whether there is a text
-something_made : (made : Made) (report : List ℕ) (names : List (List ℕ)) → made ≢ Nothing → files_for names (made_text made ∷ report ∷ []) ≡ names
-something_made Nothing report names some = absurd (some refl)
-something_made (Solution solution) report names some = refl
-something_made (Cut cut) report names some = refl
-something_made (Potentials potentials) report names some = refl
-something_made (Labels labels) report names some = refl
+file_for_text : (text : OutputText) (report : List ℕ) (names : List (List ℕ)) → text ≢ Nothing → files_for names (text_bytes text ∷ report ∷ []) ≡ names
+file_for_text Nothing report names has_text = absurd (has_text refl)
+file_for_text (Solution solution) report names has_text = refl
+file_for_text (Cut cut) report names has_text = refl
+file_for_text (Potentials potentials) report names has_text = refl
+file_for_text (Labels labels) report names has_text = refl
 
-nothing_made : (made : Made) (report : List ℕ) (names : List (List ℕ)) → made ≡ Nothing → files_for names (made_text made ∷ report ∷ []) ≡ []
-nothing_made Nothing report names is = refl
-nothing_made other report names is = absurd cc
+no_file_for_nothing : (text : OutputText) (report : List ℕ) (names : List (List ℕ)) → text ≡ Nothing → files_for names (text_bytes text ∷ report ∷ []) ≡ []
+no_file_for_nothing Nothing report names is = refl
+no_file_for_nothing other report names is = absurd cc
 
 no_files : (out : List (List ℕ)) → files_for [] out ≡ []
 no_files [] = refl
@@ -195,7 +195,7 @@ report_alone {result} {old} {new} p ended is ends =
     }
 
 module _ {empty : Option (List ℕ)} {result : Result Status CommandError} {old : Written} {b : FilesSeen} (p : Outcome) where
-  no_text : {new : Written} (names : List (List ℕ)) → files_for names (unclaimed_texts p) ≡ [] → WritesReport p result old new → WritesMade p names empty result (seen_by b old) (seen_by b new)
+  no_text : {new : Written} (names : List (List ℕ)) → files_for names (unclaimed_texts p) ≡ [] → WritesReport p result old new → WritesOutcome p names empty result (seen_by b old) (seen_by b new)
   no_text {new} names none puts = record {
     events = [];
     seen = sees_nothing b;
@@ -205,28 +205,28 @@ module _ {empty : Option (List ℕ)} {result : Result Status CommandError} {old 
   }
 
   -- no file is named
-  pub made_unnamed : {new : Written} → WritesReport p result old new → WritesMade p [] empty result (seen_by b old) (seen_by b new)
-  made_unnamed {new} puts = no_text {new = new} [] (no_files (unclaimed_texts p)) puts
+  pub writes_unnamed : {new : Written} → WritesReport p result old new → WritesOutcome p [] empty result (seen_by b old) (seen_by b new)
+  writes_unnamed {new} puts = no_text {new = new} [] (no_files (unclaimed_texts p)) puts
 
   -- there is no text
-  pub made_nothing : {new : Written} (names : List (List ℕ)) → p.certificate ≡ Nothing → WritesReport p result old new → WritesMade p names empty result (seen_by b old) (seen_by b new)
-  made_nothing {new} names is puts = no_text {new = new} names (nothing_made p.certificate (report_lines p.report) names is) puts
+  pub writes_no_text : {new : Written} (names : List (List ℕ)) → p.certificate ≡ Nothing → WritesReport p result old new → WritesOutcome p names empty result (seen_by b old) (seen_by b new)
+  writes_no_text {new} names is puts = no_text {new = new} names (no_file_for_nothing p.certificate (report_lines p.report) names is) puts
 
   -- the file for the text could not be created
-  pub made_nowhere : {name : List ℕ} {error : CommandError} {c : FilesSeen} → p.certificate ≢ Nothing → IsErrAnd result (λ e. e ≡ error) → FailsWith (NotCreated name) b c error → WritesMade p (name ∷ []) empty result (seen_by b old) (seen_by c old)
-  made_nowhere {name} {error} some is fails = rw (is_error result error is) record {
+  pub writes_nowhere : {name : List ℕ} {error : CommandError} {c : FilesSeen} → p.certificate ≢ Nothing → IsErrAnd result (λ e. e ≡ error) → FailsWith (NotCreated name) b c error → WritesOutcome p (name ∷ []) empty result (seen_by b old) (seen_by c old)
+  writes_nowhere {name} {error} has_text is fails = rw (is_error result error is) record {
     events = NotCreated name fails.cause ∷ [];
     seen = fails.seen;
     failure = append-nil (failures (NotCreated name fails.cause)) ∙ fails.failure;
     faults = sym (fails.output old.faults);
-    ends = inl (record { name = name; error = fails.cause; whole = refl; happened = refl; text = something_made p.certificate (report_lines p.report) (name ∷ []) some; failed = refl; nothing_written = refl });
+    ends = inl (record { name = name; error = fails.cause; whole = refl; happened = refl; text = file_for_text p.certificate (report_lines p.report) (name ∷ []) has_text; failed = refl; nothing_written = refl });
   }
 
   -- the file for the text was created, written and closed
-  pub made_text_in : {new : Written} {name : List ℕ} {c d : FilesSeen} (seen : Written) (ended : Result Status RunError) (failure : Option Failure) → p.certificate ≢ Nothing → Sees (Created name ∷ []) b c → Sees (closed_written name seen ∷ []) c d
+  pub writes_text : {new : Written} {name : List ℕ} {c d : FilesSeen} (seen : Written) (ended : Result Status RunError) (failure : Option Failure) → p.certificate ≢ Nothing → Sees (Created name ∷ []) b c → Sees (closed_written name seen ∷ []) c d
       → result ≡ named ended failure → IsFirstOf failure (failures (closed_written name seen)) → EndsWriting (Ok p) ended (nowhere ∷ record { accepted = empty; faults = 0 } ∷ old ∷ []) (nowhere ∷ seen ∷ new ∷ [])
-      → WritesMade p (name ∷ []) empty result (seen_by b old) (seen_by d new)
-  made_text_in {new} {name} {c} {d} seen ended failure some created closed is first ends =
+      → WritesOutcome p (name ∷ []) empty result (seen_by b old) (seen_by d new)
+  writes_text {new} {name} {c} {d} seen ended failure has_text created closed is first ends =
       let file : WrittenFile = record { name = name; seen = seen } in
       let fresh : Written = record { accepted = empty; faults = 0 } in
       let counts = without_first ended (0 ∷ old.faults ∷ []) (seen.faults ∷ new.faults ∷ []) (counts_of p ended _ _ ends) in
@@ -239,7 +239,7 @@ module _ {empty : Option (List ℕ)} {result : Result Status CommandError} {old 
         faults = fails.1;
         ends = inr (record {
           written = file ∷ [];
-          all_written = sym (something_made p.certificate (report_lines p.report) (name ∷ []) some);
+          all_written = sym (file_for_text p.certificate (report_lines p.report) (name ∷ []) has_text);
           happened = refl;
           reports = reports_all_named (IsWritten p) ended failure _ _ (unclaimed_written (IsWritten p) (Ok p) ended (fresh ∷ old ∷ []) (seen ∷ new ∷ []) (refl, refl) ends);
           something_written = why_nothing ⊥ (inr file ∷ []) ended failure one (never_memory p ended _ _ ends) (λ unread. unread);

@@ -13,7 +13,7 @@ use Rattle.dimacs_runs.specs.declared.jobs.SolveJob.TheVariants as solves
 use Rattle.dimacs_runs.specs.declared.outcome.RunError.{RunError}
 use Rattle.dimacs_runs.specs.declared.outcome.RunError.TheVariants.{Device, Memory}
 use Rattle.dimacs_runs.specs.declared.outcome.Status.{Status}
-use Rattle.dimacs_runs.specs.Commands.{Contents, Plan, RunsFiles, Reporting, ReportsJudged, WritesSolved, at_first, at_last, closed_empty, seen_by}
+use Rattle.dimacs_runs.specs.Commands.{Contents, Plan, RunsFiles, Reporting, ReportsJudged, WritesSolved, accepted_before, accepted_after, closed_empty, seen_by}
 use Rattle.dimacs_runs.specs.Files.{Created, FileEvent, FilesSeen, NotCreated, NotOpened, Opened, Read, ReadFile, Sees, WrittenFile, Wrote, after_events, failures}
 use Rattle.dimacs_runs.specs.Judged.{IsClaim, Judged}
 use Rattle.dimacs_runs.specs.Judgings.{CountsDevices, OneMore}
@@ -91,9 +91,9 @@ module _ {plan : Plan} {holds : Contents} {empty : Option (List ℕ)} {writes : 
       → Sees (map Opened plan.opened ++ map Created plan.created) a b → Sees (map Read read ++ map Wrote written) b c
       → result ≡ named ended failure → IsFirstOf failure (flat_map failures (closings (closed_files read written)))
       → CountsDevices ended (all_before output.faults new.faults (closed_files read written)) (all_after output.faults new.faults (closed_files read written))
-      → ((texts : List (List ℕ)) → map holds plan.opened ≡ map Some texts → writes texts (named ended failure) (at_first plan.created empty output.accepted) (at_last written new.accepted))
-      → (ended ≡ Err Memory → at_last written new.accepted ≡ at_first plan.created empty output.accepted)
-      → (AnyRead (closed_files read written) → at_last written new.accepted ≡ at_first plan.created empty output.accepted)
+      → ((texts : List (List ℕ)) → map holds plan.opened ≡ map Some texts → writes texts (named ended failure) (accepted_before plan.created empty output.accepted) (accepted_after written new.accepted))
+      → (ended ≡ Err Memory → accepted_after written new.accepted ≡ accepted_before plan.created empty output.accepted)
+      → (AnyRead (closed_files read written) → accepted_after written new.accepted ≡ accepted_before plan.created empty output.accepted)
       → RunsFiles plan holds empty writes result (seen_by a output) (seen_by c new)
   uses_files {b} {c} {new} read written ended failure all_read all_written opened closed is first counts reported memory unread =
       let files : List Closed = closed_files read written in

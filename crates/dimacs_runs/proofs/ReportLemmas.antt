@@ -1,13 +1,13 @@
 -- The report on a text that was read or refused.
 use Rattle.std.proofs.Common.{◌≡◌, ℕ, List, Result, Ok, refl, ap, ◌∙◌, inl, inr, ◌⊎◌}
-use Rattle.dimacs_runs.specs.declared.made.Outcome.{Outcome}
+use Rattle.dimacs_runs.specs.declared.run_outcome.Outcome.{Outcome}
 use Rattle.dimacs_runs.specs.declared.outcome.Status.{Status}
 use Rattle.dimacs_runs.specs.declared.outcome.Status.TheVariants.{Done, Refused, GaveUp}
 use Rattle.dimacs_runs.specs.declared.stop.Stop.{Stop}
 use Rattle.dimacs_runs.specs.declared.texts_in_turn.Unread.{Unread}
 use Rattle.dimacs_runs.specs.Runs.{PrintsText, ReportsAlone, TextSays}
 use Rattle.dimacs_runs.specs.inside.Judgings.{ReadsIn, StopsAt}
-use Rattle.dimacs_runs.specs.inside.Outcomes.{MayReport, settled}
+use Rattle.dimacs_runs.specs.inside.Outcomes.{MayReport, outcome_of}
 use Rattle.dimacs_runs.proofs.TextLemmas.{FaultLine, Stopped, reporting_way, unread_ends}
 
 module _ {V : Type 0} (text : TextSays V) (printed : V → List ℕ) where
@@ -29,5 +29,5 @@ module _ {V : Type 0} (text : TextSays V) (printed : V → List ℕ) where
   fault_or_value GaveUp out h = absurd h
 
   -- no value was read
-  pub unread_printed : (unread : Unread) (result : Result Outcome Stop) → Stopped unread result → StopsAt text unread → MayReport prints (settled result)
+  pub unread_printed : (unread : Unread) (result : Result Outcome Stop) → Stopped unread result → StopsAt text unread → MayReport prints (outcome_of result)
   unread_printed unread result stopped stop = unread_ends reporting_way text prints (λ l f r fault. (l, f, r, fault, refl)) fault_or_value unread result stopped stop

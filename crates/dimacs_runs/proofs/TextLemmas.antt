@@ -9,7 +9,7 @@ use Rattle.dimacs_records.specs.declared.reasons.Reason.{Reason}
 use Rattle.dimacs_runs.specs.declared.outcome.Status.{Status}
 use Rattle.dimacs_runs.specs.declared.outcome.Status.TheVariants.{Refused}
 use Rattle.dimacs_runs.specs.declared.outcome.RunError.{RunError}
-use Rattle.dimacs_runs.specs.declared.made.Outcome.{Outcome}
+use Rattle.dimacs_runs.specs.declared.run_outcome.Outcome.{Outcome}
 use Rattle.dimacs_runs.specs.declared.report.Report.{Report}
 use Rattle.dimacs_runs.specs.declared.report.Report.TheVariants.{Fault}
 use Rattle.dimacs_runs.specs.declared.stop.Stop.{Stop}
@@ -20,7 +20,7 @@ use Rattle.dimacs_runs.specs.Refusals.{refusal_line}
 use Rattle.dimacs_runs.specs.Runs.{ReportsAlone, TextSays, text_word}
 use Rattle.dimacs_runs.specs.Solved.{report_alone}
 use Rattle.dimacs_runs.specs.inside.Judgings.{ReadsIn, StopsAt}
-use Rattle.dimacs_runs.specs.inside.Outcomes.{IfEnds, outcome_texts, reporting, settled, unclaimed_texts, unread_stop}
+use Rattle.dimacs_runs.specs.inside.Outcomes.{IfEnds, outcome_texts, reporting, outcome_of, unclaimed_texts, unread_stop}
 use Rattle.dimacs_runs.specs.inside.Reports.{report_lines, report_status}
 
 -- a form of report: it depends only on the possible outcomes, and can report a refusal that is the only one
@@ -78,7 +78,7 @@ Stopped unread result = IsErrAnd result (λ stop. stop ≡ unread_stop unread.ki
 
 module _ {O : Type 0} (way : Way O) where
   abbrev pub Ends : (Status → O → Type 0) → Result Outcome RunError → Type 0
-  Ends a made = IfEnds way.texts (way.writes a) made
+  Ends a outcome = IfEnds way.texts (way.writes a) outcome
 
   module _ {V : Type 0} (text : TextSays V) where
     -- the report is the line of the text's fault
@@ -87,7 +87,7 @@ module _ {O : Type 0} (way : Way O) where
 
     -- a text that could not be read is reported by its fault, if that is the only possible outcome
     unread_reported : (a : Status → O → Type 0) → ((l f : ℕ) (r : Reason) → text.fault l f r → a Refused (way.alone (refusal_line text.name l f r))) → ((s : Status) (o : O) → a s o → FaultLine s o ⊎ ((v : V) × text.spells v))
-        → (kind : TextKind) (error : ReadError) → text_word kind ≡ text.name → ReadsIn text (Err error) → Ends a (settled (Err (unread_stop kind error)))
+        → (kind : TextKind) (error : ReadError) → text_word kind ≡ text.name → ReadsIn text (Err error) → Ends a (outcome_of (Err (unread_stop kind error)))
     unread_reported a to from kind (read_errors.Refused place reason) is read =
         rw (way.lines (Fault kind place reason), is) (way.refused a (way.alone (refusal_line text.name place.line place.field reason)) (to place.line place.field reason read.0) only)
       where
@@ -100,7 +100,7 @@ module _ {O : Type 0} (way : Way O) where
     unread_reported a to from kind read_errors.Memory is read = tt
 
     pub unread_ends : (a : Status → O → Type 0) → ((l f : ℕ) (r : Reason) → text.fault l f r → a Refused (way.alone (refusal_line text.name l f r))) → ((s : Status) (o : O) → a s o → FaultLine s o ⊎ ((v : V) × text.spells v))
-        → (unread : Unread) (result : Result Outcome Stop) → Stopped unread result → StopsAt text unread → Ends a (settled result)
+        → (unread : Unread) (result : Result Outcome Stop) → Stopped unread result → StopsAt text unread → Ends a (outcome_of result)
     unread_ends a to from unread result stopped stop =
         let (it, is, same) = err_from_is_err_and result stopped in
         rw (is, same) (unread_reported a to from unread.kind unread.error stop.0 stop.1)
@@ -111,7 +111,7 @@ module _ {O : Type 0} (way : Way O) where
       FaultThen s o = FaultLine s o ⊎ ((v : V) × text.spells v × next v s o)
 
       -- the text was read, and what follows from its value was reported
-      pub value_ends : (v : V) (made : Result Outcome RunError) → ReadsIn text (Ok v) → Ends (next v) made → Ends FaultThen made
+      pub value_ends : (v : V) (outcome : Result Outcome RunError) → ReadsIn text (Ok v) → Ends (next v) outcome → Ends FaultThen outcome
       value_ends v (Ok it) read follows = way.carried (next v) FaultThen (report_status it.report) (way.texts it) (λ s o h. inr (v, read.0, h)) (λ s o h. elim h [
         | inl it ↦ absurd (read.2 it.0 it.1 it.2 it.3)
         | inr it ↦ subst (λ (w : V). next w s o) (read.1 it.0 it.1) it.2
@@ -119,7 +119,7 @@ module _ {O : Type 0} (way : Way O) where
       value_ends v (Err error) read follows = tt
 
       -- the text could not be read
-      pub stop_ends : (unread : Unread) (result : Result Outcome Stop) → Stopped unread result → StopsAt text unread → Ends FaultThen (settled result)
+      pub stop_ends : (unread : Unread) (result : Result Outcome Stop) → Stopped unread result → StopsAt text unread → Ends FaultThen (outcome_of result)
       stop_ends unread result stopped stop = unread_ends FaultThen (λ l f r fault. inl (l, f, r, fault, refl, refl)) (λ s o h. elim h [ inl it ↦ inl it | inr it ↦ inr (it.0, it.1) ]) unread result stopped stop
 
   module _ {V W : Type 0} (x : TextSays V) (y : TextSays W) (next : V → W → Status → O → Type 0) where
@@ -127,13 +127,13 @@ module _ {O : Type 0} (way : Way O) where
     after_first v = FaultThen y (next v)
 
     -- two texts were read
-    pub two_end : (v : V) (w : W) (made : Result Outcome RunError) → ReadsIn x (Ok v) → ReadsIn y (Ok w) → Ends (next v w) made → Ends (FaultThen x after_first) made
-    two_end v w made read also follows = value_ends x after_first v made read (value_ends y (next v) w made also follows)
+    pub two_end : (v : V) (w : W) (outcome : Result Outcome RunError) → ReadsIn x (Ok v) → ReadsIn y (Ok w) → Ends (next v w) outcome → Ends (FaultThen x after_first) outcome
+    two_end v w outcome read also follows = value_ends x after_first v outcome read (value_ends y (next v) w outcome also follows)
 
     -- one of two texts could not be read
-    pub two_stop : (unread : Unread) (result : Result Outcome Stop) → Stopped unread result → StopsAt x unread ⊎ ((v : V) × ReadsIn x (Ok v) × StopsAt y unread) → Ends (FaultThen x after_first) (settled result)
+    pub two_stop : (unread : Unread) (result : Result Outcome Stop) → Stopped unread result → StopsAt x unread ⊎ ((v : V) × ReadsIn x (Ok v) × StopsAt y unread) → Ends (FaultThen x after_first) (outcome_of result)
     two_stop unread result stopped (inl first) = stop_ends x after_first unread result stopped first
-    two_stop unread result stopped (inr (v, read, second)) = value_ends x after_first v (settled result) read (stop_ends y (next v) unread result stopped second)
+    two_stop unread result stopped (inr (v, read, second)) = value_ends x after_first v (outcome_of result) read (stop_ends y (next v) unread result stopped second)
 
   module _ {V W X : Type 0} (x : TextSays V) (y : TextSays W) (z : TextSays X) (next : V → W → X → Status → O → Type 0) where
     abbrev after_second : V → W → Status → O → Type 0
@@ -143,11 +143,11 @@ module _ {O : Type 0} (way : Way O) where
     three = FaultThen x (λ v. FaultThen y (after_second v))
 
     -- three texts were read
-    pub three_end : (v : V) (w : W) (u : X) (made : Result Outcome RunError) → ReadsIn x (Ok v) → ReadsIn y (Ok w) → ReadsIn z (Ok u) → Ends (next v w u) made → Ends three made
-    three_end v w u made first second third follows = two_end x y after_second v w made first second (value_ends z (next v w) u made third follows)
+    pub three_end : (v : V) (w : W) (u : X) (outcome : Result Outcome RunError) → ReadsIn x (Ok v) → ReadsIn y (Ok w) → ReadsIn z (Ok u) → Ends (next v w u) outcome → Ends three outcome
+    three_end v w u outcome first second third follows = two_end x y after_second v w outcome first second (value_ends z (next v w) u outcome third follows)
 
     -- one of three texts could not be read
-    pub three_stop : (unread : Unread) (result : Result Outcome Stop) → Stopped unread result → StopsAt x unread ⊎ ((v : V) × ReadsIn x (Ok v) × (StopsAt y unread ⊎ ((w : W) × ReadsIn y (Ok w) × StopsAt z unread))) → Ends three (settled result)
+    pub three_stop : (unread : Unread) (result : Result Outcome Stop) → Stopped unread result → StopsAt x unread ⊎ ((v : V) × ReadsIn x (Ok v) × (StopsAt y unread ⊎ ((w : W) × ReadsIn y (Ok w) × StopsAt z unread))) → Ends three (outcome_of result)
     three_stop unread result stopped (inl first) = stop_ends x (λ v. FaultThen y (after_second v)) unread result stopped first
     three_stop unread result stopped (inr (v, read, inl second)) = two_stop x y after_second unread result stopped (inr (v, read, second))
-    three_stop unread result stopped (inr (v, read, inr (w, also, third))) = two_end x y after_second v w (settled result) read also (stop_ends z (next v w) unread result stopped third)
+    three_stop unread result stopped (inr (v, read, inr (w, also, third))) = two_end x y after_second v w (outcome_of result) read also (stop_ends z (next v w) unread result stopped third)

@@ -1,7 +1,7 @@
 -- What was written of an outcome.
 use Rattle.std.proofs.Common.{◌≡◌, ℕ, List, [], ◌∷◌, Option, Result, Ok, Err, ap, drop, inl, inr}
 use Rattle.dimacs_lines.specs.Devices.{Written}
-use Rattle.dimacs_runs.specs.declared.made.Outcome.{Outcome}
+use Rattle.dimacs_runs.specs.declared.run_outcome.Outcome.{Outcome}
 use Rattle.dimacs_runs.specs.declared.outcome.RunError.{RunError}
 use Rattle.dimacs_runs.specs.declared.outcome.Status.{Status}
 use Rattle.dimacs_runs.specs.Outputs.{ReportsAll}

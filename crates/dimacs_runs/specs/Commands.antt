@@ -146,11 +146,11 @@ WritesNothing (Err (Device (File calls.Read name))) = Unit {0}
 WritesNothing other = ⊥
 
 -- what the created files and the output have accepted, before and after
-abbrev pub at_first : List (List ℕ) → Option (List ℕ) → Option (List ℕ) → List (Option (List ℕ))
-at_first created empty output = map (λ (name : List ℕ). empty) created ++ output ∷ []
+abbrev pub accepted_before : List (List ℕ) → Option (List ℕ) → Option (List ℕ) → List (Option (List ℕ))
+accepted_before created empty output = map (λ (name : List ℕ). empty) created ++ output ∷ []
 
-abbrev pub at_last : List WrittenFile → Option (List ℕ) → List (Option (List ℕ))
-at_last written output = map (λ (file : WrittenFile). file.seen.accepted) written ++ output ∷ []
+abbrev pub accepted_after : List WrittenFile → Option (List ℕ) → List (Option (List ℕ))
+accepted_after written output = map (λ (file : WrittenFile). file.seen.accepted) written ++ output ∷ []
 
 -- all files were opened or created, used and closed, and what follows from the texts was written
 pub record UsesFiles (plan : Plan) (holds : Contents) (empty : Option (List ℕ)) (writes : Reporting) (events : List FileEvent) (result : Result Status CommandError) (old new : Option (List ℕ)) : Type 0 where
@@ -159,8 +159,8 @@ pub record UsesFiles (plan : Plan) (holds : Contents) (empty : Option (List ℕ)
   pub all_read : map (λ (file : ReadFile). file.name) read ≡ plan.opened
   pub all_written : map (λ (file : WrittenFile). file.name) written ≡ plan.created
   pub happened : events ≡ map Opened plan.opened ++ map Created plan.created ++ map Read read ++ map Wrote written
-  pub reports : (texts : List (List ℕ)) → map holds plan.opened ≡ map Some texts → writes texts result (at_first plan.created empty old) (at_last written new)
-  pub nothing_written : WritesNothing result → at_last written new ≡ at_first plan.created empty old
+  pub reports : (texts : List (List ℕ)) → map holds plan.opened ≡ map Some texts → writes texts result (accepted_before plan.created empty old) (accepted_after written new)
+  pub nothing_written : WritesNothing result → accepted_after written new ≡ accepted_before plan.created empty old
 
 -- a file was created, written and closed
 abbrev pub made_events : WrittenFile → List FileEvent
@@ -174,7 +174,7 @@ pub record StopsMaking (plan : Plan) (holds : Contents) (makes : Making) (events
   pub all_read : map (λ (file : ReadFile). file.name) read ≡ plan.opened
   pub whole : plan.created ≡ name ∷ []
   pub happened : events ≡ (map Opened plan.opened ++ map Read read) ++ NotCreated name error ∷ []
-  pub made : (texts : List (List ℕ)) → map holds plan.opened ≡ map Some texts → (status : Status) × (out : List (List ℕ)) × makes texts status out × (files_for plan.created out ≡ plan.created)
+  pub possible : (texts : List (List ℕ)) → map holds plan.opened ≡ map Some texts → (status : Status) × (out : List (List ℕ)) × makes texts status out × (files_for plan.created out ≡ plan.created)
 
 -- the files to read were opened, read and closed; then one was created if there is a text for it; all was written
 pub record MakesFiles (plan : Plan) (holds : Contents) (empty : Option (List ℕ)) (makes : Making) (events : List FileEvent) (result : Result Status CommandError) (old new : Option (List ℕ)) : Type 0 where
@@ -183,7 +183,7 @@ pub record MakesFiles (plan : Plan) (holds : Contents) (empty : Option (List ℕ
   pub all_read : map (λ (file : ReadFile). file.name) read ≡ plan.opened
   pub happened : events ≡ (map Opened plan.opened ++ map Read read) ++ flat_map made_events written
   pub reports : (texts : List (List ℕ)) → map holds plan.opened ≡ map Some texts
-      → ReportsAll (λ status out. makes texts status out × (map (λ (file : WrittenFile). file.name) written ≡ files_for plan.created out)) result (text_first (at_first (map (λ (file : WrittenFile). file.name) written) empty old)) (text_first (at_last written new))
+      → ReportsAll (λ status out. makes texts status out × (map (λ (file : WrittenFile). file.name) written ≡ files_for plan.created out)) result (text_first (accepted_before (map (λ (file : WrittenFile). file.name) written) empty old)) (text_first (accepted_after written new))
   pub nothing_written : WritesNothing result → (written ≡ []) × (new ≡ old)
 
 -- the failed operations on files that an error names
@@ -214,18 +214,18 @@ pub record RunsOver (end : List FileEvent → Type 0) (result : Result Status Co
   pub ends : end events
 
 -- a file could not be opened or created, and nothing was written
-abbrev pub PutsNothing : Type 0 → Result Status CommandError → Seen → Seen → Type 0
-PutsNothing stops result old new = stops × IsErr result × (new.output.accepted ≡ old.output.accepted)
+abbrev pub StopsEarly : Type 0 → Result Status CommandError → Seen → Seen → Type 0
+StopsEarly stops result old new = stops × IsErr result × (new.output.accepted ≡ old.output.accepted)
 
 -- the files of the plan were used, or one of them could not be opened or created
 abbrev pub RunsFiles : Plan → Contents → Option (List ℕ) → Reporting → Result Status CommandError → Seen → Seen → Type 0
 RunsFiles plan holds empty writes result old new =
-    RunsOver (λ events. PutsNothing (StopsOpening plan events ⊎ StopsCreating plan empty events) result old new ⊎ UsesFiles plan holds empty writes events result old.output.accepted new.output.accepted) result old new
+    RunsOver (λ events. StopsEarly (StopsOpening plan events ⊎ StopsCreating plan empty events) result old new ⊎ UsesFiles plan holds empty writes events result old.output.accepted new.output.accepted) result old new
 
 -- the files of the plan were read and one was created for a text, or one of them could not be opened or created
 abbrev pub MakesOfFiles : Plan → Contents → Option (List ℕ) → Making → Result Status CommandError → Seen → Seen → Type 0
 MakesOfFiles plan holds empty makes result old new =
-    RunsOver (λ events. PutsNothing (StopsOpening plan events ⊎ StopsMaking plan holds makes events) result old new ⊎ MakesFiles plan holds empty makes events result old.output.accepted new.output.accepted) result old new
+    RunsOver (λ events. StopsEarly (StopsOpening plan events ⊎ StopsMaking plan holds makes events) result old new ⊎ MakesFiles plan holds empty makes events result old.output.accepted new.output.accepted) result old new
 
 -- certifying and spreading create their file once they have a text for it, the others before they run
 abbrev pub RunsJob : Job → Contents → Option (List ℕ) → Result Status CommandError → Seen → Seen → Type 0
@@ -238,5 +238,5 @@ RunsJob (Solve job files) holds empty = RunsFiles (plan_of (Solve job files)) ho
 
 -- the arguments ask for no run, and nothing is done; or the run that they ask for ends like this
 abbrev pub Commands : List (List ℕ) → Contents → Option (List ℕ) → Option (Result Status CommandError) → Seen → Seen → Type 0
-Commands words holds empty None old new = ((wanted : Job) → ¬ Asks words wanted) × (new ≡ old)
-Commands words holds empty (Some ended) old new = (wanted : Job) × Asks words wanted × RunsJob wanted holds empty ended old new
+Commands arguments holds empty None old new = ((wanted : Job) → ¬ Asks arguments wanted) × (new ≡ old)
+Commands arguments holds empty (Some ended) old new = (wanted : Job) × Asks arguments wanted × RunsJob wanted holds empty ended old new

@@ -22,7 +22,7 @@ use Rattle.dimacs_runs.specs.Verdicts.{failure_line}
 -- between any two nodes the flow carries the claimed amount; it keeps the bounds if any such flow does
 pub record SpreadsFlow (arcs : List ArcView) (s : SolutionValue) (x : List ℤ) : Type 0 where
   pub deals : Deals arcs s.entries x
-  pub kept : KeepsBoundsIfAny arcs s.entries x
+  pub keeps_bounds : KeepsBoundsIfAny arcs s.entries x
 
 -- the solution has the claimed value, and an entry for every arc with the amount on it
 pub record IsSpreadOf (arcs : List ArcView) (s : SolutionValue) (x : List ℤ) (t : SolutionValue) : Type 0 where

@@ -18,15 +18,15 @@ ghost use Rattle.dimacs_runs.specs.Certified.{Certified, CertifiesLeast, Certifi
 ghost use Rattle.dimacs_runs.specs.Judgings.{CountsDevices};
 ghost use Rattle.dimacs_runs.specs.Outputs.{ReportsAll, WritesAlike};
 ghost use Rattle.dimacs_runs.specs.inside.Judgings.{HasFault};
-ghost use Rattle.dimacs_runs.specs.inside.Outcomes.{MayCertify, settled};
+ghost use Rattle.dimacs_runs.specs.inside.Outcomes.{MayCertify, outcome_of};
 
 use crate::certify_distances::certify_distances;
 use crate::certify_infeasible::certify_infeasible;
 use crate::discard::Discard;
 use crate::jobs::CertifyKind;
-use crate::made::{Made, Outcome, write_outcome};
 use crate::outcome::{RunError, Status};
 use crate::report::Report;
+use crate::run_outcome::{Outcome, OutputText, write_outcome};
 use crate::stop::{Stop, settle};
 use crate::texts_in_turn::{place_solution, read};
 use dimacs_claims::Placed;
@@ -102,8 +102,8 @@ fn certify_maximum<P: Source, Q: Source>(
     solution: &mut Q,
 ) -> Result<Outcome, Stop>
     ensures certifies { (a b : List ℕ) → P.coming instance.old ≡ Some a → Q.coming solution.old ≡ Some b →
-        MayCertify (Certified certifies.Max a b) (settled result) }
-    ensures faults { CountsDevices (settled result) (P.faults instance.old ∷ Q.faults solution.old ∷ []) (P.faults instance.new ∷ Q.faults solution.new ∷ []) }
+        MayCertify (Certified certifies.Max a b) (outcome_of result) }
+    ensures faults { CountsDevices (outcome_of result) (P.faults instance.old ∷ Q.faults solution.old ∷ []) (P.faults instance.new ∷ Q.faults solution.new ∷ []) }
     ensures stops_at_instance { HasFault kinds.Max (P.coming instance.old) → solution.new ≡ solution.old }
 {
     let instance: MaxInstance<PlainArcs<CapacityArc>> = read(alloc, instance)?;
@@ -119,8 +119,8 @@ fn certify_least<P: Source, Q: Source>(
     solution: &mut Q,
 ) -> Result<Outcome, Stop>
     ensures certifies { (a b : List ℕ) → P.coming instance.old ≡ Some a → Q.coming solution.old ≡ Some b →
-        MayCertify (Certified certifies.Min a b) (settled result) }
-    ensures faults { CountsDevices (settled result) (P.faults instance.old ∷ Q.faults solution.old ∷ []) (P.faults instance.new ∷ Q.faults solution.new ∷ []) }
+        MayCertify (Certified certifies.Min a b) (outcome_of result) }
+    ensures faults { CountsDevices (outcome_of result) (P.faults instance.old ∷ Q.faults solution.old ∷ []) (P.faults instance.new ∷ Q.faults solution.new ∷ []) }
     ensures stops_at_instance { HasFault kinds.Min (P.coming instance.old) → solution.new ≡ solution.old }
 {
     let instance: MinInstance<PlainArcs<ArcView>> = read(alloc, instance)?;
@@ -139,13 +139,13 @@ fn answer_maximum<N: Network>(
     requires network { placed.now.place.arcs ≡ instance.now.arcs }
     requires placed { IsPlacedLawful placed.now.value placed.now.value_line (ArePlaced placed.now.place) }
     ensures certifies { (s : SolutionValue) → IsPlaced placed.now.value placed.now.value_line (ArePlaced placed.now.place) s
-        → MayCertify (CertifiesMaximum instance.now s) (settled result) }
-    ensures no_device { settled result ≢ Err Device }
+        → MayCertify (CertifiesMaximum instance.now s) (outcome_of result) }
+    ensures no_device { outcome_of result ≢ Err Device }
 {
     match certify_max_placed(alloc, instance, placed)? {
         MaxDecision::Optimal(cut) => {
             let report = Report::Yes(Verdict::Max(placed.value));
-            Ok(Outcome::certified(Made::Cut(cut), report))
+            Ok(Outcome::with_text(OutputText::Cut(cut), report))
         }
         MaxDecision::Better(flow) => refuse_maximum(alloc, instance, flow, placed.value_line),
     }
@@ -160,13 +160,13 @@ fn answer_least<N: Network>(
     requires network { placed.now.place.arcs ≡ instance.now.arcs }
     requires placed { IsPlacedLawful placed.now.value placed.now.value_line (ArePlaced placed.now.place) }
     ensures certifies { (s : SolutionValue) → IsPlaced placed.now.value placed.now.value_line (ArePlaced placed.now.place) s
-        → MayCertify (CertifiesLeast instance.now s) (settled result) }
-    ensures no_device { settled result ≢ Err Device }
+        → MayCertify (CertifiesLeast instance.now s) (outcome_of result) }
+    ensures no_device { outcome_of result ≢ Err Device }
 {
     match certify_min_placed(alloc, instance, placed)? {
         MinDecision::Optimal(potentials) => {
             let report = Report::Yes(Verdict::Min(placed.value));
-            Ok(Outcome::certified(Made::Potentials(potentials), report))
+            Ok(Outcome::with_text(OutputText::Potentials(potentials), report))
         }
         MinDecision::Better(flow) => refuse_least(alloc, instance, &flow, placed.value_line),
     }
@@ -182,13 +182,13 @@ fn refuse_maximum<N: Network>(
     requires lawful { IsMax instance.now }
     requires feasible { FeasibleMax instance.now flow }
     ensures certifies { (s : SolutionValue) (x : List ℤ) → IsMaxImproved instance.now s x flow → value_line ≡ s.value_line
-        → MayCertify (CertifiesMaximum instance.now s) (settled result) }
-    ensures no_device { settled result ≢ Err Device }
+        → MayCertify (CertifiesMaximum instance.now s) (outcome_of result) }
+    ensures no_device { outcome_of result ≢ Err Device }
 {
     let flow = improve_max(alloc, instance, flow);
     let solution = max_solution(alloc, instance, &flow)?;
     let report = Report::No(at_value(value_line), Reason::NotMaximum);
-    Ok(Outcome::certified(Made::Solution(solution), report))
+    Ok(Outcome::with_text(OutputText::Solution(solution), report))
 }
 
 /// Refuses a claimed cost because `flow` is better, with a solution of `flow` if its cost is in range.
@@ -200,15 +200,15 @@ fn refuse_least<N: Network>(
 ) -> Result<Outcome, Stop>
     requires { FeasibleMin instance.now flow.now }
     ensures certifies { (s : SolutionValue) (x : List ℤ) → IsMinImproved instance.now s x flow.now → value_line ≡ s.value_line
-        → MayCertify (CertifiesLeast instance.now s) (settled result) }
-    ensures no_device { settled result ≢ Err Device }
+        → MayCertify (CertifiesLeast instance.now s) (outcome_of result) }
+    ensures no_device { outcome_of result ≢ Err Device }
 {
     let report = Report::No(at_value(value_line), Reason::NotLeast);
-    let made = match min_solution(alloc, instance, flow)? {
-        Some(solution) => Made::Solution(solution),
-        None => Made::Nothing,
+    let text = match min_solution(alloc, instance, flow)? {
+        Some(solution) => OutputText::Solution(solution),
+        None => OutputText::Nothing,
     };
-    Ok(Outcome::certified(made, report))
+    Ok(Outcome::with_text(text, report))
 }
 
 /// The field of the claimed value on this line.

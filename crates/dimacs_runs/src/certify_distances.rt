@@ -7,10 +7,10 @@ ghost use Rattle.dimacs_runs.specs.declared.outcome.RunError.TheVariants.{Device
 ghost use Rattle.dimacs_runs.specs.Certified.{Certified, CertifiesDistances};
 ghost use Rattle.dimacs_runs.specs.Judgings.{CountsDevices};
 ghost use Rattle.dimacs_runs.specs.inside.Judgings.{HasFault};
-ghost use Rattle.dimacs_runs.specs.inside.Outcomes.{MayCertify, settled};
+ghost use Rattle.dimacs_runs.specs.inside.Outcomes.{MayCertify, outcome_of};
 
-use crate::made::{Made, Outcome};
 use crate::report::Report;
+use crate::run_outcome::{Outcome, OutputText};
 use crate::stop::Stop;
 use crate::texts_in_turn::read_two;
 use dimacs_claims::Distances;
@@ -28,8 +28,8 @@ pub(crate) fn certify_distances<P: Source, Q: Source>(
     distances: &mut Q,
 ) -> Result<Outcome, Stop>
     ensures certifies { (a b : List ℕ) → P.coming graph.old ≡ Some a → Q.coming distances.old ≡ Some b →
-        MayCertify (Certified certifies.Paths a b) (settled result) }
-    ensures faults { CountsDevices (settled result) (P.faults graph.old ∷ Q.faults distances.old ∷ []) (P.faults graph.new ∷ Q.faults distances.new ∷ []) }
+        MayCertify (Certified certifies.Paths a b) (outcome_of result) }
+    ensures faults { CountsDevices (outcome_of result) (P.faults graph.old ∷ Q.faults distances.old ∷ []) (P.faults graph.new ∷ Q.faults distances.new ∷ []) }
     ensures stops_at_graph { HasFault kinds.Graph (P.coming graph.old) → distances.new ≡ distances.old }
 {
     let (graph, distances): (Graph<PlainArcs<WeightArc>>, _) = read_two(alloc, graph, distances)?;
@@ -42,8 +42,8 @@ fn answer_distances<N: Network>(
     graph: &Graph<N>,
     distances: &Distances,
 ) -> Result<Outcome, Stop>
-    ensures certifies { MayCertify (CertifiesDistances graph.now distances.now) (settled result) }
-    ensures no_device { settled result ≢ Err Device }
+    ensures certifies { MayCertify (CertifiesDistances graph.now distances.now) (outcome_of result) }
+    ensures no_device { outcome_of result ≢ Err Device }
 {
     if distances.nodes() != graph.network().nodes() {
         let at = At { line: 0, field: 0 };
@@ -60,10 +60,10 @@ fn answer_blocks<N: Network>(
     distances: &Distances,
 ) -> Result<Outcome, Stop>
     requires { distances.now.nodes ≡ graph.now.nodes }
-    ensures certifies { MayCertify (CertifiesDistances graph.now distances.now) (settled result) }
-    ensures no_device { settled result ≢ Err Device }
+    ensures certifies { MayCertify (CertifiesDistances graph.now distances.now) (outcome_of result) }
+    ensures no_device { outcome_of result ≢ Err Device }
 {
     let labels = certify_paths(alloc, graph, distances)?;
     let report = Report::Distances(distances.blocks().len() as u32);
-    Ok(Outcome::certified(Made::Labels(labels), report))
+    Ok(Outcome::with_text(OutputText::Labels(labels), report))
 }

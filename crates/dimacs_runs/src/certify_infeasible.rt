@@ -6,10 +6,10 @@ ghost use Rattle.dimacs_runs.specs.declared.jobs.CertifyKind.TheVariants as cert
 ghost use Rattle.dimacs_runs.specs.declared.outcome.RunError.TheVariants.{Device};
 ghost use Rattle.dimacs_runs.specs.Certified.{Certified, CertifiesInfeasible};
 ghost use Rattle.dimacs_runs.specs.Judgings.{CountsDevices};
-ghost use Rattle.dimacs_runs.specs.inside.Outcomes.{MayCertify, settled};
+ghost use Rattle.dimacs_runs.specs.inside.Outcomes.{MayCertify, outcome_of};
 
-use crate::made::{Made, Outcome};
 use crate::report::Report;
+use crate::run_outcome::{Outcome, OutputText};
 use crate::stop::Stop;
 use crate::texts_in_turn::read;
 use dimacs_decide::{Feasibility, decide_infeasible};
@@ -25,8 +25,8 @@ pub(crate) fn certify_infeasible<P: Source>(
     alloc: Global,
     instance: &mut P,
 ) -> Result<Outcome, Stop>
-    ensures certifies { (a : List ℕ) → P.coming instance.old ≡ Some a → MayCertify (Certified certifies.Infeasible a []) (settled result) }
-    ensures faults { CountsDevices (settled result) (P.faults instance.old ∷ []) (P.faults instance.new ∷ []) }
+    ensures certifies { (a : List ℕ) → P.coming instance.old ≡ Some a → MayCertify (Certified certifies.Infeasible a []) (outcome_of result) }
+    ensures faults { CountsDevices (outcome_of result) (P.faults instance.old ∷ []) (P.faults instance.new ∷ []) }
 {
     let instance: MinInstance<PlainArcs<ArcView>> = read(alloc, instance)?;
     answer_infeasible(alloc, &instance)
@@ -34,13 +34,13 @@ pub(crate) fn certify_infeasible<P: Source>(
 
 /// Decides whether a flow is feasible.
 fn answer_infeasible<N: Network>(alloc: Global, instance: &MinInstance<N>) -> Result<Outcome, Stop>
-    ensures certifies { MayCertify (CertifiesInfeasible instance.now) (settled result) }
-    ensures no_device { settled result ≢ Err Device }
+    ensures certifies { MayCertify (CertifiesInfeasible instance.now) (outcome_of result) }
+    ensures no_device { outcome_of result ≢ Err Device }
 {
     match decide_infeasible(alloc, instance)? {
         Feasibility::Infeasible(set) => {
             let report = Report::Yes(Verdict::Infeasible);
-            Ok(Outcome::certified(Made::Cut(set), report))
+            Ok(Outcome::with_text(OutputText::Cut(set), report))
         }
         Feasibility::Feasible(flow) => refuse_infeasible(alloc, instance, &flow),
     }
@@ -53,14 +53,14 @@ fn refuse_infeasible<N: Network>(
     flow: &Flow,
 ) -> Result<Outcome, Stop>
     requires { FeasibleMin instance.now flow.now }
-    ensures certifies { MayCertify (CertifiesInfeasible instance.now) (settled result) }
-    ensures no_device { settled result ≢ Err Device }
+    ensures certifies { MayCertify (CertifiesInfeasible instance.now) (outcome_of result) }
+    ensures no_device { outcome_of result ≢ Err Device }
 {
-    let made = match min_solution(alloc, instance, flow)? {
-        Some(solution) => Made::Solution(solution),
-        None => Made::Nothing,
+    let text = match min_solution(alloc, instance, flow)? {
+        Some(solution) => OutputText::Solution(solution),
+        None => OutputText::Nothing,
     };
     let at = At { line: 0, field: 0 };
     let report = Report::Fault(TextKind::Min, at, Reason::Feasible);
-    Ok(Outcome::certified(made, report))
+    Ok(Outcome::with_text(text, report))
 }

@@ -6,6 +6,7 @@ ghost use Rattle.dimacs_runs.specs.Commands.{Commands, RunsJob, seen_by};
 ghost use Rattle.dimacs_runs.specs.Outcomes.{command_number};
 ghost use Rattle.dimacs_runs.specs.inside.Commands.{HasFiles};
 
+use crate::arguments::job;
 use crate::failure::CommandError;
 use crate::files::Files;
 use crate::jobs::Job;
@@ -14,7 +15,6 @@ use crate::runs_that_make::{ClaimJob, certify_files, make_of_claim};
 use crate::runs_that_read::{judge_files, print_file};
 use crate::runs_that_write::solve_files;
 use crate::text::TextForm;
-use crate::words::job;
 use dimacs_lines::Sink;
 use std::alloc::Global;
 
@@ -26,15 +26,15 @@ use std::alloc::Global;
 /// were read are closed, and only if there is a text for it.
 pub fn run_command<'a, F: Files, K: Sink>(
     alloc: Global,
-    words: &'a [String],
+    arguments: &'a [String],
     files: &mut F,
     output: &mut K,
 ) -> Option<Result<Status, CommandError<'a>>>
-    ensures commands { Commands (map string_bytes words.now) (F.holds files.old) F.empty result
+    ensures commands { Commands (map string_bytes arguments.now) (F.holds files.old) F.empty result
         (seen_by (F.seen files.old) (K.seen output.old))
         (seen_by (F.seen files.new) (K.seen output.new)) }
 {
-    let wanted = job(words)?;
+    let wanted = job(arguments)?;
     Some(run_job(alloc, wanted, files, output))
 }
 

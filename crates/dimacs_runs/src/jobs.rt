@@ -86,19 +86,19 @@ impl<'a> Job<'a> {
             Job::Solve(SolveJob::Max(_) | SolveJob::Min(_), files) => files,
             _ => return None,
         };
-        match (word(files, 1), word(files, 2)) {
+        match (name_at(files, 1), name_at(files, 2)) {
             (Some(claim), Some(certificate)) if claim == certificate => Some(claim),
             _ => None,
         }
     }
 }
 
-/// The argument at this place, from 0.
-pub(crate) fn word(words: &[String], place: usize) -> Option<&str>
-    ensures { option_map (λ word. word.now) result ≡ slice_get (map string_bytes words.now) place }
+/// The name at this place, from 0.
+pub(crate) fn name_at(names: &[String], place: usize) -> Option<&str>
+    ensures { option_map (λ name. name.now) result ≡ slice_get (map string_bytes names.now) place }
 {
-    match words.get(place) {
-        Some(word) => Some(word.as_str()),
+    match names.get(place) {
+        Some(name) => Some(name.as_str()),
         None => None,
     }
 }

@@ -12,14 +12,14 @@ ghost use Rattle.dimacs_runs.specs.Judged.{IsClaim, Judged, claim_kind, instance
 ghost use Rattle.dimacs_runs.specs.Judgings.{CountsDevices};
 ghost use Rattle.dimacs_runs.specs.Runs.{Reports};
 ghost use Rattle.dimacs_runs.specs.inside.Judgings.{HasFault};
-ghost use Rattle.dimacs_runs.specs.inside.Outcomes.{MayReport, settled};
+ghost use Rattle.dimacs_runs.specs.inside.Outcomes.{MayReport, outcome_of};
 ghost use Rattle.dimacs_runs.specs.inside.Outcomes as outcomes;
 
 use crate::discard::Discard;
 use crate::jobs::JudgeKind;
-use crate::made::{Outcome, write_outcome};
 use crate::outcome::{RunError, Status};
 use crate::report::Report;
+use crate::run_outcome::{Outcome, write_outcome};
 use crate::stop::{Stop, settle};
 use crate::texts_in_turn::{read, read_placed, read_three, read_two};
 use dimacs_claims::{Cut, Labels, Potentials};
@@ -70,8 +70,8 @@ pub fn run_judge<P: Source, Q: Source, R: Source, K: Sink>(
 }
 
 /// What follows from a judge's answer.
-fn judged(answer: Result<Verdict, JudgeError>) -> Result<Outcome, Stop>
-    ensures { result ≡ outcomes.judged answer }
+fn judge_outcome(answer: Result<Verdict, JudgeError>) -> Result<Outcome, Stop>
+    ensures { result ≡ outcomes.judge_outcome answer }
 {
     Ok(Outcome::reporting(Report::Yes(answer?)))
 }
@@ -84,8 +84,8 @@ fn report_max<P: Source, Q: Source, R: Source>(
     certificate: &mut R,
 ) -> Result<Outcome, Stop>
     ensures reports { (a b c : List ℕ) → P.coming instance.old ≡ Some a → Q.coming claim.old ≡ Some b
-        → R.coming certificate.old ≡ Some c → MayReport (Judged judges.Max a b c) (settled result) }
-    ensures faults { CountsDevices (settled result) (P.faults instance.old ∷ Q.faults claim.old ∷ R.faults certificate.old ∷ [])
+        → R.coming certificate.old ≡ Some c → MayReport (Judged judges.Max a b c) (outcome_of result) }
+    ensures faults { CountsDevices (outcome_of result) (P.faults instance.old ∷ Q.faults claim.old ∷ R.faults certificate.old ∷ [])
         (P.faults instance.new ∷ Q.faults claim.new ∷ R.faults certificate.new ∷ []) }
     ensures stops_at_instance { HasFault kinds.Max (P.coming instance.old) → (claim.new ≡ claim.old) × (certificate.new ≡ certificate.old) }
     ensures stops_at_claim { HasFault kinds.Solution (Q.coming claim.old) → certificate.new ≡ certificate.old }
@@ -93,7 +93,7 @@ fn report_max<P: Source, Q: Source, R: Source>(
     let instance: MaxInstance<PlainArcs<CapacityArc>> = read(alloc, instance)?;
     let places = FlowPlaces::new(alloc, instance.network())?;
     let (placed, cut) = read_placed(alloc, places, claim, certificate)?;
-    judged(judge_max_placed(alloc, &instance, &placed, &cut))
+    judge_outcome(judge_max_placed(alloc, &instance, &placed, &cut))
 }
 
 /// Judges a claimed flow of least cost, by potentials.
@@ -104,8 +104,8 @@ fn report_min<P: Source, Q: Source, R: Source>(
     certificate: &mut R,
 ) -> Result<Outcome, Stop>
     ensures reports { (a b c : List ℕ) → P.coming instance.old ≡ Some a → Q.coming claim.old ≡ Some b
-        → R.coming certificate.old ≡ Some c → MayReport (Judged judges.Min a b c) (settled result) }
-    ensures faults { CountsDevices (settled result) (P.faults instance.old ∷ Q.faults claim.old ∷ R.faults certificate.old ∷ [])
+        → R.coming certificate.old ≡ Some c → MayReport (Judged judges.Min a b c) (outcome_of result) }
+    ensures faults { CountsDevices (outcome_of result) (P.faults instance.old ∷ Q.faults claim.old ∷ R.faults certificate.old ∷ [])
         (P.faults instance.new ∷ Q.faults claim.new ∷ R.faults certificate.new ∷ []) }
     ensures stops_at_instance { HasFault kinds.Min (P.coming instance.old) → (claim.new ≡ claim.old) × (certificate.new ≡ certificate.old) }
     ensures stops_at_claim { HasFault kinds.Solution (Q.coming claim.old) → certificate.new ≡ certificate.old }
@@ -113,7 +113,7 @@ fn report_min<P: Source, Q: Source, R: Source>(
     let instance: MinInstance<PlainArcs<ArcView>> = read(alloc, instance)?;
     let places = FlowPlaces::new(alloc, instance.network())?;
     let (placed, potentials) = read_placed(alloc, places, claim, certificate)?;
-    judged(judge_min_placed(alloc, &instance, &placed, &potentials))
+    judge_outcome(judge_min_placed(alloc, &instance, &placed, &potentials))
 }
 
 /// Judges that no flow is feasible, by a set of nodes whose supply can't be met.
@@ -123,8 +123,8 @@ fn report_infeasible<P: Source, R: Source>(
     certificate: &mut R,
 ) -> Result<Outcome, Stop>
     ensures reports { (a c : List ℕ) → P.coming instance.old ≡ Some a → R.coming certificate.old ≡ Some c →
-        MayReport (Judged judges.Infeasible a [] c) (settled result) }
-    ensures faults { CountsDevices (settled result) (P.faults instance.old ∷ R.faults certificate.old ∷ [])
+        MayReport (Judged judges.Infeasible a [] c) (outcome_of result) }
+    ensures faults { CountsDevices (outcome_of result) (P.faults instance.old ∷ R.faults certificate.old ∷ [])
         (P.faults instance.new ∷ R.faults certificate.new ∷ []) }
     ensures stops_at_instance { HasFault kinds.Min (P.coming instance.old) → certificate.new ≡ certificate.old }
 {
@@ -133,7 +133,7 @@ fn report_infeasible<P: Source, R: Source>(
         instance,
         certificate,
     )?;
-    judged(judge_infeasible(&instance, &set))
+    judge_outcome(judge_infeasible(&instance, &set))
 }
 
 /// Judges the answers to queries, by labels.
@@ -144,8 +144,8 @@ fn report_paths<P: Source, Q: Source, R: Source>(
     labels: &mut R,
 ) -> Result<Outcome, Stop>
     ensures reports { (a b c : List ℕ) → P.coming graph.old ≡ Some a → Q.coming queries.old ≡ Some b
-        → R.coming labels.old ≡ Some c → MayReport (Judged judges.Paths a b c) (settled result) }
-    ensures faults { CountsDevices (settled result) (P.faults graph.old ∷ Q.faults queries.old ∷ R.faults labels.old ∷ [])
+        → R.coming labels.old ≡ Some c → MayReport (Judged judges.Paths a b c) (outcome_of result) }
+    ensures faults { CountsDevices (outcome_of result) (P.faults graph.old ∷ Q.faults queries.old ∷ R.faults labels.old ∷ [])
         (P.faults graph.new ∷ Q.faults queries.new ∷ R.faults labels.new ∷ []) }
     ensures stops_at_instance { HasFault kinds.Graph (P.coming graph.old) → (queries.new ≡ queries.old) × (labels.new ≡ labels.old) }
     ensures stops_at_claim { HasFault kinds.Queries (Q.coming queries.old) → labels.new ≡ labels.old }
@@ -154,5 +154,5 @@ fn report_paths<P: Source, Q: Source, R: Source>(
         alloc, graph, queries, labels,
     )?;
     index_for(&queries, &mut labels)?;
-    judged(judge_paths(alloc, &graph, &queries, &labels))
+    judge_outcome(judge_paths(alloc, &graph, &queries, &labels))
 }

@@ -1,6 +1,7 @@
 //! The runs of the command `dimacs`, over any sources and sinks, and the meaning of its arguments.
 #![tactic(auto)]
 
+mod arguments;
 mod certify;
 mod certify_distances;
 mod certify_infeasible;
@@ -8,14 +9,14 @@ mod command;
 mod discard;
 mod failure;
 mod files;
-mod in_use;
 mod jobs;
 mod judge;
-mod made;
-mod made_files;
+mod open_files;
 mod outcome;
+mod outcome_file;
 mod refusal;
 mod report;
+mod run_outcome;
 mod runs_that_make;
 mod runs_that_read;
 mod runs_that_write;
@@ -25,8 +26,8 @@ mod stop;
 mod text;
 mod texts_in_turn;
 mod verdict;
-mod words;
 
+pub use arguments::job;
 pub use certify::run_certify;
 pub use command::{command_status, run_command};
 pub use failure::{CommandError, Failure, FileCall};
@@ -38,4 +39,3 @@ pub use solve::run_solve;
 pub use spread::run_spread;
 pub use text::{run_convert, run_show};
 pub use verdict::{put_distances, put_failure, put_gave_up, put_verdict};
-pub use words::job;

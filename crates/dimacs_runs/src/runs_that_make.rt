@@ -13,11 +13,11 @@ use crate::certify::certify_claim;
 use crate::certify_infeasible::certify_infeasible;
 use crate::failure::{CommandError, name_failure};
 use crate::files::Files;
-use crate::in_use::{close_read, open};
-use crate::jobs::{CertifyKind, SpreadKind, word};
-use crate::made::Outcome;
-use crate::made_files::write_made;
+use crate::jobs::{CertifyKind, SpreadKind, name_at};
+use crate::open_files::{close_read, open};
 use crate::outcome::{RunError, Status};
+use crate::outcome_file::write_outcome_file;
+use crate::run_outcome::Outcome;
 use crate::spread::spread_claim;
 use crate::stop::settle;
 use dimacs_lines::{Sink, Source};
@@ -59,8 +59,8 @@ pub(crate) fn make_of_claim<'a, F: Files, K: Sink>(
     files: &mut F,
     output: &mut K,
 ) -> Result<Status, CommandError<'a>>
-    requires least { 2 ≤ length names.now }
-    requires most { length names.now ≤ 3 }
+    requires at_least { 2 ≤ length names.now }
+    requires at_most { length names.now ≤ 3 }
     ensures runs { MakesOfFiles (reads_first 2 (map string_bytes names.now)) (F.holds files.old) F.empty (made_for job) result
         (seen_by (F.seen files.old) (K.seen output.old))
         (seen_by (F.seen files.new) (K.seen output.new)) }
@@ -69,7 +69,7 @@ pub(crate) fn make_of_claim<'a, F: Files, K: Sink>(
         unreachable!()
     };
     let outcome = answer_claim(alloc, job, instance.as_str(), claim.as_str(), files)?;
-    write_made(outcome, word(names, 2), files, output)
+    write_outcome_file(outcome, name_at(names, 2), files, output)
 }
 
 /// Certifies that no flow is feasible, in the file of an instance, and writes the set of nodes, or a feasible flow, to
@@ -80,8 +80,8 @@ fn certify_instance<'a, F: Files, K: Sink>(
     files: &mut F,
     output: &mut K,
 ) -> Result<Status, CommandError<'a>>
-    requires least { 1 ≤ length names.now }
-    requires most { length names.now ≤ 2 }
+    requires at_least { 1 ≤ length names.now }
+    requires at_most { length names.now ≤ 2 }
     ensures runs { MakesOfFiles (reads_first 1 (map string_bytes names.now)) (F.holds files.old) F.empty (MakesCertificate certifies.Infeasible) result
         (seen_by (F.seen files.old) (K.seen output.old))
         (seen_by (F.seen files.new) (K.seen output.new)) }
@@ -90,7 +90,7 @@ fn certify_instance<'a, F: Files, K: Sink>(
         unreachable!()
     };
     let outcome = answer_instance(alloc, instance.as_str(), files)?;
-    write_made(outcome, word(names, 1), files, output)
+    write_outcome_file(outcome, name_at(names, 1), files, output)
 }
 
 /// Opens the files of the instance and the claim, makes a text of them, and closes the files.
@@ -117,7 +117,7 @@ fn make<P: Source, Q: Source>(
     instance: &mut P,
     claim: &mut Q,
 ) -> Result<Outcome, RunError>
-    ensures made { (a b : List ℕ) → P.coming instance.old ≡ Some a → Q.coming claim.old ≡ Some b →
+    ensures possible { (a b : List ℕ) → P.coming instance.old ≡ Some a → Q.coming claim.old ≡ Some b →
         IfEnds unclaimed_texts (made_for job (a ∷ b ∷ [])) result }
     ensures faults { CountsDevices result (P.faults instance.old ∷ Q.faults claim.old ∷ []) (P.faults instance.new ∷ Q.faults claim.new ∷ []) }
 {

@@ -9,9 +9,9 @@ ghost use Rattle.dimacs_runs.specs.Runs.{Prints};
 
 use crate::failure::{CommandError, name_failure};
 use crate::files::Files;
-use crate::in_use::{close_read, open};
 use crate::jobs::JudgeKind;
 use crate::judge::run_judge;
+use crate::open_files::{close_read, open};
 use crate::outcome::Status;
 use crate::text::{TextForm, run_text};
 use dimacs_lines::{MemorySource, Sink};

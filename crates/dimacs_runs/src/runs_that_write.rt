@@ -8,8 +8,8 @@ ghost use Rattle.dimacs_runs.specs.Commands.{RunsFiles, WritesSolved, read_count
 use crate::discard::Discard;
 use crate::failure::{CommandError, name_failure};
 use crate::files::Files;
-use crate::in_use::{close_read, close_written, create, open};
 use crate::jobs::SolveJob;
+use crate::open_files::{close_read, close_written, create, open};
 use crate::outcome::Status;
 use crate::solve::run_solve;
 use dimacs_lines::{MemorySource, Sink};

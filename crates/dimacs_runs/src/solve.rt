@@ -7,19 +7,19 @@ ghost use Rattle.dimacs_records.specs.declared.reasons.Reason.{Reason};
 ghost use Rattle.dimacs_records.specs.Faults.{Fault};
 ghost use Rattle.dimacs_instance.specs.QueryTexts.{AreLawful, asked};
 ghost use Rattle.dimacs_runs.specs.declared.jobs.SolveJob.TheVariants as jobs;
-ghost use Rattle.dimacs_runs.specs.declared.made.Made.TheVariants.{Nothing};
+ghost use Rattle.dimacs_runs.specs.declared.run_outcome.OutputText.TheVariants.{Nothing};
 ghost use Rattle.dimacs_runs.specs.declared.outcome.RunError.TheVariants.{Device, Memory};
 ghost use Rattle.dimacs_runs.specs.Judgings.{CountsDevices};
 ghost use Rattle.dimacs_runs.specs.Outputs.{MayWrite, ReportsAll};
 ghost use Rattle.dimacs_runs.specs.inside.Judgings.{HasFault};
-ghost use Rattle.dimacs_runs.specs.inside.Outcomes.{MayProduce, settled};
+ghost use Rattle.dimacs_runs.specs.inside.Outcomes.{MayProduce, outcome_of};
 ghost use Rattle.dimacs_runs.specs.inside.Outcomes as outcomes;
 ghost use Rattle.dimacs_runs.specs.Solved.{AreQueries, FindsPaths, Solved, solved_kind};
 
 use crate::jobs::SolveJob;
-use crate::made::{Made, Outcome, write_outcome};
 use crate::outcome::{RunError, Status};
 use crate::report::Report;
+use crate::run_outcome::{Outcome, OutputText, write_outcome};
 use crate::stop::{Stop, settle};
 use crate::texts_in_turn::{read, read_two};
 use dimacs_instance::{Graph, MaxInstance, MinInstance, Queries};
@@ -72,8 +72,8 @@ pub fn run_solve<P: Source, Q: Source, C: Sink, D: Sink, K: Sink>(
 
 /// Finds a maximum flow and a cut.
 fn produce_maximum<P: Source>(alloc: Global, limit: u64, instance: &mut P) -> Result<Outcome, Stop>
-    ensures produces { (a : List ℕ) → P.coming instance.old ≡ Some a → MayProduce (Solved (jobs.Max limit) a []) (settled result) }
-    ensures faults { CountsDevices (settled result) (P.faults instance.old ∷ []) (P.faults instance.new ∷ []) }
+    ensures produces { (a : List ℕ) → P.coming instance.old ≡ Some a → MayProduce (Solved (jobs.Max limit) a []) (outcome_of result) }
+    ensures faults { CountsDevices (outcome_of result) (P.faults instance.old ∷ []) (P.faults instance.new ∷ []) }
 {
     let instance: MaxInstance<PlainArcs<CapacityArc>> = read(alloc, instance)?;
     maximum_outcome(solve_max(alloc, &instance, limit))
@@ -81,8 +81,8 @@ fn produce_maximum<P: Source>(alloc: Global, limit: u64, instance: &mut P) -> Re
 
 /// Finds a flow of least cost and potentials, or a set of nodes.
 fn produce_least<P: Source>(alloc: Global, limit: u64, instance: &mut P) -> Result<Outcome, Stop>
-    ensures produces { (a : List ℕ) → P.coming instance.old ≡ Some a → MayProduce (Solved (jobs.Min limit) a []) (settled result) }
-    ensures faults { CountsDevices (settled result) (P.faults instance.old ∷ []) (P.faults instance.new ∷ []) }
+    ensures produces { (a : List ℕ) → P.coming instance.old ≡ Some a → MayProduce (Solved (jobs.Min limit) a []) (outcome_of result) }
+    ensures faults { CountsDevices (outcome_of result) (P.faults instance.old ∷ []) (P.faults instance.new ∷ []) }
 {
     let instance: MinInstance<PlainArcs<ArcView>> = read(alloc, instance)?;
     least_outcome(solve_min(alloc, &instance, limit))
@@ -94,10 +94,10 @@ fn produce_labels<P: Source, Q: Source>(
     graph: &mut P,
     queries: &mut Q,
 ) -> Result<Outcome, Stop>
-    ensures produces { (a b : List ℕ) → P.coming graph.old ≡ Some a → Q.coming queries.old ≡ Some b → MayProduce (Solved jobs.Paths a b) (settled result) }
-    ensures faults { CountsDevices (settled result) (P.faults graph.old ∷ Q.faults queries.old ∷ []) (P.faults graph.new ∷ Q.faults queries.new ∷ []) }
+    ensures produces { (a b : List ℕ) → P.coming graph.old ≡ Some a → Q.coming queries.old ≡ Some b → MayProduce (Solved jobs.Paths a b) (outcome_of result) }
+    ensures faults { CountsDevices (outcome_of result) (P.faults graph.old ∷ Q.faults queries.old ∷ []) (P.faults graph.new ∷ Q.faults queries.new ∷ []) }
     ensures stops_at_graph { HasFault kinds.Graph (P.coming graph.old) → queries.new ≡ queries.old }
-    ensures unclaimed { IfOk (settled result) (λ outcome. outcome.claim ≡ Nothing) }
+    ensures unclaimed { IfOk (outcome_of result) (λ outcome. outcome.claim ≡ Nothing) }
 {
     let (graph, queries): (Graph<PlainArcs<WeightArc>>, _) = read_two(alloc, graph, queries)?;
     label(alloc, &graph, &queries)
@@ -106,14 +106,14 @@ fn produce_labels<P: Source, Q: Source>(
 /// Finds labels that answer queries, or refuses.
 fn label<N: Network>(alloc: Global, graph: &Graph<N>, queries: &Queries) -> Result<Outcome, Stop>
     requires lawful { AreLawful (asked queries.now) }
-    ensures produces { MayProduce (FindsPaths graph.now (asked queries.now)) (settled result) }
-    ensures no_device { settled result ≢ Err Device }
-    ensures unclaimed { IfOk (settled result) (λ outcome. outcome.claim ≡ Nothing) }
+    ensures produces { MayProduce (FindsPaths graph.now (asked queries.now)) (outcome_of result) }
+    ensures no_device { outcome_of result ≢ Err Device }
+    ensures unclaimed { IfOk (outcome_of result) (λ outcome. outcome.claim ≡ Nothing) }
 {
     let mut labels = solve_paths(alloc, graph, queries)?;
     index_for(queries, &mut labels)?;
     let answers = answer_queries(alloc, queries, &labels)?;
-    Ok(Outcome::certified(Made::Labels(labels), Report::Yes(answers)))
+    Ok(Outcome::with_text(OutputText::Labels(labels), Report::Yes(answers)))
 }
 
 /// What follows from the solver's answer about a maximum flow.
@@ -124,8 +124,8 @@ fn maximum_outcome(answer: Result<MaxAnswer, SolveError>) -> Result<Outcome, Sto
         MaxAnswer::Optimal(solution, cut) => {
             let report = Report::Yes(Verdict::Max(solution.value));
             Ok(Outcome {
-                claim: Made::Solution(solution),
-                certificate: Made::Cut(cut),
+                claim: OutputText::Solution(solution),
+                certificate: OutputText::Cut(cut),
                 report,
             })
         }
@@ -141,14 +141,14 @@ fn least_outcome(answer: Result<MinAnswer, SolveError>) -> Result<Outcome, Stop>
         MinAnswer::Optimal(solution, potentials) => {
             let report = Report::Yes(Verdict::Min(solution.value));
             Ok(Outcome {
-                claim: Made::Solution(solution),
-                certificate: Made::Potentials(potentials),
+                claim: OutputText::Solution(solution),
+                certificate: OutputText::Potentials(potentials),
                 report,
             })
         }
         MinAnswer::Infeasible(set) => {
             let report = Report::Yes(Verdict::Infeasible);
-            Ok(Outcome::certified(Made::Cut(set), report))
+            Ok(Outcome::with_text(OutputText::Cut(set), report))
         }
         MinAnswer::GaveUp => Ok(Outcome::reporting(Report::GaveUp)),
     }

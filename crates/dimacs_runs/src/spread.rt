@@ -9,13 +9,13 @@ ghost use Rattle.dimacs_runs.specs.declared.outcome.RunError.TheVariants.{Device
 ghost use Rattle.dimacs_runs.specs.Judgings.{CountsDevices};
 ghost use Rattle.dimacs_runs.specs.Outputs.{ReportsAll};
 ghost use Rattle.dimacs_runs.specs.Spread.{Spreads, SpreadsClaim};
-ghost use Rattle.dimacs_runs.specs.inside.Outcomes.{DealsOut, IfEnds, settled, unclaimed_texts};
+ghost use Rattle.dimacs_runs.specs.inside.Outcomes.{DealsOut, IfEnds, outcome_of, unclaimed_texts};
 
 use crate::discard::Discard;
 use crate::jobs::SpreadKind;
-use crate::made::{Made, Outcome, write_outcome};
 use crate::outcome::{RunError, Status};
 use crate::report::Report;
+use crate::run_outcome::{Outcome, OutputText, write_outcome};
 use crate::stop::{Stop, settle};
 use crate::texts_in_turn::read_two;
 use dimacs_claims::Solution;
@@ -78,8 +78,8 @@ fn spread_maximum<P: Source, Q: Source>(
     claim: &mut Q,
 ) -> Result<Outcome, Stop>
     ensures spreads { (a b : List ℕ) → P.coming instance.old ≡ Some a → Q.coming claim.old ≡ Some b →
-        IfEnds unclaimed_texts (Spreads spreads.Max a b) (settled result) }
-    ensures faults { CountsDevices (settled result) (P.faults instance.old ∷ Q.faults claim.old ∷ []) (P.faults instance.new ∷ Q.faults claim.new ∷ []) }
+        IfEnds unclaimed_texts (Spreads spreads.Max a b) (outcome_of result) }
+    ensures faults { CountsDevices (outcome_of result) (P.faults instance.old ∷ Q.faults claim.old ∷ []) (P.faults instance.new ∷ Q.faults claim.new ∷ []) }
 {
     let (instance, claim): (MaxInstance<PlainArcs<CapacityArc>>, _) = read_two(
         alloc, instance, claim,
@@ -95,8 +95,8 @@ fn spread_least<P: Source, Q: Source>(
     claim: &mut Q,
 ) -> Result<Outcome, Stop>
     ensures spreads { (a b : List ℕ) → P.coming instance.old ≡ Some a → Q.coming claim.old ≡ Some b →
-        IfEnds unclaimed_texts (Spreads spreads.Min a b) (settled result) }
-    ensures faults { CountsDevices (settled result) (P.faults instance.old ∷ Q.faults claim.old ∷ []) (P.faults instance.new ∷ Q.faults claim.new ∷ []) }
+        IfEnds unclaimed_texts (Spreads spreads.Min a b) (outcome_of result) }
+    ensures faults { CountsDevices (outcome_of result) (P.faults instance.old ∷ Q.faults claim.old ∷ []) (P.faults instance.new ∷ Q.faults claim.new ∷ []) }
 {
     let (instance, claim): (MinInstance<PlainArcs<ArcView>>, _) = read_two(alloc, instance, claim)?;
     let flow = spread_min(alloc, &instance, &claim);
@@ -113,8 +113,8 @@ fn answer_spread<N: Network>(
     requires few_arcs { length (N.list network.now) ≤ most_count }
     requires one_each { IfOk flow (λ x. length x ≡ length (N.list network.now)) }
     ensures spreads { (kind : SpreadKind) (s : SolutionValue) → value ≡ s.value → DealsOut kind (N.list network.now) s flow
-        → IfEnds unclaimed_texts (SpreadsClaim kind (N.list network.now) s) (settled result) }
-    ensures no_device { settled result ≢ Err Device }
+        → IfEnds unclaimed_texts (SpreadsClaim kind (N.list network.now) s) (outcome_of result) }
+    ensures no_device { outcome_of result ≢ Err Device }
 {
     let flow = flow?;
     let entries = entries_for(alloc, network, &flow)?;
@@ -123,5 +123,5 @@ fn answer_spread<N: Network>(
         value_line: 1,
         entries,
     };
-    Ok(Outcome::certified(Made::Solution(solution), Report::Nothing))
+    Ok(Outcome::with_text(OutputText::Solution(solution), Report::Nothing))
 }

@@ -1,11 +1,11 @@
 //! What ends a run early.
 
 ghost use Rattle.std.specs.Prelude.{◌≡◌};
-ghost use Rattle.dimacs_runs.specs.inside.Outcomes.{settled};
+ghost use Rattle.dimacs_runs.specs.inside.Outcomes.{outcome_of};
 
-use crate::made::Outcome;
 use crate::outcome::RunError;
 use crate::report::Report;
+use crate::run_outcome::Outcome;
 use crate::texts_in_turn::Unread;
 use dimacs_judge::{JudgeError, Where};
 use dimacs_lines::Memory;
@@ -79,7 +79,7 @@ impl From<SolveError> for Stop {
 
 /// The outcome of a run that a report may have ended early.
 pub(crate) fn settle(answer: Result<Outcome, Stop>) -> Result<Outcome, RunError>
-    ensures { result ≡ settled answer }
+    ensures { result ≡ outcome_of answer }
 {
     match answer {
         Ok(outcome) => Ok(outcome),

@@ -8,8 +8,8 @@ ghost use Rattle.dimacs_runs.specs.Runs.{Reports, PrintsText, Prints};
 ghost use Rattle.dimacs_runs.specs.inside.Judgings.{text_says};
 
 use crate::discard::Discard;
-use crate::made::write_outcome;
 use crate::outcome::{RunError, Status};
+use crate::run_outcome::write_outcome;
 use crate::stop::{Stop, settle};
 use crate::texts_in_turn::{read, read_summary};
 use dimacs_claims::{Cut, Distances, Labels, Potentials, Solution};

@@ -5,10 +5,10 @@ use Rattle.dimacs_lines.specs.Devices.{Written}
 use Rattle.dimacs_runs.specs.declared.failure.CommandError.{CommandError}
 use Rattle.dimacs_runs.specs.declared.outcome.RunError.{RunError}
 use Rattle.dimacs_runs.specs.declared.outcome.Status.{Status}
-use Rattle.dimacs_runs.specs.declared.made.Outcome.{Outcome}
+use Rattle.dimacs_runs.specs.declared.run_outcome.Outcome.{Outcome}
 use Rattle.dimacs_runs.specs.declared.runs_that_make.ClaimJob.{ClaimJob}
 use Rattle.dimacs_runs.specs.declared.runs_that_make.ClaimJob.TheVariants.{Certify, Spread}
-use Rattle.dimacs_runs.specs.Commands.{Contents, MakesCertificate, MakesSpread, Making, RunsOver, Seen, StopsOpening, WritesNothing, at_first, at_last, failures_named, files_for, made_events, output_faults, reads, text_first}
+use Rattle.dimacs_runs.specs.Commands.{Contents, MakesCertificate, MakesSpread, Making, RunsOver, Seen, StopsOpening, WritesNothing, accepted_before, accepted_after, failures_named, files_for, made_events, output_faults, reads, text_first}
 use Rattle.dimacs_runs.specs.Files.{FileEvent, FilesSeen, NotCreated, Opened, Read, ReadFile, Sees, WrittenFile, failures}
 use Rattle.dimacs_runs.specs.Outputs.{ReportsAll}
 use Rattle.dimacs_runs.specs.inside.Outcomes.{IfEnds, unclaimed_texts}
@@ -17,7 +17,7 @@ use Rattle.dimacs_runs.specs.inside.Reports.{report_status}
 -- the name, if there is one
 abbrev pub names_of : {W : Type 0} → (W → List ℕ) → Option W → List (List ℕ)
 names_of bytes None = []
-names_of bytes (Some word) = bytes word ∷ []
+names_of bytes (Some name) = bytes name ∷ []
 
 -- what a run makes of an instance and a claim
 abbrev pub made_for : ClaimJob → Making
@@ -33,7 +33,7 @@ pub record ClosesRead (opened : List (List ℕ)) (holds : Contents) (makes : Mak
   pub read : List ReadFile
   pub all_read : map (λ (file : ReadFile). file.name) read ≡ opened
   pub happened : events ≡ map Opened opened ++ map Read read
-  pub made : (texts : List (List ℕ)) → map holds opened ≡ map Some texts → IfEnds unclaimed_texts (makes texts) result
+  pub possible : (texts : List (List ℕ)) → map holds opened ≡ map Some texts → IfEnds unclaimed_texts (makes texts) result
 
 -- the same, or one file could not be opened; the operation that the result names is the only one that failed
 pub record AnswersFiles (opened : List (List ℕ)) (holds : Contents) (makes : Making) (result : Result Outcome CommandError) (old new : FilesSeen) : Type 0 where
@@ -65,10 +65,10 @@ pub record WritesText (p : Outcome) (created : List (List ℕ)) (empty : Option 
   pub written : List WrittenFile
   pub all_written : map (λ (file : WrittenFile). file.name) written ≡ files_for created (unclaimed_texts p)
   pub happened : events ≡ flat_map made_events written
-  pub reports : ReportsAll (IsWritten p) result (text_first (at_first (map (λ (file : WrittenFile). file.name) written) empty old)) (text_first (at_last written new))
+  pub reports : ReportsAll (IsWritten p) result (text_first (accepted_before (map (λ (file : WrittenFile). file.name) written) empty old)) (text_first (accepted_after written new))
   pub something_written : ¬ WritesNothing result
 
 -- the outcome was written; its text goes to a file with one of these names, or nowhere
-abbrev pub WritesMade : Outcome → List (List ℕ) → Option (List ℕ) → Result Status CommandError → Seen → Seen → Type 0
-WritesMade p created empty result old new =
+abbrev pub WritesOutcome : Outcome → List (List ℕ) → Option (List ℕ) → Result Status CommandError → Seen → Seen → Type 0
+WritesOutcome p created empty result old new =
     RunsOver (λ events. WritesNowhere p created events result old new ⊎ WritesText p created empty events result old.output.accepted new.output.accepted) result old new

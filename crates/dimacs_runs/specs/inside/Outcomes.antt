@@ -18,17 +18,17 @@ use Rattle.dimacs_network.specs.declared.network.ArcView.{ArcView}
 use Rattle.dimacs_solve.specs.declared.error.SolveError.{SolveError}
 use Rattle.dimacs_solve.specs.declared.error.SolveError.TheVariants as solve_errors
 use Rattle.dimacs_solve.specs.declared.maximum.MaxAnswer.{MaxAnswer}
-use Rattle.dimacs_solve.specs.declared.maximum.MaxAnswer.TheVariants as maximum
+use Rattle.dimacs_solve.specs.declared.maximum.MaxAnswer.TheVariants as max_answers
 use Rattle.dimacs_solve.specs.declared.least.MinAnswer.{MinAnswer}
-use Rattle.dimacs_solve.specs.declared.least.MinAnswer.TheVariants as least
+use Rattle.dimacs_solve.specs.declared.least.MinAnswer.TheVariants as min_answers
 use Rattle.dimacs_spread.specs.Spread.{IsRefusal}
 use Rattle.dimacs_runs.specs.declared.jobs.SpreadKind.{SpreadKind}
 use Rattle.dimacs_runs.specs.declared.outcome.Status.{Status}
 use Rattle.dimacs_runs.specs.declared.outcome.RunError.{RunError}
 use Rattle.dimacs_runs.specs.declared.outcome.RunError.TheVariants.{Device, Memory}
-use Rattle.dimacs_runs.specs.declared.made.Made.{Made}
-use Rattle.dimacs_runs.specs.declared.made.Made.TheVariants.{Nothing, Solution, Cut, Potentials, Labels}
-use Rattle.dimacs_runs.specs.declared.made.Outcome.{Outcome}
+use Rattle.dimacs_runs.specs.declared.run_outcome.OutputText.{OutputText}
+use Rattle.dimacs_runs.specs.declared.run_outcome.OutputText.TheVariants.{Nothing, Solution, Cut, Potentials, Labels}
+use Rattle.dimacs_runs.specs.declared.run_outcome.Outcome.{Outcome}
 use Rattle.dimacs_runs.specs.declared.report.Report.{Report}
 use Rattle.dimacs_runs.specs.declared.report.Report.TheVariants as reports
 use Rattle.dimacs_runs.specs.declared.stop.Stop.{Stop}
@@ -41,26 +41,26 @@ use Rattle.dimacs_runs.specs.Spread.{IsBestOf, SpreadsFlow}
 use Rattle.dimacs_runs.specs.inside.Reports.{report_lines, report_status}
 
 -- the bytes of a text
-abbrev pub made_text : Made → List ℕ
-made_text Nothing = []
-made_text (Solution solution) = canonical_solution (claimed solution)
-made_text (Cut cut) = canonical_cut cut
-made_text (Potentials potentials) = canonical_potentials potentials
-made_text (Labels labels) = canonical_labels labels
+abbrev pub text_bytes : OutputText → List ℕ
+text_bytes Nothing = []
+text_bytes (Solution solution) = canonical_solution (claimed solution)
+text_bytes (Cut cut) = canonical_cut cut
+text_bytes (Potentials potentials) = canonical_potentials potentials
+text_bytes (Labels labels) = canonical_labels labels
 
 -- the texts without the claim, and all: the claim, the certificate and the report
 abbrev pub unclaimed_texts : Outcome → List (List ℕ)
-unclaimed_texts o = made_text o.certificate ∷ report_lines o.report ∷ []
+unclaimed_texts o = text_bytes o.certificate ∷ report_lines o.report ∷ []
 
 abbrev pub outcome_texts : Outcome → List (List ℕ)
-outcome_texts o = made_text o.claim ∷ unclaimed_texts o
+outcome_texts o = text_bytes o.claim ∷ unclaimed_texts o
 
 -- a report with a certificate, and a report alone
-abbrev pub certified : Made → Report → Outcome
-certified certificate report = record { claim = Nothing; certificate = certificate; report = report }
+abbrev pub with_text : OutputText → Report → Outcome
+with_text certificate report = record { claim = Nothing; certificate = certificate; report = report }
 
 abbrev pub reporting : Report → Outcome
-reporting report = certified Nothing report
+reporting report = with_text Nothing report
 
 -- what sinks have accepted, and how often each has failed
 abbrev pub accepted_by : List Written → List (Option (List ℕ))
@@ -94,25 +94,25 @@ solve_stop (solve_errors.NegativeWeight arc) = stops.Report (reports.No (Arc arc
 solve_stop (solve_errors.Refused place reason) = stops.Report (reports.No place reason)
 solve_stop solve_errors.Memory = Error Memory
 
-abbrev pub settled : Result Outcome Stop → Result Outcome RunError
-settled (Ok outcome) = Ok outcome
-settled (Err (stops.Report report)) = Ok (reporting report)
-settled (Err (Error error)) = Err error
+abbrev pub outcome_of : Result Outcome Stop → Result Outcome RunError
+outcome_of (Ok outcome) = Ok outcome
+outcome_of (Err (stops.Report report)) = Ok (reporting report)
+outcome_of (Err (Error error)) = Err error
 
 -- what follows from the answer of a judge, and of the solvers of flows
-abbrev pub judged : Result Verdict JudgeError → Result Outcome Stop
-judged (Ok verdict) = Ok (reporting (reports.Yes verdict))
-judged (Err error) = Err (judge_stop error)
+abbrev pub judge_outcome : Result Verdict JudgeError → Result Outcome Stop
+judge_outcome (Ok verdict) = Ok (reporting (reports.Yes verdict))
+judge_outcome (Err error) = Err (judge_stop error)
 
 abbrev pub maximum_outcome : Result MaxAnswer SolveError → Result Outcome Stop
-maximum_outcome (Ok (maximum.Optimal solution cut)) = Ok (record { claim = Solution solution; certificate = Cut cut; report = reports.Yes (verdicts.Max solution.value) })
-maximum_outcome (Ok maximum.GaveUp) = Ok (reporting reports.GaveUp)
+maximum_outcome (Ok (max_answers.Optimal solution cut)) = Ok (record { claim = Solution solution; certificate = Cut cut; report = reports.Yes (verdicts.Max solution.value) })
+maximum_outcome (Ok max_answers.GaveUp) = Ok (reporting reports.GaveUp)
 maximum_outcome (Err error) = Err (solve_stop error)
 
 abbrev pub least_outcome : Result MinAnswer SolveError → Result Outcome Stop
-least_outcome (Ok (least.Optimal solution potentials)) = Ok (record { claim = Solution solution; certificate = Potentials potentials; report = reports.Yes (verdicts.Min solution.value) })
-least_outcome (Ok (least.Infeasible set)) = Ok (certified (Cut set) (reports.Yes verdicts.Infeasible))
-least_outcome (Ok least.GaveUp) = Ok (reporting reports.GaveUp)
+least_outcome (Ok (min_answers.Optimal solution potentials)) = Ok (record { claim = Solution solution; certificate = Potentials potentials; report = reports.Yes (verdicts.Min solution.value) })
+least_outcome (Ok (min_answers.Infeasible set)) = Ok (with_text (Cut set) (reports.Yes verdicts.Infeasible))
+least_outcome (Ok min_answers.GaveUp) = Ok (reporting reports.GaveUp)
 least_outcome (Err error) = Err (solve_stop error)
 
 -- the outcome, if there is one, is possible, by its status and these texts of it

@@ -4,7 +4,7 @@ use Rattle.dimacs_claims.specs.SolutionTexts.{GivesSolution}
 use Rattle.dimacs_instance.specs.MinTexts.{GivesMin}
 use Rattle.dimacs_runs.specs.Certified.{CertifiesLeast}
 use Rattle.dimacs_runs.specs.Runs.{says}
-use Rattle.dimacs_runs.specs.inside.Outcomes.{settled}
+use Rattle.dimacs_runs.specs.inside.Outcomes.{outcome_of}
 use Rattle.dimacs_runs.proofs.TextLemmas.{certifying, two_end, two_stop}
 use Rattle.dimacs_runs.proofs.certify.certify_least.Goals as goal
 
@@ -12,7 +12,7 @@ use Rattle.dimacs_runs.proofs.certify.certify_least.Goals as goal
 pub returns-clause-certifies : goal.returns-clause-certifies
 returns-clause-certifies g c = λ a b first second.
     let (s, placed, solution) = c.in_ok-placed.ensures.reads b second in
-    two_end certifying (says kinds.Min GivesMin a) (says kinds.Solution GivesSolution b) (λ i s. CertifiesLeast i s) c.in_ok-instance.instance s (settled c.answer_least.result) (c.in_ok-instance.ensures.reads a first) solution (c.answer_least.ensures.certifies s placed)
+    two_end certifying (says kinds.Min GivesMin a) (says kinds.Solution GivesSolution b) (λ i s. CertifiesLeast i s) c.in_ok-instance.instance s (outcome_of c.answer_least.result) (c.in_ok-instance.ensures.reads a first) solution (c.answer_least.ensures.certifies s placed)
 
 -- the instance could not be read
 pub returns-in_err-instance-clause-certifies : goal.returns-in_err-instance-clause-certifies

@@ -17,4 +17,4 @@ returns-clause-certifies g c = λ s x improved line.
       c.in_ok-solution.ensures,
       refl,
     ) in
-    rw c.certified.ensures (greater_certifies i c.requires.lawful s solution c.at_value.result (rw (c.at_value.ensures, line) refl) says)
+    rw c.with_text.ensures (greater_certifies i c.requires.lawful s solution c.at_value.result (rw (c.at_value.ensures, line) refl) says)

@@ -4,7 +4,7 @@ use Rattle.dimacs_runs.proofs.CertifyingLemmas.{distances_error, labels_certify}
 use Rattle.dimacs_runs.proofs.certify_distances.answer_blocks.Goals as goal
 
 pub returns-clause-certifies : goal.returns-clause-certifies
-returns-clause-certifies g c = rw c.certified.ensures (labels_certify c.args.graph.now c.args.distances.now c.in_ok-labels.labels _ (ap length c.blocks-2.ensures.blocks) c.requires c.in_ok-labels.ensures)
+returns-clause-certifies g c = rw c.with_text.ensures (labels_certify c.args.graph.now c.args.distances.now c.in_ok-labels.labels _ (ap length c.blocks-2.ensures.blocks) c.requires c.in_ok-labels.ensures)
 
 pub returns-in_err-labels-clause-certifies : goal.returns-in_err-labels-clause-certifies
 returns-in_err-labels-clause-certifies g c =

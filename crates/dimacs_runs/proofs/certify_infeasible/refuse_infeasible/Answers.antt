@@ -2,7 +2,7 @@ use Rattle.std.proofs.Common.{refl, inl, inr}
 use Rattle.dimacs_claims.specs.SolutionTexts.{claimed}
 use Rattle.dimacs_optimality.specs.Entries.{IsMinSolutionOf}
 use Rattle.dimacs_optimality.specs.FlowTests.{LeavesCostRange}
-use Rattle.dimacs_runs.proofs.CertifyingLemmas.{feasible_certifies, unsaid_feasible_certifies}
+use Rattle.dimacs_runs.proofs.CertifyingLemmas.{feasible_certifies, no_solution_feasible}
 use Rattle.dimacs_runs.proofs.certify_infeasible.refuse_infeasible.Goals as goal
 use Rattle.dimacs_runs.proofs.certify_infeasible.refuse_infeasible.Goals.{in-Some, in-None}
 
@@ -14,8 +14,8 @@ returns-clause-certifies g c =
       | in-Some w ↦
           let solution = w.in-Some.solution in
           let claims : IsMinSolutionOf i y (claimed solution) = rw w.in-Some.is at c.in_ok-solution.ensures.some in
-          rw (c.certified.ensures, w.made-is) (feasible_certifies i solution (y, c.requires, inl (claimed solution, claims, refl)))
+          rw (c.with_text.ensures, w.text-is) (feasible_certifies i solution (y, c.requires, inl (claimed solution, claims, refl)))
       | in-None w ↦
           let beyond : LeavesCostRange i.arcs y = rw w.in-None.is at c.in_ok-solution.ensures.none in
-          rw (c.certified.ensures, w.made-is) (unsaid_feasible_certifies i (y, c.requires, inr (beyond, refl)))
+          rw (c.with_text.ensures, w.text-is) (no_solution_feasible i (y, c.requires, inr (beyond, refl)))
     ]

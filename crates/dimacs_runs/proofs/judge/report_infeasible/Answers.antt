@@ -16,7 +16,7 @@ returns-clause-reports g c = λ a b first second.
     let read = c.in_ok-instance.ensures.reads a b first second in
     let i = c.in_ok-instance.instance in
     let k = c.in_ok-instance.set in
-    rw c.judged.ensures (two_end reporting_way (says kinds.Min GivesMin a) (says kinds.Cut GivesCut b) (λ i k. VerdictOr (ShowsNoFlow i k) (infeasible_rows i k) infeasible_line) i k _ read.0 read.1
+    rw c.judge_outcome.ensures (two_end reporting_way (says kinds.Min GivesMin a) (says kinds.Cut GivesCut b) (λ i k. VerdictOr (ShowsNoFlow i k) (infeasible_rows i k) infeasible_line) i k _ read.0 read.1
     (answer_alone (ShowsNoFlow i k) (infeasible_rows i k) _ infeasible_line (λ verdict is. ap verdict_lines is) c.judge_infeasible.result c.judge_infeasible.ensures.judges))
 
 -- a text could not be read

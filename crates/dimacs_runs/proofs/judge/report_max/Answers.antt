@@ -7,7 +7,7 @@ use Rattle.dimacs_optimality.specs.MaxJudge.{ShowsMaximum, max_rows}
 use Rattle.dimacs_runs.specs.Judgings.{VerdictOr}
 use Rattle.dimacs_runs.specs.Runs.{says}
 use Rattle.dimacs_runs.specs.Verdicts.{max_line, verdict_lines}
-use Rattle.dimacs_runs.proofs.JudgingLemmas.{answer_alone, judged_counts}
+use Rattle.dimacs_runs.proofs.JudgingLemmas.{answer_alone, judge_outcome_counts}
 use Rattle.dimacs_runs.proofs.TextLemmas.{reporting_way, three_end, three_stop}
 use Rattle.dimacs_runs.proofs.judge.report_max.Goals as goal
 
@@ -17,11 +17,11 @@ returns-clause-reports g c = λ a b d first second third.
     let i = c.in_ok-instance.instance in
     let k = c.in_ok-placed.cut in
     let (s, placed, solution, certificate) = c.in_ok-placed.ensures.reads b d second third in
-    rw c.judged.ensures (three_end reporting_way (says kinds.Max GivesMax a) (says kinds.Solution GivesSolution b) (says kinds.Cut GivesCut d) (λ i s k. VerdictOr (ShowsMaximum i s k) (max_rows i s k) (max_line s.value)) i s k _ (c.in_ok-instance.ensures.reads a first) solution certificate
+    rw c.judge_outcome.ensures (three_end reporting_way (says kinds.Max GivesMax a) (says kinds.Solution GivesSolution b) (says kinds.Cut GivesCut d) (λ i s k. VerdictOr (ShowsMaximum i s k) (max_rows i s k) (max_line s.value)) i s k _ (c.in_ok-instance.ensures.reads a first) solution certificate
     (answer_alone (ShowsMaximum i s k) (max_rows i s k) _ (max_line s.value) (λ verdict is. ap verdict_lines is) c.judge_max_placed.result (c.judge_max_placed.ensures s placed)))
 
 pub returns-clause-faults : goal.returns-clause-faults
-returns-clause-faults g c = rw c.judged.ensures (judged_counts c.judge_max_placed.result _ _ _ _ c.in_ok-instance.ensures.faults c.in_ok-placed.ensures.faults)
+returns-clause-faults g c = rw c.judge_outcome.ensures (judge_outcome_counts c.judge_max_placed.result _ _ _ _ c.in_ok-instance.ensures.faults c.in_ok-placed.ensures.faults)
 
 -- the instance could not be read
 pub returns-in_err-instance-clause-reports : goal.returns-in_err-instance-clause-reports

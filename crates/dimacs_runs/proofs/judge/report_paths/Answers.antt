@@ -17,7 +17,7 @@ returns-clause-reports g c = λ a b d first second third.
     let i = c.in_ok-graph.graph in
     let q = asked c.in_ok-graph.queries in
     let l = c.in_ok-graph.labels in
-    rw c.judged.ensures (three_end reporting_way (says kinds.Graph GivesGraph a) (says kinds.Queries GivesQueries b) (says kinds.Labels GivesLabels d) (λ i q l. VerdictOr (ShowsDistances i q l) (paths_rows i q l) (paths_lines l.blocks q)) i q l _ read.0 read.1 read.2
+    rw c.judge_outcome.ensures (three_end reporting_way (says kinds.Graph GivesGraph a) (says kinds.Queries GivesQueries b) (says kinds.Labels GivesLabels d) (λ i q l. VerdictOr (ShowsDistances i q l) (paths_rows i q l) (paths_lines l.blocks q)) i q l _ read.0 read.1 read.2
     (answer_alone (ShowsDistances i q l) (paths_rows i q l) _ (paths_lines l.blocks q) (λ verdict is. paths_said l.blocks q verdict is) c.judge_paths.result (rw c.in_ok-index_for.ensures at c.judge_paths.ensures)))
 
 -- a text could not be read

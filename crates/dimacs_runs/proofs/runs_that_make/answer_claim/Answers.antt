@@ -29,7 +29,7 @@ returns g c =
           (rw c.or-failure.ensures (two_first c.close_read.result c.close_read-2.result (Read instance) (Read claim) c.close_read.ensures.failure c.close_read-2.ensures.failure))
           (rw (c.in_ok-instance.ensures.faultless, c.in_ok-claim.ensures.faultless) at c.make-answer.ensures.faults)
           (each_text (_ ∷ _ ∷ []) (λ (texts : List (List ℕ)). IfEnds unclaimed_texts (made_for c.args.job texts) answer) (λ a first b second.
-          (c.make-answer.ensures.made a b
+          (c.make-answer.ensures.possible a b
           (c.in_ok-instance.ensures.coming ∙ first)
           (c.in_ok-claim.ensures.coming ∙ ap (λ (h : Contents). h c.args.claim.now) c.in_ok-instance.ensures.holds ∙ second))));
     }

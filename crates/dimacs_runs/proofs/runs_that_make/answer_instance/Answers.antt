@@ -2,7 +2,7 @@ use Rattle.std.proofs.Common.{ℕ, ◌∙◌, List, [], ◌∷◌, refl}
 use Rattle.dimacs_runs.specs.declared.jobs.CertifyKind.TheVariants as certifies
 use Rattle.dimacs_runs.specs.Commands.{MakesCertificate}
 use Rattle.dimacs_runs.specs.Files.{Read, ReadFile}
-use Rattle.dimacs_runs.specs.inside.Outcomes.{IfEnds, settled, unclaimed_texts}
+use Rattle.dimacs_runs.specs.inside.Outcomes.{IfEnds, outcome_of, unclaimed_texts}
 use Rattle.dimacs_runs.proofs.FileLemmas.{one_first}
 use Rattle.dimacs_runs.proofs.MakingLemmas.{answers_files, answers_nothing}
 use Rattle.dimacs_runs.proofs.PlanLemmas.{each_text, sees_nothing}
@@ -14,7 +14,7 @@ returns-in_err-instance g c =
 
 pub returns : goal.returns
 returns g c =
-    let answer = settled c.certify_infeasible.result in
+    let answer = outcome_of c.certify_infeasible.result in
     let instance : ReadFile = record { name = c.in_ok-instance.instance.name.now; faults = g.F.Input.Source.faults c.certify_infeasible.new.instance } in
     record {
       answers = answers_files (instance ∷ []) answer c.close_read-failure.result

@@ -3,7 +3,7 @@ use Rattle.dimacs_instance.specs.Graph.{GivesGraph}
 use Rattle.dimacs_instance.specs.QueryTexts.{GivesQueries, asked}
 use Rattle.dimacs_runs.specs.Runs.{says}
 use Rattle.dimacs_runs.specs.Solved.{FindsPaths}
-use Rattle.dimacs_runs.specs.inside.Outcomes.{settled}
+use Rattle.dimacs_runs.specs.inside.Outcomes.{outcome_of}
 use Rattle.dimacs_runs.proofs.SolvingLemmas.{counts_none}
 use Rattle.dimacs_runs.proofs.TextLemmas.{producing, two_end, two_stop}
 use Rattle.dimacs_runs.proofs.solve.produce_labels.Goals as goal
@@ -12,10 +12,10 @@ use Rattle.dimacs_runs.proofs.solve.produce_labels.Goals as goal
 pub returns-clause-produces : goal.returns-clause-produces
 returns-clause-produces g c = λ a b first second.
     let read = c.in_ok-graph.ensures.reads a b first second in
-    two_end producing (says kinds.Graph GivesGraph a) (says kinds.Queries GivesQueries b) (λ g q. FindsPaths g q) c.in_ok-graph.graph (asked c.in_ok-graph.queries) (settled c.label.result) read.0 read.1 c.label.ensures.produces
+    two_end producing (says kinds.Graph GivesGraph a) (says kinds.Queries GivesQueries b) (λ g q. FindsPaths g q) c.in_ok-graph.graph (asked c.in_ok-graph.queries) (outcome_of c.label.result) read.0 read.1 c.label.ensures.produces
 
 pub returns-clause-faults : goal.returns-clause-faults
-returns-clause-faults g c = counts_none (settled c.label.result) _ _ c.label.ensures.no_device c.in_ok-graph.ensures.faults
+returns-clause-faults g c = counts_none (outcome_of c.label.result) _ _ c.label.ensures.no_device c.in_ok-graph.ensures.faults
 
 -- a text could not be read
 pub returns-in_err-graph-clause-produces : goal.returns-in_err-graph-clause-produces

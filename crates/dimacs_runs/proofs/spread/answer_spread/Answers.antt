@@ -19,5 +19,5 @@ returns-clause-spreads g c = λ kind s value deals.
     let dealt : DealsOut kind arcs s (Ok c.in_ok-flow.flow) = rw c.in_ok-flow.was at deals in
     let solution : SolutionValue = record { value = c.args.value; value_line = 1; entries = entries.entries.items } in
     let fits : SFits w128 c.args.value = search rules in
-    rw (c.certified.ensures, to_z-of_z w128 c.args.value fits)
+    rw (c.with_text.ensures, to_z-of_z w128 c.args.value fits)
     (c.in_ok-flow.flow, dealt.0, dealt.1, solution, record { value = value; all_arcs = record { value_first = refl; all_arcs = entries.ensures.all }; flows = entries.ensures.flows }, refl)

@@ -7,7 +7,7 @@ use Rattle.dimacs_instance.specs.MaxTexts.{GivesMax}
 use Rattle.dimacs_runs.specs.declared.jobs.SpreadKind.TheVariants.{Max}
 use Rattle.dimacs_runs.specs.Runs.{says}
 use Rattle.dimacs_runs.specs.Spread.{SpreadsClaim}
-use Rattle.dimacs_runs.specs.inside.Outcomes.{settled}
+use Rattle.dimacs_runs.specs.inside.Outcomes.{outcome_of}
 use Rattle.dimacs_runs.proofs.SpreadLemmas.{max_deals}
 use Rattle.dimacs_runs.proofs.SolvingLemmas.{counts_none}
 use Rattle.dimacs_runs.proofs.TextLemmas.{spreading, two_end, two_stop}
@@ -22,11 +22,11 @@ returns-clause-spreads g c = λ a b first second.
     let flow = c.spread_max-flow in
     let deals = max_deals instance.arcs solution flow.result flow.ensures.deals flow.ensures.kept flow.ensures.refused in
     let fits : SFits w128 c.in_ok-instance.claim.value = search rules in
-    two_end spreading (says kinds.Max GivesMax a) (says kinds.Solution GivesSolution b) (λ i s. SpreadsClaim Max i.arcs s) instance solution (settled c.answer_spread.result) read.0 read.1
+    two_end spreading (says kinds.Max GivesMax a) (says kinds.Solution GivesSolution b) (λ i s. SpreadsClaim Max i.arcs s) instance solution (outcome_of c.answer_spread.result) read.0 read.1
     (rw c.network.ensures.arcs at (c.answer_spread.ensures.spreads Max) solution (to_z-of_z w128 c.in_ok-instance.claim.value fits) deals)
 
 pub returns-clause-faults : goal.returns-clause-faults
-returns-clause-faults g c = counts_none (settled c.answer_spread.result) _ _ c.answer_spread.ensures.no_device c.in_ok-instance.ensures.faults
+returns-clause-faults g c = counts_none (outcome_of c.answer_spread.result) _ _ c.answer_spread.ensures.no_device c.in_ok-instance.ensures.faults
 
 -- a text could not be read
 pub returns-in_err-instance-clause-spreads : goal.returns-in_err-instance-clause-spreads

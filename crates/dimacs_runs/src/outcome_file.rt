@@ -2,25 +2,25 @@
 
 ghost use Rattle.std.specs.Prelude.{◌∷◌, []};
 ghost use Rattle.dimacs_runs.specs.Commands.{seen_by};
-ghost use Rattle.dimacs_runs.specs.inside.Making.{WritesMade, WritesReport, names_of};
+ghost use Rattle.dimacs_runs.specs.inside.Making.{WritesOutcome, WritesReport, names_of};
 
 use crate::discard::Discard;
 use crate::failure::{CommandError, name_failure};
 use crate::files::Files;
-use crate::in_use::{close_written, create};
-use crate::made::{Outcome, write_outcome};
+use crate::open_files::{close_written, create};
 use crate::outcome::Status;
+use crate::run_outcome::{Outcome, write_outcome};
 use dimacs_lines::Sink;
 
 /// Writes the text of an outcome to the file with this name, then the report to the output. The file is created only if there
 /// is a text. Without a name the text is dropped.
-pub(crate) fn write_made<'a, F: Files, K: Sink>(
+pub(crate) fn write_outcome_file<'a, F: Files, K: Sink>(
     outcome: Outcome,
     name: Option<&'a str>,
     files: &mut F,
     output: &mut K,
 ) -> Result<Status, CommandError<'a>>
-    ensures writes { WritesMade outcome (names_of (λ word. word.now) name.entry) F.empty result
+    ensures writes { WritesOutcome outcome (names_of (λ it. it.now) name.entry) F.empty result
         (seen_by (F.seen files.old) (K.seen output.old))
         (seen_by (F.seen files.new) (K.seen output.new)) }
 {
@@ -37,7 +37,7 @@ fn write_into<'a, F: Files, K: Sink>(
     files: &mut F,
     output: &mut K,
 ) -> Result<Status, CommandError<'a>>
-    ensures writes { WritesMade outcome (name.now ∷ []) F.empty result
+    ensures writes { WritesOutcome outcome (name.now ∷ []) F.empty result
         (seen_by (F.seen files.old) (K.seen output.old))
         (seen_by (F.seen files.new) (K.seen output.new)) }
 {

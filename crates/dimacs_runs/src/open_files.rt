@@ -9,7 +9,7 @@ use crate::files::Files;
 
 /// An open file with its name.
 #[derive(Drop)]
-pub(crate) struct InUse<'a, D> {
+pub(crate) struct OpenFile<'a, D> {
     pub(crate) name: &'a str,
     pub(crate) device: D,
 }
@@ -18,7 +18,7 @@ pub(crate) struct InUse<'a, D> {
 pub(crate) fn open<'a, F: Files>(
     files: &mut F,
     name: &'a str,
-) -> Result<InUse<'a, F::Input>, CommandError<'a>>
+) -> Result<OpenFile<'a, F::Input>, CommandError<'a>>
     ensures named { IfOk result (λ file. file.name.now ≡ name.now) }
     ensures holds { F.holds files.new ≡ F.holds files.old }
     ensures coming { IfOk result (λ file. F.Input.coming file.device ≡ F.holds files.old name.now) }
@@ -27,7 +27,7 @@ pub(crate) fn open<'a, F: Files>(
     ensures failed { IfErr result (FailsWith (NotOpened name.now) (F.seen files.old) (F.seen files.new)) }
 {
     match files.open(name) {
-        Ok(device) => Ok(InUse { name, device }),
+        Ok(device) => Ok(OpenFile { name, device }),
         Err(error) => Err(error.on_file(FileCall::Open, name)),
     }
 }
@@ -36,14 +36,14 @@ pub(crate) fn open<'a, F: Files>(
 pub(crate) fn create<'a, F: Files>(
     files: &mut F,
     name: &'a str,
-) -> Result<InUse<'a, F::Output>, CommandError<'a>>
+) -> Result<OpenFile<'a, F::Output>, CommandError<'a>>
     ensures named { IfOk result (λ file. file.name.now ≡ name.now) }
     ensures empty { IfOk result (λ file. F.Output.seen file.device ≡ record { accepted = F.empty; faults = 0 }) }
     ensures created { IfOk result (λ file. Sees (Created name.now ∷ []) (F.seen files.old) (F.seen files.new)) }
     ensures failed { IfErr result (FailsWith (NotCreated name.now) (F.seen files.old) (F.seen files.new)) }
 {
     match files.create(name) {
-        Ok(device) => Ok(InUse { name, device }),
+        Ok(device) => Ok(OpenFile { name, device }),
         Err(error) => Err(error.on_file(FileCall::Create, name)),
     }
 }
@@ -51,7 +51,7 @@ pub(crate) fn create<'a, F: Files>(
 /// Closes a file that was read. The failure of its reads, if one failed.
 pub(crate) fn close_read<'a, F: Files>(
     files: &mut F,
-    file: InUse<'a, F::Input>,
+    file: OpenFile<'a, F::Input>,
 ) -> Option<Failure<'a>>
     ensures failure { IsFirstOf result (failures (closed_read file.entry.name.now (F.Input.faults file.entry.device))) }
     ensures seen { Sees (closed_read file.entry.name.now (F.Input.faults file.entry.device) ∷ []) (F.seen files.old) (F.seen files.new) }
@@ -66,7 +66,7 @@ pub(crate) fn close_read<'a, F: Files>(
 /// Closes a file that was written. The failure of its writes, if one failed.
 pub(crate) fn close_written<'a, F: Files>(
     files: &mut F,
-    file: InUse<'a, F::Output>,
+    file: OpenFile<'a, F::Output>,
 ) -> Option<Failure<'a>>
     ensures failure { IsFirstOf result (failures (closed_written file.entry.name.now (F.Output.seen file.entry.device))) }
     ensures seen { Sees (closed_written file.entry.name.now (F.Output.seen file.entry.device) ∷ []) (F.seen files.old) (F.seen files.new) }

@@ -2,8 +2,8 @@
 
 ghost use Rattle.std.specs.Prelude.{◌≡◌, ◌↔◌, ◌∷◌, [], IfOk, IsTrue};
 ghost use Rattle.dimacs_lines.specs.Puts.{Puts};
-ghost use Rattle.dimacs_runs.specs.declared.made.Made.TheVariants.{Nothing};
-ghost use Rattle.dimacs_runs.specs.inside.Outcomes.{EndsWriting, made_text};
+ghost use Rattle.dimacs_runs.specs.declared.run_outcome.OutputText.TheVariants.{Nothing};
+ghost use Rattle.dimacs_runs.specs.inside.Outcomes.{EndsWriting, text_bytes};
 ghost use Rattle.dimacs_runs.specs.inside.Outcomes as outcomes;
 
 use crate::outcome::{RunError, Status};
@@ -15,7 +15,7 @@ use dimacs_lines::{DeviceFault, Sink};
 
 /// A text that a run made.
 #[derive(Drop)]
-pub(crate) enum Made {
+pub(crate) enum OutputText {
     Nothing,
     Solution(Solution),
     Cut(Cut),
@@ -23,25 +23,25 @@ pub(crate) enum Made {
     Labels(Labels),
 }
 
-impl Made {
+impl OutputText {
     /// Whether there is no text to write.
     pub(crate) fn is_nothing(&self) -> bool
         ensures { IsTrue result ↔ (self.now ≡ Nothing) }
     {
-        matches!(self, Made::Nothing)
+        matches!(self, OutputText::Nothing)
     }
 
     /// Writes the text.
     fn write<K: Sink>(&self, sink: &mut K) -> Result<(), DeviceFault>
-        ensures puts { Puts result (K.seen sink.old) (made_text self.now) (K.seen sink.new) }
+        ensures puts { Puts result (K.seen sink.old) (text_bytes self.now) (K.seen sink.new) }
         ensures unmade { self.now ≡ Nothing → sink.new ≡ sink.old }
     {
         match self {
-            Made::Nothing => Ok(()),
-            Made::Solution(solution) => write_solution(solution, sink),
-            Made::Cut(cut) => write_cut(cut, sink),
-            Made::Potentials(potentials) => write_potentials(potentials, sink),
-            Made::Labels(labels) => write_labels(labels, sink),
+            OutputText::Nothing => Ok(()),
+            OutputText::Solution(solution) => write_solution(solution, sink),
+            OutputText::Cut(cut) => write_cut(cut, sink),
+            OutputText::Potentials(potentials) => write_potentials(potentials, sink),
+            OutputText::Labels(labels) => write_labels(labels, sink),
         }
     }
 }
@@ -50,10 +50,10 @@ impl Made {
 #[derive(Drop)]
 pub(crate) struct Outcome {
     /// A solution. There is none for someone else's claim, nor of labels, which are claim and certificate in one.
-    pub(crate) claim: Made,
+    pub(crate) claim: OutputText,
     /// A certificate; or a solution in its place: a flow better than the claimed one, any feasible flow, or a claimed
     /// flow dealt out to parallel arcs.
-    pub(crate) certificate: Made,
+    pub(crate) certificate: OutputText,
     pub(crate) report: Report,
 }
 
@@ -62,15 +62,15 @@ impl Outcome {
     pub(crate) fn reporting(report: Report) -> Outcome
         ensures { result ≡ outcomes.reporting report }
     {
-        Outcome::certified(Made::Nothing, report)
+        Outcome::with_text(OutputText::Nothing, report)
     }
 
     /// A report on someone else's claim, with a certificate or a text in its place.
-    pub(crate) fn certified(certificate: Made, report: Report) -> Outcome
-        ensures { result ≡ outcomes.certified certificate report }
+    pub(crate) fn with_text(certificate: OutputText, report: Report) -> Outcome
+        ensures { result ≡ outcomes.with_text certificate report }
     {
         Outcome {
-            claim: Made::Nothing,
+            claim: OutputText::Nothing,
             certificate,
             report,
         }
