@@ -45,7 +45,8 @@ uncertified line = [] ∷ line ∷ []
 abbrev pub CertificateOr : (List ℕ → Type 0) → List ℕ → List Row → (List ℕ → Type 0) → List ℕ → Status → List (List ℕ) → Type 0
 CertificateOr shows verdict rows better refusal Done out = (text : List ℕ) × shows text × (out ≡ text ∷ verdict ∷ [])
 CertificateOr shows verdict rows better refusal Refused out =
-    ((place : Where) × (reason : Reason) × First rows place reason × (out ≡ uncertified (failure_line place reason))) ⊎ ((text : List ℕ) × better text × (out ≡ text ∷ refusal ∷ []))
+    ((place : Where) × (reason : Reason) × First rows place reason × (out ≡ uncertified (failure_line place reason)))
+    ⊎ ((text : List ℕ) × better text × (out ≡ text ∷ refusal ∷ []))
 CertificateOr shows verdict rows better refusal GaveUp out = ⊥
 
 -- the line that refuses the claimed value
@@ -58,7 +59,8 @@ SaysCut i s text = (c : CutValue) × ShowsMaximum i s c × (text ≡ canonical_c
 
 -- the claimed flow isn't maximum, and this is the text of a solution with a greater value
 abbrev pub SaysGreater : MaxValue → SolutionValue → List ℕ → Type 0
-SaysGreater i s text = (x : List ℤ) × (y : List ℤ) × IsMaxImproved i s x y × (better : SolutionValue) × IsMaxSolutionOf i y better × (text ≡ canonical_solution better)
+SaysGreater i s text =
+    (x : List ℤ) × (y : List ℤ) × IsMaxImproved i s x y × (better : SolutionValue) × IsMaxSolutionOf i y better × (text ≡ canonical_solution better)
 
 -- the text of potentials that show that the claimed flow costs least
 abbrev pub SaysPotentials : MinValue → SolutionValue → List ℕ → Type 0
@@ -98,7 +100,9 @@ CertifiesInfeasible i = CertificateOr (SaysSet i) infeasible_line [] (SaysFeasib
 abbrev pub CertifiesDistances : NetworkValue → LabelsValue → Status → List (List ℕ) → Type 0
 CertifiesDistances g d Done out = (d.nodes ≡ g.nodes) × ((text : List ℕ) × SaysLabels g d.blocks text × (out ≡ text ∷ distances_line (length d.blocks) ∷ []))
 CertifiesDistances g d Refused out =
-    ((d.nodes ≢ g.nodes) × (out ≡ uncertified (refusal_line (codes "distances") 0 0 NodesDiffer))) ⊎ ((d.nodes ≡ g.nodes) × (¬ AreAllDistances g d.blocks) × ((place : Where) × (reason : Reason) × First (distances_rows g d.blocks) place reason × (out ≡ uncertified (failure_line place reason))))
+    ((d.nodes ≢ g.nodes) × (out ≡ uncertified (refusal_line (codes "distances") 0 0 NodesDiffer)))
+    ⊎ ((d.nodes ≡ g.nodes) × (¬ AreAllDistances g d.blocks)
+    × ((place : Where) × (reason : Reason) × First (distances_rows g d.blocks) place reason × (out ≡ uncertified (failure_line place reason))))
 CertifiesDistances g d GaveUp out = ⊥
 
 -- what is written for an instance and a claim

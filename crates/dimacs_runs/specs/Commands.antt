@@ -159,7 +159,8 @@ pub record UsesFiles (plan : Plan) (holds : Contents) (empty : Option (List ℕ)
   pub all_read : map (λ (file : ReadFile). file.name) read ≡ plan.opened
   pub all_written : map (λ (file : WrittenFile). file.name) written ≡ plan.created
   pub happened : events ≡ map Opened plan.opened ++ map Created plan.created ++ map Read read ++ map Wrote written
-  pub reports : (texts : List (List ℕ)) → map holds plan.opened ≡ map Some texts → writes texts result (accepted_before plan.created empty old) (accepted_after written new)
+  pub reports : (texts : List (List ℕ)) → map holds plan.opened ≡ map Some texts
+      → writes texts result (accepted_before plan.created empty old) (accepted_after written new)
   pub nothing_written : WritesNothing result → accepted_after written new ≡ accepted_before plan.created empty old
 
 -- a file was created, written and closed
@@ -174,7 +175,8 @@ pub record StopsMaking (plan : Plan) (holds : Contents) (makes : Making) (events
   pub all_read : map (λ (file : ReadFile). file.name) read ≡ plan.opened
   pub whole : plan.created ≡ name ∷ []
   pub happened : events ≡ (map Opened plan.opened ++ map Read read) ++ NotCreated name error ∷ []
-  pub possible : (texts : List (List ℕ)) → map holds plan.opened ≡ map Some texts → (status : Status) × (out : List (List ℕ)) × makes texts status out × (files_for plan.created out ≡ plan.created)
+  pub possible : (texts : List (List ℕ)) → map holds plan.opened ≡ map Some texts
+      → (status : Status) × (out : List (List ℕ)) × makes texts status out × (files_for plan.created out ≡ plan.created)
 
 -- the files to read were opened, read and closed; then one was created if there is a text for it; all was written
 pub record MakesFiles (plan : Plan) (holds : Contents) (empty : Option (List ℕ)) (makes : Making) (events : List FileEvent) (result : Result Status CommandError) (old new : Option (List ℕ)) : Type 0 where
@@ -183,7 +185,8 @@ pub record MakesFiles (plan : Plan) (holds : Contents) (empty : Option (List ℕ
   pub all_read : map (λ (file : ReadFile). file.name) read ≡ plan.opened
   pub happened : events ≡ (map Opened plan.opened ++ map Read read) ++ flat_map made_events written
   pub reports : (texts : List (List ℕ)) → map holds plan.opened ≡ map Some texts
-      → ReportsAll (λ status out. makes texts status out × (map (λ (file : WrittenFile). file.name) written ≡ files_for plan.created out)) result (text_first (accepted_before (map (λ (file : WrittenFile). file.name) written) empty old)) (text_first (accepted_after written new))
+      → ReportsAll (λ status out. makes texts status out × (map (λ (file : WrittenFile). file.name) written ≡ files_for plan.created out)) result
+      (text_first (accepted_before (map (λ (file : WrittenFile). file.name) written) empty old)) (text_first (accepted_after written new))
   pub nothing_written : WritesNothing result → (written ≡ []) × (new ≡ old)
 
 -- the failed operations on files that an error names
@@ -220,12 +223,14 @@ StopsEarly stops result old new = stops × IsErr result × (new.output.accepted 
 -- the files of the plan were used, or one of them could not be opened or created
 abbrev pub RunsFiles : Plan → Contents → Option (List ℕ) → Reporting → Result Status CommandError → Seen → Seen → Type 0
 RunsFiles plan holds empty writes result old new =
-    RunsOver (λ events. StopsEarly (StopsOpening plan events ⊎ StopsCreating plan empty events) result old new ⊎ UsesFiles plan holds empty writes events result old.output.accepted new.output.accepted) result old new
+    RunsOver (λ events. StopsEarly (StopsOpening plan events ⊎ StopsCreating plan empty events) result old new
+    ⊎ UsesFiles plan holds empty writes events result old.output.accepted new.output.accepted) result old new
 
 -- the files of the plan were read and one was created for a text, or one of them could not be opened or created
 abbrev pub MakesOfFiles : Plan → Contents → Option (List ℕ) → Making → Result Status CommandError → Seen → Seen → Type 0
 MakesOfFiles plan holds empty makes result old new =
-    RunsOver (λ events. StopsEarly (StopsOpening plan events ⊎ StopsMaking plan holds makes events) result old new ⊎ MakesFiles plan holds empty makes events result old.output.accepted new.output.accepted) result old new
+    RunsOver (λ events. StopsEarly (StopsOpening plan events ⊎ StopsMaking plan holds makes events) result old new
+    ⊎ MakesFiles plan holds empty makes events result old.output.accepted new.output.accepted) result old new
 
 -- certifying and spreading create their file once they have a text for it, the others before they run
 abbrev pub RunsJob : Job → Contents → Option (List ℕ) → Result Status CommandError → Seen → Seen → Type 0

@@ -15,7 +15,8 @@ use Rattle.dimacs_runs.specs.Verdicts.{failure_line}
 -- the text has a fault, and the report is its line; or it spells a value, and the report follows from that
 abbrev pub FaultOr : {V : Type 0} → TextSays V → (V → Status → List ℕ → Type 0) → Status → List ℕ → Type 0
 FaultOr text next status out =
-    ((l : ℕ) × (f : ℕ) × (r : Reason) × text.fault l f r × (status ≡ Refused) × (out ≡ refusal_line text.name l f r)) ⊎ ((v : _) × text.spells v × next v status out)
+    ((l : ℕ) × (f : ℕ) × (r : Reason) × text.fault l f r × (status ≡ Refused) × (out ≡ refusal_line text.name l f r))
+    ⊎ ((v : _) × text.spells v × next v status out)
 
 -- this holds, and the report is the verdict; or the report is the line of the first test that fails
 abbrev pub VerdictOr : Type 0 → List Row → List ℕ → Status → List ℕ → Type 0

@@ -17,7 +17,8 @@ abbrev pub AcceptInTurn : List (List ℕ) → List (Option (List ℕ)) → List 
 AcceptInTurn [] old new = ⊥
 AcceptInTurn (text ∷ texts) [] new = ⊥
 AcceptInTurn (text ∷ texts) (held ∷ old) [] = ⊥
-AcceptInTurn (text ∷ texts) (held ∷ old) (holds ∷ new) = (AcceptsFront held text holds × (new ≡ old)) ⊎ ((holds ≡ after_piece held text) × AcceptInTurn texts old new)
+AcceptInTurn (text ∷ texts) (held ∷ old) (holds ∷ new) =
+    (AcceptsFront held text holds × (new ≡ old)) ⊎ ((holds ≡ after_piece held text) × AcceptInTurn texts old new)
 
 -- this is a possible outcome; if a refusal is possible, it is the outcome
 abbrev pub MayWrite : (Status → List (List ℕ) → Type 0) → Status → List (List ℕ) → Type 0

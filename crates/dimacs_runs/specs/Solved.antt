@@ -43,29 +43,35 @@ report_alone line = [] ∷ [] ∷ line ∷ []
 -- the text has a fault, and only its line is written; or it spells a value, and the outcome follows from that
 abbrev pub FaultAloneOr : {V : Type 0} → (List ℕ → List (List ℕ)) → TextSays V → (V → Status → List (List ℕ) → Type 0) → Status → List (List ℕ) → Type 0
 FaultAloneOr alone text next status out =
-    ((l : ℕ) × (f : ℕ) × (r : Reason) × text.fault l f r × (status ≡ Refused) × (out ≡ alone (refusal_line text.name l f r))) ⊎ ((v : _) × text.spells v × next v status out)
+    ((l : ℕ) × (f : ℕ) × (r : Reason) × text.fault l f r × (status ≡ Refused) × (out ≡ alone (refusal_line text.name l f r)))
+    ⊎ ((v : _) × text.spells v × next v status out)
 
 -- a solution, a cut that shows it maximum, and the verdict; or none of `limit` flows is maximum
 abbrev pub FindsMaximum : MaxValue → ℕ → Status → List (List ℕ) → Type 0
-FindsMaximum i limit Done out = (0 < limit) × (s : SolutionValue) × (c : CutValue) × IsOptimal i s c × (out ≡ canonical_solution s ∷ canonical_cut c ∷ max_line s.value ∷ [])
+FindsMaximum i limit Done out =
+    (0 < limit) × (s : SolutionValue) × (c : CutValue) × IsOptimal i s c × (out ≡ canonical_solution s ∷ canonical_cut c ∷ max_line s.value ∷ [])
 FindsMaximum i limit Refused out = ⊥
 FindsMaximum i limit GaveUp out = GivesUp i limit × (out ≡ report_alone gave_up_line)
 
 -- a solution with potentials or a set of nodes, and the verdict; or no flow is least in `limit` steps, or in range
 abbrev pub FindsLeast : MinValue → ℕ → Status → List (List ℕ) → Type 0
 FindsLeast i limit Done out =
-    ((s : SolutionValue) × (p : PotentialsValue) × IsLeastAnswer i limit s p × (out ≡ canonical_solution s ∷ canonical_potentials p ∷ min_line s.value ∷ [])) ⊎ ((c : CutValue) × ShowsNoFlow i c × (out ≡ [] ∷ canonical_cut c ∷ infeasible_line ∷ []))
+    ((s : SolutionValue) × (p : PotentialsValue) × IsLeastAnswer i limit s p × (out ≡ canonical_solution s ∷ canonical_potentials p ∷ min_line s.value ∷ []))
+    ⊎ ((c : CutValue) × ShowsNoFlow i c × (out ≡ [] ∷ canonical_cut c ∷ infeasible_line ∷ []))
 FindsLeast i limit Refused out = ⊥
 FindsLeast i limit GaveUp out = GivesUpMin i limit × (out ≡ report_alone gave_up_line)
 
 -- the first query with a node that doesn't exist; otherwise the first arc with a negative weight
 abbrev pub RefusesPaths : NetworkValue → QueriesValue → Where → Reason → Type 0
-RefusesPaths g q place reason = FirstOfRow (query_node_row g.nodes q) place reason ⊎ (Clear (query_node_row g.nodes q) × ((k : ℕ) × IsFirstNegative g.arcs k × (place ≡ Arc k) × (reason ≡ NegativeWeight)))
+RefusesPaths g q place reason =
+    FirstOfRow (query_node_row g.nodes q) place reason
+    ⊎ (Clear (query_node_row g.nodes q) × ((k : ℕ) × IsFirstNegative g.arcs k × (place ≡ Arc k) × (reason ≡ NegativeWeight)))
 
 -- labels that are distances, and the verdict; or the line of a refusal
 abbrev pub FindsPaths : NetworkValue → QueriesValue → Status → List (List ℕ) → Type 0
 FindsPaths g q Done out =
-    (l : LabelsValue) × (Clear (query_node_row g.nodes q) × All HasNoNegativeWeight g.arcs × AreProduced g q l) × (out ≡ [] ∷ canonical_labels l ∷ paths_lines l.blocks q ∷ [])
+    (l : LabelsValue) × (Clear (query_node_row g.nodes q) × All HasNoNegativeWeight g.arcs × AreProduced g q l)
+    × (out ≡ [] ∷ canonical_labels l ∷ paths_lines l.blocks q ∷ [])
 FindsPaths g q Refused out = (place : Where) × (reason : Reason) × RefusesPaths g q place reason × (out ≡ report_alone (failure_line place reason))
 FindsPaths g q GaveUp out = ⊥
 

@@ -39,7 +39,8 @@ IsBestOf Min arcs s x = NoneCheaper arcs s.entries x
 abbrev pub SpreadsClaim : SpreadKind → List ArcView → SolutionValue → Status → List (List ℕ) → Type 0
 SpreadsClaim kind arcs s Done out =
     (x : List ℤ) × SpreadsFlow arcs s x × IsBestOf kind arcs s x × (t : SolutionValue) × IsSpreadOf arcs s x t × (out ≡ canonical_solution t ∷ [] ∷ [])
-SpreadsClaim kind arcs s Refused out = (place : Where) × (reason : Reason) × IsRefusedAt arcs s.entries place reason × (out ≡ uncertified (failure_line place reason))
+SpreadsClaim kind arcs s Refused out =
+    (place : Where) × (reason : Reason) × IsRefusedAt arcs s.entries place reason × (out ≡ uncertified (failure_line place reason))
 SpreadsClaim kind arcs s GaveUp out = ⊥
 
 -- what is written for an instance and a claimed flow

@@ -103,7 +103,8 @@ fn certify_maximum<P: Source, Q: Source>(
 ) -> Result<Outcome, Stop>
     ensures certifies { (a b : List ℕ) → P.coming instance.old ≡ Some a → Q.coming solution.old ≡ Some b →
         MayCertify (Certified certifies.Max a b) (outcome_of result) }
-    ensures faults { CountsDevices (outcome_of result) (P.faults instance.old ∷ Q.faults solution.old ∷ []) (P.faults instance.new ∷ Q.faults solution.new ∷ []) }
+    ensures faults { CountsDevices (outcome_of result) (P.faults instance.old ∷ Q.faults solution.old ∷ [])
+        (P.faults instance.new ∷ Q.faults solution.new ∷ []) }
     ensures stops_at_instance { HasFault kinds.Max (P.coming instance.old) → solution.new ≡ solution.old }
 {
     let instance: MaxInstance<PlainArcs<CapacityArc>> = read(alloc, instance)?;
@@ -120,7 +121,8 @@ fn certify_least<P: Source, Q: Source>(
 ) -> Result<Outcome, Stop>
     ensures certifies { (a b : List ℕ) → P.coming instance.old ≡ Some a → Q.coming solution.old ≡ Some b →
         MayCertify (Certified certifies.Min a b) (outcome_of result) }
-    ensures faults { CountsDevices (outcome_of result) (P.faults instance.old ∷ Q.faults solution.old ∷ []) (P.faults instance.new ∷ Q.faults solution.new ∷ []) }
+    ensures faults { CountsDevices (outcome_of result) (P.faults instance.old ∷ Q.faults solution.old ∷ [])
+        (P.faults instance.new ∷ Q.faults solution.new ∷ []) }
     ensures stops_at_instance { HasFault kinds.Min (P.coming instance.old) → solution.new ≡ solution.old }
 {
     let instance: MinInstance<PlainArcs<ArcView>> = read(alloc, instance)?;

@@ -65,10 +65,12 @@ pub record WritesText (p : Outcome) (created : List (List ℕ)) (empty : Option 
   pub written : List WrittenFile
   pub all_written : map (λ (file : WrittenFile). file.name) written ≡ files_for created (unclaimed_texts p)
   pub happened : events ≡ flat_map made_events written
-  pub reports : ReportsAll (IsWritten p) result (text_first (accepted_before (map (λ (file : WrittenFile). file.name) written) empty old)) (text_first (accepted_after written new))
+  pub reports : ReportsAll (IsWritten p) result (text_first (accepted_before (map (λ (file : WrittenFile). file.name) written) empty old))
+      (text_first (accepted_after written new))
   pub something_written : ¬ WritesNothing result
 
 -- the outcome was written; its text goes to a file with one of these names, or nowhere
 abbrev pub WritesOutcome : Outcome → List (List ℕ) → Option (List ℕ) → Result Status CommandError → Seen → Seen → Type 0
 WritesOutcome p created empty result old new =
-    RunsOver (λ events. WritesNowhere p created events result old new ⊎ WritesText p created empty events result old.output.accepted new.output.accepted) result old new
+    RunsOver (λ events. WritesNowhere p created events result old new
+    ⊎ WritesText p created empty events result old.output.accepted new.output.accepted) result old new

@@ -75,8 +75,10 @@ nowhere = record { accepted = None; faults = 0 }
 
 -- how a run ends that is to write this, or has an error
 abbrev pub EndsWriting : Result Outcome RunError → Result Status RunError → List Written → List Written → Type 0
-EndsWriting (Ok o) (Ok status) old new = (status ≡ report_status o.report) × AcceptAll (outcome_texts o) (accepted_by old) (accepted_by new) × (faults_by new ≡ faults_by old)
-EndsWriting (Ok o) (Err error) old new = (error ≡ Device) × AcceptInTurn (outcome_texts o) (accepted_by old) (accepted_by new) × OneMore (faults_by old) (faults_by new)
+EndsWriting (Ok o) (Ok status) old new =
+    (status ≡ report_status o.report) × AcceptAll (outcome_texts o) (accepted_by old) (accepted_by new) × (faults_by new ≡ faults_by old)
+EndsWriting (Ok o) (Err error) old new =
+    (error ≡ Device) × AcceptInTurn (outcome_texts o) (accepted_by old) (accepted_by new) × OneMore (faults_by old) (faults_by new)
 EndsWriting (Err error) result old new = (result ≡ Err error) × (new ≡ old)
 
 -- what a text of this kind that can't be read makes of a run, and the error of a judge or a solver
@@ -105,12 +107,14 @@ judge_outcome (Ok verdict) = Ok (reporting (reports.Yes verdict))
 judge_outcome (Err error) = Err (judge_stop error)
 
 abbrev pub maximum_outcome : Result MaxAnswer SolveError → Result Outcome Stop
-maximum_outcome (Ok (max_answers.Optimal solution cut)) = Ok (record { claim = Solution solution; certificate = Cut cut; report = reports.Yes (verdicts.Max solution.value) })
+maximum_outcome (Ok (max_answers.Optimal solution cut)) =
+    Ok (record { claim = Solution solution; certificate = Cut cut; report = reports.Yes (verdicts.Max solution.value) })
 maximum_outcome (Ok max_answers.GaveUp) = Ok (reporting reports.GaveUp)
 maximum_outcome (Err error) = Err (solve_stop error)
 
 abbrev pub least_outcome : Result MinAnswer SolveError → Result Outcome Stop
-least_outcome (Ok (min_answers.Optimal solution potentials)) = Ok (record { claim = Solution solution; certificate = Potentials potentials; report = reports.Yes (verdicts.Min solution.value) })
+least_outcome (Ok (min_answers.Optimal solution potentials)) =
+    Ok (record { claim = Solution solution; certificate = Potentials potentials; report = reports.Yes (verdicts.Min solution.value) })
 least_outcome (Ok (min_answers.Infeasible set)) = Ok (with_text (Cut set) (reports.Yes verdicts.Infeasible))
 least_outcome (Ok min_answers.GaveUp) = Ok (reporting reports.GaveUp)
 least_outcome (Err error) = Err (solve_stop error)
