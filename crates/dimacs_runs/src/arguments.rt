@@ -1,4 +1,4 @@
-//! The meaning of the command's arguments.
+//! The meaning of the command's arguments: a verb, such as `judge-max`, then files and options.
 
 ghost use Rattle.std.specs.Prelude.{◌≡◌, ◌≢◌, ◌∷◌, [], ℕ, List, IfSome, IfNone, length, map};
 ghost use Rattle.dimacs_records.specs.declared.kinds.TextKind.{TextKind};
@@ -14,7 +14,7 @@ use crate::jobs::{CertifyKind, Job, JudgeKind, SolveJob, SpreadKind};
 use dimacs_lines::number;
 use dimacs_records::TextKind;
 
-/// The number of files of a solver's run.
+/// The number of files of each solver.
 const PRODUCER_FILES: usize = 3;
 
 /// The limit if none is given.
@@ -23,8 +23,8 @@ const LIMIT: u64 = 1_000_000;
 /// The greatest limit.
 const GREATEST_LIMIT: i64 = 1_000_000_000;
 
-/// The run that these arguments (without the program's name) ask for, or none. Any argument may be the name of a file,
-/// even one that begins with `-`.
+/// The run that these arguments, without the program's name, ask for. A file may have any name, even one that begins
+/// with `-`.
 pub fn job(arguments: &[String]) -> Option<Job<'_>>
     ensures asked { IfSome result (λ wanted. Asks (map string_bytes arguments.now) wanted) }
     ensures not_asked { IfNone result ((wanted : Job) → ¬ Asks (map string_bytes arguments.now) wanted) }
@@ -54,7 +54,7 @@ fn text_arguments(arguments: &[String]) -> Option<(TextKind, &str)>
     }
 }
 
-/// The run over several files that a command and its arguments ask for.
+/// The run over several files that a verb and its arguments ask for.
 fn files_job<'a>(verb: &str, arguments: &'a [String]) -> Option<Job<'a>>
     ensures asked { IfSome result (Asks (verb.now ∷ map string_bytes arguments.now)) }
     ensures no_judge { IfNone result ((kind : JudgeKind) → verb.now ≡ judge_verb kind → length arguments.now ≢ file_count kind) }
@@ -75,7 +75,7 @@ fn files_job<'a>(verb: &str, arguments: &'a [String]) -> Option<Job<'a>>
     Some(Job::Solve(solve_job(verb, options)?, files))
 }
 
-/// The claim that a command judges if it has this many files.
+/// The claim that a verb with this many files judges.
 fn judge_kind(verb: &str, files: usize) -> Option<JudgeKind>
     ensures named { IfSome result (λ kind. (verb.now ≡ judge_verb kind) × (files ≡ file_count kind)) }
     ensures not_named { IfNone result ((kind : JudgeKind) → verb.now ≡ judge_verb kind → files ≢ file_count kind) }
@@ -89,7 +89,7 @@ fn judge_kind(verb: &str, files: usize) -> Option<JudgeKind>
     }
 }
 
-/// The claim that a command certifies if it has this many files.
+/// The claim that a verb with this many files certifies.
 fn certify_kind(verb: &str, files: usize) -> Option<CertifyKind>
     ensures named { IfSome result (λ kind. (verb.now ≡ certify_verb kind) × AreCertifyFiles kind files) }
     ensures not_named { IfNone result ((kind : CertifyKind) → verb.now ≡ certify_verb kind → ¬ AreCertifyFiles kind files) }
@@ -103,7 +103,7 @@ fn certify_kind(verb: &str, files: usize) -> Option<CertifyKind>
     }
 }
 
-/// The kind of instance whose flows a command deals out if it has this many files.
+/// The instance whose flows a verb with this many files deals out.
 fn spread_kind(verb: &str, files: usize) -> Option<SpreadKind>
     ensures named { IfSome result (λ kind. (verb.now ≡ spread_verb kind) × (files ≡ 3)) }
     ensures not_named { IfNone result ((kind : SpreadKind) → verb.now ≡ spread_verb kind → files ≢ 3) }
@@ -115,7 +115,7 @@ fn spread_kind(verb: &str, files: usize) -> Option<SpreadKind>
     }
 }
 
-/// What a command solves, with these arguments after its files.
+/// What a verb solves, with these arguments after its files.
 fn solve_job(verb: &str, options: &[String]) -> Option<SolveJob>
     ensures named { IfSome result (λ job. (verb.now ≡ solve_verb job) × AreOptions job (map string_bytes options.now)) }
     ensures not_named { IfNone result ((job : SolveJob) → verb.now ≡ solve_verb job → ¬ AreOptions job (map string_bytes options.now)) }
@@ -140,7 +140,7 @@ fn limit(options: &[String]) -> Option<u64>
     }
 }
 
-/// The limit that an argument spells: a number from 0 to 10^9.
+/// The limit that an argument spells.
 fn limit_in(argument: &[u8]) -> Option<u64>
     ensures spelled { IfSome result (IsLimit argument.now) }
     ensures not_spelled { IfNone result ((limit : ℕ) → ¬ IsLimit argument.now limit) }

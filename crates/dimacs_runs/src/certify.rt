@@ -1,4 +1,4 @@
-//! Certifying a claim that comes without a certificate.
+//! Runs that certify a claim without a certificate.
 
 ghost use Rattle.std.specs.Prelude.{◌≡◌, ◌≢◌, ◌⊎◌, ◌∷◌, [], ℕ, ℤ, List, Some, Err};
 ghost use Rattle.dimacs_lines.specs.Lines.{lines};
@@ -39,16 +39,15 @@ use dimacs_records::Reason;
 use dimacs_solve::improve_max;
 use std::alloc::Global;
 
-/// Reads an instance and a claim about it, in this order, decides whether the claim is true, and writes what shows it.
+/// Reads an instance and a claim about it, in this order, and decides whether the claim is true.
 ///
-/// If the claim is true, it writes a certificate with which the judge accepts the claim, then the verdict. If a claimed
-/// flow is feasible and has its claimed value but isn't optimal, it writes a solution of a better flow, with an entry
-/// for every arc, then a refusal at the claimed value. `Infeasible` writes a feasible flow in the same way if there is
-/// one, then a refusal of the instance. No solution is written if its cost is out of range.
+/// If it is true, it writes a certificate by which the judge accepts the claim, then the verdict. If the claimed flow is
+/// feasible and has its claimed value, but isn't optimal, it writes a solution with a better flow, then a refusal of the
+/// value. `Infeasible` writes a solution with a feasible flow if there is one, then a refusal of the instance. Each
+/// solution has an entry for every arc. If its cost is out of range, it isn't written.
 ///
-/// Otherwise it writes only a report: the fault of the first text that has one, or the first test of the claim that
-/// fails, of those that the judge makes before it looks at a certificate. The claim isn't read after an instance with a
-/// fault. `Infeasible` needs no claim and never reads one.
+/// Otherwise it writes only a report: the fault of the first text that has one, or, of the judge's tests that need no
+/// certificate, the first that fails. The claim isn't read after an instance with a fault. `Infeasible` has no claim.
 pub fn run_certify<P: Source, Q: Source, C: Sink, K: Sink>(
     alloc: Global,
     kind: CertifyKind,
@@ -75,7 +74,7 @@ pub fn run_certify<P: Source, Q: Source, C: Sink, K: Sink>(
     write_outcome(outcome, &mut Discard, certificate_out, report)
 }
 
-/// Certifies a claim. Returns what is to be written.
+/// Certifies a claim, and returns what `run_certify` writes.
 pub(crate) fn certify_claim<P: Source, Q: Source>(
     alloc: Global,
     kind: CertifyKind,
@@ -131,7 +130,7 @@ fn certify_least<P: Source, Q: Source>(
     answer_least(alloc, &instance, &placed)
 }
 
-/// Decides about a flow that was claimed to be maximum.
+/// Decides whether a claimed flow is maximum.
 fn answer_maximum<N: Network>(
     alloc: Global,
     instance: &MaxInstance<N>,
@@ -153,7 +152,7 @@ fn answer_maximum<N: Network>(
     }
 }
 
-/// Decides about a flow that was claimed to cost least.
+/// Decides whether a claimed flow costs least.
 fn answer_least<N: Network>(
     alloc: Global,
     instance: &MinInstance<N>,
@@ -174,7 +173,7 @@ fn answer_least<N: Network>(
     }
 }
 
-/// Refuses a claimed value because `flow` is better, with a solution of `flow` or of a still greater flow.
+/// Refuses a claimed value, because `flow` is better. The solution has `flow`, or a still greater one.
 fn refuse_maximum<N: Network>(
     alloc: Global,
     instance: &MaxInstance<N>,
@@ -193,7 +192,7 @@ fn refuse_maximum<N: Network>(
     Ok(Outcome::with_text(OutputText::Solution(solution), report))
 }
 
-/// Refuses a claimed cost because `flow` is better, with a solution of `flow` if its cost is in range.
+/// Refuses a claimed cost, because `flow` is better. The solution has `flow`, if its cost is in range.
 fn refuse_least<N: Network>(
     alloc: Global,
     instance: &MinInstance<N>,
@@ -213,7 +212,7 @@ fn refuse_least<N: Network>(
     Ok(Outcome::with_text(text, report))
 }
 
-/// The field of the claimed value on this line.
+/// The claimed value on this line.
 fn at_value(line: u64) -> Where
     ensures { result ≡ Where.Solution line 2 }
 {

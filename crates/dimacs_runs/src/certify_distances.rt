@@ -1,4 +1,4 @@
-//! Certifying claimed distances.
+//! Certifies claimed distances.
 
 ghost use Rattle.std.specs.Prelude.{◌≡◌, ◌≢◌, ◌∷◌, [], ℕ, List, Some, Err};
 ghost use Rattle.dimacs_records.specs.declared.kinds.TextKind.TheVariants as kinds;
@@ -36,7 +36,7 @@ pub(crate) fn certify_distances<P: Source, Q: Source>(
     answer_distances(alloc, &graph, &distances)
 }
 
-/// Decides about distances claimed of a graph. Refuses distances of a graph with another number of nodes.
+/// Refuses distances of a graph with another number of nodes, and decides about the others.
 fn answer_distances<N: Network>(
     alloc: Global,
     graph: &Graph<N>,
@@ -53,7 +53,7 @@ fn answer_distances<N: Network>(
     answer_blocks(alloc, graph, distances)
 }
 
-/// Decides about distances whose number of nodes is the graph's.
+/// Decides about distances of a graph with this number of nodes.
 fn answer_blocks<N: Network>(
     alloc: Global,
     graph: &Graph<N>,

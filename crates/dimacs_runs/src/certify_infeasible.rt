@@ -1,4 +1,4 @@
-//! Certifying that an instance has no feasible flow.
+//! Certifies that an instance has no feasible flow.
 
 ghost use Rattle.std.specs.Prelude.{◌≡◌, ◌≢◌, ◌∷◌, [], ℕ, List, Some, Err};
 ghost use Rattle.dimacs_optimality.specs.Feasible.{FeasibleMin};
@@ -20,7 +20,7 @@ use dimacs_network::{ArcView, Network, PlainArcs};
 use dimacs_records::{At, Reason, TextKind};
 use std::alloc::Global;
 
-/// Certifies that no flow is feasible, by a set of nodes, or refuses that with a feasible flow.
+/// Certifies that no flow is feasible, by a set of nodes, or refuses it by a feasible flow.
 pub(crate) fn certify_infeasible<P: Source>(
     alloc: Global,
     instance: &mut P,
@@ -46,7 +46,7 @@ fn answer_infeasible<N: Network>(alloc: Global, instance: &MinInstance<N>) -> Re
     }
 }
 
-/// Refuses an instance because `flow` is feasible, with a solution of it if its cost is in range.
+/// Refuses an instance, because `flow` is feasible. The solution has it, if its cost is in range.
 fn refuse_infeasible<N: Network>(
     alloc: Global,
     instance: &MinInstance<N>,

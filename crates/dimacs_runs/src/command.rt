@@ -1,4 +1,4 @@
-//! The command, from its arguments to the end of its run.
+//! The command, from its arguments to its exit status.
 
 ghost use Rattle.std.specs.Prelude.{◌≡◌, map};
 ghost use Rattle.std.specs.String.{string_bytes};
@@ -18,12 +18,12 @@ use crate::text::TextForm;
 use dimacs_lines::Sink;
 use std::alloc::Global;
 
-/// Runs what the arguments (without the program's name) ask for; none if they ask for no run. `output` is the standard
+/// Runs what the arguments, without the program's name, ask for. None if they ask for no run. `output` is the standard
 /// output.
 ///
-/// The files to read are opened first, then those to write are created, each in the order of the arguments. The first
-/// that can't be opened or created ends the run. Certifying and spreading create their file later: after those that
-/// were read are closed, and only if there is a text for it.
+/// It opens the files to read, then creates those to write, in the order of the arguments. The first that fails ends
+/// the run. To certify and to spread, it creates the file later: after it has closed the others, and only if there is a
+/// text to write.
 pub fn run_command<'a, F: Files, K: Sink>(
     alloc: Global,
     arguments: &'a [String],
@@ -38,7 +38,7 @@ pub fn run_command<'a, F: Files, K: Sink>(
     Some(run_job(alloc, wanted, files, output))
 }
 
-/// The exit status for the result of a command: that of its run, or 2 if the arguments asked for none.
+/// The exit status for the result of a command.
 pub fn command_status(ended: &Option<Result<Status, CommandError<'_>>>) -> u8
     ensures { result ≡ command_number ended.now }
 {

@@ -4,7 +4,7 @@ ghost use Rattle.std.specs.Prelude.{None};
 
 use dimacs_lines::{DeviceFault, Sink};
 
-/// Accepts all bytes and keeps none.
+/// Stands for an output that a run doesn't have.
 #[derive(Drop)]
 pub(crate) struct Discard;
 

@@ -1,4 +1,4 @@
-//! Which call failed, and why a command ended early.
+//! The errors of a command, which name the file.
 
 ghost use Rattle.std.specs.Prelude.{◌≡◌};
 ghost use Rattle.dimacs_runs.specs.Outcomes.{failed_call, failed_device};
@@ -18,7 +18,7 @@ pub enum FileCall {
 /// An operation that failed.
 #[derive(Clone, Copy, Debug, PartialEq, Eq)]
 pub enum Failure<'a> {
-    /// This operation, on the file with this name.
+    /// On the file with this name.
     File(FileCall, &'a str),
     /// A write to the standard output.
     Output,
@@ -35,7 +35,7 @@ impl<'a> Failure<'a> {
         }
     }
 
-    /// What could not be done, as words for a message after the name.
+    /// The end of a message that begins with the name, such as `cannot be opened`.
     pub fn call(&self) -> &'static str
         ensures { result.now ≡ failed_call self.now }
     {
@@ -51,14 +51,14 @@ impl<'a> Failure<'a> {
 /// Why a command did not write all of its output.
 #[derive(Clone, Copy, Debug, PartialEq, Eq)]
 pub enum CommandError<'a> {
-    /// An I/O error in this operation.
+    /// An I/O error.
     Device(Failure<'a>),
     /// Out of memory.
     Memory,
 }
 
 impl RunError {
-    /// The error of a command that could not open or create this file.
+    /// The same error, of a command that could not open or create this file.
     pub(crate) fn on_file<'a>(self, call: FileCall, name: &'a str) -> CommandError<'a>
         ensures device { self ≡ RunError.Device → result ≡ CommandError.Device (Failure.File call name.entry) }
         ensures memory { self ≡ RunError.Memory → result ≡ CommandError.Memory }
@@ -70,8 +70,7 @@ impl RunError {
     }
 }
 
-/// Adds to the end of a run which operation failed: the given one, or, if none is given, a write to the standard
-/// output.
+/// Adds the failed operation to an I/O error. If no file failed, the standard output did: a run has no other device.
 pub(crate) fn name_failure<'a, X>(
     ended: Result<X, RunError>,
     failure: Option<Failure<'a>>,

@@ -6,7 +6,7 @@ ghost use Rattle.dimacs_runs.specs.Files.{FilesSeen, Sees, closed_read, closed_w
 use crate::outcome::RunError;
 use dimacs_lines::{Sink, Source};
 
-/// Opens, creates and closes files by name. `dimacs` implements it for the operating system's files.
+/// Opens, creates and closes files by name.
 pub trait Files {
     /// A file opened for reading.
     type Input: Source + Drop;
@@ -14,33 +14,33 @@ pub trait Files {
     /// A file created for writing.
     type Output: Sink + Drop;
 
-    /// The bytes that the file with this name holds, if they are known.
+    /// The bytes that the file with a name holds, if they are known.
     ghost holds: { Self → List ℕ → Option (List ℕ) };
 
-    /// What a newly created file has accepted: nothing, if that is known.
+    /// What a file has accepted that was just created: no byte, if that is known.
     ghost empty: { Option (List ℕ) };
 
-    /// What was done so far, and how often a file failed.
+    /// The calls so far, and the number of those that failed.
     ghost seen: { Self → FilesSeen };
 
-    /// Opens a file for reading. `Device` if it can't be opened.
+    /// Opens a file for reading. `Device` if that fails.
     fn open(&mut self, name: &str) -> Result<Self::Input, RunError>
         ensures holds { holds self.new ≡ holds self.old }
         ensures coming { IfOk result (λ file. Self.Input.coming file ≡ holds self.old name.now) }
         ensures faultless { IfOk result (λ file. Self.Input.faults file ≡ 0) }
         ensures seen { Sees (opening result name.now ∷ []) (seen self.old) (seen self.new) };
 
-    /// Creates a file for writing, or empties the one there is. `Device` if it can't be created.
+    /// Creates a file for writing, or empties an existing one. `Device` if that fails.
     fn create(&mut self, name: &str) -> Result<Self::Output, RunError>
         ensures empty { IfOk result (λ file. Self.Output.seen file ≡ record { accepted = empty; faults = 0 }) }
         ensures seen { Sees (creating result name.now ∷ []) (seen self.old) (seen self.new) };
 
-    /// Closes a file that was read. True if one of its reads failed.
+    /// Closes a file. True if one of its reads failed.
     fn close_input(&mut self, name: &str, file: Self::Input) -> bool
         ensures failed { IsTrue result ↔ (Self.Input.faults file ≢ 0) }
         ensures seen { Sees (closed_read name.now (Self.Input.faults file) ∷ []) (seen self.old) (seen self.new) };
 
-    /// Closes a file that was written. True if one of its writes failed.
+    /// Closes a file. True if one of its writes failed.
     fn close_output(&mut self, name: &str, file: Self::Output) -> bool
         ensures failed { IsTrue result ↔ ((Self.Output.seen file).faults ≢ 0) }
         ensures seen { Sees (closed_written name.now (Self.Output.seen file) ∷ []) (seen self.old) (seen self.new) };

@@ -1,4 +1,4 @@
-//! What the command can do.
+//! What the command can run.
 
 ghost use Rattle.std.specs.Prelude.{◌≡◌, IfNone, IfSome, List, map, slice_get, ℕ};
 ghost use Rattle.std.specs.Option.{option_map};
@@ -7,20 +7,20 @@ ghost use Rattle.dimacs_runs.specs.Commands.{WritesTwice};
 
 use dimacs_records::TextKind;
 
-/// The claims that can be judged, each with its certificate.
+/// A claim that comes with a certificate.
 #[derive(Clone, Copy, Debug, PartialEq, Eq)]
 pub enum JudgeKind {
-    /// A flow is maximum. The certificate is a cut.
+    /// A flow is maximum, by a cut.
     Max,
-    /// A flow costs least. The certificate is potentials.
+    /// A flow costs least, by potentials.
     Min,
-    /// No flow is feasible. The certificate is a set of nodes.
+    /// No flow is feasible, by a set of nodes.
     Infeasible,
-    /// Labels are distances that answer the queries.
+    /// Labels are right, and answer queries.
     Paths,
 }
 
-/// The claims that can be certified without a certificate.
+/// A claim that comes without a certificate.
 #[derive(Clone, Copy, Debug, PartialEq, Eq)]
 pub enum CertifyKind {
     /// A flow is maximum.
@@ -33,7 +33,7 @@ pub enum CertifyKind {
     Paths,
 }
 
-/// The kinds of instances whose claimed flows can be dealt out to parallel arcs.
+/// An instance whose flows can be dealt out to parallel arcs.
 #[derive(Clone, Copy, Debug, PartialEq, Eq)]
 pub enum SpreadKind {
     /// Maximum flow.
@@ -45,39 +45,36 @@ pub enum SpreadKind {
 /// What can be solved.
 #[derive(Clone, Copy, Debug, PartialEq, Eq)]
 pub enum SolveJob {
-    /// A maximum flow. The limit counts the flows, from the zero flow on, that are tested for being maximum.
+    /// A maximum flow. The limit counts the flows that are tested for being maximum, from the zero flow on.
     Max(u64),
     /// A flow of least cost. The limit counts steps, each to a better flow.
     Min(u64),
-    /// Distances that answer queries. There is no limit.
+    /// Distances that answer queries.
     Paths,
 }
 
-/// A run, with the names of its files.
+/// A run, with the names of its files in the order of the arguments.
 #[derive(Clone, Copy, Debug, PartialEq, Eq)]
 pub enum Job<'a> {
     /// Prints the canonical form of a text.
     Convert(TextKind, &'a str),
     /// Prints a line that describes a text.
     Show(TextKind, &'a str),
-    /// Judges a claim. Reads the files of the instance, the claim and its certificate, in this order. `Infeasible` has
-    /// no claim: its files are the instance and the certificate.
+    /// Judges a claim. Reads an instance, a claim and a certificate. `Infeasible` has no file for the claim.
     Judge(JudgeKind, &'a [String]),
-    /// Certifies a claim. Reads the files of the instance and the claim. If there is a third file, it writes a
-    /// certificate or a better solution to it. `Infeasible` has no claim: it reads the instance, and writes to a second
-    /// file.
+    /// Certifies a claim. Reads an instance and a claim, and writes a certificate or a better solution to one more
+    /// file if it is named. `Infeasible` has no file for the claim.
     Certify(CertifyKind, &'a [String]),
-    /// Deals a claimed flow out to parallel arcs. Reads the files of the instance and the claim, and writes a solution
-    /// to the third.
+    /// Deals a claimed flow out to parallel arcs. Reads an instance and a claim, and writes a solution.
     Spread(SpreadKind, &'a [String]),
-    /// Solves an instance. `Max` and `Min` read the file of the instance, and write the claim and its certificate to
-    /// the other two. `Paths` reads the files of the graph and the queries, and writes labels to the third.
+    /// Solves an instance. `Max` and `Min` read an instance, and write a claim and its certificate. `Paths` reads a
+    /// graph and queries, and writes labels.
     Solve(SolveJob, &'a [String]),
 }
 
 impl<'a> Job<'a> {
-    /// The name of a file to which the run writes both the claim and its certificate, so that one destroys the other.
-    /// None if the two names differ; names that differ may still be the same file.
+    /// The name under which the run writes both claim and certificate, if it does: one would destroy the other. Two
+    /// different names may still be the same file.
     pub fn written_twice(&self) -> Option<&'a str>
         ensures twice { IfSome result (λ name. WritesTwice self.now name.now) }
         ensures once { IfNone result ((name : List ℕ) → ¬ WritesTwice self.now name) }

@@ -1,4 +1,4 @@
-//! Judging a claim about an instance.
+//! Runs that judge a claim by a certificate.
 
 ghost use Rattle.std.specs.Prelude.{◌≡◌, ◌≢◌, ◌⊎◌, ℕ, List, [], ◌∷◌, Some, Err};
 ghost use Rattle.dimacs_lines.specs.Lines.{lines};
@@ -32,10 +32,10 @@ use dimacs_lines::{Sink, Source};
 use dimacs_network::{ArcView, CapacityArc, PlainArcs, WeightArc};
 use std::alloc::Global;
 
-/// Reads an instance, a claim about it and a certificate, in this order, and prints the verdict of the judge. If a text
-/// has a fault, or a test fails, it prints the line of the first instead.
+/// Reads an instance, a claim about it and a certificate, in this order, and prints the judge's verdict, or the line of
+/// the first fault or of the first test that fails.
 ///
-/// No text is read after one with a fault. `Infeasible` has no claim and never reads one.
+/// It reads no text after one with a fault. `Infeasible` has no claim.
 pub fn run_judge<P: Source, Q: Source, R: Source, K: Sink>(
     alloc: Global,
     kind: JudgeKind,
@@ -69,14 +69,13 @@ pub fn run_judge<P: Source, Q: Source, R: Source, K: Sink>(
     write_outcome(settle(answer), &mut Discard, &mut Discard, sink)
 }
 
-/// What follows from a judge's answer.
+/// The outcome of a judge's answer.
 fn judge_outcome(answer: Result<Verdict, JudgeError>) -> Result<Outcome, Stop>
     ensures { result ≡ outcomes.judge_outcome answer }
 {
     Ok(Outcome::reporting(Report::Yes(answer?)))
 }
 
-/// Judges a claimed maximum flow, by a cut.
 fn report_max<P: Source, Q: Source, R: Source>(
     alloc: Global,
     instance: &mut P,
@@ -96,7 +95,6 @@ fn report_max<P: Source, Q: Source, R: Source>(
     judge_outcome(judge_max_placed(alloc, &instance, &placed, &cut))
 }
 
-/// Judges a claimed flow of least cost, by potentials.
 fn report_min<P: Source, Q: Source, R: Source>(
     alloc: Global,
     instance: &mut P,
@@ -116,7 +114,6 @@ fn report_min<P: Source, Q: Source, R: Source>(
     judge_outcome(judge_min_placed(alloc, &instance, &placed, &potentials))
 }
 
-/// Judges that no flow is feasible, by a set of nodes whose supply can't be met.
 fn report_infeasible<P: Source, R: Source>(
     alloc: Global,
     instance: &mut P,
@@ -136,7 +133,6 @@ fn report_infeasible<P: Source, R: Source>(
     judge_outcome(judge_infeasible(&instance, &set))
 }
 
-/// Judges the answers to queries, by labels.
 fn report_paths<P: Source, Q: Source, R: Source>(
     alloc: Global,
     graph: &mut P,

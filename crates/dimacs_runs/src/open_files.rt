@@ -7,14 +7,13 @@ ghost use Rattle.dimacs_runs.specs.inside.Commands.{FailsWith, IsFirstOf};
 use crate::failure::{CommandError, Failure, FileCall};
 use crate::files::Files;
 
-/// An open file with its name.
+/// An open file with its name, for messages.
 #[derive(Drop)]
 pub(crate) struct OpenFile<'a, D> {
     pub(crate) name: &'a str,
     pub(crate) device: D,
 }
 
-/// Opens the file with this name.
 pub(crate) fn open<'a, F: Files>(
     files: &mut F,
     name: &'a str,
@@ -32,7 +31,6 @@ pub(crate) fn open<'a, F: Files>(
     }
 }
 
-/// Creates the file with this name.
 pub(crate) fn create<'a, F: Files>(
     files: &mut F,
     name: &'a str,
@@ -48,7 +46,7 @@ pub(crate) fn create<'a, F: Files>(
     }
 }
 
-/// Closes a file that was read. The failure of its reads, if one failed.
+/// Closes a file that was read. Returns the failure if a read failed.
 pub(crate) fn close_read<'a, F: Files>(
     files: &mut F,
     file: OpenFile<'a, F::Input>,
@@ -63,7 +61,7 @@ pub(crate) fn close_read<'a, F: Files>(
     }
 }
 
-/// Closes a file that was written. The failure of its writes, if one failed.
+/// Closes a file that was written. Returns the failure if a write failed.
 pub(crate) fn close_written<'a, F: Files>(
     files: &mut F,
     file: OpenFile<'a, F::Output>,

@@ -5,21 +5,21 @@ ghost use Rattle.dimacs_runs.specs.Outcomes.{complaint_of, status_number};
 
 use dimacs_lines::{DeviceFault, Memory};
 
-/// What a run that ended without an error wrote.
+/// The end of a run that had no error.
 #[derive(Clone, Copy, Debug, PartialEq, Eq)]
 pub enum Status {
-    /// What was asked for. A solver that finds that no flow is feasible is done, too.
+    /// It wrote the answer. A solver that finds that no flow is feasible is done too.
     Done,
-    /// A refusal: a text has a fault, or the claim fails a test.
+    /// It wrote a refusal: a text has a fault, or a test fails.
     Refused,
-    /// The line `g limit`: a solver gave up.
+    /// It wrote the line `g limit`: the solver gave up.
     GaveUp,
 }
 
 /// Why a run did not write all of its output.
 #[derive(Clone, Copy, Debug, PartialEq, Eq)]
 pub enum RunError {
-    /// I/O error: a call of a source or a sink failed.
+    /// An I/O error: a call of a source, a sink or a file failed.
     Device,
     /// Out of memory.
     Memory,
@@ -45,8 +45,7 @@ impl From<Memory> for RunError {
     }
 }
 
-/// The exit status of the command for the end of its run: 0, 1 and 5 for `Done`, `Refused` and `GaveUp`, 3 and 4 for
-/// `Device` and `Memory`.
+/// The exit status of the command: 0, 1 and 5 for `Done`, `Refused` and `GaveUp`, 3 and 4 for `Device` and `Memory`.
 pub fn exit_status(outcome: &Result<Status, RunError>) -> u8
     ensures { result ≡ status_number outcome.now }
 {
@@ -62,7 +61,7 @@ pub fn exit_status(outcome: &Result<Status, RunError>) -> u8
 /// The exit status if the arguments ask for no run.
 pub const NO_RUN: u8 = 2;
 
-/// The line on the standard error for an exit status; none for 0, 1 and 5.
+/// The line on the standard error for an exit status, if it has one.
 pub fn complaint(status: u8) -> Option<&'static str>
     ensures line { IfSome result (λ line. complaint_of status ≡ Some line.now) }
     ensures no_line { IfNone result (complaint_of status ≡ None) }

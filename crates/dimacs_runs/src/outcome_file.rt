@@ -1,4 +1,4 @@
-//! Files that are created only once there is a text for them.
+//! The file for a run's text, which is created only if there is one.
 
 ghost use Rattle.std.specs.Prelude.{◌∷◌, []};
 ghost use Rattle.dimacs_runs.specs.Commands.{seen_by};
@@ -12,8 +12,8 @@ use crate::outcome::Status;
 use crate::run_outcome::{Outcome, write_outcome};
 use dimacs_lines::Sink;
 
-/// Writes the text of an outcome to the file with this name, then the report to the output. The file is created only if there
-/// is a text. Without a name the text is dropped.
+/// Writes the text of an outcome to the file with this name, then the report to the output. Without a name it drops the
+/// text.
 pub(crate) fn write_outcome_file<'a, F: Files, K: Sink>(
     outcome: Outcome,
     name: Option<&'a str>,
@@ -30,7 +30,7 @@ pub(crate) fn write_outcome_file<'a, F: Files, K: Sink>(
     }
 }
 
-/// Writes the text of an outcome, if there is one, to the file with this name, then the report to the output.
+/// Writes the text, if there is one, to this file, then the report.
 fn write_into<'a, F: Files, K: Sink>(
     outcome: Outcome,
     name: &'a str,

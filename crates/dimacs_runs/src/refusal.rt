@@ -8,7 +8,7 @@ ghost use Rattle.dimacs_runs.specs.Runs.{text_word};
 use dimacs_lines::{DeviceFault, Sink};
 use dimacs_records::{At, Part, Reason, TextKind, put_line};
 
-/// The word for a kind of text in the lines of refusals.
+/// The name of a text in refusals.
 pub(crate) fn text_name(kind: TextKind) -> &'static str
     ensures { result.now ≡ text_word kind }
 {
@@ -21,7 +21,7 @@ pub(crate) fn text_name(kind: TextKind) -> &'static str
     }
 }
 
-/// Writes the line for the fault of a text: `x TEXT LINE FIELD REASON`.
+/// Writes `x TEXT LINE FIELD REASON`.
 pub fn put_refusal<K: Sink>(
     sink: &mut K,
     text: &str,

@@ -1,4 +1,4 @@
-//! Reports of runs.
+//! The reports of runs.
 
 ghost use Rattle.std.specs.Prelude.{◌≡◌};
 ghost use Rattle.dimacs_lines.specs.Puts.{Puts};
@@ -11,10 +11,10 @@ use dimacs_judge::{Verdict, Where};
 use dimacs_lines::{DeviceFault, Sink};
 use dimacs_records::{At, Reason, TextKind};
 
-/// The report of a run on an instance and on the claim about it.
+/// The report of a run.
 #[derive(Drop)]
 pub(crate) enum Report {
-    /// The judge accepts the claim.
+    /// The claim is true.
     Yes(Verdict),
     /// The claimed distances from this many sources are right.
     Distances(u32),
@@ -24,12 +24,11 @@ pub(crate) enum Report {
     Fault(TextKind, At, Reason),
     /// A solver gave up.
     GaveUp,
-    /// No report, since the written text shows all.
+    /// No line: a solution was dealt out.
     Nothing,
 }
 
 impl Report {
-    /// The status of a run with this report.
     pub(crate) fn status(&self) -> Status
         ensures { result ≡ report_status self.now }
     {
@@ -40,7 +39,6 @@ impl Report {
         }
     }
 
-    /// Writes the lines of the report.
     pub(crate) fn write<K: Sink>(&self, sink: &mut K) -> Result<(), DeviceFault>
         ensures { Puts result (K.seen sink.old) (report_lines self.now) (K.seen sink.new) }
     {

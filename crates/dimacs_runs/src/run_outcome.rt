@@ -1,4 +1,4 @@
-//! What a run makes: texts and a report.
+//! The outcome of a run: texts and a report.
 
 ghost use Rattle.std.specs.Prelude.{◌≡◌, ◌↔◌, ◌∷◌, [], IfOk, IsTrue};
 ghost use Rattle.dimacs_lines.specs.Puts.{Puts};
@@ -13,7 +13,7 @@ use dimacs_claims::{
 };
 use dimacs_lines::{DeviceFault, Sink};
 
-/// A text that a run made.
+/// A text to write.
 #[derive(Drop)]
 pub(crate) enum OutputText {
     Nothing,
@@ -24,14 +24,12 @@ pub(crate) enum OutputText {
 }
 
 impl OutputText {
-    /// Whether there is no text to write.
     pub(crate) fn is_nothing(&self) -> bool
         ensures { IsTrue result ↔ (self.now ≡ Nothing) }
     {
         matches!(self, OutputText::Nothing)
     }
 
-    /// Writes the text.
     fn write<K: Sink>(&self, sink: &mut K) -> Result<(), DeviceFault>
         ensures puts { Puts result (K.seen sink.old) (text_bytes self.now) (K.seen sink.new) }
         ensures unmade { self.now ≡ Nothing → sink.new ≡ sink.old }
@@ -46,12 +44,12 @@ impl OutputText {
     }
 }
 
-/// The texts that a run made, and its report.
+/// The outcome of a run that had no error.
 #[derive(Drop)]
 pub(crate) struct Outcome {
-    /// A solution. There is none for someone else's claim, nor of labels, which are claim and certificate in one.
+    /// The solution of a solver. Labels aren't here: they are claim and certificate in one.
     pub(crate) claim: OutputText,
-    /// A certificate; or a solution in its place: a flow better than the claimed one, any feasible flow, or a claimed
+    /// A certificate, or a solution in its place: a better flow than the claimed one, any feasible flow, or the claimed
     /// flow dealt out to parallel arcs.
     pub(crate) certificate: OutputText,
     pub(crate) report: Report,
@@ -65,7 +63,7 @@ impl Outcome {
         Outcome::with_text(OutputText::Nothing, report)
     }
 
-    /// A report on someone else's claim, with a certificate or a text in its place.
+    /// A report with a certificate, or with a solution in its place.
     pub(crate) fn with_text(certificate: OutputText, report: Report) -> Outcome
         ensures { result ≡ outcomes.with_text certificate report }
     {

@@ -1,4 +1,4 @@
-//! Runs that read their files, close them, and only then create a file for the text that they made.
+//! Runs that read files, close them, and only then create a file for their text.
 
 ghost use Rattle.std.specs.Prelude.{◌≡◌, ◌≤◌, ◌∷◌, [], ℕ, List, Some, length, map};
 ghost use Rattle.std.specs.String.{string_bytes};
@@ -23,12 +23,12 @@ use crate::stop::settle;
 use dimacs_lines::{Sink, Source};
 use std::alloc::Global;
 
-/// What is made of an instance and a claim.
+/// The text to make of an instance and a claim.
 #[derive(Clone, Copy)]
 pub(crate) enum ClaimJob {
     /// A certificate, or a better solution.
     Certify(CertifyKind),
-    /// The claimed flow, dealt out to parallel arcs.
+    /// The flow, dealt out to parallel arcs.
     Spread(SpreadKind),
 }
 
@@ -51,7 +51,7 @@ pub(crate) fn certify_files<'a, F: Files, K: Sink>(
     }
 }
 
-/// Makes a text of the files of an instance and a claim, and writes it to the third file if one is named.
+/// Makes a text of an instance and a claim in files, and writes it to the third file if one is named.
 pub(crate) fn make_of_claim<'a, F: Files, K: Sink>(
     alloc: Global,
     job: ClaimJob,
@@ -72,8 +72,8 @@ pub(crate) fn make_of_claim<'a, F: Files, K: Sink>(
     write_outcome_file(outcome, name_at(names, 2), files, output)
 }
 
-/// Certifies that no flow is feasible, in the file of an instance, and writes the set of nodes, or a feasible flow, to
-/// the second file if one is named.
+/// Certifies that an instance in a file has no feasible flow. Writes the set of nodes, or a feasible flow, to the second
+/// file if one is named.
 fn certify_instance<'a, F: Files, K: Sink>(
     alloc: Global,
     names: &'a [String],

@@ -18,7 +18,7 @@ use dimacs_lines::{MemorySource, Sink};
 use dimacs_records::TextKind;
 use std::alloc::Global;
 
-/// Prints the text in the file with this name, in this form.
+/// Prints the text in a file.
 pub(crate) fn print_file<'a, F: Files, K: Sink>(
     alloc: Global,
     form: TextForm,

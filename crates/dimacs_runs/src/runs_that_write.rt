@@ -1,4 +1,4 @@
-//! Solving an instance in files.
+//! Runs that solve an instance in files.
 
 ghost use Rattle.std.specs.Prelude.{◌≡◌, ◌≢◌, ◌∷◌, [], length, map};
 ghost use Rattle.std.specs.String.{string_bytes};
@@ -38,7 +38,7 @@ pub(crate) fn solve_files<'a, F: Files, K: Sink>(
     }
 }
 
-/// Solves a flow instance in the files of the instance, the claim and its certificate. It has no queries.
+/// Solves a flow instance. `MemorySource` stands for queries, which aren't read.
 fn solve_flow<'a, F: Files, K: Sink>(
     alloc: Global,
     job: SolveJob,
@@ -77,7 +77,7 @@ fn solve_flow<'a, F: Files, K: Sink>(
     name_failure(ended, failure)
 }
 
-/// Answers queries in the files of the graph, the queries and the labels. The labels are the only claim.
+/// Answers queries. `Discard` stands for the claim: the labels are claim and certificate in one.
 fn solve_distances<'a, F: Files, K: Sink>(
     alloc: Global,
     graph: &'a str,

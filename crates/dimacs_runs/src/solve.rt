@@ -1,4 +1,4 @@
-//! Solving an instance.
+//! Runs that solve an instance.
 
 ghost use Rattle.std.specs.Prelude.{◌≡◌, ◌≢◌, ◌⊎◌, ◌∷◌, [], ℕ, List, Some, Ok, Err, IfOk};
 ghost use Rattle.dimacs_lines.specs.Lines.{lines};
@@ -29,14 +29,15 @@ use dimacs_network::{ArcView, CapacityArc, Network, PlainArcs, WeightArc};
 use dimacs_solve::{MaxAnswer, MinAnswer, SolveError, solve_max, solve_min, solve_paths};
 use std::alloc::Global;
 
-/// Reads an instance, and writes a claim about it, its certificate and the judge's verdict on them, in this order. If
-/// it refuses an instance or gives up, it writes only the line that reports that.
+/// Reads an instance, and writes a claim about it, its certificate and the judge's verdict, in this order. If it refuses
+/// the instance or gives up, it writes only a report.
 ///
-/// `Max` writes a solution and a cut. It tests as many flows as its limit allows, from the zero flow on, and gives up
-/// if none is maximum. `Min` writes a solution and potentials, or, if no flow is feasible, only a set of nodes. It
-/// gives up if as many steps as its limit allows, each to a better flow, don't suffice, or if the least cost is out of
-/// range. `Paths` also reads queries, unless the graph has a fault, and writes only labels. It never gives up; it
-/// refuses a query with a node that doesn't exist, then a negative weight.
+/// - `Max` writes a solution and a cut. It tests at most `limit` flows, from the zero flow on, and gives up if none is
+///   maximum.
+/// - `Min` writes a solution and potentials. If no flow is feasible, it writes only a set of nodes. It gives up after
+///   `limit` steps to better flows, or if the least cost is out of range.
+/// - `Paths` also reads queries, unless the graph has a fault, and writes only labels. It refuses a query with an
+///   unknown node, then a negative weight. It never gives up.
 pub fn run_solve<P: Source, Q: Source, C: Sink, D: Sink, K: Sink>(
     alloc: Global,
     job: SolveJob,
@@ -70,7 +71,6 @@ pub fn run_solve<P: Source, Q: Source, C: Sink, D: Sink, K: Sink>(
     write_outcome(settle(answer), claim_out, certificate_out, report)
 }
 
-/// Finds a maximum flow and a cut.
 fn produce_maximum<P: Source>(alloc: Global, limit: u64, instance: &mut P) -> Result<Outcome, Stop>
     ensures produces { (a : List ℕ) → P.coming instance.old ≡ Some a → MayProduce (Solved (jobs.Max limit) a []) (outcome_of result) }
     ensures faults { CountsDevices (outcome_of result) (P.faults instance.old ∷ []) (P.faults instance.new ∷ []) }
@@ -79,7 +79,6 @@ fn produce_maximum<P: Source>(alloc: Global, limit: u64, instance: &mut P) -> Re
     maximum_outcome(solve_max(alloc, &instance, limit))
 }
 
-/// Finds a flow of least cost and potentials, or a set of nodes.
 fn produce_least<P: Source>(alloc: Global, limit: u64, instance: &mut P) -> Result<Outcome, Stop>
     ensures produces { (a : List ℕ) → P.coming instance.old ≡ Some a → MayProduce (Solved (jobs.Min limit) a []) (outcome_of result) }
     ensures faults { CountsDevices (outcome_of result) (P.faults instance.old ∷ []) (P.faults instance.new ∷ []) }
@@ -88,7 +87,6 @@ fn produce_least<P: Source>(alloc: Global, limit: u64, instance: &mut P) -> Resu
     least_outcome(solve_min(alloc, &instance, limit))
 }
 
-/// Reads a graph and queries, and finds labels that answer them.
 fn produce_labels<P: Source, Q: Source>(
     alloc: Global,
     graph: &mut P,
@@ -103,7 +101,7 @@ fn produce_labels<P: Source, Q: Source>(
     label(alloc, &graph, &queries)
 }
 
-/// Finds labels that answer queries, or refuses.
+/// Finds labels that answer the queries, or refuses.
 fn label<N: Network>(alloc: Global, graph: &Graph<N>, queries: &Queries) -> Result<Outcome, Stop>
     requires lawful { AreLawful (asked queries.now) }
     ensures produces { MayProduce (FindsPaths graph.now (asked queries.now)) (outcome_of result) }
@@ -116,7 +114,7 @@ fn label<N: Network>(alloc: Global, graph: &Graph<N>, queries: &Queries) -> Resu
     Ok(Outcome::with_text(OutputText::Labels(labels), Report::Yes(answers)))
 }
 
-/// What follows from the solver's answer about a maximum flow.
+/// The outcome of a solver's answer.
 fn maximum_outcome(answer: Result<MaxAnswer, SolveError>) -> Result<Outcome, Stop>
     ensures { result ≡ outcomes.maximum_outcome answer }
 {
@@ -133,7 +131,7 @@ fn maximum_outcome(answer: Result<MaxAnswer, SolveError>) -> Result<Outcome, Sto
     }
 }
 
-/// What follows from the solver's answer about a flow of least cost.
+/// The outcome of a solver's answer.
 fn least_outcome(answer: Result<MinAnswer, SolveError>) -> Result<Outcome, Stop>
     ensures { result ≡ outcomes.least_outcome answer }
 {

@@ -1,4 +1,4 @@
-//! Dealing a claimed flow out to parallel arcs.
+//! Runs that deal a claimed flow out to parallel arcs.
 
 ghost use Rattle.std.specs.Prelude.{◌≡◌, ◌≢◌, ◌≤◌, ◌⊎◌, ◌∷◌, [], ℕ, List, Some, Err, IfOk, length};
 ghost use Rattle.dimacs_lines.specs.Limits.{most_count};
@@ -27,11 +27,11 @@ use dimacs_spread::{spread_max, spread_min};
 use std::alloc::Global;
 
 /// Reads an instance and a claimed flow, in this order, and writes a solution with the claimed value and an entry for
-/// every arc. For each ordered pair of nodes it adds up the claimed entries and deals the sum out to the arcs from one
-/// to the other: within their bounds if that is possible, and for a minimum cost instance at the least cost.
+/// every arc. It adds up the claimed entries with the same tail and head, and deals the sum out to the arcs with these
+/// ends: within their bounds if possible, and for a minimum cost instance at the least cost.
 ///
 /// Otherwise it writes only a report: the fault of the first text that has one, the first entry without an arc, or a
-/// sum that the arcs can't carry with amounts of 64 bits. It doesn't test whether the flow is feasible.
+/// sum that the arcs can't carry in 64-bit amounts. It doesn't test whether the flow is feasible.
 pub fn run_spread<P: Source, Q: Source, C: Sink, K: Sink>(
     alloc: Global,
     kind: SpreadKind,
@@ -55,7 +55,7 @@ pub fn run_spread<P: Source, Q: Source, C: Sink, K: Sink>(
     write_outcome(outcome, &mut Discard, solution_out, report)
 }
 
-/// Deals out a claimed flow.
+/// Deals out a claimed flow, and returns what `run_spread` writes.
 pub(crate) fn spread_claim<P: Source, Q: Source>(
     alloc: Global,
     kind: SpreadKind,
@@ -71,7 +71,6 @@ pub(crate) fn spread_claim<P: Source, Q: Source>(
     })
 }
 
-/// Deals out a claimed maximum flow.
 fn spread_maximum<P: Source, Q: Source>(
     alloc: Global,
     instance: &mut P,
@@ -88,7 +87,6 @@ fn spread_maximum<P: Source, Q: Source>(
     answer_spread(alloc, instance.network(), claim.value, flow)
 }
 
-/// Deals out a claimed flow of least cost.
 fn spread_least<P: Source, Q: Source>(
     alloc: Global,
     instance: &mut P,
@@ -103,7 +101,7 @@ fn spread_least<P: Source, Q: Source>(
     answer_spread(alloc, instance.network(), claim.value, flow)
 }
 
-/// The solution with this value and this flow, or the report of a refusal.
+/// The outcome: a solution, or a refusal.
 fn answer_spread<N: Network>(
     alloc: Global,
     network: &N,

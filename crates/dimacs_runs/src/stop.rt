@@ -1,4 +1,4 @@
-//! What ends a run early.
+//! The early ends of a run.
 
 ghost use Rattle.std.specs.Prelude.{◌≡◌};
 ghost use Rattle.dimacs_runs.specs.inside.Outcomes.{outcome_of};
@@ -12,12 +12,10 @@ use dimacs_lines::Memory;
 use dimacs_records::{ReadError, Reason};
 use dimacs_solve::SolveError;
 
-/// What ends a run early.
+/// Ends a run before it has a text.
 #[derive(Drop)]
 pub(crate) enum Stop {
-    /// A report, without texts.
     Report(Report),
-    /// An error.
     Error(RunError),
 }
 
@@ -77,7 +75,7 @@ impl From<SolveError> for Stop {
     }
 }
 
-/// The outcome of a run that a report may have ended early.
+/// The outcome of a run: a report that ended it early is an outcome too.
 pub(crate) fn settle(answer: Result<Outcome, Stop>) -> Result<Outcome, RunError>
     ensures { result ≡ outcome_of answer }
 {

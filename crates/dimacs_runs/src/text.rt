@@ -1,4 +1,4 @@
-//! Printing one text: its canonical form, or a line that describes it.
+//! Runs that print one text: its canonical form, or a line that describes it.
 
 ghost use Rattle.std.specs.Prelude.{◌≡◌, ◌≢◌, ◌∷◌, ℕ, List, [], Some, Err};
 ghost use Rattle.dimacs_runs.specs.declared.outcome.RunError.TheVariants.{Memory};
@@ -21,12 +21,12 @@ use dimacs_network::{ArcView, CapacityArc, PlainArcs, WeightArc};
 use dimacs_records::{Text, TextKind};
 use std::alloc::Global;
 
-/// The forms in which a text is printed.
+/// A form in which a text is printed.
 #[derive(Clone, Copy, Debug, PartialEq, Eq)]
 pub enum TextForm {
     /// The canonical text.
     Canonical,
-    /// One line that describes it.
+    /// A line that describes it.
     Summary,
 }
 
@@ -56,8 +56,7 @@ pub fn run_convert<S: Source, K: Sink>(
     }
 }
 
-/// Reads a text of this kind, and prints one line that describes it, or the line of its fault. The arcs of an instance
-/// aren't kept in memory.
+/// Reads a text of this kind, and prints a line that describes it, or the line of its fault. It keeps no arc in memory.
 pub fn run_show<S: Source, K: Sink>(
     alloc: Global,
     kind: TextKind,
@@ -83,7 +82,6 @@ pub fn run_show<S: Source, K: Sink>(
     }
 }
 
-/// Reads a text of this kind, and prints it in this form, or the line of its fault.
 pub(crate) fn run_text<S: Source, K: Sink>(
     alloc: Global,
     form: TextForm,
@@ -103,7 +101,6 @@ pub(crate) fn run_text<S: Source, K: Sink>(
     }
 }
 
-/// Reads a value, and prints its canonical text.
 fn convert<T: Text, S: Source, K: Sink>(
     alloc: Global,
     text: &mut S,
@@ -127,7 +124,6 @@ fn convert<T: Text, S: Source, K: Sink>(
     }
 }
 
-/// Reads a value, and prints the line that describes it.
 fn show<T: Text, S: Source, K: Sink>(
     alloc: Global,
     text: &mut S,
@@ -151,7 +147,7 @@ fn show<T: Text, S: Source, K: Sink>(
     }
 }
 
-/// Reads only the summary of a value, and prints the line that describes it.
+/// Does the same as `show`, and keeps only a summary in memory.
 fn sum_up<T: Summary, S: Source, K: Sink>(
     alloc: Global,
     text: &mut S,

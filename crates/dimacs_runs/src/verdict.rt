@@ -1,4 +1,4 @@
-//! The lines of verdicts and refusals.
+//! The lines of verdicts and of tests that fail.
 
 ghost use Rattle.std.specs.Prelude.{◌++◌};
 ghost use Rattle.std.specs.List.{flat_map};
@@ -11,7 +11,7 @@ use dimacs_judge::{Answer, Verdict, Where};
 use dimacs_lines::{DeviceFault, OutputBuffer, Sink};
 use dimacs_records::{At, Part, Reason, put_line, write_line};
 
-/// Writes the lines of a verdict: one, or a line for each pair of nodes asked about.
+/// Writes the line of a verdict, or a line for each pair of the queries.
 pub fn put_verdict<K: Sink>(sink: &mut K, verdict: &Verdict) -> Result<(), DeviceFault>
     ensures { Puts result (K.seen sink.old) (verdict_lines verdict.now) (K.seen sink.new) }
 {
@@ -32,7 +32,6 @@ pub fn put_verdict<K: Sink>(sink: &mut K, verdict: &Verdict) -> Result<(), Devic
     }
 }
 
-/// Writes a line for each answer.
 fn put_answers<K: Sink>(sink: &mut K, answers: &[Answer]) -> Result<(), DeviceFault>
     ensures { Puts result (K.seen sink.old) (flat_map answer_line answers.now) (K.seen sink.new) }
 {
@@ -43,7 +42,7 @@ fn put_answers<K: Sink>(sink: &mut K, answers: &[Answer]) -> Result<(), DeviceFa
     output.finish(sink)
 }
 
-/// Writes the line of an answer: a distance, `more` with the radius, or `unreachable`.
+/// Writes `v FROM TO` and a distance, `more` and a radius, or `unreachable`.
 fn write_answer<K: Sink>(output: &mut OutputBuffer, sink: &mut K, answer: &Answer)
     ensures { Appends (answer_line answer.now) (K.seen sink.old) output.old (K.seen sink.new) output.new }
 {
@@ -61,7 +60,7 @@ fn write_answer<K: Sink>(output: &mut OutputBuffer, sink: &mut K, answer: &Answe
     }
 }
 
-/// Writes the line that the claimed distances from this many sources are right.
+/// Writes `v sp distances COUNT`: the claimed distances from this many sources are right.
 pub fn put_distances<K: Sink>(sink: &mut K, sources: u32) -> Result<(), DeviceFault>
     ensures { Puts result (K.seen sink.old) (distances_line sources) (K.seen sink.new) }
 {
@@ -76,14 +75,14 @@ pub fn put_distances<K: Sink>(sink: &mut K, sources: u32) -> Result<(), DeviceFa
     )
 }
 
-/// Writes the line `g limit` of a solver that gave up.
+/// Writes `g limit`: a solver gave up.
 pub fn put_gave_up<K: Sink>(sink: &mut K) -> Result<(), DeviceFault>
     ensures { Puts result (K.seen sink.old) gave_up_line (K.seen sink.new) }
 {
     put_line(sink, b"g", &[Part::Word(b"limit")])
 }
 
-/// Writes the line of a test that failed here: `x`, the place and the reason.
+/// Writes the line of a test that fails: `x`, the place and the reason.
 pub fn put_failure<K: Sink>(sink: &mut K, place: Where, reason: Reason) -> Result<(), DeviceFault>
     ensures { Puts result (K.seen sink.old) (failure_line place reason) (K.seen sink.new) }
 {
@@ -97,7 +96,7 @@ pub fn put_failure<K: Sink>(sink: &mut K, place: Where, reason: Reason) -> Resul
     }
 }
 
-/// Writes the line for an arc or a node: `x WHAT NUMBER REASON`.
+/// Writes `x arc NUMBER REASON` or `x node NUMBER REASON`.
 fn put_numbered<K: Sink>(
     sink: &mut K,
     what: &str,

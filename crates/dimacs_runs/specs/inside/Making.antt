@@ -1,4 +1,4 @@
--- Inside: files are read, and one is created for the text that comes of them.
+-- Inside: runs that read files, and then create one for their text.
 use Rattle.std.specs.Prelude.{ℕ, ◌≡◌, ◌⊎◌, ◌++◌, List, [], ◌∷◌, Option, None, Some, Result, Ok, Err, IsErr, map}
 use Rattle.std.specs.List.{flat_map}
 use Rattle.dimacs_lines.specs.Devices.{Written}

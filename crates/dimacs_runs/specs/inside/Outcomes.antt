@@ -73,7 +73,7 @@ faults_by sinks = map (λ (sink : Written). sink.faults) sinks
 abbrev pub nowhere : Written
 nowhere = record { accepted = None; faults = 0 }
 
--- how a run ends that is to write this, or has an error
+-- the end of a run that has this outcome or error to write
 abbrev pub EndsWriting : Result Outcome RunError → Result Status RunError → List Written → List Written → Type 0
 EndsWriting (Ok o) (Ok status) old new =
     (status ≡ report_status o.report) × AcceptAll (outcome_texts o) (accepted_by old) (accepted_by new) × (faults_by new ≡ faults_by old)
@@ -81,7 +81,7 @@ EndsWriting (Ok o) (Err error) old new =
     (error ≡ Device) × AcceptInTurn (outcome_texts o) (accepted_by old) (accepted_by new) × OneMore (faults_by old) (faults_by new)
 EndsWriting (Err error) result old new = (result ≡ Err error) × (new ≡ old)
 
--- what a text of this kind that can't be read makes of a run, and the error of a judge or a solver
+-- why a run stops: a text of this kind can't be read, or a judge or a solver has an error
 abbrev pub unread_stop : TextKind → ReadError → Stop
 unread_stop kind (read_errors.Refused place reason) = stops.Report (reports.Fault kind place reason)
 unread_stop kind read_errors.Device = Error Device
@@ -96,12 +96,13 @@ solve_stop (solve_errors.NegativeWeight arc) = stops.Report (reports.No (Arc arc
 solve_stop (solve_errors.Refused place reason) = stops.Report (reports.No place reason)
 solve_stop solve_errors.Memory = Error Memory
 
+-- a report that ended a run early is its outcome
 abbrev pub outcome_of : Result Outcome Stop → Result Outcome RunError
 outcome_of (Ok outcome) = Ok outcome
 outcome_of (Err (stops.Report report)) = Ok (reporting report)
 outcome_of (Err (Error error)) = Err error
 
--- what follows from the answer of a judge, and of the solvers of flows
+-- the outcomes of a judge's answer, and of the answers of the solvers of flows
 abbrev pub judge_outcome : Result Verdict JudgeError → Result Outcome Stop
 judge_outcome (Ok verdict) = Ok (reporting (reports.Yes verdict))
 judge_outcome (Err error) = Err (judge_stop error)
@@ -119,12 +120,12 @@ least_outcome (Ok (min_answers.Infeasible set)) = Ok (with_text (Cut set) (repor
 least_outcome (Ok min_answers.GaveUp) = Ok (reporting reports.GaveUp)
 least_outcome (Err error) = Err (solve_stop error)
 
--- the outcome, if there is one, is possible, by its status and these texts of it
+-- if there is an outcome, its status is possible together with these texts of it
 abbrev pub IfEnds : {O E : Type 0} → (Outcome → O) → (Status → O → Type 0) → Result Outcome E → Type 0
 IfEnds texts possible (Ok o) = possible (report_status o.report) (texts o)
 IfEnds texts possible (Err error) = Unit {0}
 
--- so is the report, and no other; so are all texts; and those without the claim
+-- the report is the only possible one; all texts are possible; those without the claim are
 abbrev pub MayReport : (Status → List ℕ → Type 0) → Result Outcome RunError → Type 0
 MayReport reports = IfEnds (λ o. report_lines o.report) (ReportsAlone reports)
 
@@ -134,7 +135,7 @@ MayProduce writes = IfEnds outcome_texts (MayWrite writes)
 abbrev pub MayCertify : (Status → List (List ℕ) → Type 0) → Result Outcome RunError → Type 0
 MayCertify writes = IfEnds unclaimed_texts (WritesAlike writes)
 
--- the flow that deals out a claim, or why there is none
+-- a flow that deals out a claim, or why there is none
 abbrev pub DealsOut : SpreadKind → List ArcView → SolutionValue → Result (List ℤ) JudgeError → Type 0
 DealsOut kind arcs s (Ok x) = SpreadsFlow arcs s x × IsBestOf kind arcs s x
 DealsOut kind arcs s (Err error) = IsRefusal arcs s.entries error
