@@ -41,9 +41,9 @@ use std::alloc::Global;
 
 /// Reads an instance and a claim about it, in this order, and decides whether the claim is true.
 ///
-/// If it is true, it writes a certificate by which the judge accepts the claim, then the verdict. If the claimed flow is
-/// feasible and has its claimed value, but isn't optimal, it writes a solution with a better flow, then a refusal of the
-/// value. `Infeasible` writes a solution with a feasible flow if there is one, then a refusal of the instance. Each
+/// If it is true, it writes a certificate by which the judge accepts the claim, then the verdict. If the claimed flow
+/// is feasible and has its claimed value, but isn't optimal, it writes a solution with a better flow, then a refusal of
+/// the value. `Infeasible` writes a solution with a feasible flow if there is one, then a refusal of the instance. Each
 /// solution has an entry for every arc. If its cost is out of range, it isn't written.
 ///
 /// Otherwise it writes only a report: the fault of the first text that has one, or, of the judge's tests that need no

@@ -23,14 +23,14 @@ pub trait Files {
     /// The calls so far, and the number of those that failed.
     ghost seen: { Self → FilesSeen };
 
-    /// Opens a file for reading. `Device` if that fails.
+    /// Opens a file for reading. `Memory` if memory ran out, otherwise `Device` if that fails.
     fn open(&mut self, name: &str) -> Result<Self::Input, RunError>
         ensures holds { holds self.new ≡ holds self.old }
         ensures coming { IfOk result (λ file. Self.Input.coming file ≡ holds self.old name.now) }
         ensures faultless { IfOk result (λ file. Self.Input.faults file ≡ 0) }
         ensures seen { Sees (opening result name.now ∷ []) (seen self.old) (seen self.new) };
 
-    /// Creates a file for writing, or empties an existing one. `Device` if that fails.
+    /// Creates a file for writing, or empties an existing one. The same errors.
     fn create(&mut self, name: &str) -> Result<Self::Output, RunError>
         ensures empty { IfOk result (λ file. Self.Output.seen file ≡ record { accepted = empty; faults = 0 }) }
         ensures seen { Sees (creating result name.now ∷ []) (seen self.old) (seen self.new) };

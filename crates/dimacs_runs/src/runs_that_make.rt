@@ -72,8 +72,8 @@ pub(crate) fn make_of_claim<'a, F: Files, K: Sink>(
     write_outcome_file(outcome, name_at(names, 2), files, output)
 }
 
-/// Certifies that an instance in a file has no feasible flow. Writes the set of nodes, or a feasible flow, to the second
-/// file if one is named.
+/// Certifies that an instance in a file has no feasible flow. Writes the set of nodes, or a feasible flow, to the
+/// second file if one is named.
 fn certify_instance<'a, F: Files, K: Sink>(
     alloc: Global,
     names: &'a [String],

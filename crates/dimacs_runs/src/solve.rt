@@ -29,8 +29,8 @@ use dimacs_network::{ArcView, CapacityArc, Network, PlainArcs, WeightArc};
 use dimacs_solve::{MaxAnswer, MinAnswer, SolveError, solve_max, solve_min, solve_paths};
 use std::alloc::Global;
 
-/// Reads an instance, and writes a claim about it, its certificate and the judge's verdict, in this order. If it refuses
-/// the instance or gives up, it writes only a report.
+/// Reads an instance, and writes a claim about it, its certificate and the judge's verdict, in this order. If it
+/// refuses the instance or gives up, it writes only a report.
 ///
 /// - `Max` writes a solution and a cut. It tests at most `limit` flows, from the zero flow on, and gives up if none is
 ///   maximum.
