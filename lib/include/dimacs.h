@@ -8,15 +8,15 @@
  * follows snprintf: as much as fits into `room` bytes goes to `out`, without a 0 at its end, and the length of the
  * whole to *needed. If *needed is greater than room, call again with so much room. If room is 0, `out` may be null.
  *
- * The caller answers for the following, which no contract sees. Otherwise the behaviour of a call is undefined:
+ * If the caller breaks one of these rules, the behaviour of the call is undefined:
  *   - A pointer points to memory of the length beside it. If the length is 0, it may be null. A `needed` is never
  *     null.
  *   - A pointer is aligned for its type: to 8 bytes for int64_t, size_t or an instance, to 4 for uint32_t.
  *   - What a call writes (`out`, `needed` and so on) overlaps neither what it reads nor another room.
- *   - The same holds for each array of an instance. Its length counts items, as do the rooms for items. A pointer to
- *     an instance is never null.
+ *   - The same holds for each array of an instance. Lengths of arrays and rooms for items count items. A pointer to an
+ *     instance is never null.
  *   - Calls may run in several threads at once, even over the same texts and arrays, if none writes what another one
- *     reads or writes. None is made in a signal handler, or in the forked child of a process with threads.
+ *     reads or writes. Make none in a signal handler, or in the forked child of a process with threads.
  *   - The calling thread has 64 KB of stack left.
  */
 #ifndef DIMACS_H
@@ -43,8 +43,8 @@ uint32_t dimacs_version(void);
 enum {
     DIMACS_DONE = 0,      /* done, or a yes; also if a solver finds that no flow is feasible */
     DIMACS_REFUSED = 1,   /* a no: a text has a fault, or a test fails */
-    DIMACS_MISUSED = 2,   /* nothing was judged. A number names no kind, or an array has a wrong length: nothing is
-                             handed out. Or a number of an instance in arrays is past its limit: the line names it */
+    DIMACS_MISUSED = 2,   /* nothing was judged. If a number names no kind, or an array has a wrong length, nothing is
+                             handed out. If a number of an instance in arrays is past its limit, the line names it */
     DIMACS_NO_MEMORY = 4, /* out of memory: the claim is undecided. Nothing is handed out */
     DIMACS_GAVE_UP = 5    /* a limit was reached, the least cost is out of range, or an answer doesn't fit an array: a
                              distance is 2^63 - 1 or more, or two potentials are 2^64 or more apart (others may fit).
@@ -77,8 +77,8 @@ enum {
 
 /* Judges a claim by its certificate: a solution by a cut (DIMACS_MAX) or by potentials (DIMACS_MIN), queries by
  * labels (DIMACS_PATHS), or that no flow is feasible by a set of nodes (DIMACS_INFEASIBLE, whose claim isn't read).
- * With a yes it hands out `v max VALUE`, `v min COST`, `v sp ss COUNT`, a line for each pair, or `v infeasible`.
- * With a no it hands out one line: the fault of the first text that has one, otherwise the first test that fails.
+ * A yes hands out `v max VALUE`, `v min COST`, `v sp ss COUNT`, a line for each pair, or `v infeasible`. A no hands
+ * out one line: the fault of the first text that has one, otherwise the first test that fails.
  * Only the lines of pairs may have more than 100 bytes. */
 uint32_t dimacs_judge(uint32_t kind, const uint8_t *instance, size_t instance_length, const uint8_t *claim,
                       size_t claim_length, const uint8_t *certificate, size_t certificate_length, uint8_t *out,
@@ -98,30 +98,30 @@ uint32_t dimacs_certify(uint32_t kind, const uint8_t *instance, size_t instance_
                         size_t certificate_room, size_t *certificate_needed);
 
 /* Deals a claimed flow out to parallel arcs: DIMACS_MAX or DIMACS_MIN. Adds up the entries with the same tail and
- * head, in any order, and hands out to `solution` a solution with the claimed value and an entry for every arc, in the
- * order of the instance. Each sum goes to the arcs with these ends: within their bounds if possible, and for
- * DIMACS_MIN at the least cost. Then the line is empty. Otherwise it is the line of a text's fault,
+ * head, in any order. Each sum goes to the arcs with these ends: within their bounds if possible, and for DIMACS_MIN
+ * at the least cost. Hands out no line, and to `solution` a solution with the claimed value and an entry for every
+ * arc, in the order of the instance. Or it hands out no solution, and a line: a text's fault,
  * `x solution LINE 0 UnknownArc`, or, if no 64-bit numbers on the arcs add up to a sum, `x arc K AboveCap` or
- * `BelowLow`, and no solution is handed out. */
+ * `BelowLow`. */
 uint32_t dimacs_spread(uint32_t kind, const uint8_t *instance, size_t instance_length, const uint8_t *claim,
                        size_t claim_length, uint8_t *out, size_t room, size_t *needed, uint8_t *solution,
                        size_t solution_room, size_t *solution_needed);
 
 /* Solves an instance: DIMACS_MAX, DIMACS_MIN or DIMACS_PATHS. Hands out the line of the verdict to `out`, and to
  * `solution` and `certificate` texts by which dimacs_judge answers yes: a solution, and a cut or potentials. If no
- * flow is feasible, it hands out `v infeasible`, and only a set. For paths it reads the queries, which it doesn't
- * for flows, and hands out the lines that answer them, and only labels. If a text has a fault or a weight is
- * negative, it hands out only the line. It gives up after `limit` flows that aren't maximum (DIMACS_MAX), after
- * `limit` steps to better flows (DIMACS_MIN), or if the least cost is out of range; paths have no limit. The length
- * of the texts doesn't bound the time, except for paths. */
+ * flow is feasible, it hands out `v infeasible`, and only a set. Only for paths it reads the queries. Then it hands
+ * out the lines that answer them, and only labels. If a text has a fault or a weight is negative, it hands out only
+ * the line. It gives up after `limit` flows that aren't maximum (DIMACS_MAX), after `limit` steps to better flows
+ * (DIMACS_MIN), or if the least cost is out of range. Paths have no limit. The length of the texts doesn't bound the
+ * time, except for paths. */
 uint32_t dimacs_solve(uint32_t kind, const uint8_t *instance, size_t instance_length, const uint8_t *queries,
                       size_t queries_length, uint64_t limit, uint8_t *out, size_t room, size_t *needed,
                       uint8_t *solution, size_t solution_room, size_t *solution_needed, uint8_t *certificate,
                       size_t certificate_room, size_t *certificate_needed);
 
 /* Hands out the canonical form of a text of this kind (DIMACS_TEXT_ ..) with DIMACS_DONE, or the line of its fault
- * with DIMACS_REFUSED. It is made whole before it is handed out, so with too little room all of the work is done
- * twice. Room as long as the text is often enough. */
+ * with DIMACS_REFUSED. A call makes the whole form before it hands any of it out. If the room is too small, the next
+ * call does all of the work again. Room as long as the text is often enough. */
 uint32_t dimacs_convert(uint32_t kind, const uint8_t *text, size_t length, uint8_t *out, size_t room, size_t *needed);
 
 /* Hands out a line that describes a text of this kind, or the line of its fault. */
@@ -138,10 +138,10 @@ uint32_t dimacs_show(uint32_t kind, const uint8_t *text, size_t length, uint8_t 
  * (BoundOrder).
  *
  * No line has more than 100 bytes. With a no it is that of the first test that fails, `x arc K REASON` or
- * `x node ID REASON`. A room for items is used as `out` is, but counted in items. If a call has no items for it, their
+ * `x node ID REASON`. A room for items works as `out` does, but counts items. If a call hands out no items, their
  * number is 0. */
 
-/* Where an array begins, and how many items it has. */
+/* The address of an array, and the number of its items. */
 typedef struct {
     const uint32_t *at;
     size_t length;
@@ -159,8 +159,8 @@ typedef struct {
     dimacs_numbers caps;
 } dimacs_max;
 
-/* A minimum cost flow instance: an arc carries from its lower bound to its capacity, at a cost for each unit. What
- * leaves a node less what enters it is its supply. A demand is a negative supply. */
+/* A minimum cost flow instance: an arc carries from its lower bound to its capacity, at a cost for each unit. A
+ * node's supply is its outflow minus its inflow. A demand is a negative supply. */
 typedef struct {
     uint32_t nodes;
     dimacs_nodes tails, heads;
@@ -177,7 +177,7 @@ typedef struct {
 /* Judges that a flow, by arc, is maximum, by the cut of the nodes whose byte in `inside` isn't 0. Hands out
  * `v max VALUE`, or the first test that fails: each arc, BelowLow or AboveCap; each node but the source and the
  * sink, Balance; the source, SourceOutside; the sink, SinkInside; each arc, NotSaturated or BackFlow. If one of the
- * last four fails, the flow may be maximum all the same, by another cut. */
+ * last four fails, the flow may still be maximum, by another cut. */
 uint32_t dimacs_judge_max_arrays(const dimacs_max *instance, const int64_t *flows, size_t flows_length,
                                  const uint8_t *inside, size_t inside_length, uint8_t *out, size_t room,
                                  size_t *needed);
@@ -186,14 +186,14 @@ uint32_t dimacs_judge_max_arrays(const dimacs_max *instance, const int64_t *flow
  * the potential of its tail, plus that of its head. Hands out `v min COST`, or the first test that fails: each arc,
  * BelowLow or AboveCap; each node, Balance; each arc, CostRange if the sum up to it is below -10^30 or above 10^30;
  * each arc, NotTight if its reduced cost is above 0 and it carries more than its lower bound, or below 0 and it
- * carries less than its capacity. With NotTight the flow may cost least all the same, by other potentials. */
+ * carries less than its capacity. With NotTight the flow may still cost least, by other potentials. */
 uint32_t dimacs_judge_min_arrays(const dimacs_min *instance, const int64_t *flows, size_t flows_length,
                                  const int64_t *potentials, size_t potentials_length, uint8_t *out, size_t room,
                                  size_t *needed);
 
 /* Judges that an instance has no feasible flow, by the set of the nodes whose byte in `inside` isn't 0: their
  * supplies sum to more than can flow out of the set, or to less than must. Hands out `v infeasible`, or
- * `x certificate 0 0 NotViolated`; then there may be no feasible flow all the same, by another set. */
+ * `x certificate 0 0 NotViolated`. Then there may still be no feasible flow, by another set. */
 uint32_t dimacs_judge_infeasible_arrays(const dimacs_min *instance, const uint8_t *inside, size_t inside_length,
                                         uint8_t *out, size_t room, size_t *needed);
 
@@ -232,8 +232,8 @@ uint32_t dimacs_certify_infeasible_arrays(const dimacs_min *instance, uint8_t *o
                                           uint8_t *inside, size_t inside_room, size_t *inside_needed, int64_t *flows,
                                           size_t flows_room, size_t *flows_needed);
 
-/* Certifies distances from the source, by node, that have no predecessors, in time by the number of arcs and nodes.
- * Exactly if they are the least weights of walks, it hands out `v sp ss 1`, and predecessors, by node, that
+/* Certifies distances from the source, by node, that have no predecessors. The number of arcs and nodes bounds the
+ * time. Exactly if they are the least weights of walks, it hands out `v sp ss 1`, and predecessors, by node, that
  * dimacs_judge_paths_arrays accepts. Otherwise it hands out the first test that fails: the source, NotShortest; each
  * arc whose tail is reached, Escapes if its head isn't, or NotShortest; each node that is reached, NoTightArc if no
  * walk of arcs that give the distances leads to it. */
@@ -250,8 +250,8 @@ uint32_t dimacs_solve_max_arrays(const dimacs_max *instance, uint64_t limit, uin
 
 /* Solves least cost; gives up after `limit` steps, each to a better flow, or if the least cost is out of range.
  * Hands out `v min COST`, an amount for each arc to `flows`, and a potential for each node: dimacs_judge_min_arrays
- * accepts them. If no flow is feasible, it hands out only `v infeasible`, and a byte for each node to `inside`, by
- * which dimacs_judge_infeasible_arrays answers yes. */
+ * accepts them. If no flow is feasible, it hands out only `v infeasible`, and a byte for each node to `inside`:
+ * dimacs_judge_infeasible_arrays accepts them. */
 uint32_t dimacs_solve_min_arrays(const dimacs_min *instance, uint64_t limit, uint8_t *out, size_t room, size_t *needed,
                                  int64_t *flows, size_t flows_room, size_t *flows_needed, int64_t *potentials,
                                  size_t potentials_room, size_t *potentials_needed, uint8_t *inside, size_t inside_room,

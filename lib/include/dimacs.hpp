@@ -54,7 +54,7 @@ struct Invalid;
 
 namespace dimacs {
 
-// The names of a program's parts that have std::span differ from those of parts that don't, so that both may be linked.
+// Parts of a program with std::span and parts without it get different names, and can be linked together.
 #ifdef __cpp_lib_span
 inline namespace with_std_span {
 
@@ -62,7 +62,7 @@ using std::span;
 #else
 inline namespace with_own_span {
 
-// The first of some items, and how many there are: std::span for C++17.
+// The address and number of items: std::span for C++17.
 template <class T>
 class span {
     template <class Items>
@@ -106,8 +106,8 @@ struct MaxInstance {
     Numbers caps;
 };
 
-// A minimum cost flow instance: an arc carries from its lower bound to its capacity, at a cost for each unit. What
-// leaves a node less what enters it is its supply. A demand is a negative supply.
+// A minimum cost flow instance: an arc carries from its lower bound to its capacity, at a cost for each unit. A node's
+// supply is its outflow minus its inflow. A demand is a negative supply.
 struct MinInstance {
     std::uint32_t nodes = 0;
     Nodes tails, heads;
@@ -127,7 +127,7 @@ inline constexpr std::int64_t unreached = DIMACS_UNREACHED;
 // The command's default limit.
 inline constexpr std::uint64_t default_limit = DIMACS_LIMIT;
 
-// Kinds of text, as the command has words for them.
+// Kinds of text.
 enum class Text : std::uint32_t {
     max = DIMACS_TEXT_MAX,
     min = DIMACS_TEXT_MIN,
@@ -235,7 +235,7 @@ struct CertifiedText {
     std::string certificate;
 };
 
-// So many blocks of distances are right, as the text of labels shows.
+// This many blocks of distances are right, as the text of labels shows.
 struct CertifiedPathsText {
     std::uint64_t sources = 0;
     std::string labels;
@@ -307,7 +307,7 @@ struct NotOptimal {
     const std::string &message() const noexcept { return line; }
 };
 
-// The same of the text of a solution. There is no better one if its cost is out of the range of such texts.
+// The same with the text of a solution. It is missing if its cost is out of the range of such texts.
 using NotOptimalText = NotOptimal<std::optional<std::string>>;
 
 // No flow is feasible, as the set shows: nodes, or the text of a set.
@@ -368,7 +368,7 @@ class PastLimitAt : public PastLimit {
     std::shared_ptr<const RefusedAt<Node, Arc>> at_;
 };
 
-// Answer::value() was asked of a no.
+// Answer::value() was called on a no.
 class BadAnswer : public std::runtime_error {
   public:
     using std::runtime_error::runtime_error;
@@ -529,7 +529,7 @@ class TextRoom {
     std::string bytes_;
 };
 
-// Room for so many items.
+// Room for this many items.
 template <class T>
 class Room {
   public:
@@ -549,7 +549,7 @@ class Room {
     std::vector<T> items_;
 };
 
-// Makes a call with three words for each room.
+// Makes a call with three arguments for each room.
 template <class Call, class... Rooms>
 std::uint32_t with_rooms(const Call &call, Rooms &...rooms) {
     return std::apply(call, std::tuple_cat(std::make_tuple(rooms.at(), rooms.room(), &rooms.needed)...));
@@ -591,7 +591,7 @@ inline const std::uint8_t *bytes(std::string_view text) noexcept {
     return reinterpret_cast<const std::uint8_t *>(text.data());
 }
 
-// As many nodes as an instance may have. One with more is refused, and needs no room.
+// The room for an item of each node. An instance with too many nodes is refused, and needs none.
 inline std::size_t room_for(std::uint32_t nodes) noexcept { return nodes <= (std::uint32_t(1) << 27) ? nodes : 0; }
 
 inline dimacs_nodes array(Nodes it) noexcept { return {it.data(), it.size()}; }
@@ -732,21 +732,22 @@ inline Answer<JudgedPaths, Refused> judge_paths(std::string_view graph, std::str
     return detail::paths_of(std::get<std::string>(it));
 }
 
-// Decides whether a solution's flow is maximum: the text of a cut; NotOptimalText, which has a better solution, if the
-// flow is feasible and has the claimed value; Refused if a text has a fault or the flow isn't what it claims.
+// Decides whether a solution's flow is maximum. A yes has the text of a cut. NotOptimalText, with a better solution, if
+// the flow is feasible and has the claimed value. Refused if a text has a fault, or if the flow isn't feasible or has
+// another value.
 inline Answer<CertifiedText, NotOptimalText, Refused> certify_max(std::string_view instance,
                                                                   std::string_view solution) {
     return detail::certify_flow(DIMACS_MAX, instance, solution);
 }
 
-// Decides whether a solution's flow costs least: the text of potentials; else as certify_max.
+// Decides whether a solution's flow costs least. A yes has the text of potentials. The noes are those of certify_max.
 inline Answer<CertifiedText, NotOptimalText, Refused> certify_min(std::string_view instance,
                                                                   std::string_view solution) {
     return detail::certify_flow(DIMACS_MIN, instance, solution);
 }
 
-// Decides whether an instance has no feasible flow: the text of a set; FeasibleText, which has a solution with a
-// feasible flow, if there is one; Refused if the text has a fault.
+// Decides whether an instance has no feasible flow. A yes has the text of a set. FeasibleText, with a solution, if
+// there is a feasible flow. Refused if the text has a fault.
 inline Answer<CertifiedInfeasible<std::string>, FeasibleText, Refused> certify_infeasible(std::string_view instance) {
     auto [is_yes, line, shown] = detail::certify(DIMACS_INFEASIBLE, instance, {});
     if (is_yes) return CertifiedInfeasible<std::string>{std::move(shown)};
@@ -755,8 +756,8 @@ inline Answer<CertifiedInfeasible<std::string>, FeasibleText, Refused> certify_i
     return FeasibleText{shown.empty() ? std::nullopt : std::optional(std::move(shown))};
 }
 
-// Decides whether distances are those of their nodes, and the nodes without one unreachable, block by block: the text
-// of labels. Refused if a text has a fault, or for the first test that fails.
+// Decides, block by block, whether distances are right and nodes without one unreachable. A yes has the text of labels.
+// Refused if a text has a fault, or for the first test that fails.
 inline Answer<CertifiedPathsText, Refused> certify_paths(std::string_view graph, std::string_view distances) {
     auto [is_yes, line, shown] = detail::certify(DIMACS_PATHS, graph, distances);
     if (!is_yes) return detail::refused(line);
@@ -764,18 +765,18 @@ inline Answer<CertifiedPathsText, Refused> certify_paths(std::string_view graph,
 }
 
 // Deals a solution out to parallel arcs: adds up the entries with the same ends, and gives each arc with these ends its
-// share, within its bounds if possible; the text of a solution with an entry for every arc and the claimed value.
-// Refused if a text has a fault, or for an entry without an arc.
+// share, within its bounds if possible. A yes is the text of a solution with the claimed value and an entry for every
+// arc. Refused if a text has a fault, for an entry without an arc, or for a sum that 64-bit amounts can't reach.
 inline Answer<std::string, Refused> spread_max(std::string_view instance, std::string_view solution) {
     return detail::spread(DIMACS_MAX, instance, solution);
 }
 
-// The same for least cost: of all dealings within the bounds, one that costs least.
+// The same for least cost: of all such flows within the bounds, one that costs least.
 inline Answer<std::string, Refused> spread_min(std::string_view instance, std::string_view solution) {
     return detail::spread(DIMACS_MIN, instance, solution);
 }
 
-// Makes a maximum flow: the texts of a solution and of a cut. GaveUp after `limit` flows that aren't maximum; Refused
+// Makes a maximum flow: the texts of a solution and of a cut. GaveUp after `limit` flows that aren't maximum. Refused
 // if the text has a fault.
 inline Answer<SolvedText, GaveUp, Refused> solve_max(std::string_view instance, std::uint64_t limit = default_limit) {
     auto it = detail::solve(DIMACS_MAX, instance, {}, limit);
@@ -784,9 +785,9 @@ inline Answer<SolvedText, GaveUp, Refused> solve_max(std::string_view instance, 
     return SolvedText{detail::value_of(it.lines), std::move(it.solution), std::move(it.certificate)};
 }
 
-// Makes a flow of least cost: the texts of a solution and of potentials. Infeasible, which has the text of a set, if no
-// flow is feasible; GaveUp after `limit` steps to better flows, or if the least cost is out of range; Refused if the
-// text has a fault.
+// Makes a flow of least cost: the texts of a solution and of potentials. Infeasible, with the text of a set, if no flow
+// is feasible. GaveUp after `limit` steps to better flows, or if the least cost is out of range. Refused if the text
+// has a fault.
 inline Answer<SolvedText, Infeasible<std::string>, GaveUp, Refused> solve_min(std::string_view instance,
                                                                               std::uint64_t limit = default_limit) {
     auto it = detail::solve(DIMACS_MIN, instance, {}, limit);
@@ -869,9 +870,9 @@ inline Answer<Judged, Refused> judge_paths(const Graph &graph, std::uint32_t sou
     return Judged{};
 }
 
-// Decides whether a flow, by arc, is maximum: a cut that judge_max accepts; NotOptimal, which has a feasible flow
-// of greater value, if it is feasible but not maximum; Refused if it isn't feasible. The number of arcs doesn't bound
-// the time.
+// Decides whether a flow, by arc, is maximum. A yes has a cut that judge_max accepts. NotOptimal, with a feasible flow
+// of greater value, if the flow is feasible but not maximum. Refused if it isn't feasible. The number of arcs doesn't
+// bound the time.
 inline Answer<CertifiedMax<Inside>, NotOptimal<Flows>, Refused> certify_max(const MaxInstance &instance,
                                                                             Numbers flows) {
     const dimacs_max arrays = detail::arrays(instance);
@@ -888,8 +889,9 @@ inline Answer<CertifiedMax<Inside>, NotOptimal<Flows>, Refused> certify_max(cons
     return no;
 }
 
-// Decides whether a flow, by arc, costs least: potentials that judge_min accepts, or GaveUp if those that were
-// found don't fit in 64 bits; NotOptimal, which has a feasible flow that costs less; Refused if it isn't feasible.
+// Decides whether a flow, by arc, costs least. A yes has potentials that judge_min accepts. GaveUp if the flow costs
+// least, but the potentials found don't fit in 64 bits. NotOptimal, with a cheaper feasible flow, if the flow is
+// feasible but doesn't cost least. Refused if it isn't feasible.
 inline Answer<CertifiedMin<Potentials>, NotOptimal<Flows>, GaveUp, Refused> certify_min(const MinInstance &instance,
                                                                                         Numbers flows) {
     const dimacs_min arrays = detail::arrays(instance);
@@ -906,7 +908,7 @@ inline Answer<CertifiedMin<Potentials>, NotOptimal<Flows>, GaveUp, Refused> cert
     return no;
 }
 
-// Decides whether an instance has no feasible flow: a set that judge_infeasible accepts; Feasible, which has a
+// Decides whether an instance has no feasible flow. A yes has a set that judge_infeasible accepts. Feasible, with a
 // feasible flow, if there is one. The number of arcs doesn't bound the time.
 inline Answer<CertifiedInfeasible<Inside>, Feasible<Flows>> certify_infeasible(const MinInstance &instance) {
     const dimacs_min arrays = detail::arrays(instance);
@@ -919,8 +921,8 @@ inline Answer<CertifiedInfeasible<Inside>, Feasible<Flows>> certify_infeasible(c
     return Feasible<Flows>{flows.take()};
 }
 
-// Decides whether the distances from the source, by node, are the least weights of walks, in time by the number of arcs
-// and nodes: predecessors that judge_paths accepts; Refused for the first test that fails.
+// Decides whether the distances from the source, by node, are the least weights of walks. A yes has predecessors that
+// judge_paths accepts. Refused for the first test that fails. The number of arcs and nodes bounds the time.
 inline Answer<CertifiedPaths<Predecessors>, Refused> certify_paths(const Graph &graph, std::uint32_t source,
                                                                    Numbers distances) {
     const dimacs_graph arrays = detail::arrays(graph);
@@ -947,9 +949,9 @@ inline Answer<SolvedMax<Flows, Inside>, GaveUp> solve_max(const MaxInstance &ins
     return SolvedMax<Flows, Inside>{detail::value_of(line.text()), flows.take(), inside.take()};
 }
 
-// Makes a flow of least cost, and potentials that judge_min accepts. Infeasible, which has a set by which
-// judge_infeasible answers yes, if no flow is feasible; GaveUp after `limit` steps to better flows, or if the least
-// cost or the potentials are out of range.
+// Makes a flow of least cost, and potentials that judge_min accepts. Infeasible, with a set that judge_infeasible
+// accepts, if no flow is feasible. GaveUp after `limit` steps to better flows, or if the least cost or the potentials
+// are out of range.
 inline Answer<SolvedMin<Flows, Potentials>, Infeasible<Inside>, GaveUp> solve_min(const MinInstance &instance,
                                                                                   std::uint64_t limit = default_limit) {
     const dimacs_min arrays = detail::arrays(instance);
@@ -963,8 +965,8 @@ inline Answer<SolvedMin<Flows, Potentials>, Infeasible<Inside>, GaveUp> solve_mi
     return SolvedMin<Flows, Potentials>{detail::value_of(line.text()), flows.take(), potentials.take()};
 }
 
-// Makes distances from the source, and predecessors that judge_paths accepts. Refused for the first arc of
-// negative weight; GaveUp if a distance is 2^63 - 1 or more.
+// Makes distances from the source, and predecessors that judge_paths accepts. Refused for the first arc of negative
+// weight. GaveUp if a distance is 2^63 - 1 or more.
 inline Answer<SolvedPaths, GaveUp, Refused> solve_paths(const Graph &graph, std::uint32_t source) {
     const dimacs_graph arrays = detail::arrays(graph);
     detail::TextRoom line;
@@ -1220,8 +1222,8 @@ struct MinArrays {
     std::vector<std::int64_t> lows, caps, costs, supplies;
 };
 
-// Decides whether a flow, for example Preflow's flowMap(), is maximum: a cut, as minCutMap fills one in; NotOptimal,
-// which has a better flow; RefusedAt the arc that carries too much or less than 0, or the node out of balance.
+// Decides whether a flow, for example Preflow's flowMap(), is maximum. A yes has a cut, as minCutMap fills one in.
+// NotOptimal has a better flow. RefusedAt has the arc that carries too much or less than 0, or the node out of balance.
 template <class G, class Capacity, class Flow>
 detail::CertifiedMaxOver<Index<G>> certify_max(const G &graph, const Capacity &capacity, typename G::Node source,
                                                typename G::Node target, const Flow &flow) {
@@ -1241,9 +1243,9 @@ detail::JudgedOver<Index<G>> judge_max(const G &graph, const Capacity &capacity,
     return detail::judge_over(index, [&] { return dimacs::judge_max(instance, flows, index.marks(cut)); });
 }
 
-// Decides whether a flow, as NetworkSimplex' flowMap fills one in, costs least: potentials, as its potentialMap fills
-// them in; NotOptimal, which has a flow that costs less; RefusedAt as certify_max. What leaves a node less what enters
-// it has to be its supply, so the supplies sum to 0.
+// Decides whether a flow, as NetworkSimplex' flowMap fills one in, costs least. A yes has potentials, as its
+// potentialMap fills them in. NotOptimal has a cheaper flow. RefusedAt as in certify_max. A node's outflow minus its
+// inflow has to be its supply, so the supplies sum to 0.
 template <class G, class Lower, class Upper, class Cost, class Supply, class Flow>
 detail::CertifiedMinOver<Index<G>> certify_min(const G &graph, const Lower &lower, const Upper &upper, const Cost &cost,
                                                const Supply &supply, const Flow &flow) {
@@ -1252,8 +1254,8 @@ detail::CertifiedMinOver<Index<G>> certify_min(const G &graph, const Lower &lowe
     return detail::certify_min_over(arrays.index, arrays.instance(), flows);
 }
 
-// Decides whether no flow is feasible, as after INFEASIBLE of NetworkSimplex: a set of nodes whose supply can't be met,
-// true in the map; Feasible, which has a feasible flow.
+// Decides whether no flow is feasible, as after INFEASIBLE of NetworkSimplex. A yes has a map that is true in a set of
+// nodes whose supply can't be met. Feasible has a feasible flow.
 template <class G, class Lower, class Upper, class Supply>
 detail::CertifiedInfeasibleOver<Index<G>> certify_infeasible(const G &graph, const Lower &lower, const Upper &upper,
                                                              const Supply &supply) {
@@ -1280,8 +1282,8 @@ detail::JudgedOver<Index<G>> judge_min(const G &graph, const Lower &lower, const
 }
 
 // Decides whether the distances that a search found, as Dijkstra, BellmanFord or Bfs with the lengths 1, are right:
-// reached(v) is whether there is a walk to v, and dist(v) its length. RefusedAt the arc or the node at which they are
-// wrong.
+// reached(v) is whether there is a walk to v, and dist(v) its length. RefusedAt has the arc or the node at which they
+// are wrong.
 template <class G, class Length, class Search>
 detail::CertifiedPathsOver<Index<G>> certify_paths(const G &graph, const Length &length, typename G::Node source,
                                                    const Search &search) {
@@ -1439,9 +1441,9 @@ inline std::int64_t narrow(Wide number) {
     return it;
 }
 
-// What each edge carries: its capacity less its residual capacity, or nothing if that is below 0, as on the reverse of
-// an edge with flow. The residual capacity of a reverse edge isn't compared with that of its edge: some of Boost's
-// searches leave it as it was.
+// What each edge carries: its capacity minus its residual capacity, or nothing if that is below 0, as on the reverse of
+// an edge with flow. The residual capacities of an edge and its reverse aren't compared: some of Boost's searches don't
+// update that of the reverse.
 template <class G, class Capacity, class Residual>
 std::vector<std::int64_t> flows_of(const Index<G> &index, const Capacity &capacity, const Residual &residual) {
     std::vector<std::int64_t> flows;
@@ -1452,7 +1454,7 @@ std::vector<std::int64_t> flows_of(const Index<G> &index, const Capacity &capaci
     return flows;
 }
 
-// What flows out of a node, less what flows in.
+// A node's outflow minus its inflow.
 template <class G>
 std::int64_t net(const Index<G> &index, std::uint32_t node, const std::vector<std::int64_t> &flows) {
     Wide sum = 0;
@@ -1466,9 +1468,9 @@ std::int64_t net(const Index<G> &index, std::uint32_t node, const std::vector<st
 }  // namespace detail
 
 // Decides whether the flow that push_relabel_max_flow or another search left in `residual` is maximum. The maps are
-// those of the search: an edge carries its capacity less its residual capacity, or nothing if that is below 0. A cut;
-// NotOptimal, which has a better flow, by edge; RefusedAt an edge that carries more than its capacity, or a vertex out
-// of balance. Throws std::out_of_range if an edge would carry more than 64 bits.
+// those of the search: an edge carries its capacity minus its residual capacity, or nothing if that is below 0. A yes
+// has a cut. NotOptimal has a better flow, by edge. RefusedAt has an edge that carries more than its capacity, or a
+// vertex out of balance. Throws std::out_of_range if an edge would carry more than 64 bits.
 template <class G, class Capacity, class Residual>
 dimacs::detail::CertifiedMaxOver<Index<G>> certify_max(const G &graph, const typename Index<G>::Node &source_vertex,
                                                        const typename Index<G>::Node &target_vertex,
@@ -1480,8 +1482,8 @@ dimacs::detail::CertifiedMaxOver<Index<G>> certify_max(const G &graph, const typ
 }
 
 // Decides whether that flow costs least of all flows of its value, as successive_shortest_path_nonnegative_weights and
-// cycle_canceling make one: potentials, by which the reduced cost of an edge is its weight, minus the potential of its
-// source, plus that of its target; else as certify_max.
+// cycle_canceling make one. A yes has potentials: the reduced cost of an edge is its weight, minus the potential of its
+// source, plus that of its target. The noes are those of certify_max.
 template <class G, class Capacity, class Residual, class Weight>
 dimacs::detail::CertifiedMinOver<Index<G>> certify_min(const G &graph, const typename Index<G>::Node &source_vertex,
                                                        const typename Index<G>::Node &target_vertex,
@@ -1500,8 +1502,8 @@ dimacs::detail::CertifiedMinOver<Index<G>> certify_min(const G &graph, const typ
 }
 
 // Decides whether distances, as dijkstra_shortest_paths and bellman_ford_shortest_paths leave them in a map, are right.
-// The greatest number of its type is the distance of a vertex that isn't reached. RefusedAt the edge or the vertex at
-// which they are wrong.
+// The greatest number of its type is the distance of a vertex that isn't reached. RefusedAt has the edge or the vertex
+// at which they are wrong.
 template <class G, class Weight, class Distance>
 dimacs::detail::CertifiedPathsOver<Index<G>> certify_paths(const G &graph, const typename Index<G>::Node &source_vertex,
                                                            const Weight &weight, const Distance &distance) {

@@ -4,8 +4,8 @@ It is the build backend that pyproject.toml names, and needs nothing but Python.
 
     make && pip install ./lib/python
 
-The library is the one that `make` proved and built, or another that DIMACS_LIBRARY names. Where that doesn't have the mark
-of what is proved, the wheel's version ends in +unproved.
+The library is the one that `make` proved and built, or another that DIMACS_LIBRARY names. If that doesn't have the mark
+of a proved one, the wheel's version ends in +unproved.
 """
 
 from __future__ import annotations
@@ -92,7 +92,7 @@ def _digest(content: bytes) -> str:
 
 
 def build_wheel(wheel_directory, config_settings=None, metadata_directory=None):
-    """Writes the wheel into a folder, and answers its name. pip calls it."""
+    """Writes the wheel into a folder, and returns its name. pip calls it."""
     library = _library()
     version = version_of(library)
     files = _files(library, version)
@@ -107,7 +107,7 @@ def build_wheel(wheel_directory, config_settings=None, metadata_directory=None):
 
 
 def prepare_metadata_for_build_wheel(metadata_directory, config_settings=None):
-    """Writes what describes the package into a folder, and answers its name. With the package's own folder on the path,
+    """Writes the package's metadata into a folder, and returns its name. With the package's own folder on the path,
     other packages find it by that as if it were installed."""
     library = _library()
     version = version_of(library)

@@ -69,9 +69,9 @@ class Certified(NamedTuple):
 class Solved(NamedTuple):
     """An answer, which was judged before it was returned.
 
-    value is the value of the flow, or its cost. The solution is a text; over arrays the amount of each arc, or the distance
-    of each node; over a graph a dict of those; for queries in texts the answers to pairs. The certificate is as in
-    Certified; for queries in texts it is the text of labels.
+    value is the value of the flow, or its cost; None if there is neither. The solution is a text; over arrays the
+    amount of each arc, or the distance of each node; over a graph a dict of those; for queries in texts the answers to
+    pairs. The certificate is as in Certified; for queries in texts it is the text of labels.
     """
 
     value: int | None

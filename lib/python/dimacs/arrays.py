@@ -20,12 +20,12 @@ from . import library
 from .answers import Certified, Feasible, Infeasible, Solved, Verdict
 from .buffers import DISTANCES, IDS, LIMIT, LIMITS, MARKS, NUMBERS, Buffer, Items, Room, array_of, number_of
 
-#: There may be no more nodes than these.
+#: The greatest number of nodes.
 MOST_NODES = 2**27
 
 
 class _Array(NamedTuple):
-    """What an array is called, what its items are, and of what it has one each."""
+    """The name of an array, the type of its items, and whether there is one for each node or for each arc."""
 
     name: str
     items: Items
@@ -58,7 +58,7 @@ _GRAPH = _Instance("nodes", _TAILS, _HEADS, _WEIGHTS)
 
 
 class _Given:
-    """The words of a call: an instance, and what is added to it. Keeps the memory of all arrays."""
+    """The arguments of a call: an instance, and those that are added. Keeps the memory of all arrays."""
 
     def __init__(self, form: _Instance, *given: Any) -> None:
         count = len(form.numbers)
@@ -82,11 +82,11 @@ class _Given:
         self.words += self._keep(form, numbers)
 
     def length(self, form: _Array) -> int:
-        """How many items an array has to have."""
+        """The number of items that an array has to have."""
         return self._count[form.each]
 
     def room(self, form: _Array) -> Room:
-        """Memory for an array that is handed out. Of more nodes than there may be the library hands out nothing."""
+        """Memory for an array that is handed out. If there are too many nodes, the library hands out none."""
         return Room(form.items, min(self.length(form), MOST_NODES) if form.each == "nodes" else self.length(form))
 
     def test_lengths(self) -> None:
@@ -105,7 +105,7 @@ def _judge(function: Callable[..., int], given: _Given) -> Verdict:
 
 
 def _certify(function: Callable[..., int], given: _Given, came: Any, *handed: _Array) -> Certified:
-    """Certifies what came. The first array that is handed out is the certificate, the second one a better flow."""
+    """Makes a call that certifies. It hands out the certificate, then a better flow."""
     given.test_lengths()
     rooms = [given.room(form) for form in handed]
     status, said = library.call_with_rooms(function, given.words, rooms)
@@ -169,9 +169,9 @@ def judge_paths_arrays(
 def certify_max_arrays(
     nodes: int, source: int, sink: int, tails: Any, heads: Any, caps: Any, flows: Any
 ) -> Certified:
-    """Decides whether a flow is maximum; its value, and for each node whether it is inside a cut that shows it.
+    """Decides whether a flow is maximum. Returns its value, and for each node whether it is inside a cut that shows it.
 
-    Raises NotOptimal with a flow of greater value if the flow is feasible, but not maximum; Refused if it isn't feasible.
+    Raises NotOptimal with a flow of greater value if the flow is feasible, but not maximum, and Refused if it isn't feasible.
     The result is a numpy array or an array.array if flows is one, else a list.
     """
     given = _Given(_MAX, nodes, source, sink, tails, heads, caps)
@@ -182,7 +182,7 @@ def certify_max_arrays(
 def certify_min_arrays(
     nodes: int, tails: Any, heads: Any, lows: Any, caps: Any, costs: Any, supplies: Any, flows: Any
 ) -> Certified:
-    """Decides whether a flow costs least; its cost, and for each node a potential, which show it.
+    """Decides whether a flow costs least. Returns its cost, and potentials that show it.
 
     Raises NotOptimal with a cheaper flow if the flow is feasible, but doesn't cost least; Refused as certify_max_arrays;
     GaveUp if the flow costs least, but two of the potentials that were found are 2^64 or more apart; others may fit.
@@ -195,7 +195,7 @@ def certify_min_arrays(
 def certify_infeasible_arrays(
     nodes: int, tails: Any, heads: Any, lows: Any, caps: Any, costs: Any, supplies: Any
 ) -> Certified:
-    """Decides whether no flow is feasible; no value, and for each node whether it is inside a set that shows it.
+    """Decides whether no flow is feasible. Returns for each node whether it is inside a set that shows it.
 
     Raises Feasible with a flow if one is. The result has the form of caps, as in certify_max_arrays.
     """
@@ -211,7 +211,7 @@ def certify_infeasible_arrays(
 def certify_paths_arrays(
     nodes: int, tails: Any, heads: Any, weights: Any, source: int, distances: Any
 ) -> Certified:
-    """Decides whether these are the distances from the source; no value, and for each node a predecessor, which show it.
+    """Decides whether these are the distances from the source. Returns predecessors that show it.
 
     Raises Refused if they aren't. The result has the form of distances, as in certify_max_arrays.
     """
@@ -234,7 +234,7 @@ def _solve(function: Callable[..., int], given: _Given, *handed: _Array) -> tupl
 def solve_max_arrays(
     nodes: int, source: int, sink: int, tails: Any, heads: Any, caps: Any, limit: int = LIMIT
 ) -> Solved:
-    """Makes a maximum flow; its value, the amount of each arc, and for each node whether it is inside a cut that shows it.
+    """Makes a maximum flow. Returns its value, the amounts of the arcs, and for each node whether it is inside a cut.
 
     Raises GaveUp after `limit` flows that aren't maximum. The result has the form of caps, as in certify_max_arrays.
     """
@@ -247,7 +247,7 @@ def solve_max_arrays(
 def solve_min_arrays(
     nodes: int, tails: Any, heads: Any, lows: Any, caps: Any, costs: Any, supplies: Any, limit: int = LIMIT
 ) -> Solved:
-    """Makes a flow of least cost; its cost, the amount of each arc, and for each node a potential, which show it.
+    """Makes a flow of least cost. Returns its cost, the amounts of the arcs, and potentials that show it.
 
     Raises Infeasible if no flow is feasible, with whether each node is inside a set that shows it; GaveUp after `limit`
     steps to better flows, if the least cost is out of range, or if two of the potentials that were found are 2^64 or more
@@ -262,7 +262,7 @@ def solve_min_arrays(
 
 
 def solve_paths_arrays(nodes: int, tails: Any, heads: Any, weights: Any, source: int) -> Solved:
-    """Makes the distances from the source; no value, and for each node a distance and a predecessor, which show them.
+    """Makes the distances from the source. Returns them, and predecessors that show them.
 
     A node that isn't reached has the distance UNREACHED and the predecessor 0, as the source has. Raises Refused if a
     weight is negative, and GaveUp if a distance is as great as UNREACHED. The result has the form of weights.

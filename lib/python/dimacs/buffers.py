@@ -13,7 +13,7 @@ from .answers import UNREACHED
 
 
 class Buffer:
-    """Where items lie, and how many, and the object that keeps the memory. Where that is bytes, it is the address too."""
+    """The address and number of items, and the object that keeps their memory. If that is bytes, it is the address too."""
 
     __slots__ = ("kept", "address", "length")
 
@@ -45,7 +45,7 @@ class _View(ctypes.Structure):
 
 
 def _address_of(view: memoryview) -> int:
-    """Where the bytes of a view lie. They stay there while the view does."""
+    """The address of the bytes of a view. They stay there as long as the view lives."""
     seen = _View()
     ctypes.pythonapi.PyObject_GetBuffer(ctypes.py_object(view), ctypes.byref(seen), 0)
     address = seen.address
@@ -66,13 +66,13 @@ def bytes_of(text: Any) -> Buffer:
 
 
 class Items(NamedTuple):
-    """What the items of an array are."""
+    """The type and range of an array's items."""
 
     code: str
     width: int
     least: int
     greatest: int
-    #: What an infinite number stands for, where it may stand there.
+    #: The item for an infinite number, if one is allowed.
     infinity: int | None = None
 
 
@@ -103,7 +103,7 @@ def is_bool(number: Any) -> bool:
 
 
 def _whole(number: Any, items: Items, name: str) -> int:
-    """The integer that a number is."""
+    """A number as an integer."""
     if _is_numpy_bool(number):
         return int(number)
     if hasattr(number, "__index__"):
@@ -167,7 +167,7 @@ def _from_numpy(numpy: Any, numbers: Any, items: Items, name: str) -> Buffer:
 
 
 def _whole_numpy(numpy: Any, numbers: Any, items: Items, name: str) -> Any:
-    """The integers that an array of floats is."""
+    """An array of floats as integers."""
     # The ends of the ranges are no float16: that has inf there.
     numbers = numbers.astype(numpy.result_type(numbers.dtype, numpy.float64), copy=False)
     infinite = numbers == math.inf if items.infinity is not None else numpy.zeros(len(numbers), bool)
@@ -183,14 +183,14 @@ def _whole_numpy(numpy: Any, numbers: Any, items: Items, name: str) -> Any:
 
 
 def _gone_through(numbers: Any, name: str) -> list[Any]:
-    """The items of what has no buffer."""
+    """The items of an object without a buffer."""
     if isinstance(numbers, (Mapping, Set)):
         raise TypeError(f"{name} is a {type(numbers).__name__}, whose items have no places as those of an array")
     return list(numbers)
 
 
 def _items_of(numbers: Any, view: memoryview, name: str) -> list[Any]:
-    """The items of what has a buffer. A view doesn't read those of each format, but what it is of may."""
+    """The items of an object with a buffer. A view can't read each format, but the object may."""
     try:
         return view.tolist()
     except NotImplementedError:
@@ -202,7 +202,7 @@ def _items_of(numbers: Any, view: memoryview, name: str) -> list[Any]:
 
 
 def unlabelled(given: Any) -> Any:
-    """The items by their places of what may have labels too, as in pandas, if a DataFrame is gone through by these."""
+    """An object of pandas as a numpy array: by its places, not by its labels. Others unchanged."""
     return given.to_numpy() if hasattr(given, "to_numpy") else given
 
 
@@ -250,14 +250,14 @@ class Room:
 
     @classmethod
     def of(cls, items: Items, numbers: Sequence[int]) -> Room:
-        """Items that were handed out otherwise."""
+        """A room with these items, as if a call had handed them out."""
         room = cls(items, 0)
         room._kept.extend(numbers)
         room._needed.value = len(room._kept)
         return room
 
     def words(self) -> tuple[int, int, Any]:
-        """The address of the memory, for how many items it has room, and the address of their number."""
+        """The address of the memory, the number of items that fit, and the address of the number handed out."""
         address, length = self._kept.buffer_info()
         return address, length, ctypes.byref(self._needed)
 

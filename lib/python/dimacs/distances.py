@@ -10,7 +10,7 @@ from .buffers import NUMBERS
 
 
 class NegativeCycle(ValueError):
-    """There is a cycle of negative weight: a walk along it can always be made shorter."""
+    """There is a cycle of negative weight: walks along it have no least weight."""
 
     def __init__(self) -> None:
         super().__init__("there is a cycle of negative weight")

@@ -71,7 +71,7 @@ class _Graph:
         return converted([data.get("weight", missing) for data in self._data], NUMBERS, "weight")
 
     def _capacities(self) -> list[Any]:
-        """Those of the graph. An edge with inf carries any amount."""
+        """The capacities of the graph. An edge with inf carries any amount."""
         return [data.get("capacity", math.inf) for data in self._data]
 
     def capacities(self) -> array[int]:
@@ -112,7 +112,7 @@ class _Graph:
         return flows
 
     def nodes_inside(self, inside: Any) -> set[Any]:
-        """The nodes that are marked."""
+        """The nodes whose mark is true."""
         return {node for node, is_inside in zip(self.nodes, inside) if is_inside}
 
     def found_set(self, inside: Any) -> set[Any]:
@@ -151,7 +151,7 @@ class _Graph:
 
     @contextmanager
     def names(self) -> Iterator[None]:
-        """Has what is raised inside name nodes and edges as the graph does."""
+        """Exceptions raised inside name nodes and edges as the graph does."""
         try:
             yield
         except NotOptimal as it:
@@ -171,13 +171,13 @@ class _Graph:
 
 
 def _max_words(graph: _Graph, source: Any, sink: Any) -> tuple[Any, ...]:
-    """The words of a call about a maximum flow."""
+    """The arguments of a call about a maximum flow."""
     ends = graph.number(source), graph.number(sink)
     return len(graph.nodes), *ends, graph.tails, graph.heads, graph.capacities()
 
 
 def _min_words(graph: _Graph) -> tuple[Any, ...]:
-    """The words of a call about a flow of least cost."""
+    """The arguments of a call about a flow of least cost."""
     lows, costs = [0] * len(graph.edges), graph.weights(0)
     return len(graph.nodes), graph.tails, graph.heads, lows, graph.capacities(), costs, graph.supplies()
 
@@ -210,7 +210,7 @@ def judge_networkx_min(graph: Any, flow: Any, potentials: Any = None) -> Verdict
 
 
 def certify_networkx_max(graph: Any, source: Any, sink: Any, flow: Any) -> Certified:
-    """Decides whether a flow is maximum; its value, and the set of the nodes on the source's side of a cut that shows it.
+    """Decides whether a flow is maximum. Returns its value, and the nodes on the source's side of a cut that shows it.
 
     Raises NotOptimal with a flow of greater value, a dict, if the flow is feasible, but not maximum; Refused if it isn't
     feasible.
@@ -222,7 +222,7 @@ def certify_networkx_max(graph: Any, source: Any, sink: Any, flow: Any) -> Certi
 
 
 def certify_networkx_min(graph: Any, flow: Any) -> Certified:
-    """Decides whether a flow costs least; its cost, and a dict of potentials by node, which show it.
+    """Decides whether a flow costs least. Returns its cost, and a dict of potentials by node that show it.
 
     Raises NotOptimal with a cheaper flow, a dict, if the flow is feasible, but doesn't cost least; Refused as
     certify_networkx_max; GaveUp if the flow costs least, but two of the potentials that were found are 2^64 or more apart;
@@ -235,7 +235,7 @@ def certify_networkx_min(graph: Any, flow: Any) -> Certified:
 
 
 def certify_networkx_infeasible(graph: Any) -> Certified:
-    """Decides whether no flow meets the demands; no value, and a set of nodes that shows it.
+    """Decides whether no flow meets the demands. Returns a set of nodes that shows it.
 
     Raises Feasible with a flow, a dict, if one does; GaveUp if one would have to carry 2^63 or more by edges without a
     capacity.
@@ -247,7 +247,7 @@ def certify_networkx_infeasible(graph: Any) -> Certified:
 
 
 def certify_networkx_paths(graph: Any, source: Any, distances: Any) -> Certified:
-    """Decides whether these are the distances from a source, a dict by node; no value, and a dict of predecessors.
+    """Decides whether these are the distances from a source, a dict by node. Returns a dict of predecessors.
 
     A node that isn't in the dict, or has inf there, is claimed to be unreachable. The predecessor of each node that is
     reached is on a shortest path to it; that of the source is None. Raises Refused if a distance isn't true.
@@ -262,7 +262,7 @@ def certify_networkx_paths(graph: Any, source: Any, distances: Any) -> Certified
 
 
 def solve_networkx_max(graph: Any, source: Any, sink: Any, limit: int = LIMIT) -> Solved:
-    """Makes a maximum flow; its value, the flow, and the set of the nodes on the source's side of a cut that shows it.
+    """Makes a maximum flow. Returns its value, the flow, and the nodes on the source's side of a cut that shows it.
 
     Raises GaveUp after `limit` flows that aren't maximum, or if an edge without a capacity carries 2^63 - 1 or more.
     """
@@ -273,7 +273,7 @@ def solve_networkx_max(graph: Any, source: Any, sink: Any, limit: int = LIMIT) -
 
 
 def solve_networkx_min(graph: Any, limit: int = LIMIT) -> Solved:
-    """Makes a flow of least cost; its cost, the flow, and a dict of potentials by node, which show it.
+    """Makes a flow of least cost. Returns its cost, the flow, and a dict of potentials by node that show it.
 
     Raises Infeasible with a set of nodes that shows it, if no flow is feasible; GaveUp as solve_min_arrays, or if an edge
     without a capacity carries 2^63 - 1 or more, or would have to.
@@ -285,7 +285,7 @@ def solve_networkx_min(graph: Any, limit: int = LIMIT) -> Solved:
 
 
 def solve_networkx_paths(graph: Any, source: Any) -> Solved:
-    """Makes the distances from a source; no value, a dict of the nodes that are reached, and a dict of predecessors, as
+    """Makes the distances from a source. Returns a dict of the nodes that are reached, and a dict of predecessors, as
     certify_networkx_paths. Raises Refused if a weight is negative."""
     given = _Graph(graph)
     weights = given.weights(1)

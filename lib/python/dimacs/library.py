@@ -15,10 +15,10 @@ DONE, REFUSED, MISUSED, NO_MEMORY, GAVE_UP = 0, 1, 2, 4, 5
 #: The reasons with which a better flow is handed out.
 BETTER = (b"NotMaximum", b"NotLeast")
 
-#: That with which a feasible flow is handed out.
+#: The reason with which a feasible flow is handed out.
 FEASIBLE = b"Feasible"
 
-#: As much as any line has that isn't one of many.
+#: Room for any line, except for answers to pairs.
 LINE = 256
 
 _HERE = Path(__file__).resolve().parent
@@ -41,8 +41,8 @@ _library = ctypes.CDLL(str(_find()))
 
 
 def _export(name: str, *words: Any, texts: int = 0, more: Sequence[Any] = (), rooms: int = 1) -> Callable[..., int]:
-    """The function of the library that takes these words, so many texts or arrays, more words, and rooms for what it hands
-    out."""
+    """A function of the library: it takes these arguments, this many texts or arrays, more arguments, and rooms for its
+    output."""
     function = getattr(_library, name)
     function.argtypes = [*words, *[_address, _size] * texts, *more, *_room * rooms]
     function.restype = _number
@@ -85,7 +85,7 @@ def _raise_for(status: int, said: bytes) -> None:
 
 
 def call(function: Callable[..., int], *words: Any) -> tuple[int, bytes]:
-    """Makes a call that hands out a text, twice if it is longer than a line; its status, and the text."""
+    """Makes a call that hands out a text, twice if it is longer than a line. Returns its status and the text."""
     line, room = _Line(), LINE
     while True:
         needed = _size()
@@ -101,7 +101,7 @@ def call(function: Callable[..., int], *words: Any) -> tuple[int, bytes]:
 
 
 def call_for_texts(function: Callable[..., int], *words: Any, rooms: Sequence[int]) -> tuple[int, list[bytes]]:
-    """Makes a call that hands out texts, again if one of them is longer than its room; its status, and the texts."""
+    """Makes a call that hands out texts, again if one of them is longer than its room. Returns its status and the texts."""
     while True:
         needed = [_size() for _ in rooms]
         texts = [ctypes.create_string_buffer(room) for room in rooms]
@@ -117,7 +117,7 @@ def call_for_texts(function: Callable[..., int], *words: Any, rooms: Sequence[in
 
 
 def call_with_rooms(function: Callable[..., int], words: list[Any], rooms: list[Room]) -> tuple[int, bytes]:
-    """Makes a call that hands out items to rooms that are large enough; its status, and the line."""
+    """Makes a call that hands out items to rooms that are large enough. Returns its status and the line."""
     line, needed = _Line(), _size()
     handed = [word for room in rooms for word in room.words()]
     status = function(*words, line, LINE, ctypes.byref(needed), *handed)

@@ -22,7 +22,7 @@ from .arrays import certify_max_arrays, certify_min_arrays
 
 
 class _Solver:
-    """The arcs of a solver, and what it has each of them carry."""
+    """The arcs of a solver, and the flow on each."""
 
     def __init__(self, solver: Any) -> None:
         arcs = range(solver.num_arcs())
@@ -37,7 +37,7 @@ class _Solver:
         return [it + 1 for it in self.tails], [it + 1 for it in self.heads]
 
     def sent(self) -> list[int]:
-        """What leaves each node, less what enters it."""
+        """The outflow of each node minus its inflow."""
         found = [0] * self.nodes
         for tail, head, amount in zip(self.tails, self.heads, self.flows):
             found[tail] += amount
@@ -46,7 +46,7 @@ class _Solver:
 
     @contextmanager
     def names(self) -> Iterator[None]:
-        """Has what is raised inside name nodes and arcs as the solver does."""
+        """Exceptions raised inside name nodes and arcs as the solver does."""
         try:
             yield
         except NotOptimal:
@@ -57,7 +57,7 @@ class _Solver:
 
 
 def certify(solver: Any, source: int | None = None, sink: int | None = None) -> Certified:
-    """Decides whether what a solver found is best: a SimpleMaxFlow or a SimpleMinCostFlow, after solve() was OPTIMAL.
+    """Decides whether the flow of a solver is optimal: a SimpleMaxFlow or a SimpleMinCostFlow, after solve() was OPTIMAL.
 
     For a SimpleMaxFlow it returns the value, and for each node whether it is inside a cut that shows it; source and sink are
     those of solve(), and may be left out if the flow isn't zero. For a SimpleMinCostFlow it returns the cost, and for each
@@ -94,7 +94,7 @@ def _certify_min(solver: Any) -> Certified:
 
 
 def _tested(certified: Certified, claimed: int) -> Certified:
-    """What was certified, if the solver reports the same value."""
+    """The certified flow. Raises Refused if the solver reports another value."""
     if certified.value != claimed:
         raise Refused("ValueDiffers", text="solution", line=0, field=0)
     return certified

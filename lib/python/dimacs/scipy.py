@@ -20,7 +20,7 @@ from .answers import UNREACHED, Certified, GaveUp, NotOptimal, PastLimit, Refuse
 from .arrays import certify_max_arrays, solve_max_arrays, solve_paths_arrays
 from .distances import NegativeCycle, distances_from, potentials_of
 
-#: What SciPy has in place of the predecessor of a vertex that has none.
+#: SciPy's predecessor of a vertex that has none.
 NO_PREDECESSOR = -9999
 
 _METHODS = ("auto", "FW", "D", "BF", "J")
@@ -66,7 +66,7 @@ class _Network:
             raise ValueError(f"the capacity from {self.tails[arc]} to {self.heads[arc]} is {self.caps[arc]}")
 
     def words(self) -> tuple[Any, ...]:
-        """Those of the calls over arrays, whose vertices are numbered from 1."""
+        """The arguments of calls over arrays, whose vertices are numbered from 1."""
         ends = self.source + 1, self.sink + 1, _numbers(self.tails), _numbers(self.heads)
         return self.vertices, *ends, self.caps
 
@@ -81,7 +81,7 @@ class _Network:
 
     @contextmanager
     def names(self) -> Iterator[None]:
-        """Has what is raised inside name vertices as the matrix does, and edges by the two."""
+        """Exceptions raised inside name vertices as the matrix does, and edges by the two."""
         try:
             yield
         except NotOptimal as it:
@@ -138,7 +138,7 @@ def maximum_flow(csgraph: Any, source: int, sink: int, *, method: str = "dinic")
 
 
 def certify_maximum_flow(csgraph: Any, source: int, sink: int, flow: Any) -> Certified:
-    """Decides whether a flow of SciPy is maximum; its value, and for each vertex whether it is inside a cut.
+    """Decides whether a flow of SciPy is maximum. Returns its value, and for each vertex whether it is inside a cut.
 
     flow is the result of maximum_flow, or its matrix: an entry that isn't stored is 0, and the one at (j, i) is that at
     (i, j) negated. Raises NotOptimal with such a matrix of greater value if the flow is feasible, but not maximum; Refused

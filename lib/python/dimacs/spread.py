@@ -67,7 +67,7 @@ def spread_min_arrays(
     pair_heads: Any,
     sums: Any,
 ) -> Any:
-    """The same for an instance of least cost: of all dealings within the bounds, one that costs least."""
+    """The same for an instance of least cost: of all such flows within the bounds, one that costs least."""
     named = [("tails", IDS, tails), ("heads", IDS, heads)]
     named += [("lows", NUMBERS, lows), ("caps", NUMBERS, caps), ("costs", NUMBERS, costs)]
     arcs = _columns(*named)

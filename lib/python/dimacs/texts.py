@@ -66,7 +66,7 @@ def _certify_flow(kind: str, instance: Text, solution: Text) -> Certified:
 
 
 def certify_max(instance: Text, solution: Text) -> Certified:
-    """Decides whether a solution's flow is maximum; its value, and the text of a cut that shows it.
+    """Decides whether a solution's flow is maximum. Returns its value, and the text of a cut that shows it.
 
     Raises NotOptimal with the text of a better flow if the flow is feasible and has the claimed value, but isn't maximum;
     Refused if a text has a fault, or the flow isn't feasible or has another value. The certificate is str if the instance is.
@@ -75,7 +75,7 @@ def certify_max(instance: Text, solution: Text) -> Certified:
 
 
 def certify_min(instance: Text, solution: Text) -> Certified:
-    """Decides whether a solution's flow costs least; its cost, and the text of potentials that show it.
+    """Decides whether a solution's flow costs least. Returns its cost, and the text of potentials that show it.
 
     Raises NotOptimal with the text of a cheaper flow if the flow is feasible and has the claimed cost, but doesn't cost
     least; Refused as certify_max.
@@ -84,7 +84,7 @@ def certify_min(instance: Text, solution: Text) -> Certified:
 
 
 def certify_infeasible(instance: Text) -> Certified:
-    """Decides whether an instance has no feasible flow; no value, and the text of a set that shows it.
+    """Decides whether an instance has no feasible flow. Returns the text of a set that shows it.
 
     Raises Feasible with the text of a feasible flow if there is one; Refused if the text has a fault. The certificate and the
     flow are str if the instance is.
@@ -98,8 +98,8 @@ def certify_infeasible(instance: Text) -> Certified:
 
 
 def certify_paths(graph: Text, distances: Text) -> Certified:
-    """Decides whether claimed distances, without predecessors, are the distances of their nodes, and the nodes without one
-    unreachable; no value, and the text of labels that show it.
+    """Decides whether claimed distances are right, and nodes without one unreachable. Returns the text of labels that
+    show it.
 
     Raises Refused if a text has a fault, or a test fails. The certificate is str if the graph is.
     """
@@ -121,7 +121,7 @@ def _spread(kind: str, instance: Text, solution: Text) -> Any:
 
 def spread_max(instance: Text, solution: Text) -> Any:
     """Deals a solution out to parallel arcs: adds up the entries with the same ends, and gives each arc with these ends its
-    share, within its bounds if possible; the text of a solution with an entry for every arc and the claimed value.
+    share, within its bounds if possible. Returns the text of a solution with the claimed value and an entry for every arc.
 
     Raises Refused if a text has a fault or an entry is of no arc. The text is str if the solution is.
     """
@@ -129,7 +129,7 @@ def spread_max(instance: Text, solution: Text) -> Any:
 
 
 def spread_min(instance: Text, solution: Text) -> Any:
-    """The same for least cost: of all dealings within the bounds, one that costs least."""
+    """The same for least cost: of all such flows within the bounds, one that costs least."""
     return _spread("min", instance, solution)
 
 
@@ -151,7 +151,7 @@ def _solve(kind: str, instance: Text, queries: Text, limit: int) -> Solved:
 
 
 def solve_max(instance: Text, limit: int = LIMIT) -> Solved:
-    """Makes a maximum flow; its value, and the texts of a solution and of a cut that shows it, str if the instance is.
+    """Makes a maximum flow. Returns its value, and the texts of a solution and of a cut that shows it, str if the instance is.
 
     Raises GaveUp after `limit` flows that aren't maximum, and Refused if the text has a fault.
     """
@@ -159,7 +159,7 @@ def solve_max(instance: Text, limit: int = LIMIT) -> Solved:
 
 
 def solve_min(instance: Text, limit: int = LIMIT) -> Solved:
-    """Makes a flow of least cost; its cost, and the texts of a solution and of potentials that show it.
+    """Makes a flow of least cost. Returns its cost, and the texts of a solution and of potentials that show it.
 
     Raises Infeasible with the text of a set if no flow is feasible; GaveUp after `limit` steps to better flows, or if the
     least cost is out of range; Refused as solve_max.
@@ -168,7 +168,7 @@ def solve_min(instance: Text, limit: int = LIMIT) -> Solved:
 
 
 def solve_paths(graph: Text, queries: Text) -> Solved:
-    """Makes labels that answer the queries: no value, the answers to queries for pairs, and the text of the labels.
+    """Makes labels that answer the queries. Returns the answers to queries for pairs, and the text of the labels.
 
     Raises Refused if a text has a fault, a query names no node, or a weight is negative.
     """

@@ -9,8 +9,8 @@ use crate::ffi::{self, Array, Graph as RawGraph, Max, Min, DONE, GAVE_UP, MISUSE
 use crate::rooms::{room_for, Room, LINE};
 use crate::words::{is_feasible, is_infeasible, is_not_optimal, refused, value};
 
-/// Why a call over slices doesn't answer yes: a better flow is an amount for each arc, and a set has for each node whether
-/// it is inside.
+/// Why a call over slices doesn't answer yes. A flow is an amount for each arc, and a set has for each node whether it
+/// is inside.
 pub type Error = crate::Error<Vec<i64>, Vec<bool>>;
 
 /// The distance of a node that isn't reached. Its predecessor is 0, as that of the source.
@@ -33,8 +33,8 @@ pub struct MaxInstance<'a> {
     pub caps: &'a [i64],
 }
 
-/// A minimum cost flow instance: an arc carries from its lower bound to its capacity, at a cost for each unit. What leaves
-/// a node less what enters it is its supply. A demand is a negative supply.
+/// A minimum cost flow instance: an arc carries from its lower bound to its capacity, at a cost for each unit. A node's
+/// supply is its outflow minus its inflow. A demand is a negative supply.
 #[derive(Clone, Copy, Debug)]
 pub struct MinInstance<'a> {
     /// How many nodes there are.
@@ -175,7 +175,8 @@ fn line_or_better(status: u32, line: Room<u8>, better: Room<i64>) -> Result<Stri
     }
 }
 
-/// Judges that a flow, by arc, is maximum, by a cut, by node; its value. [`Error::Refused`] for the first test that fails.
+/// Judges that a flow, by arc, is maximum, by a cut, by node. Returns its value. [`Error::Refused`] for the first test
+/// that fails.
 ///
 /// ```
 /// # use dimacs::arrays::{judge_max, MaxInstance};
@@ -202,8 +203,8 @@ pub fn judge_max(instance: &MaxInstance, flows: &[i64], inside: &[bool]) -> Resu
     Ok(value(&line_of(status, line)?))
 }
 
-/// Judges that a flow, by arc, costs least, by potentials of the nodes; its cost. The reduced cost of an arc is its cost,
-/// minus the potential of its tail, plus that of its head. [`Error::Refused`] for the first test that fails.
+/// Judges that a flow, by arc, costs least, by potentials of the nodes. Returns its cost. The reduced cost of an arc is
+/// its cost, minus the potential of its tail, plus that of its head. [`Error::Refused`] for the first test that fails.
 ///
 /// ```
 /// # use dimacs::arrays::{judge_min, MinInstance};
@@ -230,8 +231,8 @@ pub fn judge_min(instance: &MinInstance, flows: &[i64], potentials: &[i64]) -> R
     Ok(value(&line_of(status, line)?))
 }
 
-/// Judges that an instance has no feasible flow, by a set of nodes. [`Error::Refused`] if the set isn't violated; there may
-/// be no feasible flow all the same.
+/// Judges that an instance has no feasible flow, by a set of nodes. [`Error::Refused`] if the set isn't violated. There
+/// may still be no feasible flow, by another set.
 ///
 /// ```
 /// # use dimacs::arrays::{judge_infeasible, MinInstance};
@@ -282,9 +283,9 @@ pub fn judge_paths(graph: &Graph, source: u32, distances: &[i64], predecessors: 
     line_of(status, line).map(drop)
 }
 
-/// Decides whether a flow, by arc, is maximum: its value and a cut that [`judge_max`] accepts. [`Error::NotOptimal`]
-/// with a feasible flow of greater value, and [`Error::Refused`] if the flow isn't feasible. The number of arcs doesn't
-/// bound the time.
+/// Decides whether a flow, by arc, is maximum. Returns its value and a cut that [`judge_max`] accepts.
+/// [`Error::NotOptimal`] with a feasible flow of greater value, if the flow is feasible but not maximum.
+/// [`Error::Refused`] if it isn't feasible. The number of arcs doesn't bound the time.
 ///
 /// ```
 /// # use dimacs::arrays::{certify_max, Error, MaxInstance};
@@ -316,9 +317,9 @@ pub fn certify_max(instance: &MaxInstance, flows: &[i64]) -> Result<CertifiedMax
     Ok(CertifiedMax { value: value(&line), inside: inside.marks() })
 }
 
-/// Decides whether a flow, by arc, costs least: its cost and potentials that [`judge_min`] accepts, or
-/// [`Error::GaveUp`] if those that were found don't fit in 64 bits. [`Error::NotOptimal`] with a feasible flow that costs
-/// less, and [`Error::Refused`] if the flow isn't feasible.
+/// Decides whether a flow, by arc, costs least. Returns its cost and potentials that [`judge_min`] accepts.
+/// [`Error::GaveUp`] if the flow costs least, but the potentials found don't fit in 64 bits. [`Error::NotOptimal`] with
+/// a cheaper feasible flow, if the flow is feasible but doesn't cost least. [`Error::Refused`] if it isn't feasible.
 ///
 /// ```
 /// # use dimacs::arrays::{certify_min, Error, MinInstance};
@@ -352,8 +353,8 @@ pub fn certify_min(instance: &MinInstance, flows: &[i64]) -> Result<CertifiedMin
     Ok(CertifiedMin { cost: value(&line), potentials: potentials.take() })
 }
 
-/// Decides whether an instance has no feasible flow: a set that [`judge_infeasible`] accepts. [`Error::Feasible`] with
-/// a feasible flow, if there is one. The number of arcs doesn't bound the time.
+/// Decides whether an instance has no feasible flow. Returns a set that [`judge_infeasible`] accepts.
+/// [`Error::Feasible`] with a feasible flow, if there is one. The number of arcs doesn't bound the time.
 ///
 /// ```
 /// # use dimacs::arrays::{certify_infeasible, Error, MinInstance};
@@ -388,8 +389,9 @@ pub fn certify_infeasible(instance: &MinInstance) -> Result<Vec<bool>, Error> {
     }
 }
 
-/// Decides whether distances from the source, by node, are the least weights of walks, in time by the number of arcs and
-/// nodes: predecessors that [`judge_paths`] accepts. [`Error::Refused`] for the first test that fails.
+/// Decides whether distances from the source, by node, are the least weights of walks. Returns predecessors that
+/// [`judge_paths`] accepts. [`Error::Refused`] for the first test that fails. The number of arcs and nodes bounds the
+/// time.
 ///
 /// ```
 /// # use dimacs::arrays::{certify_paths, Graph, UNREACHED};
@@ -448,8 +450,8 @@ pub fn solve_max(instance: &MaxInstance, limit: u64) -> Result<SolvedMax, Error>
     Ok(SolvedMax { value: value(&line), flows: flows.take(), inside: inside.marks() })
 }
 
-/// Makes a flow of least cost, and potentials that [`judge_min`] accepts. [`Error::Infeasible`] with a set by which
-/// [`judge_infeasible`] answers yes, if no flow is feasible; [`Error::GaveUp`] after `limit` steps to better flows, or if
+/// Makes a flow of least cost, and potentials that [`judge_min`] accepts. [`Error::Infeasible`] with a set that
+/// [`judge_infeasible`] accepts, if no flow is feasible. [`Error::GaveUp`] after `limit` steps to better flows, or if
 /// the least cost or the potentials are out of range.
 ///
 /// ```
@@ -492,7 +494,7 @@ pub fn solve_min(instance: &MinInstance, limit: u64) -> Result<SolvedMin, Error>
 }
 
 /// Makes distances from the source, and predecessors that [`judge_paths`] accepts. [`Error::Refused`] for the first arc
-/// of negative weight, and [`Error::GaveUp`] if a distance is 2^63 - 1 or more.
+/// of negative weight. [`Error::GaveUp`] if a distance is 2^63 - 1 or more.
 ///
 /// ```
 /// # use dimacs::arrays::{solve_paths, Graph, UNREACHED};

@@ -1,6 +1,6 @@
 //! What `dimacs.h` declares.
 
-/// The address of an array, and how many items it has.
+/// The address of an array, and the number of its items.
 #[repr(C)]
 pub struct Array<T> {
     at: *const T,

@@ -1,7 +1,7 @@
 //! Claims about flows and distances judged, certified and made in memory, by functions that are proved.
 //!
 //! [`arrays`] has the calls over slices, and [`texts`] those over DIMACS texts. A yes is `Ok`, and each no a variant of
-//! [`Error`], which has what shows it: a better flow, a set that no feasible flow can leave, or the first test that fails.
+//! [`Error`] with its evidence: a better flow, a set whose supplies no flow can meet, or the first test that fails.
 //!
 //! ```
 //! use dimacs::arrays::{certify_max, Error, MaxInstance};

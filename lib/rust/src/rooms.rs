@@ -5,7 +5,7 @@ use crate::error::NoMemory;
 /// Room for any line, except for answers to pairs.
 pub const LINE: usize = 256;
 
-/// As many nodes as an instance may have. One with more is refused, and needs no room.
+/// The room for an item of each node. An instance with too many nodes is refused, and needs none.
 pub fn room_for(nodes: u32) -> usize {
     if nodes <= 1 << 27 {
         nodes as usize
@@ -14,7 +14,7 @@ pub fn room_for(nodes: u32) -> usize {
     }
 }
 
-/// Room for so many items, and how many there are to hand out.
+/// Room for items, and the number of items to hand out.
 pub struct Room<T> {
     items: Vec<T>,
     needed: usize,
@@ -44,7 +44,7 @@ impl<T: Copy + Default> Room<T> {
         self.needed <= self.items.len()
     }
 
-    /// Room for what there is to hand out.
+    /// Makes enough room for all items, if there wasn't.
     pub fn grow(&mut self) -> Result<(), NoMemory> {
         if !self.fits() {
             *self = Room::new(self.needed)?;
@@ -52,7 +52,7 @@ impl<T: Copy + Default> Room<T> {
         Ok(())
     }
 
-    /// What was handed out.
+    /// The items that were handed out.
     pub fn take(mut self) -> Vec<T> {
         self.items.truncate(self.needed);
         self.items

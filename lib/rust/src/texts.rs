@@ -9,8 +9,8 @@ use crate::ffi::{self, DONE, GAVE_UP, NO_MEMORY, REFUSED};
 use crate::rooms::{Room, LINE};
 use crate::words::{is_feasible, is_infeasible, is_not_optimal, refused, value};
 
-/// Why a call over texts doesn't answer yes: a better flow is the text of a solution, or `None` if its cost is out of
-/// the range of such texts; a set is a text too.
+/// Why a call over texts doesn't answer yes. A flow is the text of a solution, or `None` if its cost is out of the
+/// range of such texts. A set is a text too.
 pub type Error = crate::Error<Option<String>, String>;
 
 /// A kind of text.
@@ -56,7 +56,7 @@ pub struct Solved {
     pub certificate: String,
 }
 
-/// How far one node is from another.
+/// The distance from one node to another.
 #[derive(Clone, Copy, Debug, PartialEq, Eq)]
 pub enum Distance {
     /// The least weight of a walk.
@@ -251,7 +251,7 @@ fn paths(lines: &str) -> Paths {
     }
 }
 
-/// Judges that a solution's flow is maximum, by a cut; its value.
+/// Judges that a solution's flow is maximum, by a cut. Returns its value.
 ///
 /// ```
 /// # use dimacs::texts::judge_max;
@@ -263,7 +263,7 @@ pub fn judge_max(instance: impl AsRef<[u8]>, solution: impl AsRef<[u8]>, cut: im
     judge(MAX, [instance.as_ref(), solution.as_ref(), cut.as_ref()], LINE).map(|it| value(&it))
 }
 
-/// Judges that a solution's flow costs least, by potentials; its cost.
+/// Judges that a solution's flow costs least, by potentials. Returns its cost.
 ///
 /// ```
 /// # use dimacs::texts::judge_min;
@@ -305,8 +305,8 @@ pub fn judge_paths(
     judge(PATHS, [graph.as_ref(), queries.as_ref(), labels.as_ref()], room).map(|it| paths(&it))
 }
 
-/// Decides whether a solution's flow is maximum: its value and a cut that [`judge_max`] accepts.
-/// [`Error::NotOptimal`] if the flow is feasible and has the claimed value.
+/// Decides whether a solution's flow is maximum. Returns its value and a cut that [`judge_max`] accepts.
+/// [`Error::NotOptimal`] if the flow is feasible and has the claimed value, but isn't maximum.
 ///
 /// ```
 /// # use dimacs::texts::{certify_max, Error};
@@ -318,8 +318,8 @@ pub fn certify_max(instance: impl AsRef<[u8]>, solution: impl AsRef<[u8]>) -> Re
     certify_flow(MAX, instance.as_ref(), solution.as_ref())
 }
 
-/// Decides whether a solution's flow costs least: its cost and potentials that [`judge_min`] accepts.
-/// [`Error::NotOptimal`] if the flow is feasible and has the claimed cost.
+/// Decides whether a solution's flow costs least. Returns its cost and potentials that [`judge_min`] accepts.
+/// [`Error::NotOptimal`] if the flow is feasible and has the claimed cost, but doesn't cost least.
 ///
 /// ```
 /// # use dimacs::texts::certify_min;
@@ -331,8 +331,8 @@ pub fn certify_min(instance: impl AsRef<[u8]>, solution: impl AsRef<[u8]>) -> Re
     certify_flow(MIN, instance.as_ref(), solution.as_ref())
 }
 
-/// Decides whether an instance has no feasible flow: the text of a set that [`judge_infeasible`] accepts.
-/// [`Error::Feasible`] with a solution that has a feasible flow, if there is one.
+/// Decides whether an instance has no feasible flow. Returns the text of a set that [`judge_infeasible`] accepts.
+/// [`Error::Feasible`] with a solution, if there is a feasible flow.
 ///
 /// ```
 /// # use dimacs::texts::{certify_infeasible, Error};
@@ -349,8 +349,8 @@ pub fn certify_infeasible(instance: impl AsRef<[u8]>) -> Result<String, Error> {
     }
 }
 
-/// Decides whether distances are those of their nodes, and the nodes without one unreachable, block by block: the text of
-/// labels that [`judge_paths`] accepts for each source.
+/// Decides, block by block, whether distances are right and nodes without one unreachable. Returns the text of labels
+/// that [`judge_paths`] accepts for each source.
 ///
 /// ```
 /// # use dimacs::texts::certify_paths;
@@ -375,7 +375,7 @@ pub fn solve_max(instance: impl AsRef<[u8]>, limit: u64) -> Result<Solved, Error
 }
 
 /// Makes a flow of least cost: the texts of a solution and of potentials. [`Error::Infeasible`] with the text of a set
-/// if no flow is feasible; [`Error::GaveUp`] after `limit` steps to better flows, or if the least cost is out of range.
+/// if no flow is feasible. [`Error::GaveUp`] after `limit` steps to better flows, or if the least cost is out of range.
 ///
 /// ```
 /// # use dimacs::texts::{solve_min, Error};
@@ -390,7 +390,8 @@ pub fn solve_min(instance: impl AsRef<[u8]>, limit: u64) -> Result<Solved, Error
     Ok(Solved { value: value(&line), solution, certificate })
 }
 
-/// Makes labels, and answers queries by them. Refused too if a query names no node or a weight is negative.
+/// Makes labels, and answers queries by them. [`Error::Refused`] also if a query names an unknown node, or a weight is
+/// negative.
 ///
 /// ```
 /// # use dimacs::texts::{solve_paths, Paths};
@@ -402,8 +403,9 @@ pub fn solve_paths(graph: impl AsRef<[u8]>, queries: impl AsRef<[u8]>) -> Result
     Ok((paths(&lines), labels))
 }
 
-/// Deals a solution out to parallel arcs: adds up the entries with the same ends, and gives each arc with these ends its
-/// share, within its bounds if possible; the text of a solution with an entry for every arc and the claimed value.
+/// Deals a solution out to parallel arcs: adds up the entries with the same ends, and gives each arc with these ends
+/// its share, within its bounds if possible. Returns the text of a solution with the claimed value and an entry for
+/// every arc.
 ///
 /// ```
 /// # use dimacs::texts::spread_max;
@@ -414,7 +416,7 @@ pub fn spread_max(instance: impl AsRef<[u8]>, solution: impl AsRef<[u8]>) -> Res
     spread(MAX, instance.as_ref(), solution.as_ref())
 }
 
-/// The same for least cost: of all dealings within the bounds, one that costs least.
+/// The same for least cost: of all such flows within the bounds, one that costs least.
 ///
 /// ```
 /// # use dimacs::texts::spread_min;

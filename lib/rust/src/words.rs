@@ -29,7 +29,7 @@ pub fn is_infeasible(line: &str) -> bool {
     line.starts_with("v infeasible")
 }
 
-/// Whether a flow was found to be feasible, and not the best.
+/// Whether a flow was found to be feasible, but not optimal.
 pub fn is_not_optimal(refused: &Refused) -> bool {
     matches!(refused.reason.as_str(), "NotMaximum" | "NotLeast")
 }

@@ -100,5 +100,5 @@ def convert_from_nx(graph: Any, **how: Any) -> Graph:
 
 
 def convert_to_nx(answer: Any, **how: Any) -> Any:
-    """networkx calls it with what a function of this backend answers."""
+    """networkx calls it with the result of a function of this backend."""
     return answer.graph if isinstance(answer, Graph) else answer
