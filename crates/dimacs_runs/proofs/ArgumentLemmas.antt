@@ -13,7 +13,7 @@ use Rattle.dimacs_runs.specs.declared.jobs.SolveJob.{SolveJob}
 use Rattle.dimacs_runs.specs.declared.jobs.SpreadKind.{SpreadKind}
 use Rattle.dimacs_runs.specs.declared.jobs.SolveJob.TheVariants.{Max, Min, Paths}
 use Rattle.dimacs_runs.specs.inside.Making.{names_of}
-use Rattle.dimacs_runs.specs.Jobs.{AreCertifyFiles, AreOptions, Asks, AsksProducer, IsLimit, GiveLimit, certify_reads, certify_verb, file_count, judge_verb, solve_verb, spread_verb}
+use Rattle.dimacs_runs.specs.Jobs.{AreCertifyFiles, AreOptions, Asks, AsksSolver, IsLimit, GiveLimit, certify_reads, certify_verb, file_count, judge_verb, solve_verb, spread_verb}
 
 pub two_arguments : {A : Type 0} (f : A → List ℕ) (arguments : List A) (a b : A) (x y : List ℕ) → 2 ≤ length arguments → length arguments < 3 → a ≡ get_or arguments 0 a → b ≡ get_or arguments 1 b
     → x ≡ f a → y ≡ f b → map f arguments ≡ x ∷ y ∷ []
@@ -74,22 +74,22 @@ same_rest (x ∷ xs) ys (u ∷ us) vs long same = same_rest xs ys us vs (omega (
 same_rest xs ys us vs long same = absurd (omega (arith, long))
 
 -- the arguments ask for no solver if those after three files aren't its options
-pub no_producer : {A : Type 0} (f : A → List ℕ) (verb : List ℕ) (arguments options : List A) → 3 ≤ length arguments → options ≡ drop 3 arguments
-    → ((job : SolveJob) → verb ≡ solve_verb job → ¬ AreOptions job (map f options)) → (job : SolveJob) (files : List (List ℕ)) → ¬ AsksProducer (verb ∷ map f arguments) job files
-no_producer f verb (p ∷ q ∷ r ∷ rest) options least is none job files (more, same, count, are) =
+pub no_solver : {A : Type 0} (f : A → List ℕ) (verb : List ℕ) (arguments options : List A) → 3 ≤ length arguments → options ≡ drop 3 arguments
+    → ((job : SolveJob) → verb ≡ solve_verb job → ¬ AreOptions job (map f options)) → (job : SolveJob) (files : List (List ℕ)) → ¬ AsksSolver (verb ∷ map f arguments) job files
+no_solver f verb (p ∷ q ∷ r ∷ rest) options least is none job files (more, same, count, are) =
     let same_verb : verb ≡ solve_verb job = cc in
     let all : (f p ∷ f q ∷ f r ∷ []) ++ map f rest ≡ files ++ more = cc in
     none job same_verb (rw (ap (map f) is, same_rest (f p ∷ f q ∷ f r ∷ []) (map f rest) files more (sym count) all) are)
-no_producer f verb arguments options least is none job files asks = absurd (omega (arith, least))
+no_solver f verb arguments options least is none job files asks = absurd (omega (arith, least))
 
 module _ {A : Type 0} (f : A → List ℕ) (arguments : List A) (first : A) (rest : List A) (verb : List ℕ) (is : arguments ≡ first ∷ rest) (is_verb : verb ≡ f first) where
   -- an argument names no run, and those after it suit no judge, no certifier, no spreading and no solver
   pub nothing_asked : (answer : Option Job) → verb ≢ codes "convert" → verb ≢ codes "show" → IfNone answer ((kind : JudgeKind) → verb ≡ judge_verb kind → length rest ≢ file_count kind)
       → IfNone answer ((kind : CertifyKind) → verb ≡ certify_verb kind → ¬ AreCertifyFiles kind (length rest))
       → IfNone answer ((kind : SpreadKind) → verb ≡ spread_verb kind → length rest ≢ 3)
-      → IfNone answer ((job : SolveJob) (files : List (List ℕ)) → ¬ AsksProducer (verb ∷ map f rest) job files) → IfNone answer ((wanted : Job) → ¬ Asks (map f arguments) wanted)
-  nothing_asked (Some job) convert show judge certifier spreading producer = tt
-  nothing_asked None convert show judge certifier spreading producer = rw (is, ← is_verb) nothing
+      → IfNone answer ((job : SolveJob) (files : List (List ℕ)) → ¬ AsksSolver (verb ∷ map f rest) job files) → IfNone answer ((wanted : Job) → ¬ Asks (map f arguments) wanted)
+  nothing_asked (Some job) convert show judge certifier spreading solver = tt
+  nothing_asked None convert show judge certifier spreading solver = rw (is, ← is_verb) nothing
     where
       nothing : (wanted : Job) → ¬ Asks (verb ∷ map f rest) wanted
       nothing (Convert kind file) asks = convert cc
@@ -107,4 +107,4 @@ module _ {A : Type 0} (f : A → List ℕ) (arguments : List A) (first : A) (res
           let same_verb : verb ≡ spread_verb kind = cc in
           let others : map f rest ≡ map string_bytes files.now = cc in
           spreading kind same_verb (sym (length-map rest f) ∙ ap length others ∙ length-map files.now string_bytes ∙ count)
-      nothing (Solve job files) asks = producer job (map string_bytes files.now) asks
+      nothing (Solve job files) asks = solver job (map string_bytes files.now) asks

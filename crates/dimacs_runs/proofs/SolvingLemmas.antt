@@ -29,19 +29,19 @@ use Rattle.dimacs_runs.specs.declared.outcome.RunError.{RunError}
 use Rattle.dimacs_runs.specs.declared.outcome.RunError.TheVariants.{Device}
 use Rattle.dimacs_runs.specs.Judgings.{CountsDevices}
 use Rattle.dimacs_runs.specs.Outputs.{MayWrite}
-use Rattle.dimacs_runs.specs.inside.Outcomes.{MayProduce, least_outcome, maximum_outcome, outcome_of, solve_stop}
+use Rattle.dimacs_runs.specs.inside.Outcomes.{MaySolve, least_outcome, maximum_outcome, outcome_of, solve_stop}
 use Rattle.dimacs_runs.specs.Solved.{FindsLeast, FindsMaximum, FindsPaths, RefusesPaths, report_alone}
 use Rattle.dimacs_runs.specs.Verdicts.{failure_line}
 
 -- the solver of maximum flows answered
-pub maximum_ends : (i : MaxValue) (limit : ℕ) (answer : Result MaxAnswer SolveError) → SolvesMax i limit answer → MayProduce (FindsMaximum i limit) (outcome_of (maximum_outcome answer))
+pub maximum_ends : (i : MaxValue) (limit : ℕ) (answer : Result MaxAnswer SolveError) → SolvesMax i limit answer → MaySolve (FindsMaximum i limit) (outcome_of (maximum_outcome answer))
 maximum_ends i limit (Ok (answers.Optimal solution cut)) found = ((found.0, claimed solution, cut, found.1, refl), λ refusal never. absurd never)
 maximum_ends i limit (Ok answers.GaveUp) gave_up = ((gave_up, refl), λ refusal never. absurd never)
 maximum_ends i limit (Err solve_errors.Memory) nothing = tt
 maximum_ends i limit (Err other) never = absurd never
 
 -- the solver of minimum cost flows answered
-pub least_ends : (i : MinValue) (limit : ℕ) (answer : Result MinAnswer SolveError) → SolvesMin i limit answer → MayProduce (FindsLeast i limit) (outcome_of (least_outcome answer))
+pub least_ends : (i : MinValue) (limit : ℕ) (answer : Result MinAnswer SolveError) → SolvesMin i limit answer → MaySolve (FindsLeast i limit) (outcome_of (least_outcome answer))
 least_ends i limit (Ok (min_answers.Optimal solution potentials)) found = (inl (claimed solution, potentials, found, refl), λ refusal never. absurd never)
 least_ends i limit (Ok (min_answers.Infeasible set)) found = (inr (set, found, refl), λ refusal never. absurd never)
 least_ends i limit (Ok min_answers.GaveUp) gave_up = ((gave_up, refl), λ refusal never. absurd never)
@@ -68,7 +68,7 @@ module _ (g : NetworkValue) (q : QueriesValue) where
       alone refusal (other, why, also, is) = let same = same_refusal g q place other reason why refuses also in (refl, sym (is ∙ rw (same.0, same.1) refl))
 
   -- the solver of distances refused
-  pub error_ends : (error : SolveError) → SolvesPaths g q (Err error) → MayProduce (FindsPaths g q) (outcome_of (Err (solve_stop error)))
+  pub error_ends : (error : SolveError) → SolvesPaths g q (Err error) → MaySolve (FindsPaths g q) (outcome_of (Err (solve_stop error)))
   error_ends (solve_errors.NegativeWeight arc) (clear, first) = refusal_ends (Arc arc) reasons.NegativeWeight (inr (clear, (arc, first, refl, refl)))
   error_ends (solve_errors.Refused place reason) first = refusal_ends place reason (inl first)
   error_ends solve_errors.Memory nothing = tt

@@ -52,8 +52,8 @@ certifying = record {
   refused = λ a o written only. (written, λ t p h. let is = only t p h in (is.0, ap report_of is.1));
 }
 
-abbrev pub producing : Way (List (List ℕ))
-producing = record {
+abbrev pub solving : Way (List (List ℕ))
+solving = record {
   writes = MayWrite;
   texts = outcome_texts;
   alone = report_alone;

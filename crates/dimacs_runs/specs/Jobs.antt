@@ -78,8 +78,8 @@ AreOptions (solves.Min limit) options = GiveLimit options limit
 AreOptions solves.Paths options = options ≡ []
 
 -- three files, then options
-abbrev pub AsksProducer : List (List ℕ) → SolveJob → List (List ℕ) → Type 0
-AsksProducer arguments job files = (options : List (List ℕ)) × (arguments ≡ solve_verb job ∷ files ++ options) × (length files ≡ 3) × AreOptions job options
+abbrev pub AsksSolver : List (List ℕ) → SolveJob → List (List ℕ) → Type 0
+AsksSolver arguments job files = (options : List (List ℕ)) × (arguments ≡ solve_verb job ∷ files ++ options) × (length files ≡ 3) × AreOptions job options
 
 abbrev pub Asks : List (List ℕ) → Job → Type 0
 Asks arguments (Convert kind file) = arguments ≡ codes "convert" ∷ kind_argument kind ∷ file.now ∷ []
@@ -87,4 +87,4 @@ Asks arguments (Show kind file) = arguments ≡ codes "show" ∷ kind_argument k
 Asks arguments (Judge kind files) = (arguments ≡ judge_verb kind ∷ map string_bytes files.now) × (length files.now ≡ file_count kind)
 Asks arguments (Certify kind files) = (arguments ≡ certify_verb kind ∷ map string_bytes files.now) × AreCertifyFiles kind (length files.now)
 Asks arguments (Spread kind files) = (arguments ≡ spread_verb kind ∷ map string_bytes files.now) × (length files.now ≡ 3)
-Asks arguments (Solve job files) = AsksProducer arguments job (map string_bytes files.now)
+Asks arguments (Solve job files) = AsksSolver arguments job (map string_bytes files.now)

@@ -8,14 +8,14 @@ ghost use Rattle.dimacs_runs.specs.declared.jobs.JudgeKind.{JudgeKind};
 ghost use Rattle.dimacs_runs.specs.declared.jobs.SolveJob.{SolveJob};
 ghost use Rattle.dimacs_runs.specs.declared.jobs.SpreadKind.{SpreadKind};
 ghost use Rattle.std.specs.String.{string_bytes};
-ghost use Rattle.dimacs_runs.specs.Jobs.{AreCertifyFiles, AreOptions, Asks, AsksProducer, IsLimit, GiveLimit, certify_verb, file_count, judge_verb, kind_argument, solve_verb, spread_verb};
+ghost use Rattle.dimacs_runs.specs.Jobs.{AreCertifyFiles, AreOptions, Asks, AsksSolver, IsLimit, GiveLimit, certify_verb, file_count, judge_verb, kind_argument, solve_verb, spread_verb};
 
 use crate::jobs::{CertifyKind, Job, JudgeKind, SolveJob, SpreadKind};
 use dimacs_lines::number;
 use dimacs_records::TextKind;
 
 /// The number of files of each solver.
-const PRODUCER_FILES: usize = 3;
+const SOLVER_FILES: usize = 3;
 
 /// The limit if none is given.
 const LIMIT: u64 = 1_000_000;
@@ -60,7 +60,7 @@ fn files_job<'a>(verb: &str, arguments: &'a [String]) -> Option<Job<'a>>
     ensures no_judge { IfNone result ((kind : JudgeKind) → verb.now ≡ judge_verb kind → length arguments.now ≢ file_count kind) }
     ensures no_certifier { IfNone result ((kind : CertifyKind) → verb.now ≡ certify_verb kind → ¬ AreCertifyFiles kind (length arguments.now)) }
     ensures no_spreading { IfNone result ((kind : SpreadKind) → verb.now ≡ spread_verb kind → length arguments.now ≢ 3) }
-    ensures no_producer { IfNone result ((job : SolveJob) (files : List (List ℕ)) → ¬ AsksProducer (verb.now ∷ map string_bytes arguments.now) job files) }
+    ensures no_solver { IfNone result ((job : SolveJob) (files : List (List ℕ)) → ¬ AsksSolver (verb.now ∷ map string_bytes arguments.now) job files) }
 {
     if let Some(kind) = judge_kind(verb, arguments.len()) {
         return Some(Job::Judge(kind, arguments));
@@ -71,7 +71,7 @@ fn files_job<'a>(verb: &str, arguments: &'a [String]) -> Option<Job<'a>>
     if let Some(kind) = spread_kind(verb, arguments.len()) {
         return Some(Job::Spread(kind, arguments));
     }
-    let (files, options) = arguments.split_at_checked(PRODUCER_FILES)?;
+    let (files, options) = arguments.split_at_checked(SOLVER_FILES)?;
     Some(Job::Solve(solve_job(verb, options)?, files))
 }
 

@@ -12,7 +12,7 @@ ghost use Rattle.dimacs_runs.specs.declared.outcome.RunError.TheVariants.{Device
 ghost use Rattle.dimacs_runs.specs.Judgings.{CountsDevices};
 ghost use Rattle.dimacs_runs.specs.Outputs.{MayWrite, ReportsAll};
 ghost use Rattle.dimacs_runs.specs.inside.Judgings.{HasFault};
-ghost use Rattle.dimacs_runs.specs.inside.Outcomes.{MayProduce, outcome_of};
+ghost use Rattle.dimacs_runs.specs.inside.Outcomes.{MaySolve, outcome_of};
 ghost use Rattle.dimacs_runs.specs.inside.Outcomes as outcomes;
 ghost use Rattle.dimacs_runs.specs.Solved.{AreQueries, FindsPaths, Solved, solved_kind};
 
@@ -64,35 +64,35 @@ pub fn run_solve<P: Source, Q: Source, C: Sink, D: Sink, K: Sink>(
     ensures unclaimed { job ≡ jobs.Paths → claim_out.new ≡ claim_out.old }
 {
     let answer = match job {
-        SolveJob::Max(limit) => produce_maximum(alloc, limit, instance),
-        SolveJob::Min(limit) => produce_least(alloc, limit, instance),
-        SolveJob::Paths => produce_labels(alloc, instance, queries),
+        SolveJob::Max(limit) => solve_maximum(alloc, limit, instance),
+        SolveJob::Min(limit) => solve_least(alloc, limit, instance),
+        SolveJob::Paths => solve_labels(alloc, instance, queries),
     };
     write_outcome(settle(answer), claim_out, certificate_out, report)
 }
 
-fn produce_maximum<P: Source>(alloc: Global, limit: u64, instance: &mut P) -> Result<Outcome, Stop>
-    ensures produces { (a : List ℕ) → P.coming instance.old ≡ Some a → MayProduce (Solved (jobs.Max limit) a []) (outcome_of result) }
+fn solve_maximum<P: Source>(alloc: Global, limit: u64, instance: &mut P) -> Result<Outcome, Stop>
+    ensures solves { (a : List ℕ) → P.coming instance.old ≡ Some a → MaySolve (Solved (jobs.Max limit) a []) (outcome_of result) }
     ensures faults { CountsDevices (outcome_of result) (P.faults instance.old ∷ []) (P.faults instance.new ∷ []) }
 {
     let instance: MaxInstance<PlainArcs<CapacityArc>> = read(alloc, instance)?;
     maximum_outcome(solve_max(alloc, &instance, limit))
 }
 
-fn produce_least<P: Source>(alloc: Global, limit: u64, instance: &mut P) -> Result<Outcome, Stop>
-    ensures produces { (a : List ℕ) → P.coming instance.old ≡ Some a → MayProduce (Solved (jobs.Min limit) a []) (outcome_of result) }
+fn solve_least<P: Source>(alloc: Global, limit: u64, instance: &mut P) -> Result<Outcome, Stop>
+    ensures solves { (a : List ℕ) → P.coming instance.old ≡ Some a → MaySolve (Solved (jobs.Min limit) a []) (outcome_of result) }
     ensures faults { CountsDevices (outcome_of result) (P.faults instance.old ∷ []) (P.faults instance.new ∷ []) }
 {
     let instance: MinInstance<PlainArcs<ArcView>> = read(alloc, instance)?;
     least_outcome(solve_min(alloc, &instance, limit))
 }
 
-fn produce_labels<P: Source, Q: Source>(
+fn solve_labels<P: Source, Q: Source>(
     alloc: Global,
     graph: &mut P,
     queries: &mut Q,
 ) -> Result<Outcome, Stop>
-    ensures produces { (a b : List ℕ) → P.coming graph.old ≡ Some a → Q.coming queries.old ≡ Some b → MayProduce (Solved jobs.Paths a b) (outcome_of result) }
+    ensures solves { (a b : List ℕ) → P.coming graph.old ≡ Some a → Q.coming queries.old ≡ Some b → MaySolve (Solved jobs.Paths a b) (outcome_of result) }
     ensures faults { CountsDevices (outcome_of result) (P.faults graph.old ∷ Q.faults queries.old ∷ []) (P.faults graph.new ∷ Q.faults queries.new ∷ []) }
     ensures stops_at_graph { HasFault kinds.Graph (P.coming graph.old) → queries.new ≡ queries.old }
     ensures unclaimed { IfOk (outcome_of result) (λ outcome. outcome.claim ≡ Nothing) }
@@ -104,7 +104,7 @@ fn produce_labels<P: Source, Q: Source>(
 /// Finds labels that answer the queries, or refuses.
 fn label<N: Network>(alloc: Global, graph: &Graph<N>, queries: &Queries) -> Result<Outcome, Stop>
     requires lawful { AreLawful (asked queries.now) }
-    ensures produces { MayProduce (FindsPaths graph.now (asked queries.now)) (outcome_of result) }
+    ensures solves { MaySolve (FindsPaths graph.now (asked queries.now)) (outcome_of result) }
     ensures no_device { outcome_of result ≢ Err Device }
     ensures unclaimed { IfOk (outcome_of result) (λ outcome. outcome.claim ≡ Nothing) }
 {

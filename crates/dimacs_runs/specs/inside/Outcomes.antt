@@ -129,8 +129,8 @@ IfEnds texts possible (Err error) = Unit {0}
 abbrev pub MayReport : (Status → List ℕ → Type 0) → Result Outcome RunError → Type 0
 MayReport reports = IfEnds (λ o. report_lines o.report) (ReportsAlone reports)
 
-abbrev pub MayProduce : (Status → List (List ℕ) → Type 0) → Result Outcome RunError → Type 0
-MayProduce writes = IfEnds outcome_texts (MayWrite writes)
+abbrev pub MaySolve : (Status → List (List ℕ) → Type 0) → Result Outcome RunError → Type 0
+MaySolve writes = IfEnds outcome_texts (MayWrite writes)
 
 abbrev pub MayCertify : (Status → List (List ℕ) → Type 0) → Result Outcome RunError → Type 0
 MayCertify writes = IfEnds unclaimed_texts (WritesAlike writes)

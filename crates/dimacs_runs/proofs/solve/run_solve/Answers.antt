@@ -14,9 +14,9 @@ returns-clause-reports g c = λ a b first second.
     (g.C.Sink.seen c.args.claim_out.now ∷ g.D.Sink.seen c.args.certificate_out.now ∷ g.K.Sink.seen c.args.report.now ∷ [])
     (g.C.Sink.seen c.write_outcome.new.claim ∷ g.D.Sink.seen c.write_outcome.new.certificate ∷ g.K.Sink.seen c.write_outcome.new.report ∷ [])
     (rw c.settle.ensures (elim c.match-job.branch [
-      | in-Max w ↦ rw (w.in-Max.is, w.answer-is) (w.produce_maximum-answer.ensures.produces a first)
-      | in-Min w ↦ rw (w.in-Min.is, w.answer-is) (w.produce_least-answer.ensures.produces a first)
-      | in-Paths w ↦ let queries = subst (λ (k : SolveJob). AreQueries k (g.Q.Source.coming c.args.queries.now) b) w.in-Paths.is second in rw (w.in-Paths.is, w.answer-is) (w.produce_labels-answer.ensures.produces a b first queries)
+      | in-Max w ↦ rw (w.in-Max.is, w.answer-is) (w.solve_maximum-answer.ensures.solves a first)
+      | in-Min w ↦ rw (w.in-Min.is, w.answer-is) (w.solve_least-answer.ensures.solves a first)
+      | in-Paths w ↦ let queries = subst (λ (k : SolveJob). AreQueries k (g.Q.Source.coming c.args.queries.now) b) w.in-Paths.is second in rw (w.in-Paths.is, w.answer-is) (w.solve_labels-answer.ensures.solves a b first queries)
     ])) c.write_outcome.ensures.ends
 
 pub returns-clause-stops_at_instance : goal.returns-clause-stops_at_instance
@@ -24,7 +24,7 @@ returns-clause-stops_at_instance g c = λ a l f r coming fault.
     elim c.match-job.branch [
       | in-Max w ↦ w.queries-is
       | in-Min w ↦ w.queries-is
-      | in-Paths w ↦ rw w.queries-is (w.produce_labels-answer.ensures.stops_at_graph (a, l, f, r, coming, (subst (λ (k : SolveJob). Fault (solved_kind k) (lines a) l f r) w.in-Paths.is fault)))
+      | in-Paths w ↦ rw w.queries-is (w.solve_labels-answer.ensures.stops_at_graph (a, l, f, r, coming, (subst (λ (k : SolveJob). Fault (solved_kind k) (lines a) l f r) w.in-Paths.is fault)))
     ]
 
 pub returns-clause-unclaimed : goal.returns-clause-unclaimed
@@ -32,5 +32,5 @@ returns-clause-unclaimed g c = λ is.
     elim c.match-job.branch [
       | in-Max w ↦ let other = w.in-Max.is in absurd cc
       | in-Min w ↦ let other = w.in-Min.is in absurd cc
-      | in-Paths w ↦ c.write_outcome.ensures.unclaimed (rw (c.settle.ensures, w.answer-is) w.produce_labels-answer.ensures.unclaimed)
+      | in-Paths w ↦ c.write_outcome.ensures.unclaimed (rw (c.settle.ensures, w.answer-is) w.solve_labels-answer.ensures.unclaimed)
     ]
