@@ -34,7 +34,7 @@ use Rattle.dimacs_runs.specs.declared.outcome.Status.{Status}
 use Rattle.dimacs_runs.specs.declared.outcome.Status.TheVariants.{Done, Refused, GaveUp}
 use Rattle.dimacs_runs.specs.declared.run_outcome.OutputText.TheVariants as output_texts
 use Rattle.dimacs_runs.specs.declared.report.Report.TheVariants as reports
-use Rattle.dimacs_runs.specs.Certified.{CertificateOr, CertifiesDistances, CertifiesInfeasible, CertifiesLeast, CertifiesMaximum, SaysCheaper, SaysCut, SaysFeasible, SaysGreater, SaysPotentials, SaysSet, uncertified}
+use Rattle.dimacs_runs.specs.Certified.{CertificateOr, CertifiesDistances, CertifiesInfeasible, CertifiesLeast, CertifiesMaximum, IsCheaperText, IsCutText, IsFeasibleText, IsGreaterText, IsPotentialsText, IsSetText, uncertified}
 use Rattle.dimacs_runs.specs.Outputs.{WritesAlike, report_of}
 use Rattle.dimacs_runs.specs.Refusals.{refusal_line}
 use Rattle.dimacs_runs.specs.Verdicts.{distances_line, failure_line}
@@ -82,7 +82,7 @@ error_writes apart verdict refusal holds (judge_errors.Refused place reason) ref
 error_writes apart verdict refusal holds judge_errors.Memory refutes = tt
 
 module _ (i : MaxValue) (law : IsMax i) (s : SolutionValue) where
-  cut_apart : AreApart (SaysCut i s) (SaysGreater i s) (max_claim_rows i s)
+  cut_apart : AreApart (IsCutText i s) (IsGreaterText i s) (max_claim_rows i s)
   cut_apart = record {
     shown_clear = λ text says. max.claim_clear i s law says.1.0 says.1.1.claim;
     better_clear = λ text says. max.claim_clear i s law says.0 says.2.claim;
@@ -94,7 +94,7 @@ module _ (i : MaxValue) (law : IsMax i) (s : SolutionValue) where
   cut_certifies cut value is shown = rw is (yes_writes cut_apart (canonical_cut cut) (cut, shown, refl))
 
   -- a solution is better
-  pub greater_certifies : (solution : Solution) (place : Where) → place ≡ places.Solution s.value_line 2 → SaysGreater i s (canonical_solution (claimed solution))
+  pub greater_certifies : (solution : Solution) (place : Where) → place ≡ places.Solution s.value_line 2 → IsGreaterText i s (canonical_solution (claimed solution))
       → MayCertify (CertifiesMaximum i s) (Ok (with_text (output_texts.Solution solution) (reports.No place NotMaximum)))
   greater_certifies solution place is says = rw is (better_writes cut_apart (canonical_solution (claimed solution)) says)
 
@@ -103,7 +103,7 @@ module _ (i : MaxValue) (law : IsMax i) (s : SolutionValue) where
   maximum_error error refutes = error_writes cut_apart _ _ (CertifiesMax i s) error refutes
 
 module _ (i : MinValue) (s : SolutionValue) where
-  potentials_apart : AreApart (SaysPotentials i s) (SaysCheaper i s) (min_claim_rows i s)
+  potentials_apart : AreApart (IsPotentialsText i s) (IsCheaperText i s) (min_claim_rows i s)
   potentials_apart = record {
     shown_clear = λ text says. min.claim_clear i s says.1.0 says.1.1.claim;
     better_clear = λ text says. min.claim_clear i s says.0 says.2.claim;
@@ -115,12 +115,12 @@ module _ (i : MinValue) (s : SolutionValue) where
   potentials_certify potentials cost is shown = rw is (yes_writes potentials_apart (canonical_potentials potentials) (potentials, shown, refl))
 
   -- a solution is better
-  pub cheaper_certifies : (solution : Solution) (place : Where) → place ≡ places.Solution s.value_line 2 → SaysCheaper i s (canonical_solution (claimed solution))
+  pub cheaper_certifies : (solution : Solution) (place : Where) → place ≡ places.Solution s.value_line 2 → IsCheaperText i s (canonical_solution (claimed solution))
       → MayCertify (CertifiesLeast i s) (Ok (with_text (output_texts.Solution solution) (reports.No place NotLeast)))
   cheaper_certifies solution place is says = rw is (better_writes potentials_apart (canonical_solution (claimed solution)) says)
 
   -- a flow is better, but no solution can have its cost
-  pub no_solution_certifies : (place : Where) → place ≡ places.Solution s.value_line 2 → SaysCheaper i s [] → MayCertify (CertifiesLeast i s) (Ok (with_text output_texts.Nothing (reports.No place NotLeast)))
+  pub no_solution_certifies : (place : Where) → place ≡ places.Solution s.value_line 2 → IsCheaperText i s [] → MayCertify (CertifiesLeast i s) (Ok (with_text output_texts.Nothing (reports.No place NotLeast)))
   no_solution_certifies place is says = rw is (better_writes potentials_apart [] says)
 
   -- a test refused the claim, or memory ran out
@@ -133,7 +133,7 @@ start = record { line = 0; field = 0 }
 
 module _ (i : MinValue) where
   -- a set shows that no flow is feasible, or a flow is
-  set_apart : AreApart (SaysSet i) (SaysFeasible i) []
+  set_apart : AreApart (IsSetText i) (IsFeasibleText i) []
   set_apart = record {
     shown_clear = λ text says. tt;
     better_clear = λ text says. tt;
@@ -145,11 +145,11 @@ module _ (i : MinValue) where
   set_certifies set shown = yes_writes set_apart (canonical_cut set) (set, shown, refl)
 
   -- a flow is feasible
-  pub feasible_certifies : (solution : Solution) → SaysFeasible i (canonical_solution (claimed solution)) → MayCertify (CertifiesInfeasible i) (Ok (with_text (output_texts.Solution solution) (reports.Fault kinds.Min start Feasible)))
+  pub feasible_certifies : (solution : Solution) → IsFeasibleText i (canonical_solution (claimed solution)) → MayCertify (CertifiesInfeasible i) (Ok (with_text (output_texts.Solution solution) (reports.Fault kinds.Min start Feasible)))
   feasible_certifies solution says = better_writes set_apart (canonical_solution (claimed solution)) says
 
   -- a flow is feasible, but no solution can have its cost
-  pub no_solution_feasible : SaysFeasible i [] → MayCertify (CertifiesInfeasible i) (Ok (with_text output_texts.Nothing (reports.Fault kinds.Min start Feasible)))
+  pub no_solution_feasible : IsFeasibleText i [] → MayCertify (CertifiesInfeasible i) (Ok (with_text output_texts.Nothing (reports.Fault kinds.Min start Feasible)))
   no_solution_feasible says = better_writes set_apart [] says
 
 module _ (g : NetworkValue) (d : LabelsValue) where

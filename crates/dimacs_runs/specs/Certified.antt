@@ -54,51 +54,51 @@ abbrev pub value_refused : SolutionValue → Reason → List ℕ
 value_refused s reason = failure_line (Solution s.value_line 2) reason
 
 -- the text of a cut that shows the claimed flow maximum
-abbrev pub SaysCut : MaxValue → SolutionValue → List ℕ → Type 0
-SaysCut i s text = (c : CutValue) × ShowsMaximum i s c × (text ≡ canonical_cut c)
+abbrev pub IsCutText : MaxValue → SolutionValue → List ℕ → Type 0
+IsCutText i s text = (c : CutValue) × ShowsMaximum i s c × (text ≡ canonical_cut c)
 
 -- the claimed flow isn't maximum, and this is the text of a solution with a greater value
-abbrev pub SaysGreater : MaxValue → SolutionValue → List ℕ → Type 0
-SaysGreater i s text =
+abbrev pub IsGreaterText : MaxValue → SolutionValue → List ℕ → Type 0
+IsGreaterText i s text =
     (x : List ℤ) × (y : List ℤ) × IsMaxImproved i s x y × (better : SolutionValue) × IsMaxSolutionOf i y better × (text ≡ canonical_solution better)
 
 -- the text of potentials that show that the claimed flow costs least
-abbrev pub SaysPotentials : MinValue → SolutionValue → List ℕ → Type 0
-SaysPotentials i s text = (p : PotentialsValue) × ShowsLeast i s p × (text ≡ canonical_potentials p)
+abbrev pub IsPotentialsText : MinValue → SolutionValue → List ℕ → Type 0
+IsPotentialsText i s text = (p : PotentialsValue) × ShowsLeast i s p × (text ≡ canonical_potentials p)
 
 -- the text of a solution with this flow; empty if its sums of costs are out of range, so that a judge would refuse it
-abbrev pub SaysFlow : MinValue → List ℤ → List ℕ → Type 0
-SaysFlow i y text = ((better : SolutionValue) × IsMinSolutionOf i y better × (text ≡ canonical_solution better)) ⊎ (LeavesCostRange i.arcs y × (text ≡ []))
+abbrev pub IsFlowText : MinValue → List ℤ → List ℕ → Type 0
+IsFlowText i y text = ((better : SolutionValue) × IsMinSolutionOf i y better × (text ≡ canonical_solution better)) ⊎ (LeavesCostRange i.arcs y × (text ≡ []))
 
 -- the claimed flow doesn't cost least, and this is the text of a cheaper flow
-abbrev pub SaysCheaper : MinValue → SolutionValue → List ℕ → Type 0
-SaysCheaper i s text = (x : List ℤ) × (y : List ℤ) × IsMinImproved i s x y × SaysFlow i y text
+abbrev pub IsCheaperText : MinValue → SolutionValue → List ℕ → Type 0
+IsCheaperText i s text = (x : List ℤ) × (y : List ℤ) × IsMinImproved i s x y × IsFlowText i y text
 
 -- the text of a set that shows that no flow is feasible
-abbrev pub SaysSet : MinValue → List ℕ → Type 0
-SaysSet i text = (c : CutValue) × ShowsNoFlow i c × (text ≡ canonical_cut c)
+abbrev pub IsSetText : MinValue → List ℕ → Type 0
+IsSetText i text = (c : CutValue) × ShowsNoFlow i c × (text ≡ canonical_cut c)
 
 -- the text of a feasible flow
-abbrev pub SaysFeasible : MinValue → List ℕ → Type 0
-SaysFeasible i text = (x : List ℤ) × FeasibleMin i x × SaysFlow i x text
+abbrev pub IsFeasibleText : MinValue → List ℕ → Type 0
+IsFeasibleText i text = (x : List ℤ) × FeasibleMin i x × IsFlowText i x text
 
 -- all claimed distances are right, and this is the text of labels that show it
-abbrev pub SaysLabels : NetworkValue → List BlockValue → List ℕ → Type 0
-SaysLabels g blocks text = AreAllDistances g blocks × ((l : LabelsValue) × AreLabelsOfAll g blocks l × (text ≡ canonical_labels l))
+abbrev pub IsLabelsText : NetworkValue → List BlockValue → List ℕ → Type 0
+IsLabelsText g blocks text = AreAllDistances g blocks × ((l : LabelsValue) × AreLabelsOfAll g blocks l × (text ≡ canonical_labels l))
 
 abbrev pub CertifiesMaximum : MaxValue → SolutionValue → Status → List (List ℕ) → Type 0
-CertifiesMaximum i s = CertificateOr (SaysCut i s) (max_line s.value) (max_claim_rows i s) (SaysGreater i s) (value_refused s NotMaximum)
+CertifiesMaximum i s = CertificateOr (IsCutText i s) (max_line s.value) (max_claim_rows i s) (IsGreaterText i s) (value_refused s NotMaximum)
 
 abbrev pub CertifiesLeast : MinValue → SolutionValue → Status → List (List ℕ) → Type 0
-CertifiesLeast i s = CertificateOr (SaysPotentials i s) (min_line s.value) (min_claim_rows i s) (SaysCheaper i s) (value_refused s NotLeast)
+CertifiesLeast i s = CertificateOr (IsPotentialsText i s) (min_line s.value) (min_claim_rows i s) (IsCheaperText i s) (value_refused s NotLeast)
 
 -- there is no claim, so no test of a claim can fail
 abbrev pub CertifiesInfeasible : MinValue → Status → List (List ℕ) → Type 0
-CertifiesInfeasible i = CertificateOr (SaysSet i) infeasible_line [] (SaysFeasible i) (refusal_line (codes "instance") 0 0 Feasible)
+CertifiesInfeasible i = CertificateOr (IsSetText i) infeasible_line [] (IsFeasibleText i) (refusal_line (codes "instance") 0 0 Feasible)
 
 -- the text of labels, and the verdict; or the numbers of nodes differ; or the first test that fails
 abbrev pub CertifiesDistances : NetworkValue → LabelsValue → Status → List (List ℕ) → Type 0
-CertifiesDistances g d Done out = (d.nodes ≡ g.nodes) × ((text : List ℕ) × SaysLabels g d.blocks text × (out ≡ text ∷ distances_line (length d.blocks) ∷ []))
+CertifiesDistances g d Done out = (d.nodes ≡ g.nodes) × ((text : List ℕ) × IsLabelsText g d.blocks text × (out ≡ text ∷ distances_line (length d.blocks) ∷ []))
 CertifiesDistances g d Refused out =
     ((d.nodes ≢ g.nodes) × (out ≡ uncertified (refusal_line (codes "distances") 0 0 NodesDiffer)))
     ⊎ ((d.nodes ≡ g.nodes) × (¬ AreAllDistances g d.blocks)
