@@ -98,7 +98,8 @@ CertifiesInfeasible i = CertificateOr (IsSetText i) infeasible_line [] (IsFeasib
 
 -- the text of labels, and the verdict; or the numbers of nodes differ; or the first test that fails
 abbrev pub CertifiesDistances : NetworkValue → LabelsValue → Status → List (List ℕ) → Type 0
-CertifiesDistances g d Done out = (d.nodes ≡ g.nodes) × ((text : List ℕ) × IsLabelsText g d.blocks text × (out ≡ text ∷ distances_line (length d.blocks) ∷ []))
+CertifiesDistances g d Done out =
+    (d.nodes ≡ g.nodes) × ((text : List ℕ) × IsLabelsText g d.blocks text × (out ≡ text ∷ distances_line (length d.blocks) ∷ []))
 CertifiesDistances g d Refused out =
     ((d.nodes ≢ g.nodes) × (out ≡ uncertified (refusal_line (codes "distances") 0 0 NodesDiffer)))
     ⊎ ((d.nodes ≡ g.nodes) × (¬ AreAllDistances g d.blocks)
