@@ -11,7 +11,7 @@ pub mod Settling
 pub mod Reasons
 pub mod Passing
 pub mod LabelsPassing
-mod PassedLemmas
+mod ArcChainLemmas
 mod PlaceLemmas
 mod EntryLemmas
 pub mod Claims

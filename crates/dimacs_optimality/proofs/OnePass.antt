@@ -11,7 +11,7 @@ use Rattle.dimacs_network.specs.declared.network.ArcView.{ArcView}
 use Rattle.dimacs_network.specs.Arcs.{JoinsNodes}
 use Rattle.dimacs_nodes.specs.declared.node_table.NodeTable.{NodeTable}
 use Rattle.dimacs_nodes.specs.Tables.{value_of}
-use Rattle.dimacs_optimality.specs.declared.one_pass.Row.{Row}
+use Rattle.dimacs_optimality.specs.declared.one_pass.NodeState.{NodeState}
 use Rattle.dimacs_optimality.specs.declared.one_pass.Sums.{Sums}
 use Rattle.dimacs_optimality.specs.CertificateTests.{SlackFails, slack_row}
 use Rattle.dimacs_optimality.specs.Cuts.{IsTightAt}
@@ -19,28 +19,28 @@ use Rattle.dimacs_optimality.specs.Flows.{net, cost, when}
 use Rattle.dimacs_optimality.specs.FlowTests.{BoundFails, balance_row, bound_row, cost_row}
 use Rattle.dimacs_optimality.specs.Potentials.{IsSlackAt, reduced_cost}
 use Rattle.dimacs_optimality.specs.Tests.{Clear, ClearBelow}
-use Rattle.dimacs_optimality.specs.inside.OnePass.{AreBegun, HasRoom, HavePassed, SetsPotential, TakesArc, priced, balance_in, potential_in, indicator}
+use Rattle.dimacs_optimality.specs.inside.OnePass.{AreInitial, FitsOneMore, HavePassed, SetsPotential, AddsArc, state_with, balance_in, potential_in, indicator}
 use Rattle.dimacs_optimality.specs.inside.Ranges.{IsOfSize}
 use Rattle.dimacs_optimality.proofs.Products.{product_small}
 use Rattle.dimacs_optimality.proofs.RowLemmas.{arc_clear_end, flow_clear_more}
 use Rattle.dimacs_optimality.proofs.StepLemmas.{cost_clear_more, cost_more, cost_step, net_more, when_within}
 
 -- the nodes below n have their potentials, which are small, and no other node has one
-pub record HavePotentials (p : ℕ → ℤ) (n : ℕ) (rows : NodeTable Row) : Type 0 where
-  pub balances : (v : ℕ) → (value_of rows v).balance ≡ pos 0
-  pub small : (v : ℕ) → IsOfSize (2 ^ 61) (value_of rows v).potential
-  pub set : (v : ℕ) → v < n → 1 ≤ v → (value_of rows v).potential ≡ p v
-  pub blank : (v : ℕ) → n ≤ v → value_of rows v ≡ priced (pos 0)
+pub record HavePotentials (p : ℕ → ℤ) (n : ℕ) (states : NodeTable NodeState) : Type 0 where
+  pub balances : (v : ℕ) → (value_of states v).balance ≡ pos 0
+  pub small : (v : ℕ) → IsOfSize (2 ^ 61) (value_of states v).potential
+  pub set : (v : ℕ) → v < n → 1 ≤ v → (value_of states v).potential ≡ p v
+  pub blank : (v : ℕ) → n ≤ v → value_of states v ≡ state_with (pos 0)
 
-pub no_potentials : (p : ℕ → ℤ) (rows : NodeTable Row) → ((v : ℕ) → value_of rows v ≡ priced (pos 0)) → HavePotentials p 1 rows
-no_potentials p rows none = record {
+pub no_potentials : (p : ℕ → ℤ) (states : NodeTable NodeState) → ((v : ℕ) → value_of states v ≡ state_with (pos 0)) → HavePotentials p 1 states
+no_potentials p states none = record {
   balances = λ v. rw (none v) refl;
   small = λ v. rw (none v) (omega (arith, ints));
   set = λ v below low. absurd (omega (arith, below, low));
   blank = λ v from. none v;
 }
 
-pub potentials_more : (p : ℕ → ℤ) (n : ℕ) (old new : NodeTable Row) (z : ℤ) → HavePotentials p n old → SetsPotential n z old new → z ≡ p n → HavePotentials p (n + 1) new
+pub potentials_more : (p : ℕ → ℤ) (n : ℕ) (old new : NodeTable NodeState) (z : ℤ) → HavePotentials p n old → SetsPotential n z old new → z ≡ p n → HavePotentials p (n + 1) new
 potentials_more p n old new z have sets is = record {
   balances = λ v. elim (cases_eq v n) [ inl e ↦ rw (e, sets.set) refl | inr off ↦ rw (sets.others v off) (have.balances v) ];
   small = λ v. elim (cases_eq v n) [ inl e ↦ rw (e, sets.set) sets.small | inr off ↦ rw (sets.others v off) (have.small v) ];
@@ -49,7 +49,7 @@ potentials_more p n old new z have sets is = record {
 }
 
 -- the first arcs pass, and these are their sums
-pub record HaveTaken (nodes : ℕ) (arcs : List ArcView) (p : ℕ → ℤ) (x : List ℤ) (i : ℕ) (sums : Sums) : Type 0 where
+pub record HaveAdded (nodes : ℕ) (arcs : List ArcView) (p : ℕ → ℤ) (x : List ℤ) (i : ℕ) (sums : Sums) : Type 0 where
   pub bounds : ClearBelow (bound_row arcs x) i
   pub costs : ClearBelow (cost_row arcs x) i
   pub slack : ClearBelow (slack_row arcs p x) i
@@ -61,34 +61,34 @@ pub record HaveTaken (nodes : ℕ) (arcs : List ArcView) (p : ℕ → ℤ) (x : 
   pub cost_size : IsOfSize (i * 2 ^ 69) sums.cost
 
 module _ (nodes : ℕ) (arcs : List ArcView) (p : ℕ → ℤ) (x : List ℤ) (i : ℕ) (few : i < 268435456) where
-  pub has_room : (sums : Sums) → HaveTaken nodes arcs p x i sums → HasRoom sums
-  has_room sums taken = record {
-    balances = λ v. let size = taken.sizes v in omega (arith, ints, size, few);
-    potentials = taken.small;
-    cost = let size = taken.cost_size in omega (arith, ints, size, few);
+  pub fits_one_more : (sums : Sums) → HaveAdded nodes arcs p x i sums → FitsOneMore sums
+  fits_one_more sums added = record {
+    balances = λ v. let size = added.sizes v in omega (arith, ints, size, few);
+    potentials = added.small;
+    cost = let size = added.cost_size in omega (arith, ints, size, few);
   }
 
   -- one more arc
-  pub taken_more : (a : ArcView) (z : ℤ) (old new : Sums) → slice_get arcs i ≡ Some a → slice_get x i ≡ Some z → JoinsNodes nodes a
-      → HaveTaken nodes arcs p x i old → TakesArc a z old new → HaveTaken nodes arcs p x (i + 1) new
-  taken_more a z old new here carries joins taken takes =
+  pub added_more : (a : ArcView) (z : ℤ) (old new : Sums) → slice_get arcs i ≡ Some a → slice_get x i ≡ Some z → JoinsNodes nodes a
+      → HaveAdded nodes arcs p x i old → AddsArc a z old new → HaveAdded nodes arcs p x (i + 1) new
+  added_more a z old new here carries joins added takes =
       let product = product_small (2 ^ 36) (2 ^ 33) a.cost z takes.small.0 takes.small.1 in
-      let cost_size : IsOfSize ((i + 1) * 2 ^ 69) new.cost = let size = taken.cost_size in rw takes.cost (omega (arith, ints, size, product)) in
-      let through = cost_step arcs x i a z old.cost new.cost here carries taken.cost_is takes.cost in
+      let cost_size : IsOfSize ((i + 1) * 2 ^ 69) new.cost = let size = added.cost_size in rw takes.cost (omega (arith, ints, size, product)) in
+      let through = cost_step arcs x i a z old.cost new.cost here carries added.cost_is takes.cost in
       record {
-        bounds = flow_clear_more BoundFails arcs x i a z here carries taken.bounds takes.passes.0;
-        costs = cost_clear_more arcs x i new.cost taken.costs through (omega (arith, ints, cost_size, few));
-        slack = flow_clear_more (λ b. SlackFails (reduced_cost p b) b) arcs x i a z here carries taken.slack (rw (taken.potentials a.tail joins.0, taken.potentials a.head joins.1) at takes.passes.1);
-        balances = λ v. omega (arith, ints, takes.balances v, taken.balances v, net_more arcs x i a z here carries v);
-        sizes = λ v. let t = when_within (a.tail == v) (a.head == v) (i * 2 ^ 34) (2 ^ 33) (balance_in old v) z (taken.sizes v) takes.small.1 in rw (takes.balances v) (omega (arith, ints, t));
-        potentials = λ v node. takes.potentials v ∙ taken.potentials v node;
-        small = λ v. rw (takes.potentials v) (taken.small v);
-        cost_is = omega (arith, ints, takes.cost, taken.cost_is, cost_more arcs x i a z here carries);
+        bounds = flow_clear_more BoundFails arcs x i a z here carries added.bounds takes.passes.0;
+        costs = cost_clear_more arcs x i new.cost added.costs through (omega (arith, ints, cost_size, few));
+        slack = flow_clear_more (λ b. SlackFails (reduced_cost p b) b) arcs x i a z here carries added.slack (rw (added.potentials a.tail joins.0, added.potentials a.head joins.1) at takes.passes.1);
+        balances = λ v. omega (arith, ints, takes.balances v, added.balances v, net_more arcs x i a z here carries v);
+        sizes = λ v. let t = when_within (a.tail == v) (a.head == v) (i * 2 ^ 34) (2 ^ 33) (balance_in old v) z (added.sizes v) takes.small.1 in rw (takes.balances v) (omega (arith, ints, t));
+        potentials = λ v node. takes.potentials v ∙ added.potentials v node;
+        small = λ v. rw (takes.potentials v) (added.small v);
+        cost_is = omega (arith, ints, takes.cost, added.cost_is, cost_more arcs x i a z here carries);
         cost_size = cost_size;
       }
 
-pub taken_none : (nodes : ℕ) (arcs : List ArcView) (p : ℕ → ℤ) (x : List ℤ) (sums : Sums) → AreBegun nodes p sums → HaveTaken nodes arcs p x 0 sums
-taken_none nodes arcs p x sums begun = record {
+pub added_none : (nodes : ℕ) (arcs : List ArcView) (p : ℕ → ℤ) (x : List ℤ) (sums : Sums) → AreInitial nodes p sums → HaveAdded nodes arcs p x 0 sums
+added_none nodes arcs p x sums begun = record {
   bounds = λ k below. absurd (omega (arith, below));
   costs = λ k below. absurd (omega (arith, below));
   slack = λ k below. absurd (omega (arith, below));
@@ -101,18 +101,18 @@ taken_none nodes arcs p x sums begun = record {
 }
 
 -- all arcs
-module _ (nodes : ℕ) (arcs : List ArcView) (p : ℕ → ℤ) (x : List ℤ) (i : ℕ) (sums : Sums) (all : length arcs ≤ i) (long : length x ≡ length arcs) (taken : HaveTaken nodes arcs p x i sums) where
-  all_taken : take i x ≡ x
-  all_taken = take_all i x (omega (arith, all, long))
+module _ (nodes : ℕ) (arcs : List ArcView) (p : ℕ → ℤ) (x : List ℤ) (i : ℕ) (sums : Sums) (all : length arcs ≤ i) (long : length x ≡ length arcs) (added : HaveAdded nodes arcs p x i sums) where
+  all_added : take i x ≡ x
+  all_added = take_all i x (omega (arith, all, long))
 
-  pub balances_taken : (v : ℕ) → balance_in sums v ≡ net arcs x v
-  balances_taken v = taken.balances v ∙ ap₂ (λ (some : List ArcView) (zs : List ℤ). net some zs v) (take_all i arcs all) all_taken
+  pub balances_added : (v : ℕ) → balance_in sums v ≡ net arcs x v
+  balances_added v = added.balances v ∙ ap₂ (λ (some : List ArcView) (zs : List ℤ). net some zs v) (take_all i arcs all) all_added
 
   pub passed : (demand : ℕ → Option ℤ) → Clear (balance_row nodes arcs demand x) → HavePassed nodes arcs demand p x sums
   passed demand balanced = record {
-    clear = (arc_clear_end arcs _ i all taken.bounds, (balanced, (arc_clear_end arcs _ i all taken.costs, (arc_clear_end arcs _ i all taken.slack, tt))));
-    balances = balances_taken;
-    cost_is = taken.cost_is ∙ ap₂ cost (take_all i arcs all) all_taken;
+    clear = (arc_clear_end arcs _ i all added.bounds, (balanced, (arc_clear_end arcs _ i all added.costs, (arc_clear_end arcs _ i all added.slack, tt))));
+    balances = balances_added;
+    cost_is = added.cost_is ∙ ap₂ cost (take_all i arcs all) all_added;
   }
 
 -- ---- a cut as potentials

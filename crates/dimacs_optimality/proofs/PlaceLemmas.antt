@@ -13,7 +13,7 @@ use Rattle.dimacs_records.specs.declared.reasons.Reason.TheVariants.{UnknownArc,
 use Rattle.dimacs_optimality.proofs.Claims.{claims_carried}
 use Rattle.dimacs_optimality.specs.Claims.{is_between, Carries, EntryFails}
 use Rattle.dimacs_optimality.specs.declared.verdict.Where.{Where}
-use Rattle.dimacs_optimality.specs.Places.{PlacesValue, HavePlaced, Hold, came_between, counted_or}
+use Rattle.dimacs_optimality.specs.Places.{PlacesValue, HavePlaced, Hold, placed_between, counted_or}
 use Rattle.dimacs_optimality.proofs.EntryLemmas.{joined_at, one_kth, between_ends, counted_more, counted_same, none_claimed, between_own, claimed_more, clear_more, first_still}
 use Rattle.dimacs_optimality.proofs.SupportLemmas.{ends_joined, counted_before, counted_in_all}
 
@@ -92,9 +92,9 @@ pub placed_carry : (p : PlacesValue) (entries : List Entry) (refusal : Option (W
 placed_carry p entries None none held = claims_carried p.arcs entries held.clear p.flow held.amounts
 placed_carry p entries (Some refusal) none held = absurd (cc)
 
--- no entry came with the ends of an arc that isn't counted and whose first comes after those in order
-pub none_came : (p : PlacesValue) (tail head first : ℕ) → IsKthBetween p.arcs tail head 0 (Some first) → p.in_order ≤ first → get_or p.counts first 0 ≡ 0 → came_between p tail head first ≡ 0
-none_came p tail head first found after uncounted = rw (uncounted, none_below p.arcs tail head first found p.in_order after) refl
+-- no entry has the ends of an arc that isn't counted and whose first comes after those in order
+pub none_placed_between : (p : PlacesValue) (tail head first : ℕ) → IsKthBetween p.arcs tail head 0 (Some first) → p.in_order ≤ first → get_or p.counts first 0 ≡ 0 → placed_between p tail head first ≡ 0
+none_placed_between p tail head first found after uncounted = rw (uncounted, none_below p.arcs tail head first found p.in_order after) refl
 
 -- ---- one more entry
 module _ (p : PlacesValue) (before : List Entry) (e : Entry) (placed : HavePlaced p before) where
@@ -141,15 +141,15 @@ module _ (p : PlacesValue) (before : List Entry) (e : Entry) (placed : HavePlace
     }
 
   -- no arc is left for the entry
-  pub none_left : (first k : ℕ) → IsKthBetween p.arcs e.tail e.head 0 (Some first) → k ≡ came_between p e.tail e.head first → IsKthBetween p.arcs e.tail e.head k None → EntryFails p.arcs before e ArcTwice
+  pub none_left : (first k : ℕ) → IsKthBetween p.arcs e.tail e.head 0 (Some first) → k ≡ placed_between p e.tail e.head first → IsKthBetween p.arcs e.tail e.head k None → EntryFails p.arcs before e ArcTwice
   none_left first k found_first counted none = twice_fails p.arcs before e first found_first (rw (counted ∙ placed.counted e.tail e.head first found_first) at none)
 
-  module _ (searched : p.out_of_order ≡ true) (first k i : ℕ) (found_first : IsKthBetween p.arcs e.tail e.head 0 (Some first)) (counted : k ≡ came_between p e.tail e.head first) (found : IsKthBetween p.arcs e.tail e.head k (Some i)) (room : first < length p.counts) where
-    came : k ≡ count_by (is_between e.tail e.head) before
-    came = counted ∙ placed.counted e.tail e.head first found_first
+  module _ (searched : p.out_of_order ≡ true) (first k i : ℕ) (found_first : IsKthBetween p.arcs e.tail e.head 0 (Some first)) (counted : k ≡ placed_between p e.tail e.head first) (found : IsKthBetween p.arcs e.tail e.head k (Some i)) (room : first < length p.counts) where
+    count_is : k ≡ count_by (is_between e.tail e.head) before
+    count_is = counted ∙ placed.counted e.tail e.head first found_first
 
     own_found : IsKthBetween p.arcs e.tail e.head (count_by (is_between e.tail e.head) before) (Some i)
-    own_found = rw came at found
+    own_found = rw count_is at found
 
     counted_now : (tail head f : ℕ) → IsKthBetween p.arcs tail head 0 (Some f)
         → counted_or (get_or (set p.counts first (k + 1)) f 0) (count_by (joins tail head) (take p.in_order p.arcs)) ≡ count_by (is_between tail head) (before ++ e ∷ [])
@@ -158,7 +158,7 @@ module _ (p : PlacesValue) (before : List Entry) (e : Entry) (placed : HavePlace
           (let ends = between_ends tail head e is in
           let same : f ≡ first = one_kth p.arcs e.tail e.head 0 f first (rw (ends.0, ends.1) there) found_first in
           rw (same, get_or-set_same p.counts first (k + 1) 0 room, counted_some (k + 1) (count_by (joins tail head) (take p.in_order p.arcs)) (omega arith))
-          (omega (arith, counted_more tail head before e is, ap (λ t. count_by (is_between t head) before) ends.0, ap (λ h. count_by (is_between e.tail h) before) ends.1, came)))
+          (omega (arith, counted_more tail head before e is, ap (λ t. count_by (is_between t head) before) ends.0, ap (λ h. count_by (is_between e.tail h) before) ends.1, count_is)))
       | inr off ↦
           (let apart : f ≢ first = λ same. first_of_others tail head f there off same in
           rw (get_or-set_other p.counts first f (k + 1) 0 apart) (placed.counted tail head f there ∙ sym (counted_same tail head before e off)))

@@ -61,9 +61,9 @@ weights_free arcs b none k place reason f = let some : false ≡ true = subst Is
 pub weights_all : (arcs : List ArcView) (b : BlockValue) → Clear (negative_row arcs) → Clear (weight_row arcs b)
 weights_all arcs b clear k place reason f = clear k place reason f.1
 
-pub weights_told : (arcs : List ArcView) (b : BlockValue) → IsSome b.radius → (outcome : Result Unit (Where × Reason)) → TestsRow (negative_row arcs) outcome → TestsRow (weight_row arcs b) outcome
-weights_told arcs b some (Ok done) clear = weights_all arcs b clear
-weights_told arcs b some (Err refusal) first = record { number = first.number; fails = (some, first.fails); earlier = λ k less place reason f. first.earlier k less place reason f.1 }
+pub weights_tests : (arcs : List ArcView) (b : BlockValue) → IsSome b.radius → (outcome : Result Unit (Where × Reason)) → TestsRow (negative_row arcs) outcome → TestsRow (weight_row arcs b) outcome
+weights_tests arcs b some (Ok done) clear = weights_all arcs b clear
+weights_tests arcs b some (Err refusal) first = record { number = first.number; fails = (some, first.fails); earlier = λ k less place reason f. first.earlier k less place reason f.1 }
 
 -- ---- labels
 pub support_clear_more : (arcs : List ArcView) (b : BlockValue) (k : ℕ) → ClearBelow (support_row arcs b) k → HasTightArc arcs b (get_or b.labels k no_label) → ClearBelow (support_row arcs b) (k + 1)

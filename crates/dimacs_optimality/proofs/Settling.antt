@@ -60,11 +60,11 @@ pub refused_among : (tests : List ℤ → List Row) (x y : List ℤ) → x ≡ y
 refused_among tests x y same front rows more are error clear first = subst (λ (all : List Row). Refuses (First all) error) (are ∙ ap tests same) (refused_after front rows more error clear first)
 
 -- a judge's refusal, if each test fails in only one way and a yes needs all tests to pass
-refusal_judges : (rows : List Row) (holds : Type 0) (says : Verdict → Type 0) → AllOneWay rows → (holds → AllClear rows) → (error : JudgeError) → Refuses (First rows) error → Judges rows holds says (Err error)
-refusal_judges rows holds says one needed (Refused place reason) first = ((first, λ other why also. one_first rows other place why reason one also first), λ h. none_first rows place reason (needed h) first)
-refusal_judges rows holds says one needed Memory first = tt
+refusal_judges : (rows : List Row) (holds : Type 0) (states : Verdict → Type 0) → AllOneWay rows → (holds → AllClear rows) → (error : JudgeError) → Refuses (First rows) error → Judges rows holds states (Err error)
+refusal_judges rows holds states one needed (Refused place reason) first = ((first, λ other why also. one_first rows other place why reason one also first), λ h. none_first rows place reason (needed h) first)
+refusal_judges rows holds states one needed Memory first = tt
 
 -- the same if the judge returns it as its own error
-pub error_judges : (rows : List Row) (holds : Type 0) (says : Verdict → Type 0) → AllOneWay rows → (holds → AllClear rows) → (error : JudgeError) → Refuses (First rows) error
-    → (result : Result Verdict JudgeError) → IsErrAnd result (λ e. e ≡ error) → Judges rows holds says result
-error_judges rows holds says one needed error first result is = let p = err_from_is_err_and result is in rw (p.1, p.2) (refusal_judges rows holds says one needed error first)
+pub error_judges : (rows : List Row) (holds : Type 0) (states : Verdict → Type 0) → AllOneWay rows → (holds → AllClear rows) → (error : JudgeError) → Refuses (First rows) error
+    → (result : Result Verdict JudgeError) → IsErrAnd result (λ e. e ≡ error) → Judges rows holds states result
+error_judges rows holds states one needed error first result is = let p = err_from_is_err_and result is in rw (p.1, p.2) (refusal_judges rows holds states one needed error first)

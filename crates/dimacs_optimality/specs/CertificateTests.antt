@@ -57,7 +57,8 @@ support_row arcs b k place reason =
 -- with too great a label
 abbrev pub RelaxFails : Option ℤ → Option ℤ → Option ℤ → ℤ → Reason → Type 0
 RelaxFails radius tail head weight reason =
-    (d : ℤ) × (tail ≡ Some d) × (((reason ≡ Escapes) × (head ≡ None) × IsNear radius (d +ℤ weight)) ⊎ ((reason ≡ NotShortest) × ((e : ℤ) × (head ≡ Some e) × ((d +ℤ weight) <ℤ e))))
+    (d : ℤ) × (tail ≡ Some d)
+    × (((reason ≡ Escapes) × (head ≡ None) × IsNear radius (d +ℤ weight)) ⊎ ((reason ≡ NotShortest) × ((e : ℤ) × (head ≡ Some e) × ((d +ℤ weight) <ℤ e))))
 
 abbrev pub relax_row : List ArcView → BlockValue → Row
 relax_row arcs b = arc_row arcs (λ k reason. RelaxFails b.radius (label b (arc_at arcs k).tail) (label b (arc_at arcs k).head) (arc_at arcs k).cost reason)

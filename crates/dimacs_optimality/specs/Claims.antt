@@ -52,8 +52,10 @@ pub record Carries (arcs : List ArcView) (entries : List Entry) (x : List ℤ) :
 -- no arc has the ends of the entry; or some do, but as many earlier entries have them
 abbrev pub EntryFails : List ArcView → List Entry → Entry → Reason → Type 0
 EntryFails arcs before e reason =
-    ((reason ≡ UnknownArc) × (¬ IsKnown arcs e)) ⊎ ((reason ≡ ArcTwice) × IsKnown arcs e × (count_by (joins e.tail e.head) arcs ≤ count_by (is_between e.tail e.head) before))
+    ((reason ≡ UnknownArc) × (¬ IsKnown arcs e))
+    ⊎ ((reason ≡ ArcTwice) × IsKnown arcs e × (count_by (joins e.tail e.head) arcs ≤ count_by (is_between e.tail e.head) before))
 
 -- the tests of the entries; each names the entry's line
 abbrev pub entry_row : List ArcView → List Entry → Row
-entry_row arcs entries k place reason = (k < length entries) × (place ≡ Solution (entry_at entries k).line 0) × EntryFails arcs (take k entries) (entry_at entries k) reason
+entry_row arcs entries k place reason =
+    (k < length entries) × (place ≡ Solution (entry_at entries k).line 0) × EntryFails arcs (take k entries) (entry_at entries k) reason

@@ -26,7 +26,8 @@ ExchangeLaw =
 -- a feasible flow with a tight cut is maximum
 abbrev pub TightCutLaw : Type 0
 TightCutLaw =
-    (i : MaxValue) → All (JoinsNodes i.nodes) i.arcs → IsNode i.nodes i.source → (x : List ℤ) (set : ℕ → Bool) → FeasibleMax i x → CutTight i x set → Maximum i x
+    (i : MaxValue) → All (JoinsNodes i.nodes) i.arcs → IsNode i.nodes i.source → (x : List ℤ) (set : ℕ → Bool)
+    → FeasibleMax i x → CutTight i x set → Maximum i x
 
 -- a feasible flow with slack potentials costs least
 abbrev pub SlacknessLaw : Type 0

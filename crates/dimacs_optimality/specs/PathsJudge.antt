@@ -28,7 +28,8 @@ pub record PassesPaths (g : NetworkValue) (q : QueriesValue) (l : LabelsValue) :
 -- radius of the answer
 abbrev pub AnswersAreDistances : List ArcView → List BlockValue → QueriesValue → Type 0
 AnswersAreDistances arcs blocks (Sources ids) = Unit {0}
-AnswersAreDistances arcs blocks (Pairs pairs) = All (λ pair. IsDistance arcs pair.0 pair.1 (distance_from blocks pair.0 pair.1) (beyond_from blocks pair.0 pair.1)) pairs
+AnswersAreDistances arcs blocks (Pairs pairs) =
+    All (λ pair. IsDistance arcs pair.0 pair.1 (distance_from blocks pair.0 pair.1) (beyond_from blocks pair.0 pair.1)) pairs
 
 -- the labels pass and are distances, and so are the answers
 pub record ShowsDistances (g : NetworkValue) (q : QueriesValue) (l : LabelsValue) : Type 0 where

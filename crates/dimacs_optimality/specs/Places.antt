@@ -26,7 +26,7 @@ pub record HaveRoom (p : PlacesValue) : Type 0 where
   pub flow : length p.flow ≡ length p.arcs
   pub counts : length p.counts ≡ length p.arcs
   pub in_order : p.in_order ≤ length p.arcs
-  pub few : length p.arcs < 2 ^ 32
+  pub arc_limit : length p.arcs < 2 ^ 32
 
 -- k, or n if k is 0
 abbrev pub counted_or : ℕ → ℕ → ℕ
@@ -34,14 +34,15 @@ counted_or zero n = n
 counted_or (suc k) n = suc k
 
 -- how many entries with these ends came: the count at their first arc, or, if it is 0, such arcs below `in_order`
-abbrev pub came_between : PlacesValue → ℕ → ℕ → ℕ → ℕ
-came_between p tail head first = counted_or (get_or p.counts first 0) (count_by (joins tail head) (take p.in_order p.arcs))
+abbrev pub placed_between : PlacesValue → ℕ → ℕ → ℕ → ℕ
+placed_between p tail head first = counted_or (get_or p.counts first 0) (count_by (joins tail head) (take p.in_order p.arcs))
 
 -- the entries pass, and their flow is on the arcs
 pub record HavePlaced (p : PlacesValue) (entries : List Entry) : Type 0 where
   pub clear : Clear (entry_row p.arcs entries)
   pub amounts : p.flow ≡ claimed_flow p.arcs entries
-  pub counted : (tail head first : ℕ) → IsKthBetween p.arcs tail head 0 (Some first) → came_between p tail head first ≡ count_by (is_between tail head) entries
+  pub counted : (tail head first : ℕ) → IsKthBetween p.arcs tail head 0 (Some first)
+      → placed_between p tail head first ≡ count_by (is_between tail head) entries
   pub uncounted : p.out_of_order ≡ false → (k : ℕ) → get_or p.counts k 0 ≡ 0
   pub ordered : p.out_of_order ≡ false → (tail head : ℕ) → count_by (joins tail head) (take p.in_order p.arcs) ≡ count_by (is_between tail head) entries
 

@@ -65,6 +65,6 @@ Settles holds rows (Err error) = Refutes holds rows error
 
 -- all tests pass, this holds and the verdict states it; or the first that fails, and it doesn't; or out of memory
 abbrev pub Judges : List Row → Type 0 → (Verdict → Type 0) → Result Verdict JudgeError → Type 0
-Judges rows holds says (Ok verdict) = AllClear rows × holds × says verdict
-Judges rows holds says (Err (Refused place reason)) = FirstAlone rows place reason × ¬ holds
-Judges rows holds says (Err Memory) = Unit
+Judges rows holds states (Ok verdict) = AllClear rows × holds × states verdict
+Judges rows holds states (Err (Refused place reason)) = FirstAlone rows place reason × ¬ holds
+Judges rows holds states (Err Memory) = Unit

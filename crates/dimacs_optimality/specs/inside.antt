@@ -1,7 +1,7 @@
+pub mod ArcChains
 pub mod Labels
 pub mod LightestArcs
 pub mod OnePass
-pub mod Passed
 pub mod Places
 pub mod QueryTests
 pub mod Ranges

@@ -21,7 +21,7 @@ pub(crate) trait ArcTest {
         ensures { NamesReason (fails self.now arc amount) result };
 }
 
-/// Tests each arc; the error names the first that fails.
+/// Tests each arc.
 pub(crate) fn arcs_hold<N: Network, T: ArcTest>(
     network: &N,
     flow: &Flow,

@@ -14,17 +14,16 @@ use dimacs_network::{ArcView, Network};
 use dimacs_nodes::NodeTable;
 use std::alloc::Global;
 
-/// The balance of each node, by its ID.
+/// The balance of each node.
 #[derive(Drop)]
 pub struct Balances {
     sums: NodeTable<i128>,
 }
 
-/// What knows the balance of each node.
+/// Anything that has a balance for each node.
 pub(crate) trait NodeBalances {
     ghost balance: { Self → ℕ → ℤ };
 
-    /// The balance of a node.
     fn balance_of(&self, node: u32) -> i128
         ensures { result ≡ balance self.now node };
 }
@@ -39,9 +38,9 @@ impl NodeBalances for Balances {
 }
 
 impl Balances {
-    /// Computes the balances under a flow. Allocates a table of the nodes that are ends of arcs.
+    /// Computes the balances of a flow. Allocates a table of the nodes that have arcs.
     pub fn new<N: Network>(alloc: Global, network: &N, flow: &Flow) -> Result<Balances, Memory>
-        requires few_arcs { length (N.list network.now) ≤ most_count }
+        requires arc_limit { length (N.list network.now) ≤ most_count }
         requires one_each { length flow.now ≡ length (N.list network.now) }
         ensures { IfOk result (AreBalances (N.list network.now) flow.now) }
     {
@@ -61,7 +60,7 @@ impl Balances {
     }
 }
 
-/// Adds the amount to the balance of the arc's tail, and subtracts it from that of its head.
+/// Adds the amount to the tail's balance, and subtracts it from the head's.
 #[inline(always)]
 fn transfer(sums: &mut NodeTable<i128>, arc: ArcView, amount: i64) -> Result<(), Memory>
     requires { (v : ℕ) → IsOfSize (2 ^ 120) (value_of sums.old v) }
@@ -73,7 +72,6 @@ fn transfer(sums: &mut NodeTable<i128>, arc: ArcView, amount: i64) -> Result<(),
     Ok(())
 }
 
-/// Adds the amount to the balance of a node.
 fn add_at(sums: &mut NodeTable<i128>, node: u32, amount: i128) -> Result<(), Memory>
     requires { FitsSigned w128 (value_of sums.old node +ℤ amount) }
     ensures { OnOk result ((v : ℕ) → value_of sums.new v ≡ value_of sums.old v +ℤ when (node == v) amount) }

@@ -11,8 +11,7 @@ use dimacs_lines::WIDE;
 use dimacs_network::Network;
 use dimacs_records::Reason;
 
-/// The cost of a flow. Adds up arc by arc; an error names the first arc, with `CostRange`, at which the sum leaves the
-/// range from -10^30 to 10^30.
+/// The cost of a flow. `CostRange` at the first arc at which the sum of the costs leaves -10^30 to 10^30.
 pub fn cost_within<N: Network>(network: &N, flow: &Flow) -> Result<i128, (Where, Reason)>
     requires one_each { length flow.now ≡ length (N.list network.now) }
     ensures { SumsCost (N.list network.now) flow.now result }
@@ -27,7 +26,7 @@ pub fn cost_within<N: Network>(network: &N, flow: &Flow) -> Result<i128, (Where,
     Ok(sum)
 }
 
-/// The sum with the cost of one more arc; none if it leaves the range.
+/// The sum with one more arc; none if it leaves the range.
 fn add_cost(sum: i128, cost: i64, amount: i64) -> Option<i128>
     requires { IsWide sum }
     ensures { MatchOption result (¬ IsWide (sum +ℤ cost *ℤ amount)) (λ next. (next ≡ sum +ℤ cost *ℤ amount) × IsWide next) }

@@ -13,11 +13,11 @@ use dimacs_instance::MaxInstance;
 use dimacs_network::{ArcView, Network};
 use dimacs_records::Reason;
 
-/// Tests whether the cut is tight: the source is inside and the sink outside, each arc that leaves the cut carries its
-/// capacity, and each arc that enters it carries nothing. Allocates nothing.
+/// Tests whether the cut is tight: it separates source and sink, arcs that leave it carry their capacity, and arcs that
+/// enter it carry nothing. Allocates nothing.
 ///
-/// The tests in order: `SourceOutside`, at the source; `SinkInside`, at the sink; then for each arc, from 1,
-/// `NotSaturated` if it leaves the cut, `BackFlow` if it enters.
+/// The tests in order: `SourceOutside`, at the source; `SinkInside`, at the sink; for each arc `NotSaturated` if it
+/// leaves the cut, `BackFlow` if it enters.
 pub fn cut_tests<N: Network>(
     instance: &MaxInstance<N>,
     flow: &Flow,
@@ -37,7 +37,6 @@ pub fn cut_tests<N: Network>(
     arcs_hold(instance.network(), flow, cut)
 }
 
-/// Whether an arc leaves the cut with residual capacity, or enters it with flow.
 impl ArcTest for Cut {
     ghost fails = { λ cut. TightFails (members cut) };
 

@@ -15,10 +15,9 @@ use dimacs_lines::Memory;
 use dimacs_network::Network;
 use std::alloc::Global;
 
-/// The flow that a solution claims. The k-th entry with given ends, in the order of the solution, gives the flow of the
-/// k-th arc with these ends, in the order of the network; an arc without an entry carries 0. Errors name the line of
-/// the first entry that fails: `UnknownArc` if no arc has its ends, `ArcTwice` if as many earlier entries have them as
-/// there are arcs with them.
+/// The flow that a solution claims. The k-th entry with given ends is that of the k-th arc with them; an arc without an
+/// entry carries 0. The error names the line of the first entry that fails: `UnknownArc` if no arc has its ends,
+/// `ArcTwice` if as many earlier entries as arcs have them.
 pub fn flow_of<N: Network>(
     alloc: Global,
     network: &N,
@@ -31,8 +30,7 @@ pub fn flow_of<N: Network>(
     Ok(flow)
 }
 
-/// Puts the entries of a solution on the arcs of a network. The first entry that fails is kept in the result, not
-/// returned as an error.
+/// Places the entries of a solution on the arcs of a network. If one fails, the result keeps the first.
 pub fn placed<'a, N: Network>(
     alloc: Global,
     network: &'a N,
@@ -48,7 +46,6 @@ pub fn placed<'a, N: Network>(
     })
 }
 
-/// The entries on the arcs of a network.
 fn places_of<'a, N: Network>(
     alloc: Global,
     network: &'a N,

@@ -17,11 +17,10 @@ use dimacs_network::{ArcView, Network};
 use dimacs_records::Reason;
 use std::alloc::Global;
 
-/// Tests whether a flow is feasible: each arc carries from 0 to its capacity, and each node but source and sink has
-/// balance 0. Allocates a table of the nodes that have arcs.
+/// Tests whether a flow is feasible. Allocates a table of the nodes that have arcs.
 ///
-/// The tests in order: for each arc, from 1, `BelowLow` if it carries less than 0, otherwise `AboveCap`; then for each
-/// node, by ID, `Balance`.
+/// The tests in order: for each arc `BelowLow` if it carries less than 0, `AboveCap` if more than its capacity; for
+/// each node but source and sink `Balance` if its balance isn't 0.
 pub fn feasible_max<N: Network>(
     alloc: Global,
     instance: &MaxInstance<N>,
@@ -34,10 +33,9 @@ pub fn feasible_max<N: Network>(
     Ok(())
 }
 
-/// Tests whether a flow is feasible: each arc carries from its lower bound to its capacity, and the balance of each
-/// node is its supply. Allocates a table of the nodes that have arcs.
+/// Tests whether a flow is feasible. Allocates a table of the nodes that have arcs.
 ///
-/// The tests in order: for each arc, from 1, `BelowLow`, otherwise `AboveCap`; then for each node, by ID, `Balance`.
+/// The tests in order: for each arc `BelowLow` or `AboveCap`; for each node `Balance` if its balance isn't its supply.
 pub fn feasible_min<N: Network>(
     alloc: Global,
     instance: &MinInstance<N>,
@@ -50,15 +48,15 @@ pub fn feasible_min<N: Network>(
     Ok(())
 }
 
-/// Tests the bounds, then the balances. Returns the balances, or the first test that fails.
+/// Tests the bounds, then the balances, and returns these.
 pub fn balances_if_feasible<N: Network, D: Demands>(
     alloc: Global,
     network: &N,
     flow: &Flow,
     demands: &D,
 ) -> Result<Balances, JudgeError>
-    requires few_nodes { N.node_count network.now ≤ most_nodes }
-    requires few_arcs { length (N.list network.now) ≤ most_count }
+    requires node_limit { N.node_count network.now ≤ most_nodes }
+    requires arc_limit { length (N.list network.now) ≤ most_count }
     requires one_each { length flow.now ≡ length (N.list network.now) }
     ensures { TestsFeasible (N.node_count network.now) (N.list network.now) (D.demand demands.now) flow.now result }
 {
@@ -68,7 +66,7 @@ pub fn balances_if_feasible<N: Network, D: Demands>(
     Ok(balances)
 }
 
-/// Tests the bounds; the error names the first arc that carries less than its lower bound or more than its capacity.
+/// Tests the bounds: `BelowLow` or `AboveCap` at the first arc that violates one.
 pub fn bounds_hold<N: Network>(network: &N, flow: &Flow) -> Result<(), (Where, Reason)>
     requires one_each { length flow.now ≡ length (N.list network.now) }
     ensures { TestsRow (bound_row (N.list network.now) flow.now) result }
@@ -76,7 +74,6 @@ pub fn bounds_hold<N: Network>(network: &N, flow: &Flow) -> Result<(), (Where, R
     arcs_hold(network, flow, &Bounds)
 }
 
-/// The test of an arc's bounds.
 pub(crate) struct Bounds;
 
 impl ArcTest for Bounds {
@@ -94,11 +91,11 @@ impl ArcTest for Bounds {
     }
 }
 
-/// What balances an instance demands of its nodes.
+/// The balances that an instance demands.
 pub trait Demands {
     ghost demand: { Self → ℕ → Option ℤ };
 
-    /// The balance that the node has to have; none if any will do.
+    /// The balance that the node must have; none if any will do.
     fn demand_at(&self, node: u32) -> Option<i64>
         ensures { result ≡ demand self.now node };
 }
@@ -123,7 +120,7 @@ impl<N: Network> Demands for MinInstance<N> {
     }
 }
 
-/// Tests the balances; the error names the first node with another balance than is demanded.
+/// Tests the balances, by node ID.
 pub(crate) fn balances_hold<N: Network, B: NodeBalances, D: Demands>(
     network: &N,
     balances: &B,
@@ -141,7 +138,6 @@ pub(crate) fn balances_hold<N: Network, B: NodeBalances, D: Demands>(
     Ok(())
 }
 
-/// The reason why a node fails, if it does.
 fn balance_fault(demand: Option<i64>, balance: i128) -> Option<Reason>
     ensures { NamesReason (BalanceFails demand balance) result }
 {

@@ -6,7 +6,7 @@ use dimacs_lines::Memory;
 use std::alloc::Global;
 use std::marker::Model;
 
-/// A flow: an amount for each arc of a network, in the order of the arcs. Nothing is required of the amounts.
+/// An amount for each arc of a network, in order. The flow needn't be feasible.
 #[derive(Drop)]
 pub struct Flow {
     amounts: Vec<i64>,
@@ -37,14 +37,14 @@ impl Flow {
         self.amounts[arc]
     }
 
-    /// The amounts in the order of the arcs.
+    /// All amounts, in the order of the arcs.
     pub fn amounts(&self) -> &[i64]
         ensures { result.now ≡ self.now }
     {
         &self.amounts
     }
 
-    /// The zero flow of a network with so many arcs.
+    /// The zero flow on this many arcs.
     pub fn zero(alloc: Global, arcs: u32) -> Result<Flow, Memory>
         ensures { IfOk result (λ flow. flow ≡ replicate arcs (pos 0)) }
     {
@@ -53,7 +53,7 @@ impl Flow {
         })
     }
 
-    /// The flow with a copy of these amounts.
+    /// A flow with a copy of these amounts.
     pub fn of(alloc: Global, amounts: &[i64]) -> Result<Flow, Memory>
         ensures { IfOk result (λ flow. flow ≡ amounts.now) }
     {
@@ -62,7 +62,7 @@ impl Flow {
         })
     }
 
-    /// The flow with these amounts, which it takes over.
+    /// A flow that takes over these amounts.
     pub fn from_vec(amounts: Vec<i64>) -> Flow
         ensures { result ≡ amounts.items }
     {

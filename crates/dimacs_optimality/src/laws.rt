@@ -1,6 +1,6 @@
 //! Theorems: what certificates show of all flows and of all walks.
 //!
-//! A function here is a theorem. Its contract states it, and its body is empty on purpose: there is nothing to compute.
+//! The contract of a function here states the theorem. The body is empty on purpose: there is nothing to compute.
 
 ghost use Rattle.dimacs_optimality.specs.Laws.{ExchangeLaw, TightCutLaw, SlacknessLaw, ViolatedSetLaw, LabelsLaw, PassingShowsLaw};
 

@@ -1,12 +1,12 @@
-//! The conditions of optimality: flows, the tests of flows and of their certificates, and the theorems on what passing
-//! them shows.
+//! Flows, the tests of flows and certificates over any `Network`, and theorems on what passing them shows.
 //!
-//! The theory is in `laws`: a tight cut shows that a flow is maximum, slack potentials show that it costs least, a
-//! violated set shows that no flow is feasible, and labels show distances. All other code makes tests, over any
-//! `Network`. The judges of `dimacs_judge` make all tests of a claim; it offers most of what is here too.
+//! The theorems are in `laws`: a tight cut shows that a flow is maximum, slack potentials that it costs least, a
+//! violated set that no flow is feasible; labels that pass are distances. `dimacs_judge` makes all tests of a claim,
+//! and offers most of this crate too.
 #![tactic(auto)]
 
 mod agreement;
+mod arc_chains;
 mod arc_test;
 mod balances;
 mod costs;
@@ -19,7 +19,6 @@ mod lightest;
 mod max_claim;
 mod min_claim;
 mod one_pass;
-mod passed;
 mod places;
 mod potentials;
 mod solution;

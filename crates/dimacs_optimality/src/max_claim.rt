@@ -24,8 +24,7 @@ use dimacs_network::Network;
 use dimacs_records::Reason;
 use std::alloc::Global;
 
-/// Makes the tests of `judge_max` that come before the cut: of the entries, the bounds, the balances and the value.
-/// Returns the claimed flow, or the first test that fails.
+/// Makes the tests of `judge_max` before those of the cut: entries, bounds, balances, value. Returns the claimed flow.
 pub fn max_claim_tests<'a, N: Network>(
     alloc: Global,
     instance: &MaxInstance<N>,
@@ -45,7 +44,6 @@ pub fn max_claim_tests<'a, N: Network>(
     Ok(flow)
 }
 
-/// Tests that the flow with these balances has the claimed value.
 fn value_holds<N: Network, P: Place>(
     instance: &MaxInstance<N>,
     balances: &Balances,
@@ -57,7 +55,8 @@ fn value_holds<N: Network, P: Place>(
     value_agrees(balances.of(instance.source()), placed)
 }
 
-/// Makes all tests of `judge_max` in one pass over the arcs. None if one fails; it doesn't report which.
+/// Makes all tests of `judge_max` in one pass over the arcs. None if one fails, a number is too large or there is no
+/// memory.
 pub fn max_in_one_pass<N: Network>(
     alloc: Global,
     instance: &MaxInstance<N>,

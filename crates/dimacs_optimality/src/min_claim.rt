@@ -21,8 +21,8 @@ use dimacs_instance::MinInstance;
 use dimacs_network::Network;
 use std::alloc::Global;
 
-/// Makes the tests of `judge_min` that come before the potentials: of the entries, the bounds, the balances, the range
-/// of the costs, and the cost. Returns the claimed flow, or the first test that fails.
+/// Makes the tests of `judge_min` before those of the potentials: entries, bounds, balances, range of the costs, cost.
+/// Returns the claimed flow.
 pub fn min_claim_tests<'a, N: Network>(
     alloc: Global,
     instance: &MinInstance<N>,
@@ -43,7 +43,8 @@ pub fn min_claim_tests<'a, N: Network>(
     Ok(flow)
 }
 
-/// Makes all tests of `judge_min` in one pass over the arcs. None if one fails; it doesn't report which.
+/// Makes all tests of `judge_min` in one pass over the arcs. None if one fails, a number is too large or there is no
+/// memory.
 pub fn min_in_one_pass<N: Network>(
     alloc: Global,
     instance: &MinInstance<N>,

@@ -1,4 +1,4 @@
-//! One pass over the arcs for a yes.
+//! All tests in one pass over the arcs, which can only answer yes.
 
 ghost use Rattle.std.specs.Prelude.{◌≡◌, ◌≤◌, ◌==◌, ℕ, ℤ, ◌+ℤ◌, All, length, pos, FitsSigned, IsTrue, IfSome, OnSome};
 ghost use Rattle.std.specs.Int.{w64};
@@ -8,7 +8,7 @@ ghost use Rattle.dimacs_nodes.specs.Tables.{value_of};
 ghost use Rattle.dimacs_claims.specs.Potentials.{potential_of};
 ghost use Rattle.dimacs_optimality.specs.Cuts.{members};
 ghost use Rattle.dimacs_optimality.specs.Flows.{when};
-ghost use Rattle.dimacs_optimality.specs.inside.OnePass.{AreBegun, HasRoom, IsSmall, HavePassed, Passes, SetsPotential, TakesArc, balance_in, indicator, priced};
+ghost use Rattle.dimacs_optimality.specs.inside.OnePass.{AreInitial, FitsOneMore, IsSmall, HavePassed, Passes, SetsPotential, AddsArc, balance_in, indicator, state_with};
 
 use crate::arc_test::ArcTest;
 use crate::balances::NodeBalances;
@@ -28,11 +28,9 @@ const MOST_COST: i64 = 1 << 36;
 
 const MOST_POTENTIAL: i128 = 1 << 61;
 
-/// A potential for each node.
 pub(crate) trait HasPotentials {
     ghost potential: { Self → ℕ → ℤ };
 
-    /// The potential of a node.
     fn potential_at(&self, node: u32) -> i128
         ensures { result ≡ potential self.now node };
 }
@@ -54,48 +52,48 @@ impl HasPotentials for Potentials {
     }
 }
 
-/// A node: its balance under the flow of the arcs so far, and its potential.
+/// A node's balance over the arcs so far, and its potential.
 #[derive(Clone, Copy)]
-pub(crate) struct Row {
+pub(crate) struct NodeState {
     balance: i64,
     potential: i64,
 }
 
-/// The balances and the cost of a flow over the arcs so far.
+/// The sums over the arcs so far.
 #[derive(Drop)]
 pub(crate) struct Sums {
-    rows: NodeTable<Row>,
+    states: NodeTable<NodeState>,
     pub(crate) cost: i128,
 }
 
 impl Sums {
-    /// The sums of no arcs. None if a potential is too large.
+    /// The sums of no arcs. None if a potential is too large, or there is no memory.
     fn new<P: HasPotentials>(alloc: Global, nodes: u32, potentials: &P) -> Option<Sums>
         requires { nodes ≤ most_nodes }
-        ensures { IfSome result (AreBegun nodes (P.potential potentials.now)) }
+        ensures { IfSome result (AreInitial nodes (P.potential potentials.now)) }
     {
-        let blank = Row {
+        let blank = NodeState {
             balance: 0,
             potential: 0,
         };
-        let mut rows = NodeTable::new(alloc, blank);
+        let mut states = NodeTable::new(alloc, blank);
         for v in 1..nodes + 1 {
-            set_potential(&mut rows, v, potentials.potential_at(v))?;
+            set_potential(&mut states, v, potentials.potential_at(v))?;
         }
-        Some(Sums { rows, cost: 0 })
+        Some(Sums { states, cost: 0 })
     }
 
-    /// Takes one more arc. None if it fails, or a number is too large.
+    /// Tests one more arc, and adds it. None if it fails, a number is too large or there is no memory.
     #[inline(always)]
-    fn take(&mut self, arc: ArcView, amount: i64) -> Option<()>
-        requires { HasRoom self.old }
-        ensures { OnSome result (TakesArc arc amount self.old self.new) }
+    fn add_arc(&mut self, arc: ArcView, amount: i64) -> Option<()>
+        requires { FitsOneMore self.old }
+        ensures { OnSome result (AddsArc arc amount self.old self.new) }
     {
         if !is_small(arc, amount) {
             return None;
         }
-        let tail = add_at(&mut self.rows, arc.tail, amount)?;
-        let head = add_at(&mut self.rows, arc.head, -amount)?;
+        let tail = add_at(&mut self.states, arc.tail, amount)?;
+        let head = add_at(&mut self.states, arc.head, -amount)?;
         if !passes(arc, amount, arc.cost - tail + head) {
             return None;
         }
@@ -105,9 +103,9 @@ impl Sums {
 }
 
 /// Sets the potential of a node; 0 takes no memory. None if it is too large, or there is no memory.
-fn set_potential(rows: &mut NodeTable<Row>, node: u32, potential: i128) -> Option<()>
-    requires { value_of rows.old node ≡ priced (pos 0) }
-    ensures { OnSome result (SetsPotential node potential rows.old rows.new) }
+fn set_potential(states: &mut NodeTable<NodeState>, node: u32, potential: i128) -> Option<()>
+    requires { value_of states.old node ≡ state_with (pos 0) }
+    ensures { OnSome result (SetsPotential node potential states.old states.new) }
 {
     if potential < -MOST_POTENTIAL || MOST_POTENTIAL < potential {
         return None;
@@ -116,14 +114,15 @@ fn set_potential(rows: &mut NodeTable<Row>, node: u32, potential: i128) -> Optio
         return Some(());
     }
     let potential = potential as i64;
-    rows.set(
-        node,
-        Row {
-            balance: 0,
-            potential,
-        },
-    )
-    .ok()
+    states
+        .set(
+            node,
+            NodeState {
+                balance: 0,
+                potential,
+            },
+        )
+        .ok()
 }
 
 impl NodeBalances for Sums {
@@ -131,7 +130,7 @@ impl NodeBalances for Sums {
 
     #[inline(always)]
     fn balance_of(&self, node: u32) -> i128 {
-        i128::from(self.rows.get(node).balance)
+        i128::from(self.states.get(node).balance)
     }
 }
 
@@ -144,7 +143,6 @@ fn is_small(arc: ArcView, amount: i64) -> bool
         && (-MOST_COST <= arc.cost && arc.cost <= MOST_COST)
 }
 
-/// Whether an arc of this reduced cost keeps its bounds and is slack.
 #[inline(always)]
 fn passes(arc: ArcView, amount: i64, reduced: i64) -> bool
     ensures { IsTrue result → Passes arc amount reduced }
@@ -158,39 +156,40 @@ fn passes(arc: ArcView, amount: i64, reduced: i64) -> bool
     }
 }
 
-/// Adds the amount to the balance of a node. Returns the node's potential; none if there is no memory.
+/// Returns the node's potential; none if there is no memory.
 #[inline(always)]
-fn add_at(rows: &mut NodeTable<Row>, node: u32, amount: i64) -> Option<i64>
-    requires { FitsSigned w64 ((value_of rows.old node).balance +ℤ amount) }
-    ensures potential { IfSome result (λ p. p ≡ (value_of rows.old node).potential) }
-    ensures potentials { OnSome result ((v : ℕ) → (value_of rows.new v).potential ≡ (value_of rows.old v).potential) }
-    ensures balances { OnSome result ((v : ℕ) → (value_of rows.new v).balance ≡ (value_of rows.old v).balance +ℤ when (node == v) amount) }
+fn add_at(states: &mut NodeTable<NodeState>, node: u32, amount: i64) -> Option<i64>
+    requires { FitsSigned w64 ((value_of states.old node).balance +ℤ amount) }
+    ensures potential { IfSome result (λ p. p ≡ (value_of states.old node).potential) }
+    ensures potentials { OnSome result ((v : ℕ) → (value_of states.new v).potential ≡ (value_of states.old v).potential) }
+    ensures balances { OnSome result ((v : ℕ) → (value_of states.new v).balance ≡ (value_of states.old v).balance +ℤ when (node == v) amount) }
 {
-    if let Some(slot) = rows.get_slot(node) {
-        let Row { balance, potential } = slot.value;
-        rows.put(
+    if let Some(slot) = states.get_slot(node) {
+        let NodeState { balance, potential } = slot.value;
+        states.put(
             slot.place,
-            Row {
+            NodeState {
                 balance: balance + amount,
                 potential,
             },
         );
         return Some(potential);
     }
-    let Row { balance, potential } = rows.get(node);
-    rows.set(
-        node,
-        Row {
-            balance: balance + amount,
-            potential,
-        },
-    )
-    .ok()?;
+    let NodeState { balance, potential } = states.get(node);
+    states
+        .set(
+            node,
+            NodeState {
+                balance: balance + amount,
+                potential,
+            },
+        )
+        .ok()?;
     Some(potential)
 }
 
-/// The balances and the cost of a flow, if all its tests pass and the potentials are slack. None if a test fails (it
-/// doesn't report which), if a number is too large, or if there is no memory.
+/// The balances and the cost of a flow if its tests pass and the potentials are slack. None if a test fails, a number
+/// is too large or there is no memory.
 pub(crate) fn sums_if_passed<N: Network, D: Demands, P: HasPotentials>(
     alloc: Global,
     network: &N,
@@ -198,15 +197,15 @@ pub(crate) fn sums_if_passed<N: Network, D: Demands, P: HasPotentials>(
     demands: &D,
     potentials: &P,
 ) -> Option<Sums>
-    requires few_nodes { N.node_count network.now ≤ most_nodes }
-    requires few_arcs { length (N.list network.now) ≤ most_count }
+    requires node_limit { N.node_count network.now ≤ most_nodes }
+    requires arc_limit { length (N.list network.now) ≤ most_count }
     requires joined { All (JoinsNodes (N.node_count network.now)) (N.list network.now) }
     requires one_each { length flow.now ≡ length (N.list network.now) }
     ensures { IfSome result (HavePassed (N.node_count network.now) (N.list network.now) (D.demand demands.now) (P.potential potentials.now) flow.now) }
 {
     let mut sums = Sums::new(alloc, network.nodes(), potentials)?;
     for i in 0..network.arcs() {
-        sums.take(network.arc(i), flow.amount(i as usize))?;
+        sums.add_arc(network.arc(i), flow.amount(i as usize))?;
     }
     match balances_hold(network, &sums, demands) {
         Ok(()) => Some(sums),

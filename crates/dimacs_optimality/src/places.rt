@@ -1,17 +1,17 @@
-//! The flow that entries claim, put on the arcs entry by entry.
+//! The flow that entries claim, placed on the arcs entry by entry.
 
 ghost use Rattle.std.specs.Prelude.{◌≡◌, ◌≤◌, ◌<◌, ◌+◌, ◌++◌, ◌∷◌, [], List, Result, Some, None, true, false, length, take, count_by, IfOk, IfErr, IfSome, IsOk, IsTrue, OnOk, OnErr, ◌↔◌};
 ghost use Rattle.dimacs_claims.specs.declared.solution.Entry.{Entry};
 ghost use Rattle.dimacs_network.specs.declared.network.ArcView.{ArcView};
 ghost use Rattle.dimacs_network.specs.Arcs.{joins, IsKthBetween, arc_at};
 ghost use Rattle.dimacs_optimality.specs.Claims.{Carries, entry_row};
-ghost use Rattle.dimacs_optimality.specs.Places.{ArePlaced, HavePlaced, IsIndexFor, came_between};
-ghost use Rattle.dimacs_optimality.specs.inside.Passed.{IsFirstBetween};
+ghost use Rattle.dimacs_optimality.specs.Places.{ArePlaced, HavePlaced, IsIndexFor, placed_between};
+ghost use Rattle.dimacs_optimality.specs.inside.ArcChains.{IsFirstBetween};
 ghost use Rattle.dimacs_optimality.specs.inside.Places.{PutsEntry, FindsFlow};
 ghost use Rattle.dimacs_optimality.specs.Tests.{FirstOfRow};
 
+use crate::arc_chains::{ArcChains, GAP, has_ends};
 use crate::flow::Flow;
-use crate::passed::{GAP, Passed, has_ends};
 use crate::verdict::Where;
 use dimacs_claims::{Entry, Place};
 use dimacs_lines::Memory;
@@ -20,28 +20,28 @@ use dimacs_records::Reason;
 use std::alloc::Global;
 use std::marker::Model;
 
-/// The flow that the entries so far claim: an amount and a count for each arc, and no entry.
+/// The flow of the entries so far: an amount and a count for each arc.
 ///
 /// The k-th entry with given ends belongs to the k-th arc with them. While entries come in the order of the arcs, each
-/// belongs to the next arc, and no search is needed. From the first one out of order on, the entries between two nodes
-/// are counted at the first arc between them. As long as entries only leave arcs out, this is the next arc with these
-/// ends, unless an earlier arc has them too. Then, or if an entry goes back, an index finds it.
+/// belongs to the next arc, without a search. From the first one out of order on, entries are counted at the first arc
+/// with their ends. While entries only leave arcs out, this is the next arc with these ends, unless an earlier one has
+/// them. Then, or if an entry goes back, an index finds it.
 #[derive(Drop)]
 pub struct FlowPlaces<'a, N: Network> {
     network: &'a N,
     flow: Flow,
-    /// At the first arc between two nodes, how many entries between them came; 0 if none came out of order.
+    /// At the first arc between two nodes, the number of entries between them; 0 if none came out of order.
     counts: Vec<u32>,
-    /// How many entries came before the first one out of order.
+    /// The number of entries before the first one out of order.
     in_order: u32,
     out_of_order: bool,
-    /// The arcs up to that of the last entry, while entries come in the order of the arcs but leave some out.
-    passed: Option<Passed>,
-    /// Whether entries are searched for by their ends.
+    /// Chains of the arcs up to that of the last entry, while entries only leave arcs out.
+    chains: Option<ArcChains>,
+    /// Whether arcs are searched for by their ends.
     searched: bool,
-    /// An index of the arcs, if the network has none itself. It is filled when the first entry is searched for.
+    /// An index of the arcs, if the network has none itself. The first search fills it.
     index: Option<ArcIndex>,
-    /// The first entry that fails. Nothing is counted or put after it.
+    /// The first entry that fails. Nothing is counted or placed after it.
     refusal: Option<(Where, Reason)>,
     alloc: Global,
 }
@@ -49,21 +49,35 @@ pub struct FlowPlaces<'a, N: Network> {
 impl<'a, N: Network> Model for FlowPlaces<'a, N> {
     ghost use Rattle.dimacs_optimality.specs.Claims.{Carries, entry_row};
     ghost use Rattle.dimacs_optimality.specs.Places.{PlacesValue, HaveRoom, IsIndexFor};
-    ghost use Rattle.dimacs_optimality.specs.inside.Passed.{AreChainedIf};
+    ghost use Rattle.dimacs_optimality.specs.inside.ArcChains.{AreChainedIf};
 
     ghost Value = { PlacesValue };
 
-    ghost view = { λ p. record
-        { arcs = N.list p.network.now; flow = p.flow; counts = p.counts.items; in_order = p.in_order; out_of_order = p.out_of_order; searched = p.searched; refusal = p.refusal } };
+    ghost view = { λ p. record {
+      arcs = N.list p.network.now;
+      flow = p.flow;
+      counts = p.counts.items;
+      in_order = p.in_order;
+      out_of_order = p.out_of_order;
+      searched = p.searched;
+      refusal = p.refusal;
+    } };
 
-    ghost invariant = { λ p. HaveRoom (record
-        { arcs = N.list p.network.now; flow = p.flow; counts = p.counts.items; in_order = p.in_order; out_of_order = p.out_of_order; searched = p.searched; refusal = p.refusal })
+    ghost invariant = { λ p. HaveRoom (record {
+      arcs = N.list p.network.now;
+      flow = p.flow;
+      counts = p.counts.items;
+      in_order = p.in_order;
+      out_of_order = p.out_of_order;
+      searched = p.searched;
+      refusal = p.refusal;
+    })
         × IsIndexFor (N.list p.network.now) p.searched p.index
-        × AreChainedIf (N.list p.network.now) p.passed };
+        × AreChainedIf (N.list p.network.now) p.chains };
 }
 
 impl<'a, N: Network> FlowPlaces<'a, N> {
-    /// No entries on the arcs of a network. It allocates all memory that they can't do without.
+    /// No entries yet. Allocates all memory that placing can't do without.
     pub fn new(alloc: Global, network: &'a N) -> Result<FlowPlaces<'a, N>, Memory>
         ensures network { IfOk result (λ places. places.arcs ≡ N.list network.now) }
         ensures empty { IfOk result (λ places. ArePlaced places []) }
@@ -75,7 +89,7 @@ impl<'a, N: Network> FlowPlaces<'a, N> {
             counts: vec![in alloc; 0u32; arcs as usize]?,
             in_order: 0,
             out_of_order: false,
-            passed: None,
+            chains: None,
             searched: false,
             index: room_for_index(alloc, network)?,
             refusal: None,
@@ -83,7 +97,7 @@ impl<'a, N: Network> FlowPlaces<'a, N> {
         })
     }
 
-    /// Puts one more entry. If it fails and is the first to do so, this is kept.
+    /// Places one more entry. The first that fails is kept.
     #[inline(always)]
     pub(crate) fn put(&mut self, entry: Entry)
         ensures network { self.new.arcs ≡ self.old.arcs }
@@ -114,7 +128,6 @@ impl<'a, N: Network> FlowPlaces<'a, N> {
         }
     }
 
-    /// The same, by value.
     pub(crate) fn into_flow(self) -> Result<Flow, (Where, Reason)>
         ensures { (entries : List Entry) → ArePlaced self.entry entries → FindsFlow self.entry.arcs entries result }
     {
@@ -124,7 +137,6 @@ impl<'a, N: Network> FlowPlaces<'a, N> {
         }
     }
 
-    /// Puts the flow of an entry on its arc.
     #[inline(always)]
     fn put_on_arc(&mut self, entry: Entry) -> Result<(), Reason>
         requires { self.old.refusal ≡ None }
@@ -140,7 +152,7 @@ impl<'a, N: Network> FlowPlaces<'a, N> {
         self.put_out_of_order(entry)
     }
 
-    /// Puts the flow of an entry on its arc, if it or an earlier one isn't that of the next arc.
+    /// Places an entry that is out of order, or comes after one that is.
     #[inline(never)]
     fn put_out_of_order(&mut self, entry: Entry) -> Result<(), Reason>
         requires { self.old.refusal ≡ None }
@@ -158,23 +170,24 @@ impl<'a, N: Network> FlowPlaces<'a, N> {
         self.put_by_search(entry)
     }
 
-    /// From now on entries are counted at their first arcs.
+    /// From now on entries are counted at their first arcs. Chains find these if the network has no index, and the
+    /// entry's arc comes soon.
     #[inline]
     fn leave_order(&mut self, entry: Entry)
         ensures { self.new ≡ record self.old { out_of_order = true } }
     {
         if !self.out_of_order {
-            if self.index.is_some() && self.is_near(entry) {
-                if let Ok(passed) = Passed::room(self.alloc, self.network) {
-                    self.passed = Some(passed);
+            if self.index.is_some() && self.comes_soon(entry) {
+                if let Ok(chains) = ArcChains::room(self.alloc, self.network) {
+                    self.chains = Some(chains);
                 }
             }
             self.out_of_order = true;
         }
     }
 
-    /// Whether the first of the next arcs with the ends of this entry isn't far. Otherwise it mostly goes back.
-    fn is_near(&self, entry: Entry) -> bool {
+    /// Whether one of the next `GAP` arcs has the ends of this entry. If not, it mostly goes back.
+    fn comes_soon(&self, entry: Entry) -> bool {
         let end = self.in_order.saturating_add(GAP).min(self.network.arcs());
         for i in self.in_order..end {
             if has_ends(self.network.arc(i), entry) {
@@ -184,13 +197,13 @@ impl<'a, N: Network> FlowPlaces<'a, N> {
         false
     }
 
-    /// Entries are found by their ends from now on. The first call fills the index.
+    /// From now on arcs are found by their ends. The first call fills the index.
     #[inline]
     fn search(&mut self)
         ensures { self.new ≡ record self.old { searched = true } }
     {
         if !self.searched {
-            self.passed = None;
+            self.chains = None;
             if let Some(index) = &mut self.index {
                 index.fill(self.network);
             }
@@ -198,15 +211,15 @@ impl<'a, N: Network> FlowPlaces<'a, N> {
         }
     }
 
-    /// The first arc with the ends of this entry, if it is among the next ones and no entry with these ends came.
+    /// The first arc with the ends of this entry, if it is among the next ones and no earlier entry has them.
     #[inline(always)]
     fn next_first(&mut self, entry: Entry) -> Option<u32>
         ensures unchanged { self.new ≡ self.old }
         ensures first { IfSome result (λ arc. IsFirstBetween self.old.arcs entry.tail entry.head arc
-            × (came_between self.old entry.tail entry.head arc ≡ 0)) }
+            × (placed_between self.old entry.tail entry.head arc ≡ 0)) }
     {
-        let first = match &mut self.passed {
-            Some(passed) => passed.pass_to(self.network, entry, self.in_order)?,
+        let first = match &mut self.chains {
+            Some(chains) => chains.extend_to(self.network, entry, self.in_order)?,
             None => return None,
         };
         if first < self.in_order || self.counts[first as usize] > 0 {
@@ -229,7 +242,6 @@ impl<'a, N: Network> FlowPlaces<'a, N> {
         arc.tail == entry.tail && arc.head == entry.head
     }
 
-    /// Puts the flow of an entry on its arc, wherever that is.
     fn put_by_search(&mut self, entry: Entry) -> Result<(), Reason>
         requires out_of_order { self.old.out_of_order ≡ true }
         requires searched { self.old.searched ≡ true }
@@ -241,20 +253,20 @@ impl<'a, N: Network> FlowPlaces<'a, N> {
         let Some(first) = self.find(entry, 0) else {
             return Err(Reason::UnknownArc);
         };
-        let came = self.came(entry, first);
-        let Some(arc) = self.kth(entry, first, came) else {
+        let count = self.placed_count(entry, first);
+        let Some(arc) = self.kth(entry, first, count) else {
             return Err(Reason::ArcTwice);
         };
         self.flow.set(arc as usize, entry.flow);
-        self.counts[first as usize] = came + 1;
+        self.counts[first as usize] = count + 1;
         Ok(())
     }
 
-    /// How many entries with the ends of this one came; `first` is the first arc with these ends.
-    fn came(&self, entry: Entry, first: u32) -> u32
+    /// The number of entries so far with the ends of this one; `first` is the first such arc.
+    fn placed_count(&self, entry: Entry, first: u32) -> u32
         requires searched { self.now.searched ≡ true }
         requires first { IsKthBetween self.now.arcs entry.tail entry.head 0 (Some first) }
-        ensures { result ≡ came_between self.now entry.tail entry.head first }
+        ensures { result ≡ placed_between self.now entry.tail entry.head first }
     {
         let counted = self.counts[first as usize];
         if counted > 0 {
@@ -266,10 +278,9 @@ impl<'a, N: Network> FlowPlaces<'a, N> {
         self.arcs_below(entry, self.in_order)
     }
 
-    /// How many of the arcs before `end` have the ends of this entry, if at least one has.
     fn arcs_below(&self, entry: Entry, end: u32) -> u32
         requires searched { self.now.searched ≡ true }
-        requires some { 1 ≤ count_by (joins entry.tail entry.head) (take end self.now.arcs) }
+        requires has_arc { 1 ≤ count_by (joins entry.tail entry.head) (take end self.now.arcs) }
         ensures { result ≡ count_by (joins entry.tail entry.head) (take end self.now.arcs) }
     {
         for k in 1..self.network.arcs() {
@@ -281,7 +292,7 @@ impl<'a, N: Network> FlowPlaces<'a, N> {
         self.network.arcs()
     }
 
-    /// The arc with the ends of this entry that comes after k such arcs; `first` is the first of them.
+    /// The k-th arc, from 0, with the ends of this entry; `first` is the first.
     #[inline]
     fn kth(&self, entry: Entry, first: u32, k: u32) -> Option<u32>
         requires searched { self.now.searched ≡ true }
@@ -295,7 +306,6 @@ impl<'a, N: Network> FlowPlaces<'a, N> {
         }
     }
 
-    /// The arc with the ends of this entry that comes after k such arcs.
     #[inline(always)]
     fn find(&self, entry: Entry, k: u32) -> Option<u32>
         requires { self.now.searched ≡ true }
@@ -308,7 +318,7 @@ impl<'a, N: Network> FlowPlaces<'a, N> {
     }
 }
 
-/// An entry that fails is placed too, and without memory for the arcs that were passed, entries are searched for.
+/// `place` always succeeds: the first entry that fails is kept, and without memory for chains, arcs are searched for.
 impl<'a, N: Network> Place for FlowPlaces<'a, N> {
     ghost stands_for = { λ places entries. ArePlaced places entries };
 
@@ -328,7 +338,7 @@ impl<'a, N: Network> Place for FlowPlaces<'a, N> {
     }
 }
 
-/// Room for an index of the arcs, if the network has none itself.
+/// Memory for an index, if the network has none itself.
 fn room_for_index<N: Network>(alloc: Global, network: &N) -> Result<Option<ArcIndex>, Memory>
     ensures { IfOk result (λ index. IsIndexFor (N.list network.now) false index) }
 {

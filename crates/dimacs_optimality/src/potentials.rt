@@ -17,11 +17,9 @@ use dimacs_instance::MinInstance;
 use dimacs_network::{ArcView, Network};
 use dimacs_records::Reason;
 
-/// Tests complementary slackness: each arc of positive reduced cost carries its lower bound, and each arc of negative
-/// reduced cost its capacity. The reduced cost of an arc is its cost, minus the potential of its tail, plus the
-/// potential of its head. Allocates nothing.
-///
-/// For each arc, from 1, `NotTight`.
+/// Tests complementary slackness: an arc of positive reduced cost carries its lower bound, one of negative reduced cost
+/// its capacity. The reduced cost is the cost, minus the tail's potential, plus the head's. `NotTight` at the first arc
+/// that fails. Allocates nothing.
 pub fn slack_tests<N: Network>(
     instance: &MinInstance<N>,
     flow: &Flow,
@@ -42,8 +40,7 @@ impl ArcTest for Potentials {
     }
 }
 
-/// The reason why an arc fails, if it does. Makes both tests without a branch between them, which would be
-/// mispredicted.
+/// Makes both tests without a branch between them, which would be mispredicted.
 pub(crate) fn slack_fault(reduced: i128, arc: ArcView, amount: i64) -> Option<Reason>
     ensures { NamesReason (SlackFails reduced arc amount) result }
 {
@@ -56,7 +53,6 @@ pub(crate) fn slack_fault(reduced: i128, arc: ArcView, amount: i64) -> Option<Re
     }
 }
 
-/// The arc's cost, minus the potential of its tail, plus the potential of its head.
 fn reduced_cost(arc: ArcView, potentials: &Potentials) -> i128
     ensures value { result ≡ theory.reduced_cost (potential_of potentials.now) arc }
     ensures size { IsOfSize (3 * 10 ^ 30) result }

@@ -17,8 +17,7 @@ use dimacs_lines::Memory;
 use dimacs_network::{ArcView, Network};
 use std::alloc::Global;
 
-/// The solution that claims this feasible flow: the flow's value on line 1, then an entry for every arc, in the order
-/// of the instance.
+/// The solution that claims this feasible flow: its value on line 1, then an entry for every arc, in order.
 pub fn max_solution<N: Network>(
     alloc: Global,
     instance: &MaxInstance<N>,
@@ -36,8 +35,8 @@ pub fn max_solution<N: Network>(
     })
 }
 
-/// The solution that claims this feasible flow: the flow's cost on line 1, then an entry for every arc, in the order of
-/// the instance. None if the sum of the costs up to some arc is out of range: `judge_min` would refuse the solution.
+/// The same with the flow's cost. None if the sum of the costs up to some arc is out of range: `judge_min` would refuse
+/// the solution.
 pub fn min_solution<N: Network>(
     alloc: Global,
     instance: &MinInstance<N>,
@@ -59,7 +58,7 @@ pub fn min_solution<N: Network>(
     }))
 }
 
-/// The entry of the arc with this index, on the line that it has after the value on line 1.
+/// The entry of the arc with this index. The first one is on line 2, after the value.
 #[inline(always)]
 fn entry_of(arc: ArcView, i: u32, flow: i64) -> Entry
     ensures place { IsEntryOf arc (i + 2) result }
@@ -73,14 +72,13 @@ fn entry_of(arc: ArcView, i: u32, flow: i64) -> Entry
     }
 }
 
-/// An entry for every arc, in order, with its amount, on one line after another from line 2 on. `Memory` if there is
-/// none for them.
+/// An entry for every arc, in order, with its amount, from line 2 on.
 pub fn entries_for<N: Network>(
     alloc: Global,
     network: &N,
     flow: &Flow,
 ) -> Result<Vec<Entry>, Memory>
-    requires few_arcs { length (N.list network.now) ≤ most_count }
+    requires arc_limit { length (N.list network.now) ≤ most_count }
     requires one_each { length flow.now ≡ length (N.list network.now) }
     ensures all { IfOk result (λ entries. AreEntriesOf (N.list network.now) entries.items) }
     ensures flows { IfOk result (λ entries. map (λ (e : Entry). e.flow) entries.items ≡ flow.now) }

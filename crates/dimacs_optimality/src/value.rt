@@ -17,9 +17,8 @@ pub fn value_of<N: Network>(instance: &MaxInstance<N>, flow: &Flow) -> i128
     balance_at(instance.network(), flow, instance.source())
 }
 
-/// The outflow of a node less its inflow.
 fn balance_at<N: Network>(network: &N, flow: &Flow, node: u32) -> i128
-    requires few_arcs { length (N.list network.now) ≤ most_count }
+    requires arc_limit { length (N.list network.now) ≤ most_count }
     requires one_each { length flow.now ≡ length (N.list network.now) }
     ensures { result ≡ net (N.list network.now) flow.now node }
 {

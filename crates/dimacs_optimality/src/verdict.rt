@@ -53,7 +53,7 @@ pub enum Verdict {
     Min(i128),
     /// There is no feasible flow.
     Infeasible,
-    /// All labels are distances; so many sources were asked for.
+    /// All labels are distances; the number of sources asked for.
     Sources(u32),
     /// All labels are distances; the answers to the pairs, in order.
     Pairs(Vec<Answer>),

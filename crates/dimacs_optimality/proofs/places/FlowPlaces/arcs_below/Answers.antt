@@ -5,7 +5,7 @@ use Rattle.dimacs_optimality.proofs.PlaceLemmas.{fewer_below, one_more_below, no
 use Rattle.dimacs_optimality.proofs.places.FlowPlaces.arcs_below.Goals as goal
 
 pub loop-k-init : goal.loop-k-init
-loop-k-init g c = c.requires.some
+loop-k-init g c = c.requires.has_arc
 
 pub returns-in_default : goal.returns-in_default
 returns-in_default g c =
@@ -24,4 +24,4 @@ pub returns : goal.returns
 returns g c =
     let below = no_more_below (joins c.args.entry.tail c.args.entry.head) c.args.self.now.arcs c.args.end in
     let same = ap (λ (q : PlacesValue). length q.arcs) c.self.view_is in
-    omega (arith, same, below.0, below.1, c.loop-k.invariant, c.loop-k-test.false, c.arcs.ensures, c.arcs-k-end.ensures, c.requires.some, c.loop-k.auto.k-end, c.loop-k.auto.k)
+    omega (arith, same, below.0, below.1, c.loop-k.invariant, c.loop-k-test.false, c.arcs.ensures, c.arcs-k-end.ensures, c.requires.has_arc, c.loop-k.auto.k-end, c.loop-k.auto.k)

@@ -1,7 +1,7 @@
 use Rattle.std.proofs.Common.{◌≡◌, ◌<◌, ◌≤◌, length, get_or, arith}
 use Rattle.std.proofs.lemmas.List.{get_or_read}
-use Rattle.dimacs_optimality.specs.inside.Passed.{IsFirstBetween}
-use Rattle.dimacs_optimality.proofs.PlaceLemmas.{none_came}
+use Rattle.dimacs_optimality.specs.inside.ArcChains.{IsFirstBetween}
+use Rattle.dimacs_optimality.proofs.PlaceLemmas.{none_placed_between}
 use Rattle.dimacs_optimality.proofs.places.FlowPlaces.next_first.Goals as goal
 
 pub returns-clause-first : goal.returns-clause-first
@@ -16,4 +16,4 @@ returns-clause-first g c =
     let none : get_or counts arc 0 ≡ 0 = omega (arith, read, c.if-index-gt0.false) in
     let uncounted : get_or p.counts arc 0 ≡ 0 = rw (← c.self.view_is) none in
     let after : p.in_order ≤ arc = rw (← c.self.view_is) c.if-first-self.false in
-    (found, none_came p e.tail e.head arc found after uncounted)
+    (found, none_placed_between p e.tail e.head arc found after uncounted)

@@ -7,20 +7,20 @@ use Rattle.dimacs_optimality.proofs.places.FlowPlaces.put_by_search.Goals as goa
 
 pub returns-in_default-kth-clause-puts : goal.returns-in_default-kth-clause-puts
 returns-in_default-kth-clause-puts g c = λ before placed.
-    (placed.clear, none_left c.args.self.now before c.args.entry placed c.in-Some.first c.came-came.result c.in-Some.ensures c.came-came.ensures c.in_default-kth.ensures)
+    (placed.clear, none_left c.args.self.now before c.args.entry placed c.in-Some.first c.placed_count-count.result c.in-Some.ensures c.placed_count-count.ensures c.in_default-kth.ensures)
 
-pub overflow_add-came : goal.overflow_add-came
-overflow_add-came g c =
+pub overflow_add-count : goal.overflow_add-count
+overflow_add-count g c =
     let arcs = g.N.Network.list c.self.inside.network.now in
-    let fewer = found_among arcs [] c.args.entry c.came-came.result c.in-Some-kth.arc (rw (← c.self.view_is) at c.in-Some-kth.ensures) in
-    omega (arith, fewer, count_by-le-length (joins c.args.entry.tail c.args.entry.head) arcs, c.self.invariant.0.few)
+    let fewer = found_among arcs [] c.args.entry c.placed_count-count.result c.in-Some-kth.arc (rw (← c.self.view_is) at c.in-Some-kth.ensures) in
+    omega (arith, fewer, count_by-le-length (joins c.args.entry.tail c.args.entry.head) arcs, c.self.invariant.0.arc_limit)
 
 pub returns-clause-puts : goal.returns-clause-puts
 returns-clause-puts g c =
     let fits : SFits w64 c.args.entry.flow = search rules in
     let found = rw (← c.self.view_is) at c.in-Some-kth.ensures in
-    let came = rw (← c.self.view_is) at c.came-came.ensures in
+    let count = rw (← c.self.view_is) at c.placed_count-count.ensures in
     let searched : c.self.inside.out_of_order ≡ true = rw (← c.self.view_is) at c.requires.out_of_order in
     let first = rw (← c.self.view_is) at c.in-Some.ensures in
     let room : c.in-Some.first < length c.self.inside.counts.items = omega (arith, first.0, c.self.invariant.0.counts) in
-    rw (← c.self.view_is, c.set.ensures, to_z-of_z w64 c.args.entry.flow fits) (λ before placed. found_placed _ before c.args.entry placed searched c.in-Some.first c.came-came.result c.in-Some-kth.arc first came found room)
+    rw (← c.self.view_is, c.set.ensures, to_z-of_z w64 c.args.entry.flow fits) (λ before placed. found_placed _ before c.args.entry placed searched c.in-Some.first c.placed_count-count.result c.in-Some-kth.arc first count found room)

@@ -6,7 +6,7 @@ use Rattle.dimacs_optimality.proofs.places.FlowPlaces.put_on_arc.Goals as goal
 pub overflow_add-self : goal.overflow_add-self
 overflow_add-self g c =
     let next = rw (← c.self.view_is) at (c.if-is_next.ensures refl) in
-    omega (arith, next.1, c.self.invariant.0.few)
+    omega (arith, next.1, c.self.invariant.0.arc_limit)
 
 pub returns-then-is_next-clause-puts : goal.returns-then-is_next-clause-puts
 returns-then-is_next-clause-puts g c =

@@ -1,9 +1,9 @@
 use Rattle.std.proofs.Common.{◌≡◌, ◌<◌, ◌≤◌, ◌-◌, length}
 use Rattle.dimacs_network.specs.declared.adjacency_lists.Side.TheVariants.{Tail}
 use Rattle.dimacs_network.specs.AdjacencyLists.{end_at}
-use Rattle.dimacs_optimality.specs.inside.Passed.{by_chain}
-use Rattle.dimacs_optimality.proofs.PassedLemmas.{NoneFrom}
-use Rattle.dimacs_optimality.proofs.passed.Passed.is_first.Given as goal
+use Rattle.dimacs_optimality.specs.inside.ArcChains.{by_chain}
+use Rattle.dimacs_optimality.proofs.ArcChainLemmas.{NoneFrom}
+use Rattle.dimacs_optimality.proofs.arc_chains.ArcChains.is_first.Given as goal
 
 -- `before` is in the arc's chain, and no arc from it on and before this one has the ends of the entry
 abbrev pub invariant-loop : goal.invariant-loop

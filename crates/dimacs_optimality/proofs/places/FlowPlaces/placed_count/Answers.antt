@@ -1,7 +1,7 @@
 use Rattle.std.proofs.Common.{◌≡◌, ◌<◌, length, get_or, refl, arith}
 use Rattle.std.proofs.lemmas.List.{get_or_read}
 use Rattle.dimacs_optimality.proofs.PlaceLemmas.{none_below, some_below}
-use Rattle.dimacs_optimality.proofs.places.FlowPlaces.came.Goals as goal
+use Rattle.dimacs_optimality.proofs.places.FlowPlaces.placed_count.Goals as goal
 
 pub returns-then-self-first : goal.returns-then-self-first
 returns-then-self-first g c =
@@ -13,5 +13,5 @@ returns-then-self-first g c =
     let zero : get_or counts c.args.first 0 ≡ 0 = omega (arith, read, c.if-counted-gt0.false) in
     rw (← c.self.view_is, zero, none_below arcs c.args.entry.tail c.args.entry.head c.args.first found c.self.inside.in_order c.if-self-first.true) refl
 
-pub arcs_below-requires-clause-some : goal.arcs_below-requires-clause-some
-arcs_below-requires-clause-some g c = some_below c.args.self.now.arcs c.args.entry.tail c.args.entry.head c.args.first c.requires.first c.self.inside.in_order (omega (arith, c.if-self-first.false))
+pub arcs_below-requires-clause-has_arc : goal.arcs_below-requires-clause-has_arc
+arcs_below-requires-clause-has_arc g c = some_below c.args.self.now.arcs c.args.entry.tail c.args.entry.head c.args.first c.requires.first c.self.inside.in_order (omega (arith, c.if-self-first.false))

@@ -9,7 +9,7 @@ use Rattle.dimacs_network.specs.declared.adjacency_lists.Side.TheVariants.{Tail}
 use Rattle.dimacs_network.specs.Arcs.{joins, no_arc, arc_at}
 use Rattle.dimacs_network.specs.AdjacencyLists.{AreLinked, IsLast, end_at}
 use Rattle.dimacs_network.proofs.LinkLemmas.{linked_more}
-use Rattle.dimacs_optimality.specs.inside.Passed.{IsFirstBetween, chain_of, in_chain}
+use Rattle.dimacs_optimality.specs.inside.ArcChains.{IsFirstBetween, chain_of, in_chain}
 use Rattle.dimacs_optimality.proofs.SupportLemmas.{ends_joined}
 
 none_counted : (p : ArcView → Bool) (arcs : List ArcView) (n : ℕ) → n ≤ length arcs → ((k : ℕ) → k < n → p (arc_at arcs k) ≡ false) → count_by p (take n arcs) ≡ 0
@@ -22,10 +22,10 @@ pub chain_at : (step chains : ℕ) (arcs : List ArcView) (k : ℕ) → k < lengt
 chain_at step chains arcs k inside = ap (λ (a : ArcView). a.tail) (get_or-map (in_chain step chains) arcs k no_arc no_arc inside)
 
 -- one more arc at the end of its chain
-pub passed_more : (step : ℕ) (arcs : List ArcView) (last before : List ℕ) (i chain : ℕ) → i < length arcs → chain ≡ chain_of step (length last) (arc_at arcs i) → chain < length last
+pub chained_more : (step : ℕ) (arcs : List ArcView) (last before : List ℕ) (i chain : ℕ) → i < length arcs → chain ≡ chain_of step (length last) (arc_at arcs i) → chain < length last
     → AreLinked Tail (map (in_chain step (length last)) arcs) i (λ c. get_or last c 0) before
     → AreLinked Tail (map (in_chain step (length (set last chain (i + 1)))) arcs) (i + 1) (λ c. get_or (set last chain (i + 1)) c 0) (before ++ get_or last chain 0 ∷ [])
-passed_more step arcs last before i chain inside is room linked =
+chained_more step arcs last before i chain inside is room linked =
     rw (length-set last chain (i + 1)) (linked_more Tail (map (in_chain step (length last)) arcs) i chain (λ c. get_or last c 0) before (λ c. get_or (set last chain (i + 1)) c 0)
     (chain_at step (length last) arcs i inside ∙ sym is) (get_or-set_same last chain (i + 1) 0 room) (λ c other. get_or-set_other last chain c (i + 1) 0 other) linked)
 

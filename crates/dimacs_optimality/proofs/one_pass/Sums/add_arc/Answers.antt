@@ -3,7 +3,7 @@ use Rattle.std.specs.Int.{w128}
 use Rattle.std.proofs.lemmas.Int.{ints, to_z-of_z}
 use Rattle.dimacs_optimality.specs.inside.OnePass.{IsSmall, balance_in}
 use Rattle.dimacs_optimality.proofs.StepLemmas.{when_back, when_within}
-use Rattle.dimacs_optimality.proofs.one_pass.Sums.take.Goals as goal
+use Rattle.dimacs_optimality.proofs.one_pass.Sums.add_arc.Goals as goal
 
 pub add_at-requires-2 : goal.add_at-requires-2
 add_at-requires-2 c =

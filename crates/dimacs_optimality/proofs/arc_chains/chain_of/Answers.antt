@@ -1,6 +1,6 @@
 use Rattle.std.proofs.Common.{◌+◌, ◌*◌, ◌/◌, bit_and, arith}
 use Rattle.std.proofs.lemmas.Nat.{and_le_r}
-use Rattle.dimacs_optimality.proofs.passed.chain_of.Goals as goal
+use Rattle.dimacs_optimality.proofs.arc_chains.chain_of.Goals as goal
 
 pub returns-clause-inside : goal.returns-clause-inside
 returns-clause-inside g = λ some.
