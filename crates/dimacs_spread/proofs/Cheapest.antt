@@ -38,8 +38,8 @@ here_more b a d z arcs x long is =
     record {
       amounts = (z +ℤ d) ∷ x;
       one_each = omega (arith, long);
-      sums = λ tail head. let alike : joins tail head a ≡ joins tail head b = rw (same.0, same.1) refl in rw (← alike) (omega (arith, ints, when_sum (joins tail head a) (z +ℤ d) z d refl));
-      prices = λ price. let alike : price a.tail a.head ≡ price b.tail b.head = rw (same.0, same.1) refl in rw (← alike) (omega (arith, ints, mul_add (price a.tail a.head) z d));
+      sums = λ tail head. let parallel : joins tail head a ≡ joins tail head b = rw (same.0, same.1) refl in rw (← parallel) (omega (arith, ints, when_sum (joins tail head a) (z +ℤ d) z d refl));
+      prices = λ price. let parallel : price a.tail a.head ≡ price b.tail b.head = rw (same.0, same.1) refl in rw (← parallel) (omega (arith, ints, mul_add (price a.tail a.head) z d));
     }
 
 later_more : (b a : ArcView) (d z : ℤ) (arcs : List ArcView) (x : List ℤ) → HasMore b d arcs x → HasMore b d (a ∷ arcs) (z ∷ x)

@@ -14,9 +14,9 @@ use Rattle.dimacs_optimality.specs.declared.verdict.Where.{Where}
 use Rattle.dimacs_optimality.specs.Rows.{amount_at}
 use Rattle.dimacs_spread.specs.Spread.{arc_sum, caps, Deals, entry_sum, Fails, FirstArcsFail, KeepsBounds, KeepsBoundsIfAny, lows, NoneCheaper, sum_row}
 use Rattle.dimacs_spread.specs.inside.Raised.{AreDealt}
-use Rattle.dimacs_spread.specs.inside.Rests.{AddUp, IsFirstLike, IsOfRest}
+use Rattle.dimacs_spread.specs.inside.Rests.{AddUp, IsFirstParallel, IsOfRest}
 use Rattle.dimacs_spread.proofs.Cheapest.{none_cheaper}
-use Rattle.dimacs_spread.proofs.EndLemmas.{ends_of, first_itself, first_of_alike, one_first, own_joins}
+use Rattle.dimacs_spread.proofs.EndLemmas.{ends_of, first_itself, first_of_parallel, one_first, own_joins}
 use Rattle.dimacs_spread.proofs.RestLemmas.{amount_zero}
 use Rattle.dimacs_spread.proofs.SumLemmas.{NoMore, arc_sum-add, arc_sum-le, arc_sum-less, arc_sum-zero, kept_at, kept_from}
 
@@ -42,10 +42,10 @@ module _ (arcs : List ArcView) (entries : List Entry) (rests x : List ℤ) (deal
 
   --   if an arc has a rest, others with its ends have the same first arc and no rest
   module _ (k : ℕ) (inside : k < length arcs) (some : amount_at rests k ≡ pos 0 → ⊥) where
-    like : (i : ℕ) → joins (arc_at arcs k).tail (arc_at arcs k).head (arc_at arcs i) ≡ true → IsFirstLike arcs i k
+    like : (i : ℕ) → joins (arc_at arcs k).tail (arc_at arcs k).head (arc_at arcs i) ≡ true → IsFirstParallel arcs i k
     like i joined =
         let same = ends_of (arc_at arcs k).tail (arc_at arcs k).head (arc_at arcs i) joined in
-        first_of_alike arcs k i k (sym same.0, sym same.1) (dealt.at_first k inside some)
+        first_of_parallel arcs k i k (sym same.0, sym same.1) (dealt.at_first k inside some)
 
     only_here : (i : ℕ) → i < length arcs → joins (arc_at arcs k).tail (arc_at arcs k).head (arc_at arcs i) ≡ true → (amount_at rests i ≡ pos 0 → ⊥) → i ≡ k
     only_here i h joined other = one_first arcs (arc_at arcs i).tail (arc_at arcs i).head i k (dealt.at_first i h other) (like i joined)
@@ -135,7 +135,7 @@ module _ (arcs : List ArcView) (entries : List Entry) (rests x : List ℤ) (deal
 
     --     what is too much or too little is on the first arc between two nodes
     module _ (tail head k : ℕ) (found : IsKthBetween arcs tail head 0 (Some k)) where
-      like_first : (i : ℕ) → joins tail head (arc_at arcs i) ≡ true → IsFirstLike arcs i k
+      like_first : (i : ℕ) → joins tail head (arc_at arcs i) ≡ true → IsFirstParallel arcs i k
       like_first i joined = let same = ends_of tail head (arc_at arcs i) joined in rw (same.0, same.1) found
 
       first_only : (i : ℕ) → i < length arcs → joins tail head (arc_at arcs i) ≡ true → (amount_at rests i ≡ pos 0 → ⊥) → i ≡ k

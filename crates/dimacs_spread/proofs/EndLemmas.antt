@@ -9,8 +9,8 @@ use Rattle.dimacs_network.specs.declared.network.ArcView.{ArcView}
 use Rattle.dimacs_network.specs.Arcs.{joins, IsKthBetween, arc_at, no_arc}
 use Rattle.dimacs_network.proofs.ArcLemmas.{joins_ends}
 use Rattle.dimacs_optimality.specs.Claims.{is_between}
-use Rattle.dimacs_spread.specs.inside.Raised.{AreAlike}
-use Rattle.dimacs_spread.specs.inside.Rests.{IsFirstLike}
+use Rattle.dimacs_spread.specs.inside.Raised.{AreParallel}
+use Rattle.dimacs_spread.specs.inside.Rests.{IsFirstParallel}
 
 pub ends_of : (tail head : ℕ) (a : ArcView) → joins tail head a ≡ true → (a.tail ≡ tail) × (a.head ≡ head)
 ends_of tail head a is = let both = and_parts (a.tail == tail) (a.head == head) is in (eqb-true a.tail tail both.0, eqb-true a.head head both.1)
@@ -38,7 +38,7 @@ module _ (arcs : List ArcView) (tail head : ℕ) where
   ]
 
   -- the first arc between two nodes is the first with its own ends
-  pub first_itself : (f : ℕ) → IsKthBetween arcs tail head 0 (Some f) → IsFirstLike arcs f f
+  pub first_itself : (f : ℕ) → IsKthBetween arcs tail head 0 (Some f) → IsFirstParallel arcs f f
   first_itself f found = let e = first_ends f found in rw (e.0, e.1) found
 
   pub known_from : (f : ℕ) → IsKthBetween arcs tail head 0 (Some f) → 1 ≤ count_by (joins tail head) arcs
@@ -46,14 +46,14 @@ module _ (arcs : List ArcView) (tail head : ℕ) where
 
 -- ---- arcs with the same ends
 module _ (arcs : List ArcView) where
-  pub first_alike : (k f : ℕ) → IsFirstLike arcs k f → AreAlike arcs f k
-  first_alike k f found = first_ends arcs (arc_at arcs k).tail (arc_at arcs k).head f found
+  pub first_is_parallel : (k f : ℕ) → IsFirstParallel arcs k f → AreParallel arcs f k
+  first_is_parallel k f found = first_ends arcs (arc_at arcs k).tail (arc_at arcs k).head f found
 
-  pub first_of_alike : (i j f : ℕ) → AreAlike arcs i j → IsFirstLike arcs i f → IsFirstLike arcs j f
-  first_of_alike i j f same found = rw (← same.0, ← same.1) found
+  pub first_of_parallel : (i j f : ℕ) → AreParallel arcs i j → IsFirstParallel arcs i f → IsFirstParallel arcs j f
+  first_of_parallel i j f same found = rw (← same.0, ← same.1) found
 
-  pub alike_joins : (i j tail head : ℕ) → AreAlike arcs i j → joins tail head (arc_at arcs i) ≡ joins tail head (arc_at arcs j)
-  alike_joins i j tail head same = rw (same.0, same.1) refl
+  pub parallel_joins : (i j tail head : ℕ) → AreParallel arcs i j → joins tail head (arc_at arcs i) ≡ joins tail head (arc_at arcs j)
+  parallel_joins i j tail head same = rw (same.0, same.1) refl
 
   pub own_joins : (k : ℕ) → joins (arc_at arcs k).tail (arc_at arcs k).head (arc_at arcs k) ≡ true
   own_joins k = joins_ends (arc_at arcs k).tail (arc_at arcs k).head (arc_at arcs k) refl refl
@@ -68,7 +68,7 @@ module _ (arcs : List ArcView) where
   pub always_first : (k : ℕ) (a : ArcView) → slice_get arcs k ≡ Some a → IsKthBetween arcs a.tail a.head 0 None → ⊥
   always_first k a here none = let none_like = rw (← get_or_from_slice_get arcs k a no_arc here) at none in omega (arith, none_like, known_itself k (slice_get_within arcs k a here))
 
-  pub first_of_arc : (k f : ℕ) (a : ArcView) → slice_get arcs k ≡ Some a → IsKthBetween arcs a.tail a.head 0 (Some f) → IsFirstLike arcs k f
+  pub first_of_arc : (k f : ℕ) (a : ArcView) → slice_get arcs k ≡ Some a → IsKthBetween arcs a.tail a.head 0 (Some f) → IsFirstParallel arcs k f
   first_of_arc k f a here found = rw (get_or_from_slice_get arcs k a no_arc here) found
 
 -- ---- entries

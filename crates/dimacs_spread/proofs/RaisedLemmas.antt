@@ -13,25 +13,25 @@ use Rattle.dimacs_records.specs.Ranges.{IsWhole}
 use Rattle.dimacs_optimality.specs.Rows.{amount_at}
 use Rattle.dimacs_spread.specs.declared.arcs_by_cost.ArcOfCost.{ArcOfCost}
 use Rattle.dimacs_spread.specs.inside.ArcsByCost.{AreByCost, place_at}
-use Rattle.dimacs_spread.specs.inside.Raised.{AreAlike, AreDealt, AreDealtUpTo, AreWithin, CheapestAreFull, IsMore, IsRaised}
-use Rattle.dimacs_spread.specs.inside.Rests.{AddUp, AreLows, AreRests, IsFirstLike}
-use Rattle.dimacs_spread.proofs.EndLemmas.{first_of_alike, one_first}
+use Rattle.dimacs_spread.specs.inside.Raised.{AreParallel, AreDealt, AreDealtUpTo, AreWithin, CheapestAreFull, IsMore, IsRaised}
+use Rattle.dimacs_spread.specs.inside.Rests.{AddUp, AreLows, AreRests, IsFirstParallel}
+use Rattle.dimacs_spread.proofs.EndLemmas.{first_of_parallel, one_first}
 use Rattle.dimacs_spread.proofs.RestLemmas.{sums_moved}
 
 -- ---- sizes
-pub fits_room : (a : ArcView) (z : ℤ) → HasBounds a → a.low ≤ℤ z → z ≤ℤ a.cap → SFits w64 (a.cap -ℤ z) × (pos 0 ≤ℤ (a.cap -ℤ z)) × SFits w64 z × SFits w64 a.cap
-fits_room a z has low cap =
+pub fits_residual : (a : ArcView) (z : ℤ) → HasBounds a → a.low ≤ℤ z → z ≤ℤ a.cap → SFits w64 (a.cap -ℤ z) × (pos 0 ≤ℤ (a.cap -ℤ z)) × SFits w64 z × SFits w64 a.cap
+fits_residual a z has low cap =
     let whole : IsWhole a.cap = has.2 in
     (omega (arith, ints, has.0, low, cap, whole.1), omega (arith, ints, cap), omega (arith, ints, has.0, low, cap, whole.1), omega (arith, ints, has.0, low, cap, whole.1))
 
-pub fits_taken : (rest room more : ℤ) → SFits w128 rest → IsMore rest room more → SFits w128 (rest -ℤ more)
-fits_taken rest room more fits is = elim is.from_rest [
+pub fits_taken : (rest residual more : ℤ) → SFits w128 rest → IsMore rest residual more → SFits w128 (rest -ℤ more)
+fits_taken rest residual more fits is = elim is.from_rest [
   | inl none ↦ omega (arith, ints, fits, none)
   | inr some ↦ omega (arith, ints, fits, some, is.not_less)
 ]
 
 pub fits_raised : (a : ArcView) (z rest more : ℤ) → HasBounds a → a.low ≤ℤ z → IsMore rest (a.cap -ℤ z) more → SFits w64 (z +ℤ more)
-fits_raised a z rest more has low is = let whole : IsWhole a.cap = has.2 in omega (arith, ints, has.0, low, whole.1, is.not_less, is.has_room)
+fits_raised a z rest more has low is = let whole : IsWhole a.cap = has.2 in omega (arith, ints, has.0, low, whole.1, is.not_less, is.within_residual)
 
 -- ---- lower bounds are within the bounds
 pub lows_within : (arcs : List ArcView) (x : List ℤ) → All HasBounds arcs → AreLows arcs (length arcs) x → AreWithin arcs x
@@ -113,7 +113,7 @@ module _ (arcs : List ArcView) (order : List ArcOfCost) (by_cost : AreByCost arc
   full_still i full = elim (cases_eq i k) [
     | inl same ↦ (
         let f : amount_at x k ≡ (arc_at arcs k).cap = rw (← same) full in
-        rw same (omega (arith, ints, amount_here, f, raised.is_more.not_less, raised.is_more.has_room))
+        rw same (omega (arith, ints, amount_here, f, raised.is_more.not_less, raised.is_more.within_residual))
         )
     | inr other ↦ amount_other i other ∙ full
   ]
@@ -126,29 +126,29 @@ module _ (arcs : List ArcView) (order : List ArcOfCost) (by_cost : AreByCost arc
       | inr other ↦ (let l = dealt.within.low i h in let e = amount_other i other in omega (arith, ints, e, l))
     ];
     cap = λ i h. elim (cases_eq i k) [
-      | inl same ↦ rw same (omega (arith, ints, amount_here, raised.is_more.has_room))
+      | inl same ↦ rw same (omega (arith, ints, amount_here, raised.is_more.within_residual))
       | inr other ↦ (let l = dealt.within.cap i h in let e = amount_other i other in omega (arith, ints, e, l))
     ];
   }
 
-  full_more : (p f : ℕ) → p < q + 1 → IsFirstLike arcs (place_at order p).arc f → pos 0 <ℤ amount_at rests_then f → amount_at x_then (place_at order p).arc ≡ (arc_at arcs (place_at order p).arc).cap
+  full_more : (p f : ℕ) → p < q + 1 → IsFirstParallel arcs (place_at order p).arc f → pos 0 <ℤ amount_at rests_then f → amount_at x_then (place_at order p).arc ≡ (arc_at arcs (place_at order p).arc).cap
   full_more p f below found some = elim (cases_eq p q) [
     | inl same ↦ (
-        let like : IsFirstLike arcs k f = subst (λ j. IsFirstLike arcs (place_at order j).arc f) same found in
+        let like : IsFirstParallel arcs k f = subst (λ j. IsFirstParallel arcs (place_at order j).arc f) same found in
         let one : f ≡ raised.first = one_first arcs (arc_at arcs k).tail (arc_at arcs k).head f raised.first like raised.is_first in
         let left : pos 0 <ℤ (amount_at rests raised.first -ℤ raised.more) = rw (one, rest_here) at some in
-        let all = raised.is_more.all_room (omega (arith, ints, left)) in
+        let all = raised.is_more.all_residual (omega (arith, ints, left)) in
         rw same (omega (arith, ints, amount_here, all))
         )
     | inr other ↦ full_still (place_at order p).arc (dealt.full p f (omega (arith, below, other)) found (rest_before f some))
   ]
 
-  low_still : (i f : ℕ) → i < length arcs → IsFirstLike arcs i f → amount_at rests_then f <ℤ pos 0 → amount_at x_then i ≡ (arc_at arcs i).low
+  low_still : (i f : ℕ) → i < length arcs → IsFirstParallel arcs i f → amount_at rests_then f <ℤ pos 0 → amount_at x_then i ≡ (arc_at arcs i).low
   low_still i f h found less =
       let was = dealt.low i f h found (lack_before f less) in
       elim (cases_eq i k) [
         | inl same ↦ (
-            let like : IsFirstLike arcs k f = rw (← same) found in
+            let like : IsFirstParallel arcs k f = rw (← same) found in
             let one : f ≡ raised.first = one_first arcs (arc_at arcs k).tail (arc_at arcs k).head f raised.first like raised.is_first in
             let lack : amount_at rests raised.first <ℤ pos 0 = rw one at (lack_before f less) in
             let none : raised.more ≡ pos 0 = elim raised.is_more.from_rest [ inl zero_is ↦ zero_is | inr more ↦ absurd (omega (arith, ints, more, lack, raised.is_more.not_less)) ] in
@@ -159,14 +159,14 @@ module _ (arcs : List ArcView) (order : List ArcOfCost) (by_cost : AreByCost arc
       ]
 
   --   if more was put on this arc, the cheaper arcs with its ends are full
-  cheaper_full : (i : ℕ) → i < length arcs → AreAlike arcs i k → (arc_at arcs i).cost <ℤ (arc_at arcs k).cost → pos 0 <ℤ raised.more → amount_at x i ≡ (arc_at arcs i).cap
+  cheaper_full : (i : ℕ) → i < length arcs → AreParallel arcs i k → (arc_at arcs i).cost <ℤ (arc_at arcs k).cost → pos 0 <ℤ raised.more → amount_at x i ≡ (arc_at arcs i).cap
   cheaper_full i h same cheaper more =
       let at = by_cost.all i h in
       let p = at.0 in
       let is : (place_at order p).arc ≡ i = at.1.1 in
       let some : pos 0 <ℤ amount_at rests raised.first = elim raised.is_more.from_rest [ inl none ↦ absurd (omega (arith, ints, none, more)) | inr less ↦ omega (arith, ints, less, more) ] in
-      let found : IsFirstLike arcs i raised.first = first_of_alike arcs k i raised.first (sym same.0, sym same.1) raised.is_first in
-      let not_after : (q < p) → ⊥ = λ after. let dear : (arc_at arcs k).cost ≤ℤ (arc_at arcs i).cost = rw is at (by_cost.rising q p after at.1.0) in omega (arith, ints, dear, cheaper) in
+      let found : IsFirstParallel arcs i raised.first = first_of_parallel arcs k i raised.first (sym same.0, sym same.1) raised.is_first in
+      let not_after : (q < p) → ⊥ = λ after. let dear : (arc_at arcs k).cost ≤ℤ (arc_at arcs i).cost = rw is at (by_cost.ordered q p after at.1.0) in omega (arith, ints, dear, cheaper) in
       let not_here : p ≡ q → ⊥ = λ e. let c : (arc_at arcs i).cost ≡ (arc_at arcs k).cost = ap (λ j. (arc_at arcs j).cost) (sym is) ∙ ap (λ j. (arc_at arcs (place_at order j).arc).cost) e in omega (arith, ints, c, cheaper) in
       elim (cases_lt p q) [
         | inl before ↦ rw is at (dealt.full p raised.first before (rw is found) some)
@@ -176,12 +176,12 @@ module _ (arcs : List ArcView) (order : List ArcOfCost) (by_cost : AreByCost arc
   cheapest_still : CheapestAreFull arcs x_then
   cheapest_still i j h g same cheaper over = elim (cases_eq j k) [
     | inl is ↦ (
-        let alike : AreAlike arcs i k = rw is at same in
+        let parallel : AreParallel arcs i k = rw is at same in
         let less : (arc_at arcs i).cost <ℤ (arc_at arcs k).cost = rw is at cheaper in
         by_lt_z (pos 0) raised.more
-        (λ more. full_still i (cheaper_full i h alike less more))
+        (λ more. full_still i (cheaper_full i h parallel less more))
         (λ none. let was : (arc_at arcs k).low <ℤ amount_at x k = (let o : (arc_at arcs k).low <ℤ amount_at x_then k = rw is at over in omega (arith, ints, amount_here, o, none)) in
-        full_still i (dealt.cheapest_first i k h inside alike less was))
+        full_still i (dealt.cheapest_first i k h inside parallel less was))
         )
     | inr other ↦ (
         let e = amount_other j other in

@@ -12,8 +12,8 @@ use Rattle.dimacs_optimality.specs.Flows.{when}
 use Rattle.dimacs_optimality.specs.Rows.{amount_at}
 use Rattle.dimacs_optimality.specs.inside.Ranges.{IsOfSize}
 use Rattle.dimacs_spread.specs.Spread.{arc_sum, entry_sum}
-use Rattle.dimacs_spread.specs.inside.Rests.{AddUp, AreLows, AreRests, IsFirstLike}
-use Rattle.dimacs_spread.proofs.EndLemmas.{alike_joins, entry_joins, first_alike}
+use Rattle.dimacs_spread.specs.inside.Rests.{AddUp, AreLows, AreRests, IsFirstParallel}
+use Rattle.dimacs_spread.proofs.EndLemmas.{parallel_joins, entry_joins, first_is_parallel}
 use Rattle.dimacs_spread.proofs.SumLemmas.{arc_sum-set, arc_sum-zero}
 
 -- ---- sizes
@@ -41,7 +41,7 @@ rests_zero arcs rests is = record {
     zero_at : (k : ℕ) → amount_at rests k ≡ pos 0
     zero_at k = rw is (amount_zero (length arcs) k)
 
-pub rests_changed : (arcs : List ArcView) (n : ℕ) (rests : List ℤ) (f : ℕ) (v : ℤ) → AreRests arcs n rests → f < length arcs → IsFirstLike arcs f f → IsOfSize ((n + 1) * 2 ^ 63) v → AreRests arcs (n + 1) (set rests f v)
+pub rests_changed : (arcs : List ArcView) (n : ℕ) (rests : List ℤ) (f : ℕ) (v : ℤ) → AreRests arcs n rests → f < length arcs → IsFirstParallel arcs f f → IsOfSize ((n + 1) * 2 ^ 63) v → AreRests arcs (n + 1) (set rests f v)
 rests_changed arcs n rests f v are inside first size = record {
   one_each = length-set rests f v ∙ are.one_each;
   at_first = λ k within some. elim (cases_eq k f) [
@@ -63,15 +63,15 @@ when_moved : (b : Bool) (r d z w : ℤ) → w ≡ z +ℤ d → (when b ((r -ℤ 
 when_moved true r d z w is = omega (arith, ints, is)
 when_moved false r d z w is = omega (arith, ints)
 
-pub sums_moved : (arcs : List ArcView) (entries : List Entry) (rests x : List ℤ) (k first : ℕ) (d w : ℤ) → length rests ≡ length arcs → length x ≡ length arcs → k < length arcs → IsFirstLike arcs k first
+pub sums_moved : (arcs : List ArcView) (entries : List Entry) (rests x : List ℤ) (k first : ℕ) (d w : ℤ) → length rests ≡ length arcs → length x ≡ length arcs → k < length arcs → IsFirstParallel arcs k first
     → w ≡ amount_at x k +ℤ d → AddUp arcs entries rests x → AddUp arcs entries (set rests first (amount_at rests first -ℤ d)) (set x k w)
 sums_moved arcs entries rests x k first d w l m inside found is sums tail head =
     let r = amount_at rests first in
     let z = amount_at x k in
     let b = joins tail head (arc_at arcs k) in
-    let alike : joins tail head (arc_at arcs first) ≡ b = alike_joins arcs first k tail head (first_alike arcs k first found) in
+    let parallel : joins tail head (arc_at arcs first) ≡ b = parallel_joins arcs first k tail head (first_is_parallel arcs k first found) in
     let rest : arc_sum arcs (set rests first (r -ℤ d)) tail head ≡ arc_sum arcs rests tail head +ℤ when b ((r -ℤ d) -ℤ r) =
-    rw (← alike) (arc_sum-set arcs rests first (r -ℤ d) tail head l found.0) in
+    rw (← parallel) (arc_sum-set arcs rests first (r -ℤ d) tail head l found.0) in
     omega (arith, ints, rest, arc_sum-set arcs x k w tail head m inside, when_moved b r d z w is, sums tail head)
 
 -- ---- lower bounds
@@ -110,7 +110,7 @@ pub sums_more : (arcs : List ArcView) (entries : List Entry) (e : Entry) (rests 
 sums_more arcs entries e rests x f l found sums tail head =
     let r = amount_at rests f in
     let b = is_between tail head e in
-    let alike : joins tail head (arc_at arcs f) ≡ b = entry_joins arcs e f tail head found in
+    let parallel : joins tail head (arc_at arcs f) ≡ b = entry_joins arcs e f tail head found in
     let rest : arc_sum arcs (set rests f (r +ℤ e.flow)) tail head ≡ arc_sum arcs rests tail head +ℤ when b ((r +ℤ e.flow) -ℤ r) =
-    rw (← alike) (arc_sum-set arcs rests f (r +ℤ e.flow) tail head l found.0) in
+    rw (← parallel) (arc_sum-set arcs rests f (r +ℤ e.flow) tail head l found.0) in
     omega (arith, ints, rest, when_grown b r e.flow, entry_sum-more entries e tail head, sums tail head)

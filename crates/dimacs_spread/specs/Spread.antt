@@ -44,7 +44,8 @@ NoneCheaper arcs entries x = (y : List ℤ) → Deals arcs entries y → KeepsBo
 
 -- an entry without an arc, named by its line
 abbrev pub unknown_row : List ArcView → List Entry → Row
-unknown_row arcs entries k place reason = (k < length entries) × (place ≡ Solution (entry_at entries k).line 0) × (reason ≡ UnknownArc) × (¬ IsKnown arcs (entry_at entries k))
+unknown_row arcs entries k place reason =
+    (k < length entries) × (place ≡ Solution (entry_at entries k).line 0) × (reason ≡ UnknownArc) × (¬ IsKnown arcs (entry_at entries k))
 
 abbrev pub lows : List ArcView → List ℤ
 lows arcs = map (λ a. a.low) arcs
@@ -55,12 +56,14 @@ caps arcs = map (λ a. a.cap) arcs
 -- the sum of the entries is less than that of the lower bounds between these nodes, or more than that of the capacities
 abbrev pub SumFails : List ArcView → List Entry → ℕ → ℕ → Reason → Type 0
 SumFails arcs entries tail head reason =
-    ((reason ≡ BelowLow) × (entry_sum entries tail head <ℤ arc_sum arcs (lows arcs) tail head)) ⊎ ((reason ≡ AboveCap) × (arc_sum arcs (caps arcs) tail head <ℤ entry_sum entries tail head))
+    ((reason ≡ BelowLow) × (entry_sum entries tail head <ℤ arc_sum arcs (lows arcs) tail head))
+    ⊎ ((reason ≡ AboveCap) × (arc_sum arcs (caps arcs) tail head <ℤ entry_sum entries tail head))
 
 -- if the sum between two nodes fails, the first arc between them violates its bounds, for the same reason
 abbrev pub FirstArcsFail : List ArcView → List Entry → List ℤ → Type 0
 FirstArcsFail arcs entries x =
-    (tail head k : ℕ) (reason : Reason) → IsKthBetween arcs tail head 0 (Some k) → SumFails arcs entries tail head reason → BoundFails (arc_at arcs k) (amount_at x k) reason
+    (tail head k : ℕ) (reason : Reason) → IsKthBetween arcs tail head 0 (Some k) → SumFails arcs entries tail head reason
+    → BoundFails (arc_at arcs k) (amount_at x k) reason
 
 -- the sums between the ends of each arc
 abbrev pub sum_row : List ArcView → List Entry → Row

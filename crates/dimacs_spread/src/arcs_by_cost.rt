@@ -14,7 +14,6 @@ pub(crate) struct ArcOfCost {
     pub(crate) arc: u32,
 }
 
-/// All arcs, ordered by cost.
 pub(crate) fn arcs_by_cost<N: Network>(alloc: Global, network: &N) -> Result<Vec<ArcOfCost>, Memory>
     ensures { IfOk result (λ order. AreByCost (N.list network.now) order.items) }
 {

@@ -2,7 +2,7 @@
 
 ghost use Rattle.std.specs.Prelude.{◌≡◌, ◌<◌, Some, length, slice_get, IfOk};
 ghost use Rattle.dimacs_network.specs.Arcs.{IsKthBetween};
-ghost use Rattle.dimacs_spread.specs.inside.Rests.{IsFirstLike};
+ghost use Rattle.dimacs_spread.specs.inside.Rests.{IsFirstParallel};
 
 use dimacs_lines::Memory;
 use dimacs_network::{ArcIndex, ArcView, Network};
@@ -29,7 +29,6 @@ impl<'a, N: Network> Model for ArcsByEnds<'a, N> {
 }
 
 impl<'a, N: Network> ArcsByEnds<'a, N> {
-    /// Builds the index.
     pub(crate) fn of(alloc: Global, network: &'a N) -> Result<ArcsByEnds<'a, N>, Memory>
         ensures { IfOk result (λ arcs. arcs ≡ N.list network.now) }
     {
@@ -38,7 +37,6 @@ impl<'a, N: Network> ArcsByEnds<'a, N> {
         Ok(ArcsByEnds { network, index })
     }
 
-    /// The number of arcs.
     pub(crate) fn len(&self) -> u32
         ensures { result ≡ length self.now }
     {
@@ -52,17 +50,16 @@ impl<'a, N: Network> ArcsByEnds<'a, N> {
         self.network.arc(arc)
     }
 
-    /// The first arc from `tail` to `head`.
     pub(crate) fn first(&self, tail: u32, head: u32) -> Option<u32>
         ensures { IsKthBetween self.now tail head 0 result }
     {
         self.index.find(tail, head, 0)
     }
 
-    /// The first arc with the same ends as this one.
-    pub(crate) fn first_like(&self, arc: u32) -> u32
+    /// The first of the arcs parallel to this one, or itself.
+    pub(crate) fn first_parallel(&self, arc: u32) -> u32
         requires { arc < length self.now }
-        ensures { IsFirstLike self.now arc result }
+        ensures { IsFirstParallel self.now arc result }
     {
         let view = self.arc(arc);
         let Some(first) = self.first(view.tail, view.head) else {

@@ -1,8 +1,8 @@
 //! Dealing out a claimed flow to parallel arcs.
 //!
 //! A solution may give one sum for all arcs from one node to another, or their entries in any order. `spread_max` and
-//! `spread_min` add up the entries of each ordered pair of nodes, and deal out each sum to the arcs from one to the
-//! other: within their bounds if that is possible, and at the least cost.
+//! `spread_min` add up these entries, and deal out each sum to the arcs: within their bounds if possible, and at the
+//! least cost.
 #![tactic(auto)]
 
 mod arcs_by_cost;

@@ -31,7 +31,7 @@ pub(crate) fn raise_all<N: Network>(
     }
 }
 
-/// Puts as much of the rest between its ends on an arc as its capacity allows.
+/// Raises an arc by as much of the rest between its ends as its capacity allows.
 fn raise<N: Network>(arcs: &ArcsByEnds<'_, N>, arc: u32, rests: &mut [i128], amounts: &mut [i64])
     requires bounds { All HasBounds arcs.now }
     requires known { arc < length arcs.now }
@@ -39,23 +39,23 @@ fn raise<N: Network>(arcs: &ArcsByEnds<'_, N>, arc: u32, rests: &mut [i128], amo
     requires amounts { AreWithin arcs.now amounts.old }
     ensures { IsRaised arcs.now arc rests.old amounts.old rests.new amounts.new }
 {
-    let first = arcs.first_like(arc) as usize;
-    let room = arcs.arc(arc).cap - amounts[arc as usize];
-    let more = more_of(rests[first], room);
+    let first = arcs.first_parallel(arc) as usize;
+    let residual = arcs.arc(arc).cap - amounts[arc as usize];
+    let more = more_of(rests[first], residual);
     rests[first] -= i128::from(more);
     amounts[arc as usize] += more;
 }
 
-/// The part of a rest that fits into `room`; 0 if the rest is negative.
-fn more_of(rest: i128, room: i64) -> i64
-    requires { pos 0 ≤ℤ room }
-    ensures { IsMore rest room result }
+/// The part of a rest that fits the residual capacity; 0 if the rest is negative.
+fn more_of(rest: i128, residual: i64) -> i64
+    requires { pos 0 ≤ℤ residual }
+    ensures { IsMore rest residual result }
 {
     if rest < 0 {
         0
-    } else if rest < i128::from(room) {
+    } else if rest < i128::from(residual) {
         rest as i64
     } else {
-        room
+        residual
     }
 }

@@ -1,4 +1,4 @@
-//! Rests: what is still to be dealt out between two nodes. A rest is stored at the first arc between them.
+//! Rests: what is still to be dealt out between two nodes, stored at the first arc between them.
 
 ghost use Rattle.std.specs.Prelude.{◌≡◌, ◌<◌, ◌+◌, ◌^◌, ◌+ℤ◌, [], ℕ, ℤ, List, pos, length, replicate, IfErr, IfNone, IfOk, IfSome, OnOk, ◌≢◌};
 ghost use Rattle.std.specs.List.{All};
@@ -16,14 +16,12 @@ use dimacs_optimality::Where;
 use dimacs_records::Reason;
 use std::alloc::Global;
 
-/// The rest 0 for each arc.
 pub(crate) fn no_rests(alloc: Global, arcs: u32) -> Result<Vec<i128>, Memory>
     ensures { IfOk result (λ rests. rests.items ≡ replicate arcs (pos 0)) }
 {
     Ok(vec![in alloc; 0i128; arcs as usize]?)
 }
 
-/// The amount 0 for each arc.
 pub(crate) fn no_amounts(alloc: Global, arcs: u32) -> Result<Vec<i64>, Memory>
     ensures { IfOk result (λ amounts. amounts.items ≡ replicate arcs (pos 0)) }
 {
@@ -46,19 +44,19 @@ pub(crate) fn put_lows<N: Network>(
     for arc in 0..arcs.len() {
         let low = arcs.arc(arc).low;
         amounts[arc as usize] = low;
-        rests[arcs.first_like(arc) as usize] -= i128::from(low);
+        rests[arcs.first_parallel(arc) as usize] -= i128::from(low);
     }
 }
 
-/// Adds each entry to the rest between its ends. Refuses the first entry without an arc.
+/// Adds each entry to the rest between its ends. `UnknownArc` at the first entry without an arc.
 pub(crate) fn add_entries<N: Network>(
     arcs: &ArcsByEnds<'_, N>,
     entries: &[Entry],
     rests: &mut [i128],
 ) -> Result<(), (Where, Reason)>
     requires rests { AreRests arcs.now (length arcs.now) rests.old }
-    requires few_arcs { length arcs.now < 2 ^ 32 }
-    requires few { length entries.now < 2 ^ 63 }
+    requires arc_limit { length arcs.now < 2 ^ 32 }
+    requires entry_limit { length entries.now < 2 ^ 63 }
     ensures unknown { TestsRow (unknown_row arcs.now entries.now) result }
     ensures rests { OnOk result (AreRests arcs.now (length arcs.now + length entries.now) rests.new) }
     ensures sums { OnOk result ((x : List ℤ) → AddUp arcs.now [] rests.old x → AddUp arcs.now entries.now rests.new x) }
@@ -76,11 +74,11 @@ pub(crate) fn add_entries<N: Network>(
     Ok(())
 }
 
-/// Puts each rest that is left on its arc, although the arc then violates its bounds. Refuses the first arc whose
-/// amount would not fit into 64 bits; the reason is the one for which the judge would refuse any amount there.
+/// Adds each rest that is left to its arc, which then violates its bounds. Refuses the first arc whose amount doesn't
+/// fit 64 bits, for the reason for which the judge would.
 pub(crate) fn put_rests(rests: &[i128], amounts: &mut [i64]) -> Result<(), (Where, Reason)>
     requires one_each { length rests.now ≡ length amounts.old }
-    requires few { length amounts.old < 2 ^ 32 }
+    requires arc_limit { length amounts.old < 2 ^ 32 }
     ensures put { OnOk result ((k : ℕ) → amount_at amounts.new k ≡ amount_at amounts.old k +ℤ amount_at rests.now k) }
     ensures refused { IfErr result (λ refusal. IsOfRest rests.now refusal.0 refusal.1) }
 {
@@ -94,10 +92,9 @@ pub(crate) fn put_rests(rests: &[i128], amounts: &mut [i64]) -> Result<(), (Wher
     Ok(())
 }
 
-/// The sum of an amount and a rest, if it fits into 64 bits.
 fn with_rest(amount: i64, rest: i128) -> Option<i64>
     ensures sum { IfSome result (λ sum. sum ≡ amount +ℤ rest) }
-    ensures some_rest { IfNone result (rest ≢ pos 0) }
+    ensures nonzero { IfNone result (rest ≢ pos 0) }
 {
     let rest = i64::try_from(rest).ok()?;
     amount.checked_add(rest)

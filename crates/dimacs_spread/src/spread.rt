@@ -17,12 +17,12 @@ use dimacs_optimality::{Flow, JudgeError, Where};
 use dimacs_records::Reason;
 use std::alloc::Global;
 
-/// Between any two nodes, the result carries the sum of the solution's entries. It keeps the bounds of all arcs if any
-/// such flow does. Parallel arcs are filled in the order of the instance.
+/// Between any two nodes, the result carries the sum of the solution's entries. It keeps all bounds if any such flow
+/// does. Parallel arcs are filled in the order of the instance.
 ///
-/// `Refused` with `UnknownArc` comes at the first entry without an arc. If no flow between two nodes keeps the bounds,
-/// the first arc between them gets what is too much or too little: `judge_max` refuses the flow there. If that amount
-/// doesn't fit into 64 bits, it is refused here, at the same arc and for the same reason.
+/// `UnknownArc` at the first entry without an arc. If the arcs between two nodes can't carry their sum within the
+/// bounds, the first gets what is too much or too little: `judge_max` refuses the flow there. If that amount doesn't
+/// fit 64 bits, it is refused here, at the same arc and for the same reason.
 pub fn spread_max<N: Network>(
     alloc: Global,
     instance: &MaxInstance<N>,
@@ -38,7 +38,7 @@ pub fn spread_max<N: Network>(
 }
 
 /// The same for a minimum cost flow. No flow with these sums and within the bounds costs less: parallel arcs are filled
-/// in the order of their costs, then in the order of the instance.
+/// by cost, then in the order of the instance.
 pub fn spread_min<N: Network>(
     alloc: Global,
     instance: &MinInstance<N>,
@@ -53,7 +53,7 @@ pub fn spread_min<N: Network>(
     spread(alloc, instance.network(), solution)
 }
 
-/// Deals out the sums over any network. Each arc gets its lower bound; then the arcs are filled, the cheapest first.
+/// Each arc gets its lower bound; then the arcs are filled, the cheapest first.
 fn spread<N: Network>(alloc: Global, network: &N, solution: &Solution) -> Result<Flow, JudgeError>
     requires { All HasBounds (N.list network.now) }
     ensures deals { IfOk result (λ flow. Deals (N.list network.now) solution.now.entries.items flow) }
@@ -70,7 +70,7 @@ fn spread<N: Network>(alloc: Global, network: &N, solution: &Solution) -> Result
     Ok(Flow::from_vec(amounts))
 }
 
-/// Deals out the sums of the entries. At the start all rests and amounts are 0.
+/// Deals out the sums of the entries. At first all rests and amounts are 0.
 fn deal<N: Network>(
     arcs: &ArcsByEnds<'_, N>,
     order: &[ArcOfCost],
@@ -79,8 +79,8 @@ fn deal<N: Network>(
     amounts: &mut [i64],
 ) -> Result<(), (Where, Reason)>
     requires bounds { All HasBounds arcs.now }
-    requires few_arcs { length arcs.now < 2 ^ 32 }
-    requires few { length entries.now < 2 ^ 63 }
+    requires arc_limit { length arcs.now < 2 ^ 32 }
+    requires entry_limit { length entries.now < 2 ^ 63 }
     requires by_cost { AreByCost arcs.now order.now }
     requires no_rests { rests.old ≡ replicate (length arcs.now) (pos 0) }
     requires no_amounts { amounts.old ≡ replicate (length arcs.now) (pos 0) }

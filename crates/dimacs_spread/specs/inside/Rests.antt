@@ -12,13 +12,13 @@ use Rattle.dimacs_optimality.specs.inside.Ranges.{IsOfSize}
 use Rattle.dimacs_spread.specs.Spread.{arc_sum, entry_sum}
 
 -- f is the first arc with the ends of arc k
-abbrev pub IsFirstLike : List ArcView → ℕ → ℕ → Type 0
-IsFirstLike arcs k f = IsKthBetween arcs (arc_at arcs k).tail (arc_at arcs k).head 0 (Some f)
+abbrev pub IsFirstParallel : List ArcView → ℕ → ℕ → Type 0
+IsFirstParallel arcs k f = IsKthBetween arcs (arc_at arcs k).tail (arc_at arcs k).head 0 (Some f)
 
 -- a rest for each arc, after this many sums; 0 unless the arc is the first between its ends
 pub record AreRests (arcs : List ArcView) (so_many : ℕ) (rests : List ℤ) : Type 0 where
   pub one_each : length rests ≡ length arcs
-  pub at_first : (k : ℕ) → k < length arcs → amount_at rests k ≢ pos 0 → IsFirstLike arcs k k
+  pub at_first : (k : ℕ) → k < length arcs → amount_at rests k ≢ pos 0 → IsFirstParallel arcs k k
   pub small : (k : ℕ) → IsOfSize (so_many * 2 ^ 63) (amount_at rests k)
 
 -- between any two nodes the rests and the amounts add up to the sum of the entries

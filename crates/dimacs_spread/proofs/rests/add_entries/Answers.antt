@@ -16,7 +16,7 @@ overflow_add-rests g c =
     let e = entry_at c.args.entries.now c.loop-entry.entry-index in
     let flow : SFits w64 e.flow = search rules in
     let from : c.from.result ≡ e.flow = c.from.ensures ∙ to_z-of_z w64 e.flow flow in
-    let few : (length c.args.arcs.now + c.loop-entry.entry-index) < 2 ^ 63 + 4294967296 = omega (arith, c.loop-entry-test.true, c.requires.few, c.requires.few_arcs) in
+    let few : (length c.args.arcs.now + c.loop-entry.entry-index) < 2 ^ 63 + 4294967296 = omega (arith, c.loop-entry-test.true, c.requires.entry_limit, c.requires.arc_limit) in
     let fits = fits_more (length c.args.arcs.now + c.loop-entry.entry-index) (get_or c.loop-entry.rests c.in-Some.first (pos 0)) e.flow few (c.loop-entry.invariant.rests.small c.in-Some.first) flow in
     omega (arith, ints, fits.0, fits.1, from, flow)
 
@@ -40,7 +40,7 @@ loop-entry-preserved g c =
     let found : IsKthBetween arcs e.tail e.head 0 (Some first) = rw c.in-Some.is at c.first.ensures in
     let flow : SFits w64 e.flow = search rules in
     let from : c.from.result ≡ e.flow = c.from.ensures ∙ to_z-of_z w64 e.flow flow in
-    let few : n < 2 ^ 63 + 4294967296 = omega (arith, c.loop-entry-test.true, c.requires.few, c.requires.few_arcs) in
+    let few : n < 2 ^ 63 + 4294967296 = omega (arith, c.loop-entry-test.true, c.requires.entry_limit, c.requires.arc_limit) in
     let fits = fits_more n (get_or rests first (pos 0)) e.flow few (here.rests.small first) flow in
     let wide : SFits w128 c.from.result = omega (arith, ints, from, flow) in
     let passes : (place : _) (reason : _) → ¬ unknown_row arcs entries k place reason = λ place reason f. f.3 (known_from arcs e.tail e.head first found) in

@@ -13,7 +13,7 @@ overflow_sub-rests g c =
     let low : SFits w64 c.arc-low.result.low = search rules in
     let from : c.from.result ≡ c.arc-low.result.low = c.from.ensures ∙ to_z-of_z w64 c.arc-low.result.low low in
     let few : c.loop-arc.arc < 4294967296 = omega (arith, c.loop-arc-test.true, c.len-arc-end.type_inv) in
-    let fits = fits_less c.loop-arc.arc (get_or c.loop-arc.rests c.first_like.result (pos 0)) c.arc-low.result.low few (c.loop-arc.invariant.rests.small c.first_like.result) low in
+    let fits = fits_less c.loop-arc.arc (get_or c.loop-arc.rests c.first_parallel.result (pos 0)) c.arc-low.result.low few (c.loop-arc.invariant.rests.small c.first_parallel.result) low in
     omega (arith, ints, fits.0, fits.1, from, low)
 
 pub loop-arc-init : goal.loop-arc-init
@@ -28,7 +28,7 @@ loop-arc-preserved g c =
     let arcs = c.args.arcs.now in
     let rests = c.loop-arc.rests in
     let n = c.loop-arc.arc in
-    let first = c.first_like.result in
+    let first = c.first_parallel.result in
     let a = c.arc-low.result in
     let low : SFits w64 a.low = search rules in
     let from : c.from.result ≡ a.low = c.from.ensures ∙ to_z-of_z w64 a.low low in
@@ -39,9 +39,9 @@ loop-arc-preserved g c =
     let same : a.low ≡ (arc_at arcs n).low = ap (λ (b : ArcView). b.low) (sym (get_or_from_slice_get arcs n a no_arc c.arc-low.ensures)) in
     let here = c.loop-arc.invariant in
     rw (to_z-of_z w64 a.low low, to_z-of_z w128 c.from.result wide, from, to_z-of_z w128 (get_or rests first (pos 0)) fits.0, to_z-of_z w128 (get_or rests first (pos 0) -ℤ a.low) fits.1) (record {
-      rests = rests_changed arcs n rests first (get_or rests first (pos 0) -ℤ a.low) here.rests c.first_like.ensures.0 (first_itself arcs (arc_at arcs n).tail (arc_at arcs n).head first c.first_like.ensures) fits.2;
+      rests = rests_changed arcs n rests first (get_or rests first (pos 0) -ℤ a.low) here.rests c.first_parallel.ensures.0 (first_itself arcs (arc_at arcs n).tail (arc_at arcs n).head first c.first_parallel.ensures) fits.2;
       lows = lows_more arcs n c.loop-arc.amounts a.low inside same here.lows;
-      sums = sums_moved arcs [] rests c.loop-arc.amounts n first a.low a.low here.rests.one_each here.lows.one_each inside c.first_like.ensures (let e = here.lows.none n (omega arith) in omega (arith, ints, e)) here.sums;
+      sums = sums_moved arcs [] rests c.loop-arc.amounts n first a.low a.low here.rests.one_each here.lows.one_each inside c.first_parallel.ensures (let e = here.lows.none n (omega arith) in omega (arith, ints, e)) here.sums;
     })
 
 pub returns : goal.returns
