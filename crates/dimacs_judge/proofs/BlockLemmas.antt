@@ -58,6 +58,6 @@ pub after_weights : (arcs : List ArcView) (b : BlockValue) (error : JudgeError) 
 after_weights arcs b (Refused place reason) clear first = inr (clear, first)
 after_weights arcs b Memory clear first = tt
 
-pub blocks_told : (arcs : List ArcView) (blocks : List BlockValue) (k : ℕ) (error : JudgeError) → k < length blocks → AllClear (label_rows arcs (take k blocks)) → TestsAll (block_rows arcs (block_at blocks k)) (Err error) → TestsAll (label_rows arcs blocks) (Err error)
-blocks_told arcs blocks k (Refused place reason) inside clear first = blocks_first arcs blocks k place reason inside clear first
-blocks_told arcs blocks k Memory inside clear first = tt
+pub blocks_tests : (arcs : List ArcView) (blocks : List BlockValue) (k : ℕ) (error : JudgeError) → k < length blocks → AllClear (label_rows arcs (take k blocks)) → TestsAll (block_rows arcs (block_at blocks k)) (Err error) → TestsAll (label_rows arcs blocks) (Err error)
+blocks_tests arcs blocks k (Refused place reason) inside clear first = blocks_first arcs blocks k place reason inside clear first
+blocks_tests arcs blocks k Memory inside clear first = tt

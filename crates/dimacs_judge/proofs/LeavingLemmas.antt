@@ -16,15 +16,15 @@ use Rattle.dimacs_claims.specs.Labels.{BlockValue, IsBlock, IsNear, label, no_la
 use Rattle.dimacs_claims.proofs.BlockLemmas.{has_pred}
 use Rattle.dimacs_optimality.specs.CertificateTests.{RelaxFails, relax_row}
 use Rattle.dimacs_optimality.specs.LightestArcs.{AreCovering, Covers}
-use Rattle.dimacs_judge.specs.inside.Leaving.{ArePassedFrom, IsPassed}
+use Rattle.dimacs_judge.specs.inside.Leaving.{AreRelaxedFrom, IsRelaxedBy}
 use Rattle.dimacs_optimality.specs.LightestArcs.{WeightsFall, arcs_in}
-use Rattle.dimacs_judge.specs.inside.NodeLabels.{AreMade, IsKnown, Known, RelaxesArc}
+use Rattle.dimacs_judge.specs.inside.NodeLabels.{AreSupported, HasLabels, NodeEntry, RelaxesArc}
 use Rattle.dimacs_network.specs.Arcs.{arc_at}
 use Rattle.dimacs_optimality.specs.Tests.{Clear}
 use Rattle.dimacs_optimality.specs.inside.Tests.{NamesReason}
 use Rattle.dimacs_optimality.proofs.Distances.{near_label}
 use Rattle.dimacs_optimality.proofs.LabelsPassing.{stays_near}
-use Rattle.dimacs_judge.proofs.NodeLabelLemmas.{labels_still, labels_this, some_makes}
+use Rattle.dimacs_judge.proofs.NodeLabelLemmas.{labels_still, labels_this, some_tight_for}
 use Rattle.dimacs_optimality.proofs.LeastLemmas.{at_place}
 
 -- ---- one arc
@@ -42,8 +42,8 @@ same_sum : (d x y e : ℤ) → x ≤ℤ y → (d +ℤ y) ≡ e → (¬ ((d +ℤ 
 same_sum d x y e less sum near = by_lt_z (d +ℤ x) e (λ l. absurd (near l)) (λ m. omega (arith, ints, m, less, sum))
 
 -- an arc that a relaxed arc covers
-pub passed_covered : (arcs : List ArcView) (b : BlockValue) (at : ℕ → Known) (one other : ArcView) → IsKnown arcs b at → Covers one other → IsPassed b at one → IsPassed b at other
-passed_covered arcs b at one other are covers is = record {
+pub relaxed_covered : (arcs : List ArcView) (b : BlockValue) (at : ℕ → NodeEntry) (one other : ArcView) → HasLabels arcs b at → Covers one other → IsRelaxedBy b at one → IsRelaxedBy b at other
+relaxed_covered arcs b at one other are covers is = record {
   holds = λ reason fails.
       let (d, tail, why) = fails in
       let from : label b one.tail ≡ Some d = ap (label b) covers.tail ∙ tail in
@@ -51,21 +51,21 @@ passed_covered arcs b at one other are covers is = record {
         | inl out ↦ is.holds reason (d, from, inl (out.0, ap (label b) covers.head ∙ out.1, near_less b.radius (d +ℤ one.cost) (d +ℤ other.cost) (less_sum d one.cost other.cost covers.cost) out.2))
         | inr far ↦ (let (e, head, less) = far.1 in is.holds reason (d, from, inr (far.0, (e, ap (label b) covers.head ∙ head, less_far d one.cost other.cost e covers.cost less))))
       ];
-  labelled = λ l has makes.
-      let from : label b one.tail ≡ Some makes.base = ap (label b) (covers.tail ∙ makes.from) ∙ makes.known in
-      let head : label b one.head ≡ Some l.dist = ap (label b) (covers.head ∙ makes.to) ∙ are.named l has in
+  labelled = λ l has tight_for.
+      let from : label b one.tail ≡ Some tight_for.base = ap (label b) (covers.tail ∙ tight_for.from) ∙ tight_for.labelled in
+      let head : label b one.head ≡ Some l.dist = ap (label b) (covers.head ∙ tight_for.to) ∙ are.named l has in
       is.labelled l has (record {
-        base = makes.base;
-        known = makes.known;
-        from = covers.tail ∙ makes.from;
-        to = covers.head ∙ makes.to;
-        adds = same_sum makes.base one.cost other.cost l.dist covers.cost makes.adds (λ less. is.holds NotShortest (makes.base, from, inr (refl, (l.dist, head, less))));
+        base = tight_for.base;
+        labelled = tight_for.labelled;
+        from = covers.tail ∙ tight_for.from;
+        to = covers.head ∙ tight_for.to;
+        adds = same_sum tight_for.base one.cost other.cost l.dist covers.cost tight_for.adds (λ less. is.holds NotShortest (tight_for.base, from, inr (refl, (l.dist, head, less))));
       });
 }
 
 -- an arc that leads beyond the radius
-pub passed_beyond : (nodes : ℕ) (arcs : List ArcView) (b : BlockValue) (at : ℕ → Known) (a : ArcView) (d : ℤ) → IsBlock nodes b → IsKnown arcs b at → label b a.tail ≡ Some d → (¬ IsNear b.radius (d +ℤ a.cost)) → IsPassed b at a
-passed_beyond nodes arcs b at a d is are tail beyond = record {
+pub relaxed_beyond : (nodes : ℕ) (arcs : List ArcView) (b : BlockValue) (at : ℕ → NodeEntry) (a : ArcView) (d : ℤ) → IsBlock nodes b → HasLabels arcs b at → label b a.tail ≡ Some d → (¬ IsNear b.radius (d +ℤ a.cost)) → IsRelaxedBy b at a
+relaxed_beyond nodes arcs b at a d is are tail beyond = record {
   holds = λ reason fails.
       let (e, from, why) = fails in
       let both : Some e ≡ Some d = sym from ∙ tail in
@@ -76,10 +76,10 @@ passed_beyond nodes arcs b at a d is are tail beyond = record {
             let (to, head, less) = far.1 in
             beyond (near_less b.radius (d +ℤ a.cost) to (below to (subst (λ z. (z +ℤ a.cost) <ℤ to) same less)) (near_label b (stays_near nodes b is) a.head to head))
       ];
-  labelled = λ l has makes.
-      let both : Some makes.base ≡ Some d = sym makes.known ∙ (ap (label b) (sym makes.from) ∙ tail) in
-      let same : makes.base ≡ d = cc in
-      absurd (beyond (subst (IsNear b.radius) (sym makes.adds ∙ ap (λ z. z +ℤ a.cost) same) (near_label b (stays_near nodes b is) l.id l.dist (are.named l has))));
+  labelled = λ l has tight_for.
+      let both : Some tight_for.base ≡ Some d = sym tight_for.labelled ∙ (ap (label b) (sym tight_for.from) ∙ tail) in
+      let same : tight_for.base ≡ d = cc in
+      absurd (beyond (subst (IsNear b.radius) (sym tight_for.adds ∙ ap (λ z. z +ℤ a.cost) same) (near_label b (stays_near nodes b is) l.id l.dist (are.named l has))));
 }
   where
     below : (to : ℤ) → (d +ℤ a.cost) <ℤ to → (d +ℤ a.cost) ≤ℤ to
@@ -91,44 +91,44 @@ no_reason fails (Ok x) none tells = tells
 no_reason fails (Err why) none tells = absurd (cc)
 
 -- after relaxing an arc
-module _ (a : ArcView) (old new : ℕ → Known) (b : BlockValue) (passes : RelaxesArc a old new) where
-  pub passed_still : (c : ArcView) → IsPassed b old c → IsPassed b new c
-  passed_still c is = record { holds = is.holds; labelled = labels_still a old new b passes c is.labelled }
+module _ (a : ArcView) (old new : ℕ → NodeEntry) (b : BlockValue) (relaxes : RelaxesArc a old new) where
+  pub relaxed_still : (c : ArcView) → IsRelaxedBy b old c → IsRelaxedBy b new c
+  relaxed_still c is = record { holds = is.holds; labelled = labels_still a old new b relaxes c is.labelled }
 
-  pub passed_this : (arcs : List ArcView) (i : ℕ) → slice_get arcs i ≡ Some a → IsKnown arcs b old → ((reason : Reason) → ¬ RelaxFails b.radius (old a.tail).dist (old a.head).dist a.cost reason) → IsPassed b new a
-  passed_this arcs i here are holds = record {
+  pub relaxed_this : (arcs : List ArcView) (i : ℕ) → slice_get arcs i ≡ Some a → HasLabels arcs b old → ((reason : Reason) → ¬ RelaxFails b.radius (old a.tail).dist (old a.head).dist a.cost reason) → IsRelaxedBy b new a
+  relaxed_this arcs i here are holds = record {
     holds = rw (← are.labels a.tail, ← are.labels a.head) holds;
-    labelled = labels_this a old new b passes arcs are i here;
+    labelled = labels_this a old new b relaxes arcs are i here;
   }
 
 -- ---- the arcs of a node
-module _ (arcs : List ArcView) (order : List ℕ) (b : BlockValue) (at : ℕ → Known) (node : ℕ) where
+module _ (arcs : List ArcView) (order : List ℕ) (b : BlockValue) (at : ℕ → NodeEntry) (node : ℕ) where
   -- the arcs from this place on, as far as they leave the node, are relaxed
-  abbrev pub ArePassedOn : ℕ → Type 0
-  ArePassedOn next = (p : ℕ) → next ≤ p → p < length order → (arc_at (arcs_in arcs order) p).tail ≡ node → IsPassed b at (arc_at (arcs_in arcs order) p)
+  abbrev pub AreRelaxedOn : ℕ → Type 0
+  AreRelaxedOn next = (p : ℕ) → next ≤ p → p < length order → (arc_at (arcs_in arcs order) p).tail ≡ node → IsRelaxedBy b at (arc_at (arcs_in arcs order) p)
 
-  pub node_more : (place before : ℕ) → IsLast Tail (arcs_in arcs order) place node before → IsPassed b at (arc_at (arcs_in arcs order) place) → ArePassedOn (place + 1) → ArePassedOn before
-  node_more place before last this passed p after there here = elim (cases_order p place) [
-    | inl same ↦ subst (λ q. IsPassed b at (arc_at (arcs_in arcs order) q)) (sym same) this
+  pub node_more : (place before : ℕ) → IsLast Tail (arcs_in arcs order) place node before → IsRelaxedBy b at (arc_at (arcs_in arcs order) place) → AreRelaxedOn (place + 1) → AreRelaxedOn before
+  node_more place before last this relaxed p after there here = elim (cases_order p place) [
+    | inl same ↦ subst (λ q. IsRelaxedBy b at (arc_at (arcs_in arcs order) q)) (sym same) this
     | inr apart ↦ elim apart [
       | inl less ↦ absurd (last.none_after p after less here)
-      | inr more ↦ passed p (omega (arith, more)) there here
+      | inr more ↦ relaxed p (omega (arith, more)) there here
     ]
   ]
 
-  pub node_done : IsKnown arcs b at → AreCovering arcs order → ArePassedOn 0 → ArePassedFrom arcs b at node
-  node_done are covering passed k inside here =
+  pub node_done : HasLabels arcs b at → AreCovering arcs order → AreRelaxedOn 0 → AreRelaxedFrom arcs b at node
+  node_done are covering relaxed k inside here =
       let (i, (p, there, place), covers) = covering.all k inside in
       let same : arc_at (arcs_in arcs order) p ≡ arc_at arcs i = at_place arcs order p there ∙ ap (arc_at arcs) (get_or_default order p 0 i there ∙ place) in
       let tail : (arc_at (arcs_in arcs order) p).tail ≡ node = ap (λ (c : ArcView). c.tail) same ∙ (covers.tail ∙ here) in
-      passed_covered arcs b at (arc_at arcs i) (arc_at arcs k) are covers (subst (IsPassed b at) same (passed p (omega arith) there tail))
+      relaxed_covered arcs b at (arc_at arcs i) (arc_at arcs k) are covers (subst (IsRelaxedBy b at) same (relaxed p (omega arith) there tail))
 
-  pub node_beyond : (nodes : ℕ) (d : ℤ) (next : ℕ) → IsBlock nodes b → IsKnown arcs b at → label b node ≡ Some d → WeightsFall (arcs_in arcs order) → next < length order → (¬ IsNear b.radius (d +ℤ (arc_at (arcs_in arcs order) next).cost))
-      → ArePassedOn (next + 1) → ArePassedOn 0
-  node_beyond nodes d next is are from fall inside beyond passed p after there here = elim (cases_lt next p) [
-    | inl more ↦ passed p (omega (arith, more)) there here
+  pub node_beyond : (nodes : ℕ) (d : ℤ) (next : ℕ) → IsBlock nodes b → HasLabels arcs b at → label b node ≡ Some d → WeightsFall (arcs_in arcs order) → next < length order → (¬ IsNear b.radius (d +ℤ (arc_at (arcs_in arcs order) next).cost))
+      → AreRelaxedOn (next + 1) → AreRelaxedOn 0
+  node_beyond nodes d next is are from fall inside beyond relaxed p after there here = elim (cases_lt next p) [
+    | inl more ↦ relaxed p (omega (arith, more)) there here
     | inr less ↦
-        passed_beyond nodes arcs b at (arc_at (arcs_in arcs order) p) d is are (ap (label b) here ∙ from)
+        relaxed_beyond nodes arcs b at (arc_at (arcs_in arcs order) p) d is are (ap (label b) here ∙ from)
         (λ near. beyond (near_less b.radius (d +ℤ (arc_at (arcs_in arcs order) next).cost) (d +ℤ (arc_at (arcs_in arcs order) p).cost) (less_sum d _ _ (falls p less)) near))
   ]
     where
@@ -139,38 +139,38 @@ module _ (arcs : List ArcView) (order : List ℕ) (b : BlockValue) (at : ℕ →
       ]
 
 -- ---- the nodes of a block
-pub from_still : (arcs : List ArcView) (b : BlockValue) (old new : ℕ → Known) (v : ℕ) → ((a : ArcView) → IsPassed b old a → IsPassed b new a) → ArePassedFrom arcs b old v → ArePassedFrom arcs b new v
-from_still arcs b old new v still passed k inside here = still (arc_at arcs k) (passed k inside here)
+pub from_still : (arcs : List ArcView) (b : BlockValue) (old new : ℕ → NodeEntry) (v : ℕ) → ((a : ArcView) → IsRelaxedBy b old a → IsRelaxedBy b new a) → AreRelaxedFrom arcs b old v → AreRelaxedFrom arcs b new v
+from_still arcs b old new v still relaxed k inside here = still (arc_at arcs k) (relaxed k inside here)
 
-pub labels_more : (arcs : List ArcView) (b : BlockValue) (old new : ℕ → Known) (n : ℕ) → ((a : ArcView) → IsPassed b old a → IsPassed b new a) → ((k : ℕ) → k < n → ArePassedFrom arcs b old (get_or b.labels k no_label).id)
-    → ArePassedFrom arcs b new (get_or b.labels n no_label).id → (k : ℕ) → k < n + 1 → ArePassedFrom arcs b new (get_or b.labels k no_label).id
-labels_more arcs b old new n still passed this k below = elim (cases_lt k n) [
-  | inl less ↦ from_still arcs b old new (get_or b.labels k no_label).id still (passed k less)
-  | inr last ↦ (let same : k ≡ n = omega (arith, below, last) in subst (λ j. ArePassedFrom arcs b new (get_or b.labels j no_label).id) (sym same) this)
+pub labels_more : (arcs : List ArcView) (b : BlockValue) (old new : ℕ → NodeEntry) (n : ℕ) → ((a : ArcView) → IsRelaxedBy b old a → IsRelaxedBy b new a) → ((k : ℕ) → k < n → AreRelaxedFrom arcs b old (get_or b.labels k no_label).id)
+    → AreRelaxedFrom arcs b new (get_or b.labels n no_label).id → (k : ℕ) → k < n + 1 → AreRelaxedFrom arcs b new (get_or b.labels k no_label).id
+labels_more arcs b old new n still relaxed this k below = elim (cases_lt k n) [
+  | inl less ↦ from_still arcs b old new (get_or b.labels k no_label).id still (relaxed k less)
+  | inr last ↦ (let same : k ≡ n = omega (arith, below, last) in subst (λ j. AreRelaxedFrom arcs b new (get_or b.labels j no_label).id) (sym same) this)
 ]
 
 -- the arcs that leave the source and the nodes of the first n labels are relaxed
-pub record ArePassedFirst (arcs : List ArcView) (b : BlockValue) (n : ℕ) (at : ℕ → Known) : Type 0 where
-  pub known : IsKnown arcs b at
-  pub source : ArePassedFrom arcs b at b.source
-  pub labels : (k : ℕ) → k < n → ArePassedFrom arcs b at (get_or b.labels k no_label).id
+pub record AreRelaxedFirst (arcs : List ArcView) (b : BlockValue) (n : ℕ) (at : ℕ → NodeEntry) : Type 0 where
+  pub entries : HasLabels arcs b at
+  pub source : AreRelaxedFrom arcs b at b.source
+  pub labels : (k : ℕ) → k < n → AreRelaxedFrom arcs b at (get_or b.labels k no_label).id
 
-module _ (arcs : List ArcView) (b : BlockValue) (n : ℕ) (at : ℕ → Known) (all : length b.labels ≤ n) (are : ArePassedFirst arcs b n at) where
-  labelled_passed : (v : ℕ) (d : ℤ) → label b v ≡ Some d → ArePassedFrom arcs b at v
-  labelled_passed v d is = elim (has_pred b (record { dist = d; id = v; pred = v }) (ap is_some is)) [
-    | inl source ↦ subst (ArePassedFrom arcs b at) (sym source) are.source
+module _ (arcs : List ArcView) (b : BlockValue) (n : ℕ) (at : ℕ → NodeEntry) (all : length b.labels ≤ n) (are : AreRelaxedFirst arcs b n at) where
+  labelled_relaxed : (v : ℕ) (d : ℤ) → label b v ≡ Some d → AreRelaxedFrom arcs b at v
+  labelled_relaxed v d is = elim (has_pred b (record { dist = d; id = v; pred = v }) (ap is_some is)) [
+    | inl source ↦ subst (AreRelaxedFrom arcs b at) (sym source) are.source
     | inr named ↦
         let (m, (k, inside, here), same) = named in
-        subst (ArePassedFrom arcs b at) (ap (λ (l : Label). l.id) (get_or_default b.labels k no_label m inside ∙ here) ∙ same) (are.labels k (omega (arith, inside, all)))
+        subst (AreRelaxedFrom arcs b at) (ap (λ (l : Label). l.id) (get_or_default b.labels k no_label m inside ∙ here) ∙ same) (are.labels k (omega (arith, inside, all)))
   ]
 
   pub all_clear : Clear (relax_row arcs b)
-  all_clear k place reason f = (labelled_passed (arc_at arcs k).tail f.2.0 f.2.1 k f.0 refl).holds reason f.2
+  all_clear k place reason f = (labelled_relaxed (arc_at arcs k).tail f.2.0 f.2.1 k f.0 refl).holds reason f.2
 
-  pub all_made : AreMade arcs b at
-  all_made l has = (
-    are.known.sound l has,
+  pub all_supported : AreSupported arcs b at
+  all_supported l has = (
+    are.entries.sound l has,
     λ tight.
-        let (k, inside, makes) = some_makes arcs b l tight in
-        (labelled_passed l.pred makes.base makes.known k inside makes.from).labelled l has makes,
+        let (k, inside, tight_for) = some_tight_for arcs b l tight in
+        (labelled_relaxed l.pred tight_for.base tight_for.labelled k inside tight_for.from).labelled l has tight_for,
   )

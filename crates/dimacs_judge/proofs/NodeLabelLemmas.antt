@@ -26,18 +26,18 @@ use Rattle.dimacs_optimality.specs.declared.verdict.Where.TheVariants.{Arc}
 use Rattle.dimacs_optimality.specs.CertificateTests.{RelaxFails, relax_row, support_row}
 use Rattle.dimacs_judge.specs.inside.CertificateTests.{distance_rows}
 use Rattle.dimacs_optimality.specs.Labels.{HasTightArc}
-use Rattle.dimacs_judge.specs.inside.Distances.{LeadsAside, LeadsTo}
-use Rattle.dimacs_judge.specs.inside.NodeLabels.{AreBlank, AreMade, AreMadeAlone, AreMadeBelow, AreWide, IsBlank, IsKnown, IsTight, Known, Makes, RelaxesArc, LabelsMade, SaysSame, is_made, made_count}
+use Rattle.dimacs_judge.specs.inside.Distances.{Improves, IsTight}
+use Rattle.dimacs_judge.specs.inside.NodeLabels.{AreUnlabelled, AreSupported, SupportIsSound, AreSupportedBelow, AreWide, DefaultsToNone, HasLabels, IsFirstTight, NodeEntry, IsTightFor, RelaxesArc, LabelsSupported, KeepsEntry, is_supported, supported_count}
 use Rattle.dimacs_network.specs.Arcs.{arc_at, no_arc}
 use Rattle.dimacs_optimality.specs.Tests.{Clear, ClearBelow, FirstOfRow, TestsRow}
 use Rattle.dimacs_optimality.specs.inside.Tests.{TestsRows, NamesReason}
 use Rattle.dimacs_optimality.proofs.RowLemmas.{relax_clear_more, relax_first}
 
-pub made_from : (k : Known) → 2 ^ 31 ≤ k.pred → is_made k ≡ true
-made_from k past = grind (arith, nat_tests)
+pub supported_from : (k : NodeEntry) → 2 ^ 31 ≤ k.pred → is_supported k ≡ true
+supported_from k past = grind (arith, nat_tests)
 
-pub unmade_below : (k : Known) → k.pred < 2 ^ 31 → is_made k ≡ false
-unmade_below k below = grind (arith, nat_tests)
+pub unsupported_below : (k : NodeEntry) → k.pred < 2 ^ 31 → is_supported k ≡ false
+unsupported_below k below = grind (arith, nat_tests)
 
 pub label_source : (b : BlockValue) → label b b.source ≡ Some (pos 0)
 label_source b = elim (eqb_tells b.source b.source) [
@@ -67,22 +67,22 @@ label_named nodes b is l (k, inside, at) =
 pub label_wide : (nodes : ℕ) (b : BlockValue) (v : ℕ) → IsBlock nodes b → IfSome (label b v) IsWide
 label_wide nodes b v is = label_at_wide nodes (b ∷ []) 0 v (All-cons (IsBlock nodes) b [] is (All-nil (IsBlock nodes)))
 
--- ---- marking labels
-pub new_blank : {D : Type 0} (value : D → Option ℤ) (node_labels : NodeTable (NodeLabel D)) (node_label : NodeLabel D) → ((v : ℕ) → value_of node_labels v ≡ node_label) → blank_of node_labels ≡ node_label → value node_label.dist ≡ None → AreBlank value node_labels
-new_blank value node_labels node_label values blank none = record { blank = ap (λ m. value m.dist) blank ∙ none; all = λ v. ap (λ m. value m.dist) (values v) ∙ none }
+-- ---- setting labels
+pub new_unlabelled : {D : Type 0} (value : D → Option ℤ) (node_labels : NodeTable (NodeLabel D)) (node_label : NodeLabel D) → ((v : ℕ) → value_of node_labels v ≡ node_label) → blank_of node_labels ≡ node_label → value node_label.dist ≡ None → AreUnlabelled value node_labels
+new_unlabelled value node_labels node_label values blank none = record { defaults = ap (λ m. value m.dist) blank ∙ none; all = λ v. ap (λ m. value m.dist) (values v) ∙ none }
 
-pub blank_kept : {D : Type 0} (value : D → Option ℤ) (old new : NodeTable (NodeLabel D)) → blank_of new ≡ blank_of old → IsBlank value old → IsBlank value new
-blank_kept value old new same blank = ap (λ m. value m.dist) same ∙ blank
+pub defaults_still : {D : Type 0} (value : D → Option ℤ) (old new : NodeTable (NodeLabel D)) → blank_of new ≡ blank_of old → DefaultsToNone value old → DefaultsToNone value new
+defaults_still value old new same blank = ap (λ m. value m.dist) same ∙ blank
 
 abbrev pub first_labels : BlockValue → ℕ → BlockValue
 first_labels b n = record { source = b.source; radius = b.radius; labels = take n b.labels }
 
--- the source and the first n labels are marked
-pub record AreLabelledFirst (b : BlockValue) (n : ℕ) (at : ℕ → Known) : Type 0 where
+-- the table has the source and the first n labels
+pub record AreLabelledFirst (b : BlockValue) (n : ℕ) (at : ℕ → NodeEntry) : Type 0 where
   pub labels : (v : ℕ) → (at v).dist ≡ label (first_labels b n) v
   pub preds : (l : Label) → Contains (take n b.labels) l → (at l.id).pred ≡ l.pred
-  pub unmade : (l : Label) → Contains (take n b.labels) l → is_made (at l.id) ≡ false
-  pub source : is_made (at b.source) ≡ true
+  pub unsupported : (l : Label) → Contains (take n b.labels) l → is_supported (at l.id) ≡ false
+  pub source : is_supported (at b.source) ≡ true
 
 the_only : {A : Type 0} (x y : A) → Contains (x ∷ []) y → x ≡ y
 the_only x y (zero, inside, is) = is
@@ -91,20 +91,20 @@ the_only x y (suc k, inside, is) = absurd (omega (arith, inside))
 pub no_contains : {A : Type 0} {x : A} → Contains [] x → ⊥
 no_contains has = omega (arith, has.1)
 
-pub labelled_source : (b : BlockValue) (old new : ℕ → Known) → ((v : ℕ) → (old v).dist ≡ None) → ((v : ℕ) → v ≢ b.source → new v ≡ old v) → (new b.source).dist ≡ Some (pos 0) → is_made (new b.source) ≡ true → AreLabelledFirst b 0 new
-labelled_source b old new blank others dist made = record {
+pub labelled_source : (b : BlockValue) (old new : ℕ → NodeEntry) → ((v : ℕ) → (old v).dist ≡ None) → ((v : ℕ) → v ≢ b.source → new v ≡ old v) → (new b.source).dist ≡ Some (pos 0) → is_supported (new b.source) ≡ true → AreLabelledFirst b 0 new
+labelled_source b old new blank others dist supported = record {
   labels = λ v. elim (cases_eq v b.source) [
     | inl same ↦ ap (λ w. (new w).dist) same ∙ (dist ∙ (sym (label_source (first_labels b 0)) ∙ ap (label (first_labels b 0)) (sym same)))
-    | inr off ↦ ap (λ (k : Known). k.dist) (others v off) ∙ (blank v ∙ sym (label_elsewhere (first_labels b 0) v (λ same. off (sym same))))
+    | inr off ↦ ap (λ (k : NodeEntry). k.dist) (others v off) ∙ (blank v ∙ sym (label_elsewhere (first_labels b 0) v (λ same. off (sym same))))
   ];
   preds = λ l has. absurd (no_contains has);
-  unmade = λ l has. absurd (no_contains has);
-  source = made;
+  unsupported = λ l has. absurd (no_contains has);
+  source = supported;
 }
 
-pub labelled_more : (nodes : ℕ) (b : BlockValue) (n : ℕ) (old new : ℕ → Known) → IsBlock nodes b → n < length b.labels → AreLabelledFirst b n old → ((v : ℕ) → v ≢ (label_of b n).id → new v ≡ old v)
-    → (new (label_of b n).id).dist ≡ Some (label_of b n).dist → (new (label_of b n).id).pred ≡ (label_of b n).pred → is_made (new (label_of b n).id) ≡ false → AreLabelledFirst b (n + 1) new
-labelled_more nodes b n old new is inside are others dist pred unmade =
+pub labelled_more : (nodes : ℕ) (b : BlockValue) (n : ℕ) (old new : ℕ → NodeEntry) → IsBlock nodes b → n < length b.labels → AreLabelledFirst b n old → ((v : ℕ) → v ≢ (label_of b n).id → new v ≡ old v)
+    → (new (label_of b n).id).dist ≡ Some (label_of b n).dist → (new (label_of b n).id).pred ≡ (label_of b n).pred → is_supported (new (label_of b n).id) ≡ false → AreLabelledFirst b (n + 1) new
+labelled_more nodes b n old new is inside are others dist pred unsupported =
     let l = label_of b n in
     let fresh = label_fresh nodes b is n inside in
     let none : label (first_labels b n) l.id ≡ None = unlabelled (label (first_labels b n) l.id) (fresh_has_none (first_labels b n) l fresh) in
@@ -115,44 +115,44 @@ labelled_more nodes b n old new is inside are others dist pred unmade =
             ap (λ w. (new w).dist) same
             ∙ (dist ∙ sym (label-with_label (first_labels b n) l none v ∙ ap (λ t. if t then Some l.dist else label (first_labels b n) v) (eq-eqb l.id v (sym same))))
         | inr off ↦
-            ap (λ (k : Known). k.dist) (others v off)
+            ap (λ (k : NodeEntry). k.dist) (others v off)
             ∙ (are.labels v ∙ sym (label-with_label (first_labels b n) l none v ∙ ap (λ t. if t then Some l.dist else label (first_labels b n) v) (apart_ids v l.id off)))
       ]);
       preds = λ k has. elim (Contains-append_cases (take n b.labels) (l ∷ []) k (subst (λ labels. Contains labels k) more has)) [
-        | inl early ↦ ap (λ (x : Known). x.pred) (others k.id (fresh.1 k early)) ∙ are.preds k early
+        | inl early ↦ ap (λ (x : NodeEntry). x.pred) (others k.id (fresh.1 k early)) ∙ are.preds k early
         | inr last ↦ (let same = the_only l k last in ap (λ (x : Label). (new x.id).pred) (sym same) ∙ (pred ∙ ap (λ (x : Label). x.pred) same))
       ];
-      unmade = λ k has. elim (Contains-append_cases (take n b.labels) (l ∷ []) k (subst (λ labels. Contains labels k) more has)) [
-        | inl early ↦ ap is_made (others k.id (fresh.1 k early)) ∙ are.unmade k early
-        | inr last ↦ (let same = the_only l k last in ap (λ (x : Label). is_made (new x.id)) (sym same) ∙ unmade)
+      unsupported = λ k has. elim (Contains-append_cases (take n b.labels) (l ∷ []) k (subst (λ labels. Contains labels k) more has)) [
+        | inl early ↦ ap is_supported (others k.id (fresh.1 k early)) ∙ are.unsupported k early
+        | inr last ↦ (let same = the_only l k last in ap (λ (x : Label). is_supported (new x.id)) (sym same) ∙ unsupported)
       ];
-      source = ap is_made (others b.source (λ same. fresh.0 (sym same))) ∙ are.source;
+      source = ap is_supported (others b.source (λ same. fresh.0 (sym same))) ∙ are.source;
     }
 
-pub all_labelled : (nodes : ℕ) (arcs : List ArcView) (b : BlockValue) (n : ℕ) (at : ℕ → Known) → IsBlock nodes b → length b.labels ≤ n → AreLabelledFirst b n at → IsKnown arcs b at
+pub all_labelled : (nodes : ℕ) (arcs : List ArcView) (b : BlockValue) (n : ℕ) (at : ℕ → NodeEntry) → IsBlock nodes b → length b.labels ≤ n → AreLabelledFirst b n at → HasLabels arcs b at
 all_labelled nodes arcs b n at is all are =
     let whole : take n b.labels ≡ b.labels = take_all n b.labels all in
     record {
       labels = λ v. are.labels v ∙ ap (λ labels. label (record { source = b.source; radius = b.radius; labels = labels }) v) whole;
       named = label_named nodes b is;
-      preds = λ l has unmade. are.preds l (subst (λ labels. Contains labels l) (sym whole) has);
+      preds = λ l has unsupported. are.preds l (subst (λ labels. Contains labels l) (sym whole) has);
       source = are.source;
-      sound = λ l has made. absurd (let e = are.unmade l (subst (λ labels. Contains labels l) (sym whole) has) in cc);
+      sound = λ l has supported. absurd (let e = are.unsupported l (subst (λ labels. Contains labels l) (sym whole) has) in cc);
     }
 
-pub known_wide : (nodes : ℕ) (arcs : List ArcView) (b : BlockValue) (at : ℕ → Known) → IsBlock nodes b → IsKnown arcs b at → AreWide at
-known_wide nodes arcs b at is are v = subst (λ claimed. IfSome claimed IsWide) (sym (are.labels v)) (label_wide nodes b v is)
+pub entries_wide : (nodes : ℕ) (arcs : List ArcView) (b : BlockValue) (at : ℕ → NodeEntry) → IsBlock nodes b → HasLabels arcs b at → AreWide at
+entries_wide nodes arcs b at is are v = subst (λ claimed. IfSome claimed IsWide) (sym (are.labels v)) (label_wide nodes b v is)
 
--- ---- clearing marks
--- only the nodes of labels from the n-th on are marked
-abbrev pub AreBlankBut : BlockValue → ℕ → (ℕ → Known) → Type 0
-AreBlankBut b n at = (v : ℕ) → is_some (at v).dist ≡ true → (k : ℕ) × (n ≤ k) × (k < length b.labels) × ((label_of b k).id ≡ v)
+-- ---- clearing labels
+-- only the nodes of labels from the n-th on have labels
+abbrev pub AreUnlabelledBut : BlockValue → ℕ → (ℕ → NodeEntry) → Type 0
+AreUnlabelledBut b n at = (v : ℕ) → is_some (at v).dist ≡ true → (k : ℕ) × (n ≤ k) × (k < length b.labels) × ((label_of b k).id ≡ v)
 
-pub blank_source : (arcs : List ArcView) (b : BlockValue) (old new : ℕ → Known) → IsKnown arcs b old → ((v : ℕ) → v ≢ b.source → new v ≡ old v) → (new b.source).dist ≡ None → AreBlankBut b 0 new
-blank_source arcs b old new are others none v some = elim (cases_eq v b.source) [
+pub unlabelled_source : (arcs : List ArcView) (b : BlockValue) (old new : ℕ → NodeEntry) → HasLabels arcs b old → ((v : ℕ) → v ≢ b.source → new v ≡ old v) → (new b.source).dist ≡ None → AreUnlabelledBut b 0 new
+unlabelled_source arcs b old new are others none v some = elim (cases_eq v b.source) [
   | inl same ↦ absurd (let e = ap (λ w. is_some (new w).dist) same ∙ ap is_some none in cc)
   | inr off ↦
-      let named = ap is_some (sym (are.labels v)) ∙ (ap (λ (k : Known). is_some k.dist) (sym (others v off)) ∙ some) in
+      let named = ap is_some (sym (are.labels v)) ∙ (ap (λ (k : NodeEntry). is_some k.dist) (sym (others v off)) ∙ some) in
       elim (has_pred b (record { dist = pos 0; id = v; pred = v }) named) [
         | inl source ↦ absurd (off source)
         | inr found ↦
@@ -161,51 +161,51 @@ blank_source arcs b old new are others none v some = elim (cases_eq v b.source) 
       ]
 ]
 
-pub blank_more : (b : BlockValue) (n : ℕ) (old new : ℕ → Known) → AreBlankBut b n old → ((v : ℕ) → v ≢ (label_of b n).id → new v ≡ old v) → (new (label_of b n).id).dist ≡ None → AreBlankBut b (n + 1) new
-blank_more b n old new are others none v some = elim (cases_eq v (label_of b n).id) [
+pub unlabelled_more : (b : BlockValue) (n : ℕ) (old new : ℕ → NodeEntry) → AreUnlabelledBut b n old → ((v : ℕ) → v ≢ (label_of b n).id → new v ≡ old v) → (new (label_of b n).id).dist ≡ None → AreUnlabelledBut b (n + 1) new
+unlabelled_more b n old new are others none v some = elim (cases_eq v (label_of b n).id) [
   | inl same ↦ absurd (let e = ap (λ w. is_some (new w).dist) same ∙ ap is_some none in cc)
   | inr off ↦
-      let (k, from, inside, at) = are v (ap (λ (k : Known). is_some k.dist) (sym (others v off)) ∙ some) in
+      let (k, from, inside, at) = are v (ap (λ (k : NodeEntry). is_some k.dist) (sym (others v off)) ∙ some) in
       elim (cases_lt n k) [
         | inl more ↦ (k, omega (arith, more), inside, at)
         | inr last ↦ absurd (let same : k ≡ n = omega (arith, from, last) in off (sym at ∙ ap (λ j. (label_of b j).id) same))
       ]
 ]
 
-pub blank_all : (b : BlockValue) (n : ℕ) (at : ℕ → Known) → length b.labels ≤ n → AreBlankBut b n at → (v : ℕ) → (at v).dist ≡ None
-blank_all b n at all are v = by (at v).dist refl
+pub unlabelled_all : (b : BlockValue) (n : ℕ) (at : ℕ → NodeEntry) → length b.labels ≤ n → AreUnlabelledBut b n at → (v : ℕ) → (at v).dist ≡ None
+unlabelled_all b n at all are v = by (at v).dist refl
   where
     by : (d : Option ℤ) → (at v).dist ≡ d → (at v).dist ≡ None
     by None is = is
     by (Some d) is = absurd (let (k, from, inside, same) = are v (ap is_some is) in omega (arith, from, inside, all))
 
 -- ---- one arc
--- an arc that doesn't lead aside doesn't fail
-pub not_aside : (radius from to : Option ℤ) (weight : ℤ) → (¬ LeadsAside from to weight) → (reason : Reason) → ¬ RelaxFails radius from to weight reason
-not_aside radius from to weight holds reason (d, tail, inl out) = holds (d, tail, inl out.1)
-not_aside radius from to weight holds reason (d, tail, inr far) = holds (d, tail, inr far.1)
+-- an arc that improves nothing doesn't fail
+pub no_improvement : (radius from to : Option ℤ) (weight : ℤ) → (¬ Improves from to weight) → (reason : Reason) → ¬ RelaxFails radius from to weight reason
+no_improvement radius from to weight holds reason (d, tail, inl out) = holds (d, tail, inl out.1)
+no_improvement radius from to weight holds reason (d, tail, inr far) = holds (d, tail, inr far.1)
 
 -- the arc is tight for a label without a tight arc, by two tests that are both evaluated
-pub tight_where : (a : ArcView) (at : ℕ → Known) (leads waits : Bool) → (IsTrue leads ↔ LeadsTo (at a.tail).dist (at a.head).dist a.cost) → (IsTrue waits ↔ (((at a.head).pred ≡ a.tail) × (is_made (at a.head) ≡ false))) → IsTrue (leads && waits) ↔ IsTight a at
-tight_where a at true waits leads_is waits_is = (
-  λ yes. (let leads = leads_is.0 refl in let waiting = waits_is.0 yes in record { base = leads.0; tail = leads.1; head = leads.2; pred = waiting.0; unmade = waiting.1 }),
-  λ tight. waits_is.1 (tight.pred, tight.unmade),
+pub tight_where : (a : ArcView) (at : ℕ → NodeEntry) (leads lacks : Bool) → (IsTrue leads ↔ IsTight (at a.tail).dist (at a.head).dist a.cost) → (IsTrue lacks ↔ (((at a.head).pred ≡ a.tail) × (is_supported (at a.head) ≡ false))) → IsTrue (leads && lacks) ↔ IsFirstTight a at
+tight_where a at true lacks leads_is lacks_is = (
+  λ yes. (let leads = leads_is.0 refl in let waiting = lacks_is.0 yes in record { base = leads.0; tail = leads.1; head = leads.2; pred = waiting.0; unsupported = waiting.1 }),
+  λ tight. lacks_is.1 (tight.pred, tight.unsupported),
 )
-tight_where a at false waits leads_is waits_is = (λ yes. absurd (let no : IsTrue false = yes in cc), λ tight. leads_is.1 (tight.base, tight.tail, tight.head))
+tight_where a at false lacks leads_is lacks_is = (λ yes. absurd (let no : IsTrue false = yes in cc), λ tight. leads_is.1 (tight.base, tight.tail, tight.head))
 
-pub head_unmarked : (a : ArcView) (at : ℕ → Known) → (at a.head).dist ≡ None → ¬ IsTight a at
-head_unmarked a at none tight = let e : None ≡ Some (tight.base +ℤ a.cost) = sym none ∙ tight.head in cc
+pub head_unlabelled : (a : ArcView) (at : ℕ → NodeEntry) → (at a.head).dist ≡ None → ¬ IsFirstTight a at
+head_unlabelled a at none tight = let e : None ≡ Some (tight.base +ℤ a.cost) = sym none ∙ tight.head in cc
 
 -- the result of a test, with its terms replaced by equal ones
-pub told_between : (radius tail from head to : Option ℤ) (weight cost : ℤ) (fault : Option Reason) → tail ≡ from → head ≡ to → weight ≡ cost → NamesReason (RelaxFails radius tail head weight) fault → NamesReason (RelaxFails radius from to cost) fault
-told_between radius tail from head to weight cost fault tail_is head_is weight_is outcome =
+pub fault_between : (radius tail from head to : Option ℤ) (weight cost : ℤ) (fault : Option Reason) → tail ≡ from → head ≡ to → weight ≡ cost → NamesReason (RelaxFails radius tail head weight) fault → NamesReason (RelaxFails radius from to cost) fault
+fault_between radius tail from head to weight cost fault tail_is head_is weight_is outcome =
     subst (λ t. NamesReason (RelaxFails radius t to cost) fault) tail_is (subst (λ h. NamesReason (RelaxFails radius tail h cost) fault) head_is (subst (λ w. NamesReason (RelaxFails radius tail head w) fault) weight_is outcome))
 
 -- the head after relaxing the arc
-module _ (a : ArcView) (old : ℕ → Known) where
-  pub made_with_arc : (made : Bool) (new : Known) → (IsTrue made ↔ IsTight a old) → new.pred ≡ (old a.head).pred + (if made then 2 ^ 31 else 0) → (is_made new ≡ true) ↔ ((is_made (old a.head) ≡ true) ⊎ IsTight a old)
-  made_with_arc true new is pred = (λ so. inr (is.0 refl), λ either. made_from new (omega (arith, pred)))
-  made_with_arc false new is pred =
+module _ (a : ArcView) (old : ℕ → NodeEntry) where
+  pub supported_with_arc : (supported : Bool) (new : NodeEntry) → (IsTrue supported ↔ IsFirstTight a old) → new.pred ≡ (old a.head).pred + (if supported then 2 ^ 31 else 0) → (is_supported new ≡ true) ↔ ((is_supported (old a.head) ≡ true) ⊎ IsFirstTight a old)
+  supported_with_arc true new is pred = (λ so. inr (is.0 refl), λ either. supported_from new (omega (arith, pred)))
+  supported_with_arc false new is pred =
       let same : new.pred ≡ (old a.head).pred = omega (arith, pred) in (
         λ so. inl (ap (λ n. nat_le (2 ^ 31) n) (sym same) ∙ so),
         λ either. elim either [
@@ -214,33 +214,33 @@ module _ (a : ArcView) (old : ℕ → Known) where
         ],
       )
 
-  pred_kept : (made : Bool) (new : Known) → new.pred ≡ (old a.head).pred + (if made then 2 ^ 31 else 0) → is_made new ≡ false → new.pred ≡ (old a.head).pred
-  pred_kept true new pred unmade = absurd (let yes = made_from new (omega (arith, pred)) in cc)
-  pred_kept false new pred unmade = omega (arith, pred)
+  pred_kept : (supported : Bool) (new : NodeEntry) → new.pred ≡ (old a.head).pred + (if supported then 2 ^ 31 else 0) → is_supported new ≡ false → new.pred ≡ (old a.head).pred
+  pred_kept true new pred unsupported = absurd (let yes = supported_from new (omega (arith, pred)) in cc)
+  pred_kept false new pred unsupported = omega (arith, pred)
 
-  pub passes_same : (¬ IsTight a old) → RelaxesArc a old old
-  passes_same off = record {
+  pub relaxes_same : (¬ IsFirstTight a old) → RelaxesArc a old old
+  relaxes_same off = record {
     others = λ v apart. refl;
-    head = record { dist = refl; pred = λ unmade. refl };
-    made = (λ m. inl m, λ e. elim e [ inl m ↦ m | inr tight ↦ absurd (off tight) ]);
+    head = record { dist = refl; pred = λ unsupported. refl };
+    supported = (λ m. inl m, λ e. elim e [ inl m ↦ m | inr tight ↦ absurd (off tight) ]);
   }
 
-  pub passes_put : (new : ℕ → Known) (made : Bool) → ((v : ℕ) → v ≢ a.head → new v ≡ old v) → (new a.head).dist ≡ (old a.head).dist → (new a.head).pred ≡ (old a.head).pred + (if made then 2 ^ 31 else 0) → (IsTrue made ↔ IsTight a old) → RelaxesArc a old new
-  passes_put new made others dist pred is = record {
+  pub relaxes_put : (new : ℕ → NodeEntry) (supported : Bool) → ((v : ℕ) → v ≢ a.head → new v ≡ old v) → (new a.head).dist ≡ (old a.head).dist → (new a.head).pred ≡ (old a.head).pred + (if supported then 2 ^ 31 else 0) → (IsTrue supported ↔ IsFirstTight a old) → RelaxesArc a old new
+  relaxes_put new supported others dist pred is = record {
     others = others;
-    head = record { dist = dist; pred = pred_kept made (new a.head) pred };
-    made = made_with_arc made (new a.head) is pred;
+    head = record { dist = dist; pred = pred_kept supported (new a.head) pred };
+    supported = supported_with_arc supported (new a.head) is pred;
   }
 
 -- ---- tight arcs
-pub makes_some : (arcs : List ArcView) (b : BlockValue) (k : ℕ) (l : Label) → k < length arcs → Makes b (arc_at arcs k) l → HasTightArc arcs b l
-makes_some arcs b k l inside makes = (makes.base, makes.known, record { arc = arc_at arcs k; present = Contains-get_or arcs k no_arc inside; from = makes.from; to = makes.to; adds = makes.adds })
+pub tight_for_some : (arcs : List ArcView) (b : BlockValue) (k : ℕ) (l : Label) → k < length arcs → IsTightFor b (arc_at arcs k) l → HasTightArc arcs b l
+tight_for_some arcs b k l inside tight_for = (tight_for.base, tight_for.labelled, record { arc = arc_at arcs k; present = Contains-get_or arcs k no_arc inside; from = tight_for.from; to = tight_for.to; adds = tight_for.adds })
 
-pub some_makes : (arcs : List ArcView) (b : BlockValue) (l : Label) → HasTightArc arcs b l → (k : ℕ) × (k < length arcs) × Makes b (arc_at arcs k) l
-some_makes arcs b l (base, known, arc) =
+pub some_tight_for : (arcs : List ArcView) (b : BlockValue) (l : Label) → HasTightArc arcs b l → (k : ℕ) × (k < length arcs) × IsTightFor b (arc_at arcs k) l
+some_tight_for arcs b l (base, labelled, arc) =
     let (k, inside, at) = arc.present in
     let same : arc.arc ≡ arc_at arcs k = sym at ∙ get_or_default arcs k arc.arc no_arc inside in
-    (k, inside, subst (λ (c : ArcView). Makes b c l) same (record { base = base; known = known; from = arc.from; to = arc.to; adds = arc.adds }))
+    (k, inside, subst (λ (c : ArcView). IsTightFor b c l) same (record { base = base; labelled = labelled; from = arc.from; to = arc.to; adds = arc.adds }))
 
 -- ---- how many pass a test
 not_yes : (t : Bool) → (¬ (t ≡ true)) → t ≡ false
@@ -273,57 +273,57 @@ count_all p xs all x has = by (p x) refl
     by false off = absurd (omega (arith, all, count_more p (λ y. true) xs (λ y on. refl) x has off refl, count_by-le-length (λ y. true) xs))
 
 -- ---- after relaxing an arc
-pub same_dists : (a : ArcView) (old new : ℕ → Known) → RelaxesArc a old new → (v : ℕ) → (new v).dist ≡ (old v).dist
-same_dists a old new passes v = elim (cases_eq v a.head) [
-  | inl same ↦ ap (λ w. (new w).dist) same ∙ (passes.head.dist ∙ ap (λ w. (old w).dist) (sym same))
-  | inr off ↦ ap (λ (k : Known). k.dist) (passes.others v off)
+pub same_dists : (a : ArcView) (old new : ℕ → NodeEntry) → RelaxesArc a old new → (v : ℕ) → (new v).dist ≡ (old v).dist
+same_dists a old new relaxes v = elim (cases_eq v a.head) [
+  | inl same ↦ ap (λ w. (new w).dist) same ∙ (relaxes.head.dist ∙ ap (λ w. (old w).dist) (sym same))
+  | inr off ↦ ap (λ (k : NodeEntry). k.dist) (relaxes.others v off)
 ]
 
-module _ (a : ArcView) (old new : ℕ → Known) (b : BlockValue) (passes : RelaxesArc a old new) where
-  says_same : (v : ℕ) → SaysSame (old v) (new v)
-  says_same v = elim (cases_eq v a.head) [
-    | inl same ↦ subst (λ w. SaysSame (old w) (new w)) (sym same) passes.head
+module _ (a : ArcView) (old new : ℕ → NodeEntry) (b : BlockValue) (relaxes : RelaxesArc a old new) where
+  keeps_entry : (v : ℕ) → KeepsEntry (old v) (new v)
+  keeps_entry v = elim (cases_eq v a.head) [
+    | inl same ↦ subst (λ w. KeepsEntry (old w) (new w)) (sym same) relaxes.head
     | inr off ↦
-        let e = passes.others v off in
-        record { dist = ap (λ (k : Known). k.dist) e; pred = λ unmade. ap (λ (k : Known). k.pred) e }
+        let e = relaxes.others v off in
+        record { dist = ap (λ (k : NodeEntry). k.dist) e; pred = λ unsupported. ap (λ (k : NodeEntry). k.pred) e }
   ]
 
   pub dist_same : (v : ℕ) → (new v).dist ≡ (old v).dist
-  dist_same v = (says_same v).dist
+  dist_same v = (keeps_entry v).dist
 
   pub wide_after : AreWide old → AreWide new
   wide_after wide v = subst (λ claimed. IfSome claimed IsWide) (sym (dist_same v)) (wide v)
 
-  made_still : (v : ℕ) → is_made (old v) ≡ true → is_made (new v) ≡ true
-  made_still v m = elim (cases_eq v a.head) [
-    | inl same ↦ ap (λ w. is_made (new w)) same ∙ passes.made.1 (inl (ap (λ w. is_made (old w)) (sym same) ∙ m))
-    | inr off ↦ ap is_made (passes.others v off) ∙ m
+  supported_still : (v : ℕ) → is_supported (old v) ≡ true → is_supported (new v) ≡ true
+  supported_still v m = elim (cases_eq v a.head) [
+    | inl same ↦ ap (λ w. is_supported (new w)) same ∙ relaxes.supported.1 (inl (ap (λ w. is_supported (old w)) (sym same) ∙ m))
+    | inr off ↦ ap is_supported (relaxes.others v off) ∙ m
   ]
 
-  unmade_before : (v : ℕ) → is_made (new v) ≡ false → is_made (old v) ≡ false
-  unmade_before v unmade = not_yes (is_made (old v)) (λ made. let yes = made_still v made in cc)
+  unsupported_before : (v : ℕ) → is_supported (new v) ≡ false → is_supported (old v) ≡ false
+  unsupported_before v unsupported = not_yes (is_supported (old v)) (λ supported. let yes = supported_still v supported in cc)
 
-  pub labels_still : (c : ArcView) → LabelsMade b old c → LabelsMade b new c
-  labels_still c node_labels l has makes = made_still l.id (node_labels l has makes)
+  pub labels_still : (c : ArcView) → LabelsSupported b old c → LabelsSupported b new c
+  labels_still c node_labels l has tight_for = supported_still l.id (node_labels l has tight_for)
 
-  count_still : made_count b old ≤ made_count b new
-  count_still = count_less (λ (l : Label). is_made (old l.id)) (λ (l : Label). is_made (new l.id)) b.labels (λ l. made_still l.id)
+  count_still : supported_count b old ≤ supported_count b new
+  count_still = count_less (λ (l : Label). is_supported (old l.id)) (λ (l : Label). is_supported (new l.id)) b.labels (λ l. supported_still l.id)
 
-  module _ (arcs : List ArcView) (are : IsKnown arcs b old) where
+  module _ (arcs : List ArcView) (are : HasLabels arcs b old) where
     -- one more label has a tight arc
-    count_after : IsTight a old → made_count b old + 1 ≤ made_count b new
+    count_after : IsFirstTight a old → supported_count b old + 1 ≤ supported_count b new
     count_after tight =
         let some : label b a.head ≡ Some (tight.base +ℤ a.cost) = sym (are.labels a.head) ∙ tight.head in
         elim (has_pred b (record { dist = pos 0; id = a.head; pred = a.head }) (ap is_some some)) [
-          | inl source ↦ absurd (let yes = ap (λ v. is_made (old v)) source ∙ are.source in let no = tight.unmade in cc)
+          | inl source ↦ absurd (let yes = ap (λ v. is_supported (old v)) source ∙ are.source in let no = tight.unsupported in cc)
           | inr named ↦
               let (l, has, same) = named in
-              count_more (λ (m : Label). is_made (old m.id)) (λ (m : Label). is_made (new m.id)) b.labels (λ m. made_still m.id) l has
-              (ap (λ v. is_made (old v)) same ∙ tight.unmade)
-              (ap (λ v. is_made (new v)) same ∙ passes.made.1 (inr tight))
+              count_more (λ (m : Label). is_supported (old m.id)) (λ (m : Label). is_supported (new m.id)) b.labels (λ m. supported_still m.id) l has
+              (ap (λ v. is_supported (old v)) same ∙ tight.unsupported)
+              (ap (λ v. is_supported (new v)) same ∙ relaxes.supported.1 (inr tight))
         ]
 
-    pub count_on : (made : Bool) (n more : ℕ) → (IsTrue made → IsTight a old) → n ≤ made_count b old → more ≡ from_bool made → n + more ≤ made_count b new
+    pub count_on : (supported : Bool) (n more : ℕ) → (IsTrue supported → IsFirstTight a old) → n ≤ supported_count b old → more ≡ from_bool supported → n + more ≤ supported_count b new
     count_on true n more tight below one = omega (arith, below, one, count_after (tight refl))
     count_on false n more tight below none = omega (arith, below, none, count_still)
 
@@ -331,57 +331,57 @@ module _ (a : ArcView) (old new : ℕ → Known) (b : BlockValue) (passes : Rela
       this_arc : arc_at arcs i ≡ a
       this_arc = get_or_from_slice_get arcs i a no_arc here
 
-      tight_makes : (l : Label) → Contains b.labels l → l.id ≡ a.head → IsTight a old → Makes b a l
-      tight_makes l has same tight =
-          let unmade : is_made (old l.id) ≡ false = ap (λ v. is_made (old v)) same ∙ tight.unmade in
-          let pred_is : l.pred ≡ a.tail = sym (are.preds l has unmade) ∙ (ap (λ v. (old v).pred) same ∙ tight.pred) in
+      first_tight_for : (l : Label) → Contains b.labels l → l.id ≡ a.head → IsFirstTight a old → IsTightFor b a l
+      first_tight_for l has same tight =
+          let unsupported : is_supported (old l.id) ≡ false = ap (λ v. is_supported (old v)) same ∙ tight.unsupported in
+          let pred_is : l.pred ≡ a.tail = sym (are.preds l has unsupported) ∙ (ap (λ v. (old v).pred) same ∙ tight.pred) in
           let sum : Some (tight.base +ℤ a.cost) ≡ Some l.dist = sym tight.head ∙ (are.labels a.head ∙ (ap (label b) (sym same) ∙ are.named l has)) in
           record {
             base = tight.base;
-            known = ap (label b) pred_is ∙ (sym (are.labels a.tail) ∙ tight.tail);
+            labelled = ap (label b) pred_is ∙ (sym (are.labels a.tail) ∙ tight.tail);
             from = sym pred_is;
             to = sym same;
             adds = cc;
           }
 
-      makes_tight : (l : Label) → Contains b.labels l → Makes b a l → is_made (old l.id) ≡ false → IsTight a old
-      makes_tight l has makes unmade = record {
-        base = makes.base;
-        tail = are.labels a.tail ∙ (ap (label b) makes.from ∙ makes.known);
-        head = are.labels a.head ∙ (ap (label b) makes.to ∙ (are.named l has ∙ ap (λ d. Some d) (sym makes.adds)));
-        pred = ap (λ v. (old v).pred) makes.to ∙ (are.preds l has unmade ∙ sym makes.from);
-        unmade = ap (λ v. is_made (old v)) makes.to ∙ unmade;
+      tight_for_first : (l : Label) → Contains b.labels l → IsTightFor b a l → is_supported (old l.id) ≡ false → IsFirstTight a old
+      tight_for_first l has tight_for unsupported = record {
+        base = tight_for.base;
+        tail = are.labels a.tail ∙ (ap (label b) tight_for.from ∙ tight_for.labelled);
+        head = are.labels a.head ∙ (ap (label b) tight_for.to ∙ (are.named l has ∙ ap (λ d. Some d) (sym tight_for.adds)));
+        pred = ap (λ v. (old v).pred) tight_for.to ∙ (are.preds l has unsupported ∙ sym tight_for.from);
+        unsupported = ap (λ v. is_supported (old v)) tight_for.to ∙ unsupported;
       }
 
-      alone_after : AreMadeAlone arcs b new
+      alone_after : SupportIsSound arcs b new
       alone_after l has m = elim (cases_eq l.id a.head) [
-        | inl same ↦ elim (passes.made.0 (ap (λ v. is_made (new v)) (sym same) ∙ m)) [
-          | inl before ↦ are.sound l has (ap (λ v. is_made (old v)) same ∙ before)
-          | inr tight ↦ makes_some arcs b i l (slice_get_within arcs i a here) (subst (λ (c : ArcView). Makes b c l) (sym this_arc) (tight_makes l has same tight))
+        | inl same ↦ elim (relaxes.supported.0 (ap (λ v. is_supported (new v)) (sym same) ∙ m)) [
+          | inl before ↦ are.sound l has (ap (λ v. is_supported (old v)) same ∙ before)
+          | inr tight ↦ tight_for_some arcs b i l (slice_get_within arcs i a here) (subst (λ (c : ArcView). IsTightFor b c l) (sym this_arc) (first_tight_for l has same tight))
         ]
-        | inr off ↦ are.sound l has (sym (ap is_made (passes.others l.id off)) ∙ m)
+        | inr off ↦ are.sound l has (sym (ap is_supported (relaxes.others l.id off)) ∙ m)
       ]
 
-      pub known_after : IsKnown arcs b new
-      known_after = record {
+      pub entries_after : HasLabels arcs b new
+      entries_after = record {
         labels = λ v. dist_same v ∙ are.labels v;
         named = are.named;
-        preds = λ l has unmade. (says_same l.id).pred unmade ∙ are.preds l has (unmade_before l.id unmade);
-        source = made_still b.source are.source;
+        preds = λ l has unsupported. (keeps_entry l.id).pred unsupported ∙ are.preds l has (unsupported_before l.id unsupported);
+        source = supported_still b.source are.source;
         sound = alone_after;
       }
 
-      pub labels_this : LabelsMade b new a
-      labels_this l has makes = by (is_made (old l.id)) refl
+      pub labels_this : LabelsSupported b new a
+      labels_this l has tight_for = by (is_supported (old l.id)) refl
         where
-          by : (before : Bool) → is_made (old l.id) ≡ before → is_made (new l.id) ≡ true
-          by true made = made_still l.id made
-          by false unmade = ap (λ v. is_made (new v)) (sym makes.to) ∙ passes.made.1 (inr (makes_tight l has makes unmade))
+          by : (before : Bool) → is_supported (old l.id) ≡ before → is_supported (new l.id) ≡ true
+          by true supported = supported_still l.id supported
+          by false unsupported = ap (λ v. is_supported (new v)) (sym tight_for.to) ∙ relaxes.supported.1 (inr (tight_for_first l has tight_for unsupported))
 
-      pub made_after : AreMadeBelow arcs b i old → AreMadeBelow arcs b (i + 1) new
-      made_after made k less = elim (cases_eq k i) [
-        | inl same ↦ subst (LabelsMade b new) (sym (ap (arc_at arcs) same ∙ this_arc)) labels_this
-        | inr off ↦ labels_still (arc_at arcs k) (made k (omega (arith, less, off)))
+      pub supported_after : AreSupportedBelow arcs b i old → AreSupportedBelow arcs b (i + 1) new
+      supported_after supported k less = elim (cases_eq k i) [
+        | inl same ↦ subst (LabelsSupported b new) (sym (ap (arc_at arcs) same ∙ this_arc)) labels_this
+        | inr off ↦ labels_still (arc_at arcs k) (supported k (omega (arith, less, off)))
       ]
 
       pub clear_after : ClearBelow (relax_row arcs b) i → ((reason : Reason) → ¬ RelaxFails b.radius (old a.tail).dist (old a.head).dist a.cost reason) → ClearBelow (relax_row arcs b) (i + 1)
@@ -391,27 +391,27 @@ module _ (a : ArcView) (old new : ℕ → Known) (b : BlockValue) (passes : Rela
       first_after reason clear fails = relax_first arcs b i a here reason clear (rw (are.labels a.tail, are.labels a.head) at fails)
 
 -- ---- all arcs
-pub made_all : (arcs : List ArcView) (b : BlockValue) (at : ℕ → Known) → AreMadeAlone arcs b at → AreMadeBelow arcs b (length arcs) at → AreMade arcs b at
-made_all arcs b at alone all l has = (
+pub supported_all : (arcs : List ArcView) (b : BlockValue) (at : ℕ → NodeEntry) → SupportIsSound arcs b at → AreSupportedBelow arcs b (length arcs) at → AreSupported arcs b at
+supported_all arcs b at alone all l has = (
   alone l has,
-  λ tight. (let (k, inside, makes) = some_makes arcs b l tight in all k inside l has makes),
+  λ tight. (let (k, inside, tight_for) = some_tight_for arcs b l tight in all k inside l has tight_for),
 )
 
 -- ---- the tests of labels, then those of arcs
-pub both_told : (arcs : List ArcView) (b : BlockValue) (labels relaxed : Result Unit (Where × Reason)) → TestsRow (support_row arcs b) labels → TestsRow (relax_row arcs b) relaxed → TestsRows (distance_rows arcs b) (result_and labels relaxed)
-both_told arcs b (Ok done) (Ok too) made passed = (made, (passed, tt))
-both_told arcs b (Ok done) (Err refusal) made first = inr (made, inl first)
-both_told arcs b (Err refusal) relaxed first passed = inl first
+pub both_tests : (arcs : List ArcView) (b : BlockValue) (labels relaxed : Result Unit (Where × Reason)) → TestsRow (support_row arcs b) labels → TestsRow (relax_row arcs b) relaxed → TestsRows (distance_rows arcs b) (result_and labels relaxed)
+both_tests arcs b (Ok done) (Ok too) supported passed = (supported, (passed, tt))
+both_tests arcs b (Ok done) (Err refusal) supported first = inr (supported, inl first)
+both_tests arcs b (Err refusal) relaxed first passed = inl first
 
-pub labels_told : (arcs : List ArcView) (b : BlockValue) (labels : Result Unit (Where × Reason)) → TestsRow (support_row arcs b) labels → Clear (relax_row arcs b) → TestsRows (distance_rows arcs b) labels
-labels_told arcs b (Ok done) made passed = (made, (passed, tt))
-labels_told arcs b (Err refusal) first passed = inl first
+pub labels_tests : (arcs : List ArcView) (b : BlockValue) (labels : Result Unit (Where × Reason)) → TestsRow (support_row arcs b) labels → Clear (relax_row arcs b) → TestsRows (distance_rows arcs b) labels
+labels_tests arcs b (Ok done) supported passed = (supported, (passed, tt))
+labels_tests arcs b (Err refusal) first passed = inl first
 
 -- ---- labels
-pub all_counted : (arcs : List ArcView) (b : BlockValue) (at : ℕ → Known) → AreMadeAlone arcs b at → length b.labels ≤ made_count b at → Clear (support_row arcs b)
+pub all_counted : (arcs : List ArcView) (b : BlockValue) (at : ℕ → NodeEntry) → SupportIsSound arcs b at → length b.labels ≤ supported_count b at → Clear (support_row arcs b)
 all_counted arcs b at alone all k place reason (inside, here, why, off) =
     let has = Contains-get_or b.labels k no_label inside in
-    off (alone (get_or b.labels k no_label) has (count_all (λ (l : Label). is_made (at l.id)) b.labels all (get_or b.labels k no_label) has))
+    off (alone (get_or b.labels k no_label) has (count_all (λ (l : Label). is_supported (at l.id)) b.labels all (get_or b.labels k no_label) has))
 
-pub label_made : (arcs : List ArcView) (b : BlockValue) (at : ℕ → Known) (k : ℕ) → k < length b.labels → AreMade arcs b at → (is_made (at (get_or b.labels k no_label).id) ≡ true) ↔ HasTightArc arcs b (get_or b.labels k no_label)
-label_made arcs b at k inside made = made (get_or b.labels k no_label) (Contains-get_or b.labels k no_label inside)
+pub label_supported : (arcs : List ArcView) (b : BlockValue) (at : ℕ → NodeEntry) (k : ℕ) → k < length b.labels → AreSupported arcs b at → (is_supported (at (get_or b.labels k no_label).id) ≡ true) ↔ HasTightArc arcs b (get_or b.labels k no_label)
+label_supported arcs b at k inside supported = supported (get_or b.labels k no_label) (Contains-get_or b.labels k no_label inside)

@@ -24,7 +24,7 @@ struct Crossing {
     least: i128,
 }
 
-/// Tests whether the supply in the set is more than can flow out of it, or less than must. `NotViolated` if it isn't.
+/// Tests whether the set's supply is more than can flow out of it, or less than must.
 pub(crate) fn set_is_violated<N: Network>(
     instance: &MinInstance<N>,
     set: &Cut,
@@ -40,7 +40,6 @@ pub(crate) fn set_is_violated<N: Network>(
     }
 }
 
-/// The sum of the supplies in the set.
 fn supply_in<N: Network>(instance: &MinInstance<N>, set: &Cut) -> i128
     ensures { result ≡ theory.supply_in instance.now.nodes (supply_of instance.now) (members set.now) }
 {
@@ -51,7 +50,6 @@ fn supply_in<N: Network>(instance: &MinInstance<N>, set: &Cut) -> i128
     sum
 }
 
-/// The supply of the node if it is in the set, otherwise 0.
 fn supply_at<N: Network>(node: u32, instance: &MinInstance<N>, set: &Cut) -> i64
     ensures { result ≡ when (members set.now node) (supply_of instance.now node) }
 {
@@ -64,7 +62,7 @@ fn supply_at<N: Network>(node: u32, instance: &MinInstance<N>, set: &Cut) -> i64
 
 /// The bounds of all arcs together.
 fn bounds_across<N: Network>(network: &N, set: &Cut) -> Crossing
-    requires few_arcs { length (N.list network.now) ≤ most_count }
+    requires arc_limit { length (N.list network.now) ≤ most_count }
     ensures most { result.most ≡ most_out (N.list network.now) (members set.now) }
     ensures least { result.least ≡ least_out (N.list network.now) (members set.now) }
 {
@@ -76,7 +74,6 @@ fn bounds_across<N: Network>(network: &N, set: &Cut) -> Crossing
 }
 
 impl Crossing {
-    /// Whether this supply is above the most or below the least.
     fn excludes(self, supply: i128) -> bool
         ensures { IsTrue result ↔ (self.most <ℤ supply ⊎ supply <ℤ self.least) }
     {

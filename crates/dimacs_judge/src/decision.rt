@@ -11,8 +11,8 @@ use dimacs_network::Network;
 use dimacs_optimality::{Flow, JudgeError};
 use std::alloc::Global;
 
-/// Decides whether a feasible flow is maximum: a tight cut shows that it is; otherwise another flow is feasible and has a
-/// greater value. The only error is `Memory`, which leaves it open.
+/// Decides whether a feasible flow is maximum. Returns a tight cut if it is, otherwise a feasible flow of greater
+/// value. The only error is `Memory`.
 pub fn decide_max<N: Network>(
     alloc: Global,
     instance: &MaxInstance<N>,

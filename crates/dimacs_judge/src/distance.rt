@@ -1,9 +1,9 @@
-//! Numbers of three widths for the distances in a judge's table of labels.
+//! 32-bit, 64-bit and 128-bit distances for a judge's table of labels.
 
 ghost use Rattle.std.specs.Prelude.{◌≡◌, ◌↔◌, ◌+ℤ◌, ◌<ℤ◌, ℤ, Option, Some, None, pos, IsTrue, int_lt, if◌then◌else◌};
-ghost use Rattle.dimacs_judge.specs.inside.Distances.{Fits, LeadsAside, LeadsTo};
+ghost use Rattle.dimacs_judge.specs.inside.Distances.{Fits, Improves, IsTight};
 
-/// A number that holds a distance or, by its greatest value, that there is none.
+/// A distance, or none: the greatest value.
 pub(crate) trait Distance: Copy {
     ghost value: { Self → Option ℤ };
 
@@ -21,28 +21,26 @@ pub(crate) trait Distance: Copy {
     fn zero() -> Self
         ensures { value result ≡ Some (pos 0) };
 
-    /// This distance, which has to fit.
+    /// This distance, which must fit.
     fn of(dist: i128) -> Self
         requires { Fits low end dist }
         ensures { number result ≡ dist };
 
-    /// The number as 128 bits.
-    fn wide(self) -> i128
+    fn to_i128(self) -> i128
         ensures { result ≡ number self };
 
-    /// Whether there is a distance.
     fn is_some(self) -> bool
         ensures { result ≡ int_lt (number self) end };
 
-    /// Whether `to` is greater than `self + weight`, as numbers.
-    fn is_less(self, to: Self, weight: i64) -> bool
+    /// Whether `self + weight` is less than `to`, as numbers.
+    fn sum_is_less(self, to: Self, weight: i64) -> bool
         ensures { IsTrue result ↔ ((number self +ℤ weight) <ℤ number to) };
 
-    /// Whether `to` is `self + weight`, as numbers.
-    fn is_equal(self, to: Self, weight: i64) -> bool
+    /// Whether `self + weight` is `to`, as numbers.
+    fn sum_is_equal(self, to: Self, weight: i64) -> bool
         ensures { IsTrue result ↔ ((number self +ℤ weight) ≡ number to) };
 
-    ghost says: { (d : Self) → value d ≡ (if int_lt (number d) end then Some (number d) else None) };
+    ghost value_below_end: { (d : Self) → value d ≡ (if int_lt (number d) end then Some (number d) else None) };
 }
 
 impl Distance for i32 {
@@ -57,7 +55,7 @@ impl Distance for i32 {
 
     ghost end = { pos (2 ^ 31 - 1) };
 
-    ghost says = { λ d. refl };
+    ghost value_below_end = { λ d. refl };
 
     #[inline(always)]
     fn none() -> i32 {
@@ -75,7 +73,7 @@ impl Distance for i32 {
     }
 
     #[inline(always)]
-    fn wide(self) -> i128 {
+    fn to_i128(self) -> i128 {
         i128::from(self)
     }
 
@@ -85,12 +83,12 @@ impl Distance for i32 {
     }
 
     #[inline(always)]
-    fn is_less(self, to: i32, weight: i64) -> bool {
+    fn sum_is_less(self, to: i32, weight: i64) -> bool {
         i64::from(to) - i64::from(self) > weight
     }
 
     #[inline(always)]
-    fn is_equal(self, to: i32, weight: i64) -> bool {
+    fn sum_is_equal(self, to: i32, weight: i64) -> bool {
         i64::from(to) - i64::from(self) == weight
     }
 }
@@ -107,7 +105,7 @@ impl Distance for i64 {
 
     ghost end = { pos (2 ^ 63 - 1) };
 
-    ghost says = { λ d. refl };
+    ghost value_below_end = { λ d. refl };
 
     #[inline(always)]
     fn none() -> i64 {
@@ -125,7 +123,7 @@ impl Distance for i64 {
     }
 
     #[inline(always)]
-    fn wide(self) -> i128 {
+    fn to_i128(self) -> i128 {
         i128::from(self)
     }
 
@@ -135,17 +133,17 @@ impl Distance for i64 {
     }
 
     #[inline(always)]
-    fn is_less(self, to: i64, weight: i64) -> bool {
+    fn sum_is_less(self, to: i64, weight: i64) -> bool {
         i128::from(to) - i128::from(self) > i128::from(weight)
     }
 
     #[inline(always)]
-    fn is_equal(self, to: i64, weight: i64) -> bool {
+    fn sum_is_equal(self, to: i64, weight: i64) -> bool {
         i128::from(to) - i128::from(self) == i128::from(weight)
     }
 }
 
-/// If the difference of two 128-bit numbers overflows, it is beyond every weight; the answers are right all the same.
+/// A difference that overflows 128 bits exceeds every weight. It saturates, which gives the same answers.
 impl Distance for i128 {
     ghost use Rattle.std.specs.Prelude.{◌^◌, ◌-◌, neg_ℤ, pos, refl};
     ghost use Rattle.dimacs_judge.specs.inside.Distances.{below};
@@ -158,7 +156,7 @@ impl Distance for i128 {
 
     ghost end = { pos (2 ^ 127 - 1) };
 
-    ghost says = { λ d. refl };
+    ghost value_below_end = { λ d. refl };
 
     #[inline(always)]
     fn none() -> i128 {
@@ -176,7 +174,7 @@ impl Distance for i128 {
     }
 
     #[inline(always)]
-    fn wide(self) -> i128 {
+    fn to_i128(self) -> i128 {
         self
     }
 
@@ -186,41 +184,40 @@ impl Distance for i128 {
     }
 
     #[inline(always)]
-    fn is_less(self, to: i128, weight: i64) -> bool {
+    fn sum_is_less(self, to: i128, weight: i64) -> bool {
         to.saturating_sub(self) > i128::from(weight)
     }
 
     #[inline(always)]
-    fn is_equal(self, to: i128, weight: i64) -> bool {
+    fn sum_is_equal(self, to: i128, weight: i64) -> bool {
         to.saturating_sub(self) == i128::from(weight)
     }
 }
 
-/// The distance, if there is one.
 #[inline(always)]
 pub(crate) fn distance_in<D: Distance>(dist: D) -> Option<i128>
     ensures { result ≡ D.value dist }
 {
     if dist.is_some() {
-        Some(dist.wide())
+        Some(dist.to_i128())
     } else {
         None
     }
 }
 
-/// Whether `from` is a distance, and `to` is none or greater than `from + weight`. It evaluates all terms, and so does
-/// `leads_to`: a processor would mispredict branches here.
+/// Whether `from` is a distance, and `to` is none or greater than `from + weight`. It evaluates all terms, as
+/// `is_tight` does, since the processor would mispredict branches.
 #[inline(always)]
-pub(crate) fn leads_aside<D: Distance>(from: D, to: D, weight: i64) -> bool
-    ensures { IsTrue result ↔ LeadsAside (D.value from) (D.value to) weight }
+pub(crate) fn improves<D: Distance>(from: D, to: D, weight: i64) -> bool
+    ensures { IsTrue result ↔ Improves (D.value from) (D.value to) weight }
 {
-    from.is_some() & (!to.is_some() | from.is_less(to, weight))
+    from.is_some() & (!to.is_some() | from.sum_is_less(to, weight))
 }
 
 /// Whether both are distances, and `to` is `from + weight`.
 #[inline(always)]
-pub(crate) fn leads_to<D: Distance>(from: D, to: D, weight: i64) -> bool
-    ensures { IsTrue result ↔ LeadsTo (D.value from) (D.value to) weight }
+pub(crate) fn is_tight<D: Distance>(from: D, to: D, weight: i64) -> bool
+    ensures { IsTrue result ↔ IsTight (D.value from) (D.value to) weight }
 {
-    from.is_some() & to.is_some() & from.is_equal(to, weight)
+    from.is_some() & to.is_some() & from.sum_is_equal(to, weight)
 }

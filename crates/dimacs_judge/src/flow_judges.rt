@@ -17,11 +17,10 @@ use dimacs_optimality::{
 };
 use std::alloc::Global;
 
-/// Judges by a cut whether a flow is maximum. A yes, `Max` with the flow's value, means: the flow is feasible, and no
-/// feasible flow of whole numbers has a greater value. `Memory` comes if there is none for a table of the nodes that
-/// have arcs; it leaves open whether the flow is maximum.
+/// Judges by a cut whether a flow is maximum. `Max`, with its value, means that it is feasible, and that no feasible
+/// flow of whole numbers has a greater value. `Memory` if there is none for a table of the nodes that have arcs.
 ///
-/// The tests in order: those of `feasible_max`, then those of `cut_tests`.
+/// The tests in order: those of `feasible_max`; those of `cut_tests`.
 pub fn judge_max_flow<N: Network>(
     alloc: Global,
     instance: &MaxInstance<N>,
@@ -39,12 +38,11 @@ pub fn judge_max_flow<N: Network>(
     Ok(Verdict::Max(balances.of(instance.source())))
 }
 
-/// Judges by potentials whether a flow costs least. A yes, `Min` with the flow's cost, means: the flow is feasible, and
-/// no feasible flow of whole numbers costs less. `Memory` comes if there is none for a table of the nodes; it leaves
-/// open whether the flow costs least.
+/// Judges by potentials whether a flow costs least. `Min`, with its cost, means that it is feasible, and that no
+/// feasible flow of whole numbers costs less. `Memory` if there is none for a table of the nodes that have arcs.
 ///
-/// The tests in order: those of `feasible_min`; for each arc, from 1, `CostRange` if the sum of the costs up to it is
-/// outside -10^30 to 10^30; then those of `slack_tests`.
+/// The tests in order: those of `feasible_min`; `CostRange` at each arc if the sum of the costs up to it is outside
+/// -10^30 to 10^30; those of `slack_tests`.
 pub fn judge_min_flow<N: Network>(
     alloc: Global,
     instance: &MinInstance<N>,

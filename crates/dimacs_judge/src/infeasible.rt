@@ -12,11 +12,11 @@ use dimacs_instance::MinInstance;
 use dimacs_network::Network;
 use dimacs_optimality::{JudgeError, Verdict, nodes_agree};
 
-/// Judges by a set of nodes whether no flow is feasible. A yes, `Infeasible`, means that there is none, of whole
-/// numbers of any size and sign. Allocates nothing, so `Memory` never comes.
+/// Judges by a set of nodes whether no flow is feasible. `Infeasible` means that there is none, of whole numbers of any
+/// size and sign. Allocates nothing, so it never returns `Memory`.
 ///
-/// The tests in order: `NodesDiffer` if the set and the instance differ in the number of nodes; `NotViolated` if the
-/// bounds allow the supply of the set to flow out of it.
+/// The tests in order: `NodesDiffer` if set and instance differ in the number of nodes; `NotViolated` if the bounds
+/// allow the set's supply to flow out of it.
 pub fn judge_infeasible<N: Network>(
     instance: &MinInstance<N>,
     set: &Cut,

@@ -1,4 +1,4 @@
-//! Whether labels are distances.
+//! Tests whether labels are distances, without allocating.
 
 ghost use Rattle.std.specs.Prelude.{◌≡◌, ◌<◌, ◌+ℤ◌, ◌<ℤ◌, ℤ, Some, All, length, IsTrue, ◌↔◌, IfSome, OnOk};
 ghost use Rattle.dimacs_claims.specs.Labels.{AreLabels, IsNear, label_at};
@@ -17,16 +17,14 @@ use dimacs_network::{ArcView, Network};
 use dimacs_optimality::Where;
 use dimacs_records::Reason;
 
-/// Tests the labels of all blocks. If they pass, each label is the distance from the block's source, over all walks,
-/// and no walk leads to a node without a label. In a block with a radius all walks to a node without a label weigh more
-/// than the radius. Allocates nothing.
+/// Tests the labels of all blocks. If they pass, each label is the least weight of all walks to its node from the
+/// block's source. No walk leads to a node without a label; if the block has a radius, all such walks weigh more than
+/// it. Allocates nothing.
 ///
-/// A block passes if each of its labels has a tight arc from its predecessor, and each arc with a labelled tail has a
-/// labelled head, whose label is at most the tail's plus the weight. If the block has a radius, no weight may be
-/// negative, and an arc may lead beyond the radius to a node without a label.
-///
-/// The tests of each block in order: if it has a radius, for each arc, from 1, `NegativeWeight`; then for each label
-/// `NoTightArc`, at its node; then for each arc `Escapes` if its head has no label, otherwise `NotShortest`.
+/// The tests of each block in order: if it has a radius, `NegativeWeight` for each arc; `NoTightArc`, at its node, for
+/// each label without a tight arc from its predecessor; then, for each arc whose tail has a label, `Escapes` if the
+/// head has none, unless the arc leads beyond the radius, or `NotShortest` if the head's label is greater than the
+/// tail's plus the weight.
 pub fn label_tests<N: Network>(graph: &Graph<N>, labels: &Labels) -> Result<(), (Where, Reason)>
     ensures decides { Decides (All (LabelsOk graph.now.arcs) labels.now.blocks) (label_rows graph.now.arcs labels.now.blocks) result }
     ensures distances { OnOk result (AreDistances graph.now.arcs labels.now.blocks) }
@@ -34,7 +32,6 @@ pub fn label_tests<N: Network>(graph: &Graph<N>, labels: &Labels) -> Result<(), 
     blocks_hold(graph.network(), labels)
 }
 
-/// Tests block by block; returns the first test that fails.
 fn blocks_hold<N: Network>(network: &N, labels: &Labels) -> Result<(), (Where, Reason)>
     ensures tests { TestsRows (label_rows (N.list network.now) labels.now.blocks) result }
     ensures lawful { AreLabels labels.now }
@@ -45,7 +42,6 @@ fn blocks_hold<N: Network>(network: &N, labels: &Labels) -> Result<(), (Where, R
     Ok(())
 }
 
-/// Tests one block: first the weights, then its labels, then the arcs.
 fn block_holds<N: Network>(
     network: &N,
     labels: &Labels,
@@ -59,7 +55,7 @@ fn block_holds<N: Network>(
     arcs_relaxed(network, labels, block)
 }
 
-/// If the block has a radius, tests that no weight is negative; the error names the first that is.
+/// Only a block with a radius forbids negative weights.
 fn block_weights_hold<N: Network>(
     network: &N,
     labels: &Labels,
@@ -74,7 +70,6 @@ fn block_weights_hold<N: Network>(
     }
 }
 
-/// The radius of a block.
 fn radius_in(labels: &Labels, block: usize) -> Option<i128>
     requires { block < length labels.now.blocks }
     ensures { result ≡ (block_at labels.now.blocks block).radius }
@@ -82,7 +77,7 @@ fn radius_in(labels: &Labels, block: usize) -> Option<i128>
     labels.blocks()[block].radius()
 }
 
-/// Tests that no weight is negative; the error names the first arc whose weight is.
+/// Tests that no weight is negative.
 pub(crate) fn weights_hold<N: Network>(network: &N) -> Result<(), (Where, Reason)>
     ensures { TestsRow (negative_row (N.list network.now)) result }
 {
@@ -94,7 +89,7 @@ pub(crate) fn weights_hold<N: Network>(network: &N) -> Result<(), (Where, Reason
     Ok(())
 }
 
-/// Tests that each label has a tight arc; the error names the first node whose label has none.
+/// Tests that each label has a tight arc.
 fn labels_supported<N: Network>(
     network: &N,
     labels: &Labels,
@@ -113,7 +108,6 @@ fn labels_supported<N: Network>(
     Ok(())
 }
 
-/// The labels of a block, in order.
 fn labels_in(labels: &Labels, block: usize) -> &LabelList
     requires { block < length labels.now.blocks }
     ensures { result.now ≡ (block_at labels.now.blocks block).labels }
@@ -121,7 +115,7 @@ fn labels_in(labels: &Labels, block: usize) -> &LabelList
     labels.blocks()[block].labels()
 }
 
-/// Whether the label has a tight arc from its predecessor, which is at distance `pred`.
+/// Whether the label has a tight arc from its predecessor, whose label is `pred`.
 fn is_supported<N: Network>(network: &N, label: Label, pred: Option<i128>) -> bool
     requires { IfSome pred IsWide }
     ensures { IsTrue result ↔ ((base : ℤ) × (pred ≡ Some base) × HasArcOfWeight (N.list network.now) label base) }
@@ -141,7 +135,7 @@ fn has_arc_of_weight<N: Network>(network: &N, label: Label, base: i128) -> bool
         let Some(i) = network.find(label.pred, label.id, k) else {
             return false;
         };
-        if is_made(label, base, network.arc(i)) {
+        if is_tight(label, base, network.arc(i)) {
             return true;
         }
     }
@@ -149,15 +143,14 @@ fn has_arc_of_weight<N: Network>(network: &N, label: Label, base: i128) -> bool
 }
 
 /// Whether the arc has the weight `label.dist - base`.
-fn is_made(label: Label, base: i128, arc: ArcView) -> bool
+fn is_tight(label: Label, base: i128, arc: ArcView) -> bool
     requires { IsWide base }
     ensures { IsTrue result ↔ ((base +ℤ arc.cost) ≡ label.dist) }
 {
     base + i128::from(arc.cost) == label.dist
 }
 
-/// Tests that each arc with a labelled tail respects the labels; the error names the first whose head has no label, or
-/// a greater one than the tail's plus the weight.
+/// Tests that no arc escapes, or has a head with too great a label.
 fn arcs_relaxed<N: Network>(
     network: &N,
     labels: &Labels,
@@ -175,7 +168,7 @@ fn arcs_relaxed<N: Network>(
     Ok(())
 }
 
-/// The reason why an arc fails, if it does. It looks the head up only if the tail has a label.
+/// It looks the head up only if the tail has a label.
 #[inline(always)]
 fn relax_fault(labels: &Labels, block: usize, radius: Option<i128>, arc: ArcView) -> Option<Reason>
     ensures { NamesReason (RelaxFails radius (label_at labels.now.blocks block arc.tail) (label_at labels.now.blocks block arc.head) arc.cost) result }
@@ -184,7 +177,7 @@ fn relax_fault(labels: &Labels, block: usize, radius: Option<i128>, arc: ArcView
     relax_fault_from(from, labels.label(block, arc.head), radius, arc.cost)
 }
 
-/// The reason why an arc from distance `from` fails; `to` is the label of its head, if it has one.
+/// The reason why an arc fails whose ends have these labels.
 #[inline(always)]
 pub(crate) fn relax_fault_from(
     from: i128,
@@ -214,7 +207,6 @@ pub(crate) fn escape_fault(radius: Option<i128>, from: i128, weight: i64) -> Opt
     }
 }
 
-/// Whether `to` is greater than `from + weight`.
 #[inline(always)]
 fn is_beyond(to: i128, from: i128, weight: i64) -> bool
     requires { IsWide from }

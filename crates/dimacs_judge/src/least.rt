@@ -17,14 +17,14 @@ use dimacs_optimality::{
 };
 use std::alloc::Global;
 
-/// Judges by potentials whether a solution's flow costs least. A yes, `Min` with the claimed cost, means: the flow is
-/// feasible and costs this, and no feasible flow of whole numbers costs less. `Memory` comes if there is none for a
-/// flow and a table of the nodes; it leaves the claim open.
+/// Judges by potentials whether a solution's flow costs least. `Min`, with the claimed cost, means that the flow is
+/// feasible and costs this, and that no feasible flow of whole numbers costs less. `Memory` if there is none for a flow
+/// and a table of the nodes.
 ///
-/// The tests in order: for each entry `UnknownArc` or `ArcTwice`, at its line; for each arc, from 1, `BelowLow` or
-/// `AboveCap`; for each node, by ID, `Balance`; for each arc `CostRange` if the sum of the costs up to it is outside
-/// -10^30 to 10^30; `ValueDiffers`, at the line of the value, if the cost is another; `NodesDiffer` if the potentials
-/// and the instance differ in the number of nodes; then those of `slack_tests`.
+/// The tests in order: `UnknownArc` or `ArcTwice` for each entry, at its line; `BelowLow` or `AboveCap` for each arc;
+/// `Balance` for each node; `CostRange` for each arc if the sum of the costs up to it is outside -10^30 to 10^30;
+/// `ValueDiffers`, at the value's line; `NodesDiffer` if potentials and instance differ in the number of nodes; those
+/// of `slack_tests`.
 pub fn judge_min<N: Network>(
     alloc: Global,
     instance: &MinInstance<N>,
@@ -39,7 +39,7 @@ pub fn judge_min<N: Network>(
     judge_min_placed(alloc, instance, &placed, potentials)
 }
 
-/// As `judge_min`, for a solution whose entries were put on the arcs of the instance already.
+/// The same for a solution whose entries were put on the instance's arcs already.
 pub fn judge_min_placed<N: Network>(
     alloc: Global,
     instance: &MinInstance<N>,

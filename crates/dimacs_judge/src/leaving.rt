@@ -5,15 +5,15 @@ ghost use Rattle.dimacs_network.specs.declared.network.ArcView.{ArcView};
 ghost use Rattle.dimacs_claims.specs.Labels.{IsBlock, IsNear, label};
 ghost use Rattle.dimacs_records.specs.Ranges.{IsWide};
 ghost use Rattle.dimacs_optimality.specs.CertificateTests.{relax_row};
-ghost use Rattle.dimacs_judge.specs.inside.Leaving.{ArePassedFrom, IsPassed};
+ghost use Rattle.dimacs_judge.specs.inside.Leaving.{AreRelaxedFrom, IsRelaxedBy};
 ghost use Rattle.dimacs_optimality.specs.LightestArcs.{AreLightest};
-ghost use Rattle.dimacs_judge.specs.inside.NodeLabels.{AreMade, IsLabelled, known};
+ghost use Rattle.dimacs_judge.specs.inside.NodeLabels.{AreSupported, IsLabelled, entries};
 ghost use Rattle.dimacs_optimality.specs.Tests.{Clear};
 
 use crate::distance::Distance;
 use crate::labels::escape_fault;
 use crate::node_label::NodeLabel;
-use crate::node_labels::pass_arc;
+use crate::node_labels::relax;
 use dimacs_claims::Block;
 use dimacs_network::Network;
 use dimacs_nodes::NodeTable;
@@ -22,69 +22,70 @@ use dimacs_optimality::LightestArcs;
 /// A block has few labels if there are more than this many arcs for each.
 const ARCS_A_LABEL: usize = 8;
 
-/// Whether the block has so few labels that it is faster to relax only the arcs that leave labelled nodes.
-pub(crate) fn labels_few<N: Network>(block: &Block, network: &N) -> bool {
+/// Whether it is faster to relax only the arcs that leave the block's labelled nodes.
+pub(crate) fn has_few_labels<N: Network>(block: &Block, network: &N) -> bool {
     block.labels().len() < network.arcs() as usize / ARCS_A_LABEL
 }
 
 /// Relaxes the lightest arcs that leave labelled nodes, up to the first that fails. Returns whether none fails: then no
-/// other arc fails, or is tight for a label that these aren't.
-pub(crate) fn leaving_passed<N: Network, D: Distance>(
+/// other arc fails, and each label with a tight arc is supported.
+pub(crate) fn relax_leaving<N: Network, D: Distance>(
     network: &N,
     block: &Block,
-    least: &LightestArcs,
+    lightest: &LightestArcs,
     node_labels: &mut NodeTable<NodeLabel<D>>,
 ) -> bool
     requires lawful { (nodes : ℕ) × IsBlock nodes block.now }
-    requires least { AreLightest (N.list network.now) least.now }
+    requires lightest { AreLightest (N.list network.now) lightest.now }
     requires labelled { IsLabelled D.value (N.list network.now) block.now node_labels.old }
     ensures labelled { IsLabelled D.value (N.list network.now) block.now node_labels.new }
-    ensures made { IsTrue result → AreMade (N.list network.now) block.now (known D.value node_labels.new) }
+    ensures supported { IsTrue result → AreSupported (N.list network.now) block.now (entries D.value node_labels.new) }
     ensures clear { IsTrue result → Clear (relax_row (N.list network.now) block.now) }
 {
-    if !node_passed(network, block, block.source(), 0, least, node_labels) {
+    if !relax_node(network, block, block.source(), 0, lightest, node_labels) {
         return false;
     }
     let labels = block.labels();
     for i in 0..labels.len() {
         let label = labels.at(i);
-        if !node_passed(network, block, label.id, label.dist, least, node_labels) {
+        if !relax_node(network, block, label.id, label.dist, lightest, node_labels) {
             return false;
         }
     }
     true
 }
 
-/// Relaxes the lightest arcs that leave a node with this label, up to the first that fails. If they come by rising
-/// weight, it stops at the radius: no arc beyond it fails or is tight.
-fn node_passed<N: Network, D: Distance>(
+/// Relaxes the lightest arcs that leave a node, up to the first that fails. `from` is its label. If the arcs come by
+/// increasing weight, it stops at the radius: no arc beyond it fails or is tight.
+fn relax_node<N: Network, D: Distance>(
     network: &N,
     block: &Block,
     node: u32,
     from: i128,
-    least: &LightestArcs,
+    lightest: &LightestArcs,
     node_labels: &mut NodeTable<NodeLabel<D>>,
 ) -> bool
     requires lawful { (nodes : ℕ) × IsBlock nodes block.now }
-    requires least { AreLightest (N.list network.now) least.now }
+    requires lightest { AreLightest (N.list network.now) lightest.now }
     requires label { label block.now node ≡ Some from }
     requires labelled { IsLabelled D.value (N.list network.now) block.now node_labels.old }
     ensures labelled { IsLabelled D.value (N.list network.now) block.now node_labels.new }
-    ensures kept { (a : ArcView) → IsPassed block.now (known D.value node_labels.old) a → IsPassed block.now (known D.value node_labels.new) a }
-    ensures passed { IsTrue result → ArePassedFrom (N.list network.now) block.now (known D.value node_labels.new) node }
+    ensures keeps_relaxed { (a : ArcView) → IsRelaxedBy block.now (entries D.value node_labels.old) a
+        → IsRelaxedBy block.now (entries D.value node_labels.new) a }
+    ensures relaxed { IsTrue result → AreRelaxedFrom (N.list network.now) block.now (entries D.value node_labels.new) node }
 {
     let radius = block.radius();
-    let mut next = least.last(node);
+    let mut next = lightest.last(node);
     while next > 0 {
         let place = next - 1;
-        let arc = network.arc(least.arc_at(place));
-        if least.by_weight() && leads_past(radius, from, arc.cost) {
+        let arc = network.arc(lightest.arc_at(place));
+        if lightest.by_weight() && leads_past(radius, from, arc.cost) {
             return true;
         }
-        if pass_arc(arc, block, node_labels).is_err() {
+        if relax(arc, block, node_labels).is_err() {
             return false;
         }
-        next = least.before(place);
+        next = lightest.before(place);
     }
     true
 }

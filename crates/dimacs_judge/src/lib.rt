@@ -1,8 +1,7 @@
-//! Judges of flows and distances: whether a claim with its certificate passes the tests, and what that shows.
+//! Judges of flows and distances: they test claims with their certificates, over any `Network`.
 //!
-//! `judge_max`, `judge_min`, `judge_infeasible` and `judge_paths` make all tests of a claim, the other functions some of
-//! them, over any `Network`. `decide_max` decides without a certificate. Flows, the tests of flows and the theorems come
-//! from `dimacs_optimality`.
+//! `judge_max`, `judge_min`, `judge_infeasible` and `judge_paths` make all tests of a claim, the other functions some
+//! of them. `decide_max` needs no certificate. `dimacs_optimality` has flows, their tests and the theorems.
 #![tactic(auto)]
 
 mod crossing;

@@ -18,13 +18,13 @@ use dimacs_optimality::{
 };
 use std::alloc::Global;
 
-/// Judges by a cut whether a solution's flow is maximum. A yes, `Max` with the claimed value, means: the flow is
-/// feasible and has this value, and no feasible flow of whole numbers has a greater one. `Memory` comes if there is
-/// none for a flow and a table of the nodes that have arcs; it leaves the claim open.
+/// Judges by a cut whether a solution's flow is maximum. `Max`, with the claimed value, means that the flow is feasible
+/// and has this value, and that no feasible flow of whole numbers has a greater one. `Memory` if there is none for a
+/// flow and a table of the nodes that have arcs.
 ///
-/// The tests in order: for each entry `UnknownArc` or `ArcTwice`, at its line; for each arc, from 1, `BelowLow` or
-/// `AboveCap`; for each node but source and sink, by ID, `Balance`; `ValueDiffers`, at the line of the value;
-/// `NodesDiffer` if the cut and the instance differ in the number of nodes; then those of `cut_tests`.
+/// The tests in order: `UnknownArc` or `ArcTwice` for each entry, at its line; `BelowLow` or `AboveCap` for each arc;
+/// `Balance` for each node but source and sink; `ValueDiffers`, at the value's line; `NodesDiffer` if cut and instance
+/// differ in the number of nodes; those of `cut_tests`.
 pub fn judge_max<N: Network>(
     alloc: Global,
     instance: &MaxInstance<N>,
@@ -38,7 +38,7 @@ pub fn judge_max<N: Network>(
     judge_max_placed(alloc, instance, &placed, cut)
 }
 
-/// As `judge_max`, for a solution whose entries were put on the arcs of the instance already.
+/// The same for a solution whose entries were put on the instance's arcs already.
 pub fn judge_max_placed<N: Network>(
     alloc: Global,
     instance: &MaxInstance<N>,

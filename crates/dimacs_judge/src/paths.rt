@@ -13,19 +13,16 @@ use dimacs_network::Network;
 use dimacs_optimality::{JudgeError, Verdict, nodes_agree};
 use std::alloc::Global;
 
-/// Judges whether labels are distances, and answers the queries by them. A yes means for every block, even if no query
-/// asks for it: the label of a node is the least weight of all walks to it from the block's source, and no walk leads
-/// to a node without a label, whatever its ID. In a block with a radius all walks to such a node weigh more than the
-/// radius.
+/// Judges whether labels are distances, and answers the queries by them. A yes is about all blocks, even those for
+/// which no query asks: it means what `label_tests` does.
 ///
-/// The answer `Sources` has the number of sources asked for. `Pairs` has for each pair, in order, the distance, or none
-/// and the radius of the block if it has one. Each pair is looked up in the labels, so call `index_for` first. `Memory`
-/// comes if there is none for a table of the nodes that have labels, for lists of arcs, for the numbers of the blocks
-/// or for the answers; it leaves the labels open.
+/// `Sources` has the number of sources asked for. `Pairs` has for each pair, in order, the distance, or the radius of
+/// its block if that has one. Each pair is looked up in the labels, so call `index_for` first. `Memory` if there is
+/// none for a table of the nodes that have labels, lists of arcs, the numbers of the blocks or the answers.
 ///
-/// The tests in order: `NodesDiffer` if the labels and the graph differ in the number of nodes; for each query
-/// `QueryNode` if FROM, or else TO, is above this number; for each query `BlockMissing` if its source has no block, or
-/// if it asks for all distances and the block has a radius; then those of `label_tests`.
+/// The tests in order: `NodesDiffer` if labels and graph differ in the number of nodes; `QueryNode` for each query if
+/// FROM, or else TO, is above this number; `BlockMissing` for each query whose source has no block, or has one with a
+/// radius while all distances are asked for; those of `label_tests`.
 pub fn judge_paths<N: Network>(
     alloc: Global,
     graph: &Graph<N>,

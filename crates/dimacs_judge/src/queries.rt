@@ -16,7 +16,7 @@ use dimacs_optimality::{Answer, JudgeError, Verdict, Where};
 use dimacs_records::Reason;
 use std::alloc::Global;
 
-/// Tests that the queries name nodes of the graph. The error names the first ID that is too great, FROM before TO.
+/// Tests that queries name nodes of the graph. The error names the first ID that is too great, FROM before TO.
 pub fn query_nodes_hold(nodes: u32, queries: &Queries) -> Result<(), (Where, Reason)>
     ensures tests { TestsRow (query_node_row nodes (asked queries.now)) result }
     ensures within { OnOk result (All (λ id. id ≤ nodes) (nodes_asked (asked queries.now))) }
@@ -27,7 +27,6 @@ pub fn query_nodes_hold(nodes: u32, queries: &Queries) -> Result<(), (Where, Rea
     }
 }
 
-/// The same for queries of sources.
 fn sources_are_nodes(nodes: u32, ids: &[u32]) -> Result<(), (Where, Reason)>
     ensures { TestsRow (listed_row ids.now reasons.QueryNode (λ id. nodes < id)) result }
 {
@@ -39,7 +38,6 @@ fn sources_are_nodes(nodes: u32, ids: &[u32]) -> Result<(), (Where, Reason)>
     Ok(())
 }
 
-/// The same for queries of pairs.
 fn pairs_are_nodes(nodes: u32, pairs: &[(u32, u32)]) -> Result<(), (Where, Reason)>
     ensures { TestsRow (query_node_row nodes (Pairs pairs.now)) result }
 {
@@ -54,8 +52,7 @@ fn pairs_are_nodes(nodes: u32, pairs: &[(u32, u32)]) -> Result<(), (Where, Reaso
     Ok(())
 }
 
-/// Tests that each query has a block that answers it. Returns the number of each source's block, or the first query
-/// that has none.
+/// Tests that a block answers each query. Returns the number of each source's block.
 pub(crate) fn blocks_exist(
     alloc: Global,
     labels: &Labels,
@@ -79,7 +76,6 @@ fn block_numbers(alloc: Global, labels: &Labels) -> Result<NodeMap<u32>, Memory>
     Ok(numbers)
 }
 
-/// Tests that each query has a block that answers it, by the numbers of the blocks.
 fn sources_are_served(
     labels: &Labels,
     numbers: &NodeMap<u32>,
@@ -97,7 +93,7 @@ fn sources_are_served(
     Ok(())
 }
 
-/// Whether the source has a block that answers its query: without a radius if all distances are asked for.
+/// If all distances are asked for, a block with a radius doesn't answer.
 fn is_served(labels: &Labels, numbers: &NodeMap<u32>, queries: &Queries, source: u32) -> bool
     requires { AreNumbers labels.now.blocks numbers.now }
     ensures { IsTrue result ↔ IsServed labels.now.blocks (asked queries.now) source }
@@ -108,7 +104,6 @@ fn is_served(labels: &Labels, numbers: &NodeMap<u32>, queries: &Queries, source:
     }
 }
 
-/// Whether the source has a block without a radius.
 fn has_full_block(labels: &Labels, numbers: &NodeMap<u32>, source: u32) -> bool
     requires { AreNumbers labels.now.blocks numbers.now }
     ensures { IsTrue result ↔ HasFullBlock labels.now.blocks source }
@@ -119,7 +114,6 @@ fn has_full_block(labels: &Labels, numbers: &NodeMap<u32>, source: u32) -> bool
     }
 }
 
-/// Whether the source has a block.
 fn has_block(labels: &Labels, numbers: &NodeMap<u32>, source: u32) -> bool
     requires { AreNumbers labels.now.blocks numbers.now }
     ensures { IsTrue result ↔ HasBlock labels.now.blocks source }
@@ -138,7 +132,7 @@ pub fn source_asked(queries: &Queries, i: usize) -> u32
     }
 }
 
-/// Indexes the labels if queries of pairs look them up.
+/// Indexes the labels if queries of pairs will look them up.
 pub fn index_for(queries: &Queries, labels: &mut Labels) -> Result<(), Memory>
     ensures { labels.new ≡ labels.old }
 {
@@ -148,9 +142,8 @@ pub fn index_for(queries: &Queries, labels: &mut Labels) -> Result<(), Memory>
     }
 }
 
-/// The answers that labels give to queries, whether or not the labels pass any test. A pair whose source has no block
-/// gets none. Each pair takes logarithmic time after `index_for`, otherwise time in proportion to the labels of its
-/// block.
+/// Answers queries by labels, without testing these. A pair whose source has no block gets no distance. After
+/// `index_for` each pair takes logarithmic time, otherwise time in proportion to its block's labels.
 pub fn answer_queries(alloc: Global, queries: &Queries, labels: &Labels) -> Result<Verdict, Memory>
     requires { AreLawful (asked queries.now) }
     ensures { IfOk result (AnswersQueries labels.now.blocks (asked queries.now)) }
@@ -159,7 +152,7 @@ pub fn answer_queries(alloc: Global, queries: &Queries, labels: &Labels) -> Resu
     answers(alloc, queries, labels, &numbers)
 }
 
-/// The same, by the numbers of the blocks.
+/// The same by block numbers.
 pub(crate) fn answers(
     alloc: Global,
     queries: &Queries,
@@ -179,7 +172,6 @@ pub(crate) fn answers(
     }
 }
 
-/// The answer to each pair, in order.
 fn pair_answers(
     alloc: Global,
     pairs: &[(u32, u32)],
@@ -197,7 +189,6 @@ fn pair_answers(
     Ok(answers)
 }
 
-/// The answer to one pair: the label of `to` in the block of `from`, or the radius of this block.
 fn answer(labels: &Labels, numbers: &NodeMap<u32>, from: u32, to: u32) -> Answer
     requires { AreNumbers labels.now.blocks numbers.now }
     ensures { result ≡ answer_to labels.now.blocks (from, to) }
@@ -218,7 +209,6 @@ fn answer(labels: &Labels, numbers: &NodeMap<u32>, from: u32, to: u32) -> Answer
     }
 }
 
-/// The label of a node in the block of a source.
 fn distance(labels: &Labels, numbers: &NodeMap<u32>, from: u32, to: u32) -> Option<i128>
     requires { AreNumbers labels.now.blocks numbers.now }
     ensures { result ≡ distance_from labels.now.blocks from to }
@@ -227,7 +217,6 @@ fn distance(labels: &Labels, numbers: &NodeMap<u32>, from: u32, to: u32) -> Opti
     labels.label(number as usize, to)
 }
 
-/// The radius of the block of a source.
 fn radius(labels: &Labels, numbers: &NodeMap<u32>, from: u32) -> Option<i128>
     requires { AreNumbers labels.now.blocks numbers.now }
     ensures { result ≡ radius_from labels.now.blocks from }

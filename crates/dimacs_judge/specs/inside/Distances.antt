@@ -10,9 +10,9 @@ abbrev pub below : ℤ → ℤ → Option ℤ
 below end d = if int_lt d end then Some d else None
 
 -- `from` is a distance, and `to` is none or greater than `from + weight`
-abbrev pub LeadsAside : Option ℤ → Option ℤ → ℤ → Type 0
-LeadsAside from to weight = (a : ℤ) × (from ≡ Some a) × ((to ≡ None) ⊎ ((b : ℤ) × (to ≡ Some b) × ((a +ℤ weight) <ℤ b)))
+abbrev pub Improves : Option ℤ → Option ℤ → ℤ → Type 0
+Improves from to weight = (a : ℤ) × (from ≡ Some a) × ((to ≡ None) ⊎ ((b : ℤ) × (to ≡ Some b) × ((a +ℤ weight) <ℤ b)))
 
 -- both are distances, and `to` is `from + weight`
-abbrev pub LeadsTo : Option ℤ → Option ℤ → ℤ → Type 0
-LeadsTo from to weight = (a : ℤ) × (from ≡ Some a) × (to ≡ Some (a +ℤ weight))
+abbrev pub IsTight : Option ℤ → Option ℤ → ℤ → Type 0
+IsTight from to weight = (a : ℤ) × (from ≡ Some a) × (to ≡ Some (a +ℤ weight))

@@ -1,7 +1,7 @@
 use Rattle.std.proofs.Common.{Some, ◌∙◌, ap, rules, w64, SFits}
 use Rattle.std.specs.Int.{w128}
 use Rattle.std.proofs.lemmas.Int.{to_z-of_z}
-use Rattle.dimacs_judge.proofs.NodeLabelLemmas.{told_between}
+use Rattle.dimacs_judge.proofs.NodeLabelLemmas.{fault_between}
 use Rattle.dimacs_judge.proofs.node_labels.arc_fault.Goals as goal
 
 pub returns : goal.returns
@@ -9,5 +9,5 @@ returns g c =
     let value = g.D.Distance.value in
     let from : SFits w128 c.in_ok-from.from = search rules in
     let cost : SFits w64 c.args.weight = search rules in
-    told_between c.args.block.now.radius _ _ _ _ _ _ c.relax_fault_from.result (ap (λ d. Some d) (to_z-of_z w128 c.in_ok-from.from from) ∙ (c.in_ok-from.ensures ∙ ap (λ m. value m.dist) c.get.ensures.value))
+    fault_between c.args.block.now.radius _ _ _ _ _ _ c.relax_fault_from.result (ap (λ d. Some d) (to_z-of_z w128 c.in_ok-from.from from) ∙ (c.in_ok-from.ensures ∙ ap (λ m. value m.dist) c.get.ensures.value))
     (c.distance_in-to.ensures ∙ ap (λ m. value m.dist) c.get-2.ensures.value) (to_z-of_z w64 c.args.weight cost) (rw c.radius.ensures at c.relax_fault_from.ensures)

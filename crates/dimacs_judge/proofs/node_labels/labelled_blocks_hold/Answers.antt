@@ -6,7 +6,7 @@ use Rattle.dimacs_judge.specs.inside.CertificateTests.{distance_rows}
 use Rattle.dimacs_optimality.specs.inside.Labels.{block_at}
 use Rattle.dimacs_optimality.specs.Tests.{AllClear, Clear, FirstOfRow}
 use Rattle.dimacs_optimality.specs.inside.Tests.{TestsAll}
-use Rattle.dimacs_judge.proofs.BlockLemmas.{after_weights, block_is, blocks_first, blocks_more, blocks_told}
+use Rattle.dimacs_judge.proofs.BlockLemmas.{after_weights, block_is, blocks_first, blocks_more, blocks_tests}
 use Rattle.dimacs_judge.proofs.node_labels.labelled_blocks_hold.Goals as goal
 
 pub returns-in_err-test_weights_for-clause-tests : goal.returns-in_err-test_weights_for-clause-tests
@@ -31,7 +31,7 @@ returns-in_err-labelled_block_holds-clause-tests g c =
     let distances = subst (λ (d : BlockValue). TestsAll (distance_rows arcs d) (Err error)) b c.in_err-labelled_block_holds.ensures.tests in
     let outcome = after_weights arcs (block_at blocks c.loop-i.i) error weights distances in
     let p = err_from_is_err_and c.from_residual-in_err-labelled_block_holds.result c.from_residual-in_err-labelled_block_holds.ensures.1 in
-    rw (p.1, p.2) (blocks_told arcs blocks c.loop-i.i error inside c.loop-i.invariant.clear outcome)
+    rw (p.1, p.2) (blocks_tests arcs blocks c.loop-i.i error inside c.loop-i.invariant.clear outcome)
 
 pub loop-i-preserved : goal.loop-i-preserved
 loop-i-preserved g c =
@@ -43,7 +43,7 @@ loop-i-preserved g c =
     let distances = subst (λ (d : BlockValue). AllClear (distance_rows arcs d)) b c.in_ok-labelled_block_holds.ensures.tests in
     record {
       clear = blocks_more arcs blocks c.loop-i.i inside c.loop-i.invariant.clear (weights, distances);
-      blank = c.in_ok-labelled_block_holds.ensures.blank;
+      unlabelled = c.in_ok-labelled_block_holds.ensures.unlabelled;
       tested = c.in_ok-test_weights_for.ensures.tested;
-      least = c.in_ok-link_for.ensures;
+      lightest = c.in_ok-lightest_for.ensures;
     }

@@ -1,7 +1,7 @@
 use Rattle.std.proofs.Common.{IfSome, take}
 use Rattle.dimacs_optimality.specs.CertificateTests.{label_rows}
 use Rattle.dimacs_optimality.specs.LightestArcs.{AreLightest}
-use Rattle.dimacs_judge.specs.inside.NodeLabels.{AllBlank, AreAsTested}
+use Rattle.dimacs_judge.specs.inside.NodeLabels.{AllUnlabelled, AreAsTested}
 use Rattle.dimacs_optimality.specs.Tests.{AllClear}
 use Rattle.dimacs_judge.proofs.node_labels.labelled_blocks_hold.Given as goal
 
@@ -9,7 +9,7 @@ use Rattle.dimacs_judge.proofs.node_labels.labelled_blocks_hold.Given as goal
 abbrev pub invariant-loop-i : goal.invariant-loop-i
 invariant-loop-i g l = record {
   clear : AllClear (label_rows (g.N.Network.list l.network) (take l.i l.labels.blocks));
-  blank : AllBlank l.tables;
+  unlabelled : AllUnlabelled l.tables;
   tested : AreAsTested (g.N.Network.list l.network) l.weights;
-  least : IfSome l.least (AreLightest (g.N.Network.list l.network));
+  lightest : IfSome l.lightest (AreLightest (g.N.Network.list l.network));
 }
