@@ -1,7 +1,7 @@
 //! The arcs of each tail or head, linked.
 
 ghost use Rattle.std.specs.Prelude.{◌≡◌, ◌<◌, length, slice_index, IfOk};
-ghost use Rattle.dimacs_nodes.specs.Tables.{blank_of, value_of};
+ghost use Rattle.dimacs_nodes.specs.Tables.{value_of};
 ghost use Rattle.dimacs_network.specs.AdjacencyLists.{AreAdjacencyLists, end_of, other_end};
 
 use crate::network::{ArcView, Network};
@@ -46,7 +46,6 @@ impl Side {
 pub struct AdjacencyLists {
     last: NodeTable<u32>,
     before: Vec<u32>,
-    ghost blank: { blank_of last ≡ 0 },
 }
 
 impl AdjacencyLists {
@@ -67,8 +66,7 @@ impl AdjacencyLists {
     /// The table of the nodes' last arcs: 1 + the index of each; 0 if a node has none.
     #[inline(always)]
     pub fn last_arcs(&self) -> &NodeTable<u32>
-        ensures last { result.now ≡ self.now.last }
-        ensures blank { blank_of result.now ≡ 0 }
+        ensures { result.now ≡ self.now.last }
     {
         &self.last
     }

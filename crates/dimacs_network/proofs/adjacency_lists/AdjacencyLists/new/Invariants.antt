@@ -1,7 +1,6 @@
-use Rattle.std.specs.Prelude.{◌≡◌}
-use Rattle.dimacs_nodes.specs.Tables.{blank_of, value_of}
+use Rattle.dimacs_nodes.specs.Tables.{value_of}
 use Rattle.dimacs_network.specs.AdjacencyLists.{AreLinked}
 use Rattle.dimacs_network.proofs.adjacency_lists.AdjacencyLists.new.Given as goal
 
 abbrev pub invariant-loop-i : goal.invariant-loop-i
-invariant-loop-i g l = (blank_of l.last ≡ 0) × AreLinked l.side (g.N.Network.list l.network) l.i (value_of l.last) l.before.items
+invariant-loop-i g l = AreLinked l.side (g.N.Network.list l.network) l.i (value_of l.last) l.before.items
