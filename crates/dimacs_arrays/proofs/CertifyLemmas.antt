@@ -50,8 +50,8 @@ max_by i x cut total bytes maximum tight nodes total_is each marks bits =
 module _ (i : MaxValue) (x : List ℤ) where
   --   each answer about the flow shows that it is feasible
   pub max_feasible : (outcome : MaxCertified) → CertifiesMaxFlow i x outcome → (done : Unit {0}) × FeasibleMax i x
-  max_feasible (max_told.Optimal total inside) says = (tt, says.0.0.feasible)
-  max_feasible (max_told.Better y) says = (tt, says.claimed)
+  max_feasible (max_told.Optimal total inside) agrees = (tt, agrees.0.0.feasible)
+  max_feasible (max_told.Better y) agrees = (tt, agrees.claimed)
 
   pub max_better : (y : List ℤ) → FeasibleMax i x → DecidesMax i x (of_max.Better y) → CertifiesMaxFlow i x (max_told.Better y)
   max_better y feasible outcome = record { claimed = feasible; not_maximum = outcome.0; feasible = outcome.1; greater = outcome.2 }
@@ -88,9 +88,9 @@ module _ (i : MinValue) (x : List ℤ) where
   min_one_way = (bound_one_way i.arcs x, (balance_one_way i.nodes i.arcs (min_demand i) x, (cost_one_way i.arcs x, tt)))
 
   min_clear : (outcome : MinCertified) → CertifiesMinFlow i x outcome → AllClear (min_claimed_rows i x)
-  min_clear (min_told.Optimal total potentials) says = all_clear-append (feasible_min_rows i x) (cost_row i.arcs x ∷ []) (feasible_min_clear i x says.0.0.feasible) (costs_clear i.arcs x says.0.0.costs_wide, tt)
-  min_clear (min_told.Wide total p) says = all_clear-append (feasible_min_rows i x) (cost_row i.arcs x ∷ []) (feasible_min_clear i x says.0.0.feasible) (costs_clear i.arcs x says.0.0.costs_wide, tt)
-  min_clear (min_told.Better y) says = all_clear-append (feasible_min_rows i x) (cost_row i.arcs x ∷ []) (feasible_min_clear i x says.claimed) (costs_clear i.arcs x says.costs_wide, tt)
+  min_clear (min_told.Optimal total potentials) agrees = all_clear-append (feasible_min_rows i x) (cost_row i.arcs x ∷ []) (feasible_min_clear i x agrees.0.0.feasible) (costs_clear i.arcs x agrees.0.0.costs_wide, tt)
+  min_clear (min_told.Wide total p) agrees = all_clear-append (feasible_min_rows i x) (cost_row i.arcs x ∷ []) (feasible_min_clear i x agrees.0.0.feasible) (costs_clear i.arcs x agrees.0.0.costs_wide, tt)
+  min_clear (min_told.Better y) agrees = all_clear-append (feasible_min_rows i x) (cost_row i.arcs x ∷ []) (feasible_min_clear i x agrees.claimed) (costs_clear i.arcs x agrees.costs_wide, tt)
 
   min_refused : (error : JudgeError) → Refuses (First (min_claimed_rows i x)) error → (result : Result MinCertified JudgeError) → IsErrAnd result (λ e. e ≡ error) → Settles (CertifiesMinFlow i x) (min_claimed_rows i x) result
   min_refused error first result is = error_settles (CertifiesMinFlow i x) (min_claimed_rows i x) min_one_way min_clear error first result is

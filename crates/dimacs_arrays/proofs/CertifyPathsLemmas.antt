@@ -53,7 +53,7 @@ module _ (g : NetworkValue) (s : ℕ) (claim : ℕ → Option ℤ) (labels : Lab
     lawful = lawful;
     source = full.0;
     whole = full.1;
-    says = says;
+    agrees = agrees;
     preds = are.named;
     others = λ v node free. are.others v (unnamed v node free);
   }
@@ -61,8 +61,8 @@ module _ (g : NetworkValue) (s : ℕ) (claim : ℕ → Option ℤ) (labels : Lab
       full : (b.source ≡ s) × (b.radius ≡ None) × (block_of labels.blocks s ≡ Some b)
       full = alone_of labels.blocks b s alone (All-head (HasFullBlock labels.blocks) s [] of.passes.blocks)
 
-      says : (v : ℕ) → IsNode g.nodes v → label b v ≡ claim v
-      says v node = ap (λ o. label_in o v) (sym full.2) ∙ of.says v node
+      agrees : (v : ℕ) → IsNode g.nodes v → label b v ≡ claim v
+      agrees v node = ap (λ o. label_in o v) (sym full.2) ∙ of.agrees v node
 
       unlabelled : (v : ℕ) → v ≢ s → label b v ≡ None → distance_in b.labels v ≡ None
       unlabelled v apart none = rw (ne_eqb b.source v (λ e. apart (sym e ∙ full.0))) at none
@@ -70,5 +70,5 @@ module _ (g : NetworkValue) (s : ℕ) (claim : ℕ → Option ℤ) (labels : Lab
       unnamed : (v : ℕ) → IsNode g.nodes v → (¬ IsDue s claim v) → distance_in b.labels v ≡ None
       unnamed v node free = elim (cases_eq v s) [
         | inl same ↦ not_among b.labels v (subst (λ u. All (λ (l : Label). l.id ≢ u) b.labels) (full.0 ∙ sym same) (not_source b.source [] b.labels lawful.fresh))
-        | inr apart ↦ unlabelled v apart (says v node ∙ no_claim (claim v) (λ some. free (apart, some)))
+        | inr apart ↦ unlabelled v apart (agrees v node ∙ no_claim (claim v) (λ some. free (apart, some)))
       ]

@@ -54,7 +54,7 @@ module _ (nodes s : ℕ) (claim : ℕ → Option ℤ) (pred : ℕ → ℕ) where
   pub spelled_leads : (labels : LabelsValue) → AreLabelsBy nodes s claim pred labels → (v : ℕ) → IsNode nodes v → IsSome (claim v) → LeadsBack pred s v
   spelled_leads labels are v node some =
       let b = are.block in
-      let named : is_some (label b v) ≡ true = ap is_some (are.says v node) ∙ some in
+      let named : is_some (label b v) ≡ true = ap is_some (are.agrees v node) ∙ some in
       let each = subst (λ x. EachAfter (HasPred x) b.labels) are.source are.lawful.preds in
       let all = all_lead s pred [] b.labels (All-nil _) each are.preds in
       elim (eqb_tells b.source v) [
@@ -80,7 +80,7 @@ module _ (nodes s : ℕ) (claim : ℕ → Option ℤ) (pred : ℕ → ℕ) where
       | inr none ↦ (let free : ¬ IsDue s claim v = λ due. (let f : true ≡ false = sym due.1 ∙ none in cc) in inr (free, are.others v node free))
       | inl some ↦
           let b = are.block in
-          let named : is_some (label b v) ≡ true = ap is_some (are.says v node) ∙ some in
+          let named : is_some (label b v) ≡ true = ap is_some (are.agrees v node) ∙ some in
           let other : (b.source == v) ≡ false = ne_eqb b.source v (λ e. apart (sym e ∙ are.source)) in
           let (l, there, is) = label_of b.labels v (rw other at named) in
           let lawful = All-contains (IsLabel nodes) b.labels l are.lawful.within there in
@@ -103,7 +103,7 @@ module _ (nodes s : ℕ) (claim : ℕ → Option ℤ) (pred : ℕ → ℕ) where
     pub no_source : IsNode nodes s → FirstOfRow (source_row s claim) place reason → HasNone place reason
     no_source node first = (
       alone (inl first),
-      λ labels are. first.fails.3 (sym (are.says s node) ∙ elim (eqb_tells are.block.source s) [ inl same ↦ rw same.0 refl | inr apart ↦ absurd (apart.1 are.source) ]),
+      λ labels are. first.fails.3 (sym (are.agrees s node) ∙ elim (eqb_tells are.block.source s) [ inl same ↦ rw same.0 refl | inr apart ↦ absurd (apart.1 are.source) ]),
     )
 
     pub no_pred : Clear (source_row s claim) → FirstOfRow (pred_row nodes s claim pred) place reason → HasNone place reason
@@ -129,7 +129,7 @@ module _ (nodes s : ℕ) (claim : ℕ → Option ℤ) (pred : ℕ → ℕ) where
     lawful = is.lawful;
     source = is.source;
     whole = is.whole;
-    says = λ v node. go v (label b v) (claim v) refl refl;
+    agrees = λ v node. go v (label b v) (claim v) refl refl;
     preds = is.preds;
     others = λ v node free. zero_pred clear v node free;
   }

@@ -34,7 +34,7 @@ module _ (g : NetworkValue) (s : ℕ) (claim : ℕ → Option ℤ) (pred : ℕ �
   b' = yours.block
 
   same_label : (v : ℕ) → IsNode g.nodes v → label b' v ≡ label b v
-  same_label v node = yours.says v node ∙ sym (mine.says v node)
+  same_label v node = yours.agrees v node ∙ sym (mine.agrees v node)
 
   reached : (v : ℕ) (far : ℤ) → IsNode g.nodes v → IsReached b v far → IsReached b' v far
   reached v far node (inl labelled) = inl (labelled.0, same_label v node ∙ labelled.1, labelled.2)
@@ -88,5 +88,5 @@ predecessors_by g s claim labels b preds of alone lawful named joined =
     record {
       each = named.each;
       some = (labels, by);
-      pass = λ other says. both_pass g s claim (pred_by_node preds) joined labels other by says of.passes;
+      pass = λ other agrees. both_pass g s claim (pred_by_node preds) joined labels other by agrees of.passes;
     }

@@ -95,7 +95,7 @@ module _ (b : BlockValue) (nodes : ℕ) where
         }
 
     pub reached_all : (n : ℕ) → length b.labels ≡ n → AreReachedBy b nodes distances n → AreDistancesOf nodes b distances
-    reached_all n over are = record { each = are.each; says = λ v node. by_source v }
+    reached_all n over are = record { each = are.each; agrees = λ v node. by_source v }
       where
         by_label : (v : ℕ) → v ≢ b.source → (o : Option ℤ) → distance_in b.labels v ≡ o → claimed_by_node distances v ≡ o
         by_label v off None e = are.others v off (λ j less same. let f : Some (at_place b.labels j).dist ≡ None = sym (distance_in-at b.labels apart j (omega (arith, less, over))) ∙ (ap (distance_in b.labels) same ∙ e) in cc)

@@ -134,8 +134,8 @@ module _ (g : NetworkValue) (s : ℕ) (distances : List ℤ) (preds : List ℕ) 
     relaxed : All (IsRelaxed b) g.arcs
     relaxed = All-from_get_or (IsRelaxed b) g.arcs no_arc (λ k h d is.
         let ends : JoinsNodes g.nodes (arc_at g.arcs k) = All-get_or (JoinsNodes g.nodes) g.arcs k no_arc h joined in
-        let (e, named, le) = All-get_or (Relaxes claim) g.arcs k no_arc h are.rising.relaxed d (sym (by.says _ ends.0) ∙ is) in
-        inl (e, by.says _ ends.1 ∙ named, le))
+        let (e, named, le) = All-get_or (Relaxes claim) g.arcs k no_arc h are.rising.relaxed d (sym (by.agrees _ ends.0) ∙ is) in
+        inl (e, by.agrees _ ends.1 ∙ named, le))
 
     tight_at : (k : ℕ) → k < length b.labels → HasTightArc g.arcs b (get_or b.labels k no_label)
     tight_at k h =
@@ -144,14 +144,14 @@ module _ (g : NetworkValue) (s : ℕ) (distances : List ℤ) (preds : List ℕ) 
         let other : l.id ≢ b.source = All-get_or (λ (m : Label). m.id ≢ b.source) b.labels k no_label h (not_source b.source [] b.labels by.lawful.fresh) in
         let found : distance_in b.labels l.id ≡ Some l.dist = distance_in-at b.labels (fresh_apart b.source b.labels by.lawful.fresh) k h in
         let here : label b l.id ≡ Some l.dist = rw (ne_eqb b.source l.id (λ e. other (sym e))) found in
-        let named : claim l.id ≡ Some l.dist = sym (by.says l.id lawful.id) ∙ here in
+        let named : claim l.id ≡ Some l.dist = sym (by.agrees l.id lawful.id) ∙ here in
         let from : l.pred ≡ pred l.id = All-get_or (λ (m : Label). m.pred ≡ pred m.id) b.labels k no_label h by.preds in
         let (a, has, tail, head, up) = made l.id l.dist (λ same. other (same ∙ sym by.source)) named in
         let (e, rises) = up in
         let both : Some (e +ℤ a.cost) ≡ Some l.dist = sym rises.head ∙ (ap claim head ∙ named) in
         let adds : e +ℤ a.cost ≡ l.dist = cc in
         let start : a.tail ≡ l.pred = tail ∙ sym from in
-        (e, by.says l.pred lawful.pred ∙ (ap claim (sym start) ∙ rises.tail), record { arc = a; present = has; from = start; to = head; adds = adds })
+        (e, by.agrees l.pred lawful.pred ∙ (ap claim (sym start) ∙ rises.tail), record { arc = a; present = has; from = start; to = head; adds = adds })
 
     passes : LabelsOk g.arcs b
     passes = record { weights = rw by.whole tt; tight = All-from_get_or (HasTightArc g.arcs b) b.labels no_label tight_at; relaxed = relaxed }
@@ -173,7 +173,7 @@ module _ (g : NetworkValue) (s : ℕ) (distances : List ℤ) (preds : List ℕ) 
     carried s' v outcome outcome' radius source same none is = rw (← source, ← same, ← none) is
 
     pub rising_true : AreDistancesFrom g s claim
-    rising_true v at = carried s v (label b v) (claim v) b.radius by.source (by.says v at) by.whole (labels_are_distances g.arcs b by.lawful.preds (stays_near g.nodes b by.lawful) passes v)
+    rising_true v at = carried s v (label b v) (claim v) b.radius by.source (by.agrees v at) by.whole (labels_are_distances g.arcs b by.lawful.preds (stays_near g.nodes b by.lawful) passes v)
 
   --   the distances are right, and the predecessors show it
   pub rising_certified : AreDistancesFrom g s claim × ArePredecessors g s claim preds

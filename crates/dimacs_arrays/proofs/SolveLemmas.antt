@@ -54,7 +54,7 @@ module _ (g : NetworkValue) (s : ℕ) (labels : LabelsValue) (b : BlockValue) (p
     of = record {
       alone = ap length alone;
       passes = produced.shows.passes;
-      says = λ v node. ap (λ o. label_in o v) found ∙ sym (are.says v node);
+      agrees = λ v node. ap (λ o. label_in o v) found ∙ sym (are.agrees v node);
     }
 
     true_from : (v : ℕ) → IsDistance g.arcs b.source v (label b v) b.radius
@@ -64,7 +64,7 @@ module _ (g : NetworkValue) (s : ℕ) (labels : LabelsValue) (b : BlockValue) (p
     distances_from v node =
         let by_source = subst (λ u. IsDistance g.arcs u v (label b v) b.radius) source_is (true_from v) in
         let by_radius = subst (λ r. IsDistance g.arcs s v (label b v) r) whole by_source in
-        subst (λ o. IsDistance g.arcs s v o None) (sym (are.says v node)) by_radius
+        subst (λ o. IsDistance g.arcs s v o None) (sym (are.agrees v node)) by_radius
 
     pub found_by : (length distances ≡ g.nodes) × AreDistancesFrom g s (claimed_by_node distances) × ArePredecessors g s (claimed_by_node distances) preds
     found_by = (are.each, distances_from, predecessors_by g s (claimed_by_node distances) labels b preds of alone lawful named joined)

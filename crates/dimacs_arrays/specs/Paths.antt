@@ -75,7 +75,7 @@ pub record AreLabelsBy (nodes s : ℕ) (claim : ℕ → Option ℤ) (pred : ℕ 
   pub lawful : IsBlock nodes block
   pub source : block.source ≡ s
   pub whole : block.radius ≡ None
-  pub says : (v : ℕ) → IsNode nodes v → label block v ≡ claim v
+  pub agrees : (v : ℕ) → IsNode nodes v → label block v ≡ claim v
   pub preds : All (λ (l : Label). l.pred ≡ pred l.id) block.labels
   pub others : (v : ℕ) → IsNode nodes v → (¬ IsDue s claim v) → pred v ≡ 0
 

@@ -87,7 +87,7 @@ impl LabelTree {
         predecessors: &[u32],
         node: u32,
     ) -> Result<(), Memory>
-        requires few_nodes { length distances.now ≤ most_nodes }
+        requires node_limit { length distances.now ≤ most_nodes }
         requires tree { IsLabelTree (length distances.now) self.old.block.source
             (claimed_by_node distances.now) (pred_by_node predecessors.now) self.old.block (value_of self.old.led) }
         requires distance { IsSome (claimed_by_node distances.now node) }

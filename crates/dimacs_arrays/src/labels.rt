@@ -29,7 +29,7 @@ pub(crate) fn labels_by_node(
     distances: &[i64],
     predecessors: &[u32],
 ) -> Result<Labels, JudgeError>
-    requires few_nodes { length distances.now ≤ most_nodes }
+    requires node_limit { length distances.now ≤ most_nodes }
     requires source { IsNode (length distances.now) source }
     requires distances { length distances.now ≡ nodes }
     requires predecessors { length predecessors.now ≡ length distances.now }
@@ -51,7 +51,7 @@ fn predecessors_hold(
     distances: &[i64],
     predecessors: &[u32],
 ) -> Result<(), (Where, Reason)>
-    requires few_nodes { length distances.now ≤ most_nodes }
+    requires node_limit { length distances.now ≤ most_nodes }
     ensures { TestsRow (pred_row (length distances.now) source (claimed_by_node distances.now) (pred_by_node predecessors.now)) result }
 {
     for v in 1..distances.len() as u32 + 1 {
@@ -81,7 +81,7 @@ fn label_tree(
     distances: &[i64],
     predecessors: &[u32],
 ) -> Result<LabelTree, JudgeError>
-    requires few_nodes { length distances.now ≤ most_nodes }
+    requires node_limit { length distances.now ≤ most_nodes }
     requires source { IsNode (length distances.now) source }
     requires distance { claimed_by_node distances.now source ≡ Some (pos 0) }
     requires preds { (v : ℕ) → claimed_by_node distances.now v ≡ None → pred_by_node predecessors.now v ≡ 0 }

@@ -39,7 +39,7 @@ impl PathBack {
         predecessors: &[u32],
         from: u32,
     ) -> Result<bool, Memory>
-        requires few_nodes { length distances.now ≤ most_nodes }
+        requires node_limit { length distances.now ≤ most_nodes }
         requires tree { IsLabelTree (length distances.now) tree.old.block.source
             (claimed_by_node distances.now) (pred_by_node predecessors.now) tree.old.block (value_of tree.old.led) }
         requires preds { (v : ℕ) → claimed_by_node distances.now v ≡ None → pred_by_node predecessors.now v ≡ 0 }

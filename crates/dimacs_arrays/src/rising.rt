@@ -32,7 +32,7 @@ pub(crate) fn rising_predecessors<N: Network>(
     source: u32,
     distances: &[i64],
 ) -> Result<Option<Vec<u32>>, Memory>
-    requires few_nodes { N.node_count network.now ≤ most_nodes }
+    requires node_limit { N.node_count network.now ≤ most_nodes }
     requires joined { All (JoinsNodes (N.node_count network.now)) (N.list network.now) }
     ensures { IfOk result (λ found. IfSome found (λ predecessors. AreRisingBy (N.node_count network.now) source (N.list network.now)
         distances.now predecessors.items)) }
@@ -59,7 +59,7 @@ pub(crate) fn rise_by<N: Network>(
     distances: &[i64],
     predecessors: &[u32],
 ) -> Result<bool, Memory>
-    requires few_nodes { N.node_count network.now ≤ most_nodes }
+    requires node_limit { N.node_count network.now ≤ most_nodes }
     requires joined { All (JoinsNodes (N.node_count network.now)) (N.list network.now) }
     ensures { IfOk result (λ yes. IsTrue yes → AreRisingBy (N.node_count network.now) source (N.list network.now)
         distances.now predecessors.now) }

@@ -23,7 +23,7 @@ use Rattle.dimacs_optimality.proofs.Firsts.{AllOneWay, one_first}
 use Rattle.dimacs_optimality.proofs.RowLists.{all_one_way-append, first_after, first_in_front}
 use Rattle.dimacs_decide.specs.CertifiedPaths.{AreAllDistances, AreLabelsOfAll, CertifiesPaths, block_source, distances_rows, sources_of}
 use Rattle.dimacs_decide.specs.Distances.{AreDistancesFrom, claim_rows}
-use Rattle.dimacs_decide.specs.inside.DistanceBlocks.{DecidesBlock, IsMadeOf}
+use Rattle.dimacs_decide.specs.inside.DistanceBlocks.{DecidesBlock, IsBlockFor}
 use Rattle.dimacs_decide.proofs.ClaimLemmas.{claim_one_way, true_clear}
 
 abbrev no_block : BlockValue
@@ -88,9 +88,9 @@ module _ (g : NetworkValue) (joined : All (JoinsNodes g.nodes) g.arcs) where
   refused_at blocks k error inside nodes hold outcome (Err e) is = subst (λ (e : JudgeError). CertifiesPaths g blocks (Err e)) (sym is) (refuted blocks k error inside nodes hold outcome)
 
 -- ---- blocks for the first claims
-module _ (g : NetworkValue) (blocks made : List BlockValue) (k : ℕ) (inside : k < length blocks) (zip : AllZip (IsMadeOf g) (take k blocks) made) where
+module _ (g : NetworkValue) (blocks made : List BlockValue) (k : ℕ) (inside : k < length blocks) (zip : AllZip (IsBlockFor g) (take k blocks) made) where
   so_many : length made ≡ k
-  so_many = omega (arith, length_all_zip (IsMadeOf g) (take k blocks) made zip, length-take-le k blocks (omega (arith, inside)))
+  so_many = omega (arith, length_all_zip (IsBlockFor g) (take k blocks) made zip, length-take-le k blocks (omega (arith, inside)))
 
   pub fewer : length made < length blocks
   fewer = omega (arith, so_many, inside)
@@ -100,39 +100,39 @@ module _ (g : NetworkValue) (blocks made : List BlockValue) (k : ℕ) (inside : 
   next_source new b from other (j, within, is) same =
       let before : j < k = omega (arith, within, so_many) in
       let taken : j < length (take k blocks) = omega (arith, before, length-take-le k blocks (omega (arith, inside))) in
-      let of = AllZip-get_or (IsMadeOf g) (take k blocks) made j no_block other zip taken in
+      let of = AllZip-get_or (IsBlockFor g) (take k blocks) made j no_block other zip taken in
       let there : other.source ≡ (block_at blocks j).source = ap block_source (sym is) ∙ (of.source ∙ ap block_source (get_or-take k blocks j no_block before)) in
       apart_before blocks new j k before inside (sym there ∙ (same ∙ from))
 
-pub made_more : (g : NetworkValue) (blocks made : List BlockValue) (k : ℕ) (m : BlockValue) → k < length blocks → AllZip (IsMadeOf g) (take k blocks) made → IsMadeOf g (block_at blocks k) m → AllZip (IsMadeOf g) (take (k + 1) blocks) (made ++ m ∷ [])
-made_more g blocks made k m inside zip of = all_zip_more (IsMadeOf g) blocks made k (block_at blocks k) m inside (get_or_default blocks k no_block (block_at blocks k) inside) zip of
+pub made_more : (g : NetworkValue) (blocks made : List BlockValue) (k : ℕ) (m : BlockValue) → k < length blocks → AllZip (IsBlockFor g) (take k blocks) made → IsBlockFor g (block_at blocks k) m → AllZip (IsBlockFor g) (take (k + 1) blocks) (made ++ m ∷ [])
+made_more g blocks made k m inside zip of = all_zip_more (IsBlockFor g) blocks made k (block_at blocks k) m inside (get_or_default blocks k no_block (block_at blocks k) inside) zip of
 
 -- ---- a block for each claim
 module _ (g : NetworkValue) where
-  zip_sources : (blocks made : List BlockValue) → AllZip (IsMadeOf g) blocks made → sources_of made ≡ sources_of blocks
+  zip_sources : (blocks made : List BlockValue) → AllZip (IsBlockFor g) blocks made → sources_of made ≡ sources_of blocks
   zip_sources [] [] zip = refl
   zip_sources [] (m ∷ made) zip = absurd zip
   zip_sources (b ∷ blocks) [] zip = absurd zip
   zip_sources (b ∷ blocks) (m ∷ made) zip = ap (λ s. s ∷ sources_of made) zip.0.source ∙ ap (λ rest. b.source ∷ rest) (zip_sources blocks made zip.1)
 
-  zip_passes : (blocks made : List BlockValue) → AllZip (IsMadeOf g) blocks made → All (LabelsOk g.arcs) made
+  zip_passes : (blocks made : List BlockValue) → AllZip (IsBlockFor g) blocks made → All (LabelsOk g.arcs) made
   zip_passes [] [] zip = All-nil (LabelsOk g.arcs)
   zip_passes [] (m ∷ made) zip = absurd zip
   zip_passes (b ∷ blocks) [] zip = absurd zip
   zip_passes (b ∷ blocks) (m ∷ made) zip = All-cons (LabelsOk g.arcs) m made zip.0.passes (zip_passes blocks made zip.1)
 
-  module _ (blocks made : List BlockValue) (new : EachAfter IsNewSource blocks) (zip : AllZip (IsMadeOf g) blocks made) where
+  module _ (blocks made : List BlockValue) (new : EachAfter IsNewSource blocks) (zip : AllZip (IsBlockFor g) blocks made) where
     --     the block with a source is the one made for it
-    found : (k : ℕ) → k < length blocks → (m : BlockValue) × (block_of made (block_at blocks k).source ≡ Some m) × IsMadeOf g (block_at blocks k) m
+    found : (k : ℕ) → k < length blocks → (m : BlockValue) × (block_of made (block_at blocks k).source ≡ Some m) × IsBlockFor g (block_at blocks k) m
     found k inside =
-        let long = length_all_zip (IsMadeOf g) blocks made zip in
-        let own = AllZip-get_or (IsMadeOf g) blocks made k no_block no_block zip inside in
+        let long = length_all_zip (IsBlockFor g) blocks made zip in
+        let own = AllZip-get_or (IsBlockFor g) blocks made k no_block no_block zip inside in
         let has : HasBlock made (block_at blocks k).source = (k, get_or made k no_block, omega (arith, inside, long), get_or_default made k _ _ (omega (arith, inside, long)), own.source) in
         let (i, m, within, there, is, same) = block_found made (block_at blocks k).source has in
         let here : i < length blocks = omega (arith, within, long) in
-        let of : IsMadeOf g (block_at blocks i) m = subst (IsMadeOf g (block_at blocks i)) there (AllZip-get_or (IsMadeOf g) blocks made i no_block m zip here) in
+        let of : IsBlockFor g (block_at blocks i) m = subst (IsBlockFor g (block_at blocks i)) there (AllZip-get_or (IsBlockFor g) blocks made i no_block m zip here) in
         let at : i ≡ k = same_place blocks new i k here inside (sym of.source ∙ same) in
-        (m, is, subst (λ j. IsMadeOf g (block_at blocks j) m) at of)
+        (m, is, subst (λ j. IsBlockFor g (block_at blocks j) m) at of)
 
     pub paths_certified : (nodes : ℕ) → nodes ≡ g.nodes → All (λ (b : BlockValue). IsNode g.nodes b.source) blocks → AreLabelsOfAll g blocks (record { nodes = nodes; blocks = made })
     paths_certified nodes same within = record {
@@ -143,5 +143,5 @@ module _ (g : NetworkValue) where
         blocks = All-map (HasFullBlock made) block_source blocks (All-from_get_or (λ (b : BlockValue). HasFullBlock made b.source) blocks no_block (λ k inside. let (m, is, of) = found k inside in (m, is, of.whole)));
         labels = zip_passes blocks made zip;
       };
-      says = All-from_get_or (λ (b : BlockValue). (v : ℕ) → IsNode g.nodes v → label_in (block_of made b.source) v ≡ label b v) blocks no_block (λ k inside v node. let (m, is, of) = found k inside in ap (λ o. label_in o v) is ∙ of.says v node);
+      agrees = All-from_get_or (λ (b : BlockValue). (v : ℕ) → IsNode g.nodes v → label_in (block_of made b.source) v ≡ label b v) blocks no_block (λ k inside v node. let (m, is, of) = found k inside in ap (λ o. label_in o v) is ∙ of.agrees v node);
     }

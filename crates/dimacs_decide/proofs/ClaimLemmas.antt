@@ -171,8 +171,8 @@ module _ (g : NetworkValue) (s : ℕ) (claim : ℕ → Option ℤ) (b : BlockVal
     | inr off ↦ absurd (nodes v (Node v) NoTightArc (node, refl, (refl, some, λ walk. let t = whole.closed v (rw source walk) in let f : true ≡ false = sym t ∙ off in cc)))
   ]
 
-  says : (v : ℕ) → IsNode g.nodes v → label b v ≡ claim v
-  says v node = go (label b v) (claim v) refl refl
+  agrees : (v : ℕ) → IsNode g.nodes v → label b v ≡ claim v
+  agrees v node = go (label b v) (claim v) refl refl
     where
       go : (mine outcome : Option ℤ) → label b v ≡ mine → claim v ≡ outcome → mine ≡ outcome
       go None None e f = refl
@@ -185,17 +185,17 @@ module _ (g : NetworkValue) (s : ℕ) (claim : ℕ → Option ℤ) (b : BlockVal
   relaxed : All (IsRelaxed b) g.arcs
   relaxed = All-from_get_or (IsRelaxed b) g.arcs no_arc (λ k h d is.
       let ends : JoinsNodes g.nodes (arc_at g.arcs k) = All-get_or (JoinsNodes g.nodes) g.arcs k no_arc h joined in
-      let (e, named, le) = All-get_or (IsRelaxedBy claim) g.arcs k no_arc h (all_relaxed g.arcs claim arcs) d (sym (says _ ends.0) ∙ is) in
-      inl (e, says _ ends.1 ∙ named, le))
+      let (e, named, le) = All-get_or (IsRelaxedBy claim) g.arcs k no_arc h (all_relaxed g.arcs claim arcs) d (sym (agrees _ ends.0) ∙ is) in
+      inl (e, agrees _ ends.1 ∙ named, le))
 
   passes : LabelsOk g.arcs b
-  passes = record { weights = rw whole.tree.whole tt; tight = whole.tree.made; relaxed = relaxed }
+  passes = record { weights = rw whole.tree.whole tt; tight = whole.tree.tight_arcs; relaxed = relaxed }
 
   pub true_claim : AreDistancesFrom g s claim
-  true_claim v node = carried g.arcs b.source s v (label b v) (claim v) b.radius source (says v node) whole.tree.whole (labels_are_distances g.arcs b whole.tree.lawful.preds (stays_near g.nodes b whole.tree.lawful) passes v)
+  true_claim v node = carried g.arcs b.source s v (label b v) (claim v) b.radius source (agrees v node) whole.tree.whole (labels_are_distances g.arcs b whole.tree.lawful.preds (stays_near g.nodes b whole.tree.lawful) passes v)
 
   pub made_of : IsBlockOf g s claim b
-  made_of = record { lawful = whole.tree.lawful; source = source; whole = whole.tree.whole; passes = passes; says = says }
+  made_of = record { lawful = whole.tree.lawful; source = source; whole = whole.tree.whole; passes = passes; agrees = agrees }
 
 -- ---- a single block
 found_alone : (b : BlockValue) (s : ℕ) → b.source ≡ s → block_of (b ∷ []) s ≡ Some b
@@ -212,7 +212,7 @@ labelled g s claim b node is =
         blocks = All-cons (HasFullBlock (b ∷ [])) s [] (b, found, is.whole) (All-nil _);
         labels = All-cons (LabelsOk g.arcs) b [] is.passes (All-nil _);
       };
-      says = λ v inside. ap (λ o. label_in o v) found ∙ is.says v inside;
+      agrees = λ v inside. ap (λ o. label_in o v) found ∙ is.agrees v inside;
     }
 
 -- the error is the first test that fails

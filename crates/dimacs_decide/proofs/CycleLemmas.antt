@@ -6,7 +6,7 @@ use Rattle.std.proofs.lemmas.Bool.{cases_order, false≢true}
 use Rattle.dimacs_network.specs.declared.network.ArcView.{ArcView}
 use Rattle.dimacs_methods.specs.declared.potentials.claim.ResidualArc.{ResidualArc}
 use Rattle.dimacs_network.specs.Arcs.{arc_at}
-use Rattle.dimacs_decide.specs.declared.heights.Label.{Label}
+use Rattle.dimacs_decide.specs.declared.heights.HeightLabel.{HeightLabel}
 use Rattle.dimacs_decide.specs.inside.Cycles.{IsSaving, IsWalked, LeadsFrom, beginning_of, ending_of, gain_after, gain_of, node_after, residual_at}
 use Rattle.dimacs_decide.specs.inside.Heights.{AreHeights, IsRaised, height_of}
 use Rattle.dimacs_decide.specs.inside.Traces.{IsCycle}
@@ -16,10 +16,10 @@ use Rattle.dimacs_instance.specs.MinFlows.{HasBounds}
 
 -- ---- a cycle of raised nodes, in the order of the cycle
 -- the residual arc along which a node was raised
-abbrev pub residual_by : Label → ResidualArc
+abbrev pub residual_by : HeightLabel → ResidualArc
 residual_by l = record { arc = l.parent_arc - 1; side = l.side }
 
-module _ (arcs : List ArcView) (x : List ℤ) (labels : ℕ → Label) (path : List ℕ) (first last : ℕ) (now : AreHeights arcs x labels) (is : IsCycle arcs labels path first last) where
+module _ (arcs : List ArcView) (x : List ℤ) (labels : ℕ → HeightLabel) (path : List ℕ) (first last : ℕ) (now : AreHeights arcs x labels) (is : IsCycle arcs labels path first last) where
   --   the nodes, counted from the last one
   abbrev node : ℕ → ℕ
   node k = slice_index path (last - k)
@@ -31,7 +31,7 @@ module _ (arcs : List ArcView) (x : List ℤ) (labels : ℕ → Label) (path : L
     abbrev j : ℕ
     j = last - k - 1
 
-    abbrev l : Label
+    abbrev l : HeightLabel
     l = labels (slice_index path j)
 
     behind : first ≤ j

@@ -21,7 +21,7 @@ use Rattle.dimacs_decide.specs.Bounds.{KeepsBounds}
 use Rattle.dimacs_decide.specs.FeasibilityDecision.{imbalance_at, total_excess}
 use Rattle.dimacs_decide.specs.inside.Sending.{IsSent, IsStuck}
 use Rattle.dimacs_decide.specs.declared.imbalance.Standing.{Standing}
-use Rattle.dimacs_decide.specs.declared.imbalance.Standing.TheVariants.{Even, Excess, Short}
+use Rattle.dimacs_decide.specs.declared.imbalance.Standing.TheVariants.{Even, Excess, Deficit}
 use Rattle.dimacs_decide.specs.inside.Imbalances.{AreImbalances, Stands}
 use Rattle.dimacs_decide.proofs.SumLemmas.{across_of, sum_nodes-less, sum_nodes-split}
 
@@ -54,7 +54,7 @@ pub stuck_tells : (i : MinValue) (x : List ℤ) (imbalance : ℕ → ℤ) (reach
 stuck_tells i x imbalance reached set law are r node begun some is =
     let c = members set in
     let inside : c r ≡ true = is.has r node begun in
-    let each : (v : ℕ) → IsNode i.nodes v → pos 0 ≤ℤ when (c v) (imbalance_at i x v) = λ v h. when_some (c v) (imbalance_at i x v) (λ e. omega (arith, ints, are v h, is.shut.none_lacks v h e)) in
+    let each : (v : ℕ) → IsNode i.nodes v → pos 0 ≤ℤ when (c v) (imbalance_at i x v) = λ v h. when_some (c v) (imbalance_at i x v) (λ e. omega (arith, ints, are v h, is.shut.no_deficit v h e)) in
     let here : pos 0 <ℤ when (c r) (imbalance_at i x r) = rw inside (omega (arith, ints, some, are r node)) in
     let more = sum_nodes-less (λ v. pos 0) (λ v. when (c v) (imbalance_at i x v)) i.nodes r each node here in
     let split = sum_nodes-split c (supply_of i) (net i.arcs x) i.nodes in
@@ -98,7 +98,7 @@ module _ (i : MinValue) (x y : List ℤ) (imbalance : ℕ → ℤ) (are : AreImb
   left z v = pos (positive_part (imbalance_at i z v))
 
   apart : sent.from ≢ sent.to
-  apart e = let f = ap imbalance e in omega (arith, ints, f, sent.some, sent.enough, sent.lacked)
+  apart e = let f = ap imbalance e in omega (arith, ints, f, sent.some, sent.enough, sent.within_deficit)
 
   at_from : imbalance_at i y sent.from ≡ imbalance_at i x sent.from -ℤ sent.amount
   at_from =
@@ -134,7 +134,7 @@ module _ (i : MinValue) (x y : List ℤ) (imbalance : ℕ → ℤ) (are : AreImb
     | inr not_from ↦ elim (cases_eq v sent.to) [
       | inl same ↦
           let is = are sent.to sent.to_within in
-          let after = part_none (imbalance_at i y sent.to) (omega (arith, ints, is, at_to, sent.lacked)) in
+          let after = part_none (imbalance_at i y sent.to) (omega (arith, ints, is, at_to, sent.within_deficit)) in
           let le : left y sent.to ≤ℤ left x sent.to = omega (arith, ints, after) in
           subst (λ u. left y u ≤ℤ left x u) (sym same) le
       | inr not_to ↦ let e = elsewhere v not_from not_to in rw e (omega (arith, ints))
@@ -218,7 +218,7 @@ one_more_node P id before here v some less = elim (cases_order v id) [
 
 still_stands : (nodes id : ℕ) (imbalance : ℕ → ℤ) (standing : Standing) → Stands nodes id imbalance standing → imbalance id ≡ pos 0 → Stands nodes (id + 1) imbalance standing
 still_stands nodes id imbalance Even is none = one_more_node (λ v. imbalance v ≡ pos 0) id is none
-still_stands nodes id imbalance Short is none = (one_more_node (λ v. imbalance v ≤ℤ pos 0) id is.0 (omega (arith, ints, none)), is.1)
+still_stands nodes id imbalance Deficit is none = (one_more_node (λ v. imbalance v ≤ℤ pos 0) id is.0 (omega (arith, ints, none)), is.1)
 still_stands nodes id imbalance Excess is none = is
 
 pub stands_even : (nodes id : ℕ) (imbalance : ℕ → ℤ) (standing : Standing) → StandsLow nodes id imbalance standing → imbalance id ≡ pos 0 → StandsLow nodes (id + 1) imbalance standing
@@ -227,7 +227,7 @@ stands_even nodes id imbalance standing is none = record {
   stands = still_stands nodes id imbalance standing is.stands none;
 }
 
-pub stands_short : (nodes id : ℕ) (imbalance : ℕ → ℤ) (standing : Standing) → StandsLow nodes id imbalance standing → IsNode nodes id → imbalance id <ℤ pos 0 → StandsLow nodes (id + 1) imbalance Short
+pub stands_short : (nodes id : ℕ) (imbalance : ℕ → ℤ) (standing : Standing) → StandsLow nodes id imbalance standing → IsNode nodes id → imbalance id <ℤ pos 0 → StandsLow nodes (id + 1) imbalance Deficit
 stands_short nodes id imbalance standing is node less =
     let low : (v : ℕ) → 1 ≤ v → v < id + 1 → imbalance v ≤ℤ pos 0 = one_more_node (λ v. imbalance v ≤ℤ pos 0) id is.low (omega (arith, ints, less)) in
     record { low = low; stands = (low, (id, node, less)) }

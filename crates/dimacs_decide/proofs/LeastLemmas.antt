@@ -21,7 +21,7 @@ use Rattle.dimacs_optimality.proofs.Duality.{slack_is_least}
 use Rattle.dimacs_optimality.proofs.Passing.{pair_at, pairs_from}
 use Rattle.dimacs_network.specs.declared.adjacency_lists.Side.TheVariants.{Tail, Head}
 use Rattle.dimacs_decide.specs.Bounds.{KeepsBounds}
-use Rattle.dimacs_decide.specs.declared.heights.Label.{Label}
+use Rattle.dimacs_decide.specs.declared.heights.HeightLabel.{HeightLabel}
 use Rattle.dimacs_decide.specs.inside.Heights.{AreSettled, height_of}
 use Rattle.dimacs_decide.proofs.HeightLemmas.{settled_slack}
 use Rattle.dimacs_decide.proofs.SideLemmas.{near_within}
@@ -39,19 +39,19 @@ potential_set p id n some v = by_test (int_eq n (pos 0)) refl
     by_test false e = ap (λ o. unwrap_or o (pos 0)) (get-insert p.values id v n) ∙ by_found (v == id)
 
 -- the nodes below id have their heights as potentials, and the others 0
-pub record AreHeightsBelow (labels : ℕ → Label) (nodes id : ℕ) (p : PotentialsValue) : Type 0 where
+pub record AreHeightsBelow (labels : ℕ → HeightLabel) (nodes id : ℕ) (p : PotentialsValue) : Type 0 where
   pub of : p.nodes ≡ nodes
   pub below : (v : ℕ) → 1 ≤ v → v < id → potential_of p v ≡ height_of labels v
   pub above : (v : ℕ) → id ≤ v → potential_of p v ≡ pos 0
 
-pub potentials_none : (labels : ℕ → Label) (nodes : ℕ) → AreHeightsBelow labels nodes 1 (zero_potentials nodes)
+pub potentials_none : (labels : ℕ → HeightLabel) (nodes : ℕ) → AreHeightsBelow labels nodes 1 (zero_potentials nodes)
 potentials_none labels nodes = record {
   of = refl;
   below = λ v some less. absurd (omega (arith, some, less));
   above = λ v more. ap (λ o. unwrap_or o (pos 0)) (get-empty v);
 }
 
-pub potentials_skip : (labels : ℕ → Label) (nodes id : ℕ) (p : PotentialsValue) → AreHeightsBelow labels nodes id p → height_of labels id ≡ pos 0 → AreHeightsBelow labels nodes (id + 1) p
+pub potentials_skip : (labels : ℕ → HeightLabel) (nodes id : ℕ) (p : PotentialsValue) → AreHeightsBelow labels nodes id p → height_of labels id ≡ pos 0 → AreHeightsBelow labels nodes (id + 1) p
 potentials_skip labels nodes id p is none = record {
   of = is.of;
   below = λ v some less. elim (cases_order v id) [
@@ -61,7 +61,7 @@ potentials_skip labels nodes id p is none = record {
   above = λ v more. is.above v (omega (arith, more));
 }
 
-pub potentials_more : (labels : ℕ → Label) (nodes id : ℕ) (p : PotentialsValue) (n : ℤ) → AreHeightsBelow labels nodes id p → n ≡ height_of labels id → n ≢ pos 0 → AreHeightsBelow labels nodes (id + 1) (with_potential p id n)
+pub potentials_more : (labels : ℕ → HeightLabel) (nodes id : ℕ) (p : PotentialsValue) (n : ℤ) → AreHeightsBelow labels nodes id p → n ≡ height_of labels id → n ≢ pos 0 → AreHeightsBelow labels nodes (id + 1) (with_potential p id n)
 potentials_more labels nodes id p n is same some =
     let there : potential_of (with_potential p id n) id ≡ n = potential_set p id n some id ∙ rw (eq-eqb id id refl) refl in
     let other : (v : ℕ) → (v ≡ id → ⊥) → potential_of (with_potential p id n) v ≡ potential_of p v = λ v ne. potential_set p id n some v ∙ rw (ne_eqb v id ne) refl in
@@ -75,7 +75,7 @@ potentials_more labels nodes id p n is same some =
     }
 
 -- ---- the answers
-pub settled_tells : (i : MinValue) (x : List ℤ) (labels : ℕ → Label) (p : ℕ → ℤ) → IsMin i → FeasibleMin i x → AreSettled i.arcs x (length i.arcs) labels → ((v : ℕ) → IsNode i.nodes v → p v ≡ height_of labels v)
+pub settled_tells : (i : MinValue) (x : List ℤ) (labels : ℕ → HeightLabel) (p : ℕ → ℤ) → IsMin i → FeasibleMin i x → AreSettled i.arcs x (length i.arcs) labels → ((v : ℕ) → IsNode i.nodes v → p v ≡ height_of labels v)
     → Least i x × Slack i.arcs x p
 settled_tells i x labels p law feasible settled same =
     let at : (k : ℕ) → k < length i.arcs → IsSlackAt p (arc_at i.arcs k) (amount_at x k) = λ k less.

@@ -73,7 +73,7 @@ module _ (all least : List ArcView) (claim : ℕ → Option ℤ) (are : AreLight
     lawful = is.lawful;
     marked = is.marked;
     claimed = is.claimed;
-    made = All-weaker (HasTightArc least b) (HasTightArc all b) (λ l has. (has.0, has.1, record { arc = has.2.arc; present = are.within has.2.arc has.2.present; from = has.2.from; to = has.2.to; adds = has.2.adds })) b.labels is.made;
+    tight_arcs = All-weaker (HasTightArc least b) (HasTightArc all b) (λ l has. (has.0, has.1, record { arc = has.2.arc; present = are.within has.2.arc has.2.present; from = has.2.from; to = has.2.to; adds = has.2.adds })) b.labels is.tight_arcs;
     walks = λ v on. (let (walk, leads, tight) = is.walks v on in (walk, walks_still walk b.source v leads, tight));
     count = is.count;
   }

@@ -50,7 +50,7 @@ module _ (i : MaxValue) (x : List ℤ) (imbalance : ℕ → ℤ) (law : IsMax i)
   -- ---- the set
   pub stuck_tells : (set : ℕ → Bool) → IsShut i.nodes i.arcs x imbalance set → set i.source ≡ true → Maximum i x × CutTight i x set
   stuck_tells set is inside =
-      let outside : set i.sink ≡ false = elim (cases_Bool (set i.sink)) [ inl there ↦ absurd (omega (arith, ints, ends.sink, is.none_lacks i.sink law.sink_within there)) | inr out ↦ out ] in
+      let outside : set i.sink ≡ false = elim (cases_Bool (set i.sink)) [ inl there ↦ absurd (omega (arith, ints, ends.sink, is.no_deficit i.sink law.sink_within there)) | inr out ↦ out ] in
       let tight : CutTight i x set = record { source_inside = inside; sink_outside = outside; tight = tight_from_shut set i.arcs x law.capacities is.shut } in
       (tight_is_maximum i law.joined law.source_within x set feasible tight, tight)
 
@@ -76,7 +76,7 @@ module _ (i : MaxValue) (x : List ℤ) (imbalance : ℕ → ℤ) (law : IsMax i)
   pub sent_tells : (y : List ℤ) → IsSent i.nodes i.arcs x y imbalance → (¬ Maximum i x) × FeasibleMax i y × (value i x <ℤ value i y)
   sent_tells y sent =
       let from : sent.from ≡ i.source = only_source sent.from (omega (arith, ints, sent.some, sent.enough)) in
-      let to : sent.to ≡ i.sink = only_sink sent.to (omega (arith, ints, sent.some, sent.lacked)) in
+      let to : sent.to ≡ i.sink = only_sink sent.to (omega (arith, ints, sent.some, sent.within_deficit)) in
       let there : (sent.to == i.source) ≡ false = ne_eqb sent.to i.source (λ e. law.ends_apart (sym e ∙ to)) in
       let here : (sent.from == i.source) ≡ true = eq-eqb sent.from i.source from in
       let more : value i y ≡ value i x +ℤ sent.amount = sent.shifts i.source ∙ rw (there, here) (omega (arith, ints)) in

@@ -50,7 +50,7 @@ module _ (nodes : ℕ) (arcs : List ArcView) (x : List ℤ) (imbalance : ℕ →
   pub is_shut : IsShut nodes arcs x imbalance set
   is_shut = record {
     shut = pairs_from (IsShutAt set) arcs x no_arc (pos 0) (AllZip-long _ arcs x within) shut_at;
-    none_lacks = λ v node inside. (done v (inside_reached v node inside)).0;
+    no_deficit = λ v node inside. (done v (inside_reached v node inside)).0;
   }
 
 -- ---- the flow after sending
@@ -65,7 +65,7 @@ reached_node nodes arcs x imbalance visits joined tree roots v some = elim (case
 
 pub is_sent : (nodes : ℕ) (arcs : List ArcView) (x y : List ℤ) (imbalance : ℕ → ℤ) (visits : ℕ → Visit) (from to : ℕ) (amount : ℤ) → All (JoinsNodes nodes) arcs → IsExplored nodes arcs x imbalance visits (Some to)
     → pos 0 <ℤ amount → (amount +ℤ imbalance to) ≤ℤ pos 0 → KeepsBounds arcs y → rank_of visits from ≡ 1 → amount ≤ℤ residual_capacity_of visits from → Shifts arcs x y from to amount → IsSent nodes arcs x y imbalance
-is_sent nodes arcs x y imbalance visits from to amount joined is some lacked within root residual_capacity shifts =
+is_sent nodes arcs x y imbalance visits from to amount joined is some within_deficit within root residual_capacity shifts =
     let (node, enough) = is.roots from root in
     record {
       from = from;
@@ -75,7 +75,7 @@ is_sent nodes arcs x y imbalance visits from to amount joined is some lacked wit
       to_within = reached_node nodes arcs x imbalance visits joined is.tree is.roots to is.found_is.0;
       some = some;
       enough = omega (arith, ints, enough, residual_capacity);
-      lacked = lacked;
+      within_deficit = within_deficit;
       within = within;
       shifts = shifts;
     }

@@ -36,7 +36,7 @@ begun nodes arcs claim s reached node at lawful here others = record {
     | inl same ↦ (let e : Some (pos 0) ≡ Some d = rw same.0 at is in ap claim (sym same.1) ∙ (at ∙ e))
     | inr apart ↦ absurd (let e : None ≡ Some d = rw apart.0 at is in cc)
   ];
-  made = All-nil _;
+  tight_arcs = All-nil _;
   walks = λ v is. elim (cases_eq v s) [
     | inl same ↦ ([], sym same, All-nil (IsTight claim))
     | inr apart ↦ absurd (let e : false ≡ true = sym (others v apart) ∙ is in cc)
@@ -134,7 +134,7 @@ module _ (nodes : ℕ) (arcs : List ArcView) (claim : ℕ → Option ℤ) (b : B
         | inl same ↦ ap claim (sym same.1) ∙ (named ∙ (sym (on_head v same.0) ∙ at))
         | inr apart ↦ is.claimed v e (sym (off_head v apart.0) ∙ at)
       ];
-      made = All-push (HasTightArc arcs b') b.labels l (All-weaker (HasTightArc arcs b) (HasTightArc arcs b') older b.labels is.made) newest;
+      tight_arcs = All-push (HasTightArc arcs b') b.labels l (All-weaker (HasTightArc arcs b) (HasTightArc arcs b') older b.labels is.tight_arcs) newest;
       walks = λ v h. elim (cases_eq v a.head) [
         | inl same ↦ subst (IsTightlyReached arcs b.source claim) (sym same) further
         | inr apart ↦ is.walks v (sym (others v apart) ∙ h)

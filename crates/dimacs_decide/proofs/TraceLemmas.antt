@@ -11,7 +11,7 @@ use Rattle.dimacs_instance.specs.MinFlows.{HasBounds}
 use Rattle.dimacs_network.specs.declared.adjacency_lists.Side.{Side}
 use Rattle.dimacs_network.specs.declared.adjacency_lists.Side.TheVariants.{Tail, Head}
 use Rattle.dimacs_network.specs.AdjacencyLists.{end_of, other_end}
-use Rattle.dimacs_decide.specs.declared.heights.Label.{Label}
+use Rattle.dimacs_decide.specs.declared.heights.HeightLabel.{HeightLabel}
 use Rattle.dimacs_decide.specs.inside.Heights.{AreHeights, BelowBound, below_of, bound, height_of}
 use Rattle.dimacs_decide.specs.inside.Traces.{IsCycle, IsFollowing, IsTrace}
 use Rattle.dimacs_decide.proofs.CountLemmas.{all_zero, one_zero_fewer, some_zero}
@@ -19,10 +19,10 @@ use Rattle.dimacs_decide.proofs.SideLemmas.{far_within, near_within}
 use Rattle.dimacs_decide.proofs.HeightLemmas.{arc_bounds, gain_most}
 
 -- ---- the node below
-pub below_none : (arcs : List ArcView) (l : Label) → l.parent_arc ≡ 0 → below_of arcs l ≡ 0
+pub below_none : (arcs : List ArcView) (l : HeightLabel) → l.parent_arc ≡ 0 → below_of arcs l ≡ 0
 below_none arcs l none = let b : (l.parent_arc == 0) ≡ true = eq-eqb l.parent_arc 0 none in rw b refl
 
-pub below_some : (arcs : List ArcView) (l : Label) → 0 < l.parent_arc → below_of arcs l ≡ end_of l.side (arc_at arcs (l.parent_arc - 1))
+pub below_some : (arcs : List ArcView) (l : HeightLabel) → 0 < l.parent_arc → below_of arcs l ≡ end_of l.side (arc_at arcs (l.parent_arc - 1))
 below_some arcs l some = let b : (l.parent_arc == 0) ≡ false = ne_eqb l.parent_arc 0 (λ e. omega (arith, e, some)) in rw b refl
 
 pub cases_parent_arc : (n : ℕ) → (n ≡ 0) ⊎ (0 < n)
@@ -32,7 +32,7 @@ cases_parent_arc (suc n) = inr (omega arith)
 pub some_place : (n : ℕ) → n ≢ 0 → 0 < n
 some_place n ne = elim (cases_parent_arc n) [ inl none ↦ absurd (ne none) | inr some ↦ some ]
 
-module _ (nodes : ℕ) (arcs : List ArcView) (x : List ℤ) (labels : ℕ → Label) (joined : All (JoinsNodes nodes) arcs) (bounds : All HasBounds arcs) (now : AreHeights arcs x labels) where
+module _ (nodes : ℕ) (arcs : List ArcView) (x : List ℤ) (labels : ℕ → HeightLabel) (joined : All (JoinsNodes nodes) arcs) (bounds : All HasBounds arcs) (now : AreHeights arcs x labels) where
   pub step_down : (v : ℕ) → height_of labels v ≤ℤ (height_of labels (below_of arcs (labels v)) +ℤ pos 9223372036854775808)
   step_down v = elim (cases_parent_arc (labels v).parent_arc) [
     | inl none ↦ let b = below_none arcs (labels v) none in rw b (omega (arith, ints, (now.low v none).0))
@@ -66,7 +66,7 @@ module _ (nodes : ℕ) (arcs : List ArcView) (x : List ℤ) (labels : ℕ → La
   ]
 
 -- only node 0
-pub trace_none : (nodes : ℕ) (labels : ℕ → Label) (places : ℕ → ℕ) → places 0 ≡ 1 → ((v : ℕ) → v ≢ 0 → places v ≡ 0) → height_of labels 0 ≤ℤ bound 0 → IsTrace nodes labels (0 ∷ []) places
+pub trace_none : (nodes : ℕ) (labels : ℕ → HeightLabel) (places : ℕ → ℕ) → places 0 ≡ 1 → ((v : ℕ) → v ≢ 0 → places v ≡ 0) → height_of labels 0 ≤ℤ bound 0 → IsTrace nodes labels (0 ∷ []) places
 trace_none nodes labels places one others low =
     let count = one_zero_fewer (λ v. 0) places 0 others (nodes + 1) (omega arith) refl (omega (arith, one)) in
     let all = all_zero (λ v. 0) (nodes + 1) (λ v h. refl) in
@@ -80,7 +80,7 @@ trace_none nodes labels places one others low =
     }
 
 -- ---- one path down
-pub follow_begin : (nodes : ℕ) (arcs : List ArcView) (labels : ℕ → Label) (start : ℕ) (path : List ℕ) (places : ℕ → ℕ) → start ≤ nodes → IsTrace nodes labels path places
+pub follow_begin : (nodes : ℕ) (arcs : List ArcView) (labels : ℕ → HeightLabel) (start : ℕ) (path : List ℕ) (places : ℕ → ℕ) → start ≤ nodes → IsTrace nodes labels path places
     → IsFollowing nodes arcs labels start (length path) path places start
 follow_begin nodes arcs labels start path places inside is = record {
   first = is.first;
@@ -97,7 +97,7 @@ follow_begin nodes arcs labels start path places inside is = record {
   started = inl refl;
 }
 
-module _ (nodes : ℕ) (arcs : List ArcView) (x : List ℤ) (labels : ℕ → Label) (joined : All (JoinsNodes nodes) arcs) (bounds : All HasBounds arcs) (now : AreHeights arcs x labels)
+module _ (nodes : ℕ) (arcs : List ArcView) (x : List ℤ) (labels : ℕ → HeightLabel) (joined : All (JoinsNodes nodes) arcs) (bounds : All HasBounds arcs) (now : AreHeights arcs x labels)
     (start begin : ℕ) (path : List ℕ) (places : ℕ → ℕ) (at : ℕ) (is : IsFollowing nodes arcs labels start begin path places at) where
   abbrev longer : List ℕ
   longer = path ++ at ∷ []
@@ -228,7 +228,7 @@ module _ (nodes : ℕ) (arcs : List ArcView) (x : List ℤ) (labels : ℕ → La
   follow_back more = let e : length longer - 1 ≡ length path = omega (arith, length_is) in rw e (back more)
 
 -- ---- all paths down
-pub all_low : (nodes : ℕ) (arcs : List ArcView) (x : List ℤ) (labels : ℕ → Label) (path : List ℕ) (places : ℕ → ℕ) → AreHeights arcs x labels → IsTrace nodes labels path places
+pub all_low : (nodes : ℕ) (arcs : List ArcView) (x : List ℤ) (labels : ℕ → HeightLabel) (path : List ℕ) (places : ℕ → ℕ) → AreHeights arcs x labels → IsTrace nodes labels path places
     → ((k : ℕ) → k < length arcs → (0 < places (arc_at arcs k).tail) × (0 < places (arc_at arcs k).head)) → BelowBound (nodes + 1) labels
 all_low nodes arcs x labels path places now is seen v = elim (cases_parent_arc (labels v).parent_arc) [
   | inl none ↦ omega (arith, ints, (now.low v none).1)

@@ -32,7 +32,7 @@ distances_rows g (b ∷ blocks) = claim_rows g b.source (label b) ++ distances_r
 pub record AreLabelsOfAll (g : NetworkValue) (blocks : List BlockValue) (labels : LabelsValue) : Type 0 where
   pub sources : sources_of labels.blocks ≡ sources_of blocks
   pub passes : PassesPaths g (Sources (sources_of blocks)) labels
-  pub says : All (λ b. (v : ℕ) → IsNode g.nodes v → distance_from labels.blocks b.source v ≡ label b v) blocks
+  pub agrees : All (λ b. (v : ℕ) → IsNode g.nodes v → distance_from labels.blocks b.source v ≡ label b v) blocks
 
 -- all claims are true, with labels that show it; or some claim is wrong, with the first test that fails; or out of
 -- memory

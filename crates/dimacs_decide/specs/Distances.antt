@@ -47,7 +47,7 @@ claim_rows g s claim = source_row s claim ∷ claim_row g.arcs claim ∷ reach_r
 pub record AreLabelsOf (g : NetworkValue) (s : ℕ) (claim : ℕ → Option ℤ) (labels : LabelsValue) : Type 0 where
   pub alone : length labels.blocks ≡ 1
   pub passes : PassesPaths g (Sources (s ∷ [])) labels
-  pub says : (v : ℕ) → IsNode g.nodes v → distance_from labels.blocks s v ≡ claim v
+  pub agrees : (v : ℕ) → IsNode g.nodes v → distance_from labels.blocks s v ≡ claim v
 
 -- the claim is true, with labels that show it; or wrong, with the first test that fails; or out of memory
 abbrev pub DecidesDistances : NetworkValue → ℕ → (ℕ → Option ℤ) → Result LabelsValue JudgeError → Type 0

@@ -7,10 +7,10 @@ use Rattle.dimacs_network.specs.declared.adjacency_lists.Side.TheVariants.{Tail,
 use Rattle.dimacs_network.specs.AdjacencyLists.{AreAdjacencyLists}
 use Rattle.dimacs_decide.specs.declared.incidence.Incidence.{Incidence}
 
-abbrev pub links_at : Side → Incidence → AdjacencyLists
-links_at Tail i = i.leaving
-links_at Head i = i.entering
+abbrev pub lists_at : Side → Incidence → AdjacencyLists
+lists_at Tail i = i.leaving
+lists_at Head i = i.entering
 
 -- the arcs by tail, and by head
 abbrev pub IsIncidenceOf : List ArcView → Incidence → Type 0
-IsIncidenceOf arcs i = (side : Side) → AreAdjacencyLists side arcs (links_at side i)
+IsIncidenceOf arcs i = (side : Side) → AreAdjacencyLists side arcs (lists_at side i)

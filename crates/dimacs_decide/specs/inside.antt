@@ -8,7 +8,7 @@ pub mod Heights
 pub mod Raising
 pub mod Residual
 pub mod ResidualCapacities
-pub mod Rising
+pub mod PredecessorTrees
 pub mod Sending
 pub mod Imbalances
 pub mod TightTrees

@@ -7,14 +7,14 @@ ghost use Rattle.dimacs_network.specs.declared.adjacency_lists.Side.TheVariants.
 ghost use Rattle.dimacs_claims.specs.Labels.{IsBlock, label};
 ghost use Rattle.dimacs_decide.specs.CertifiedPaths.{CertifiesPaths};
 ghost use Rattle.dimacs_decide.specs.Distances.{AreDistancesFrom};
-ghost use Rattle.dimacs_decide.specs.inside.DistanceBlocks.{DecidesBlock, IsMadeOf};
+ghost use Rattle.dimacs_decide.specs.inside.DistanceBlocks.{DecidesBlock, IsBlockFor};
 ghost use Rattle.dimacs_decide.specs.inside.FewLabels.{AreFree};
 
 use crate::block_claim::{BlockClaim, BlockClaim32};
 use crate::claim::DistanceClaim;
 use crate::distances::decide_block;
 use crate::few_labels::{Tables, few_block, labels_few};
-use crate::rising::rising_block;
+use crate::predecessor_tree::block_by_predecessors;
 use dimacs_claims::{Block, Distances, Labels};
 use dimacs_instance::Graph;
 use dimacs_lines::Memory;
@@ -118,7 +118,7 @@ fn certify_few<N: Network>(
     requires lawful { IsBlock graph.now.nodes claimed.now }
     requires free { IfSome tables.old (AreFree graph.now) }
     ensures distances { IfOk result (λ found. IfSome found (λ block. AreDistancesFrom graph.now claimed.now.source (label claimed.now))) }
-    ensures made { IfOk result (λ found. IfSome found (IsMadeOf graph.now claimed.now)) }
+    ensures block { IfOk result (λ found. IfSome found (IsBlockFor graph.now claimed.now)) }
     ensures free { OnOk result (IfSome tables.new (AreFree graph.now)) }
 {
     let Some(own) = tables.take() else {
@@ -144,7 +144,7 @@ fn certify_block<N: Network, C: DistanceClaim>(
     ensures decides { DecidesBlock graph.now source (C.claimed claim.now) result }
     ensures lists { OnOk result (IfSome lists.new (AreAdjacencyLists Tail graph.now.arcs)) }
 {
-    match rising_block(alloc, graph, source, claim)? {
+    match block_by_predecessors(alloc, graph, source, claim)? {
         Some(block) => Ok(block),
         None => search_block(alloc, graph, lists, source, claim),
     }
@@ -163,14 +163,14 @@ fn search_block<N: Network, C: DistanceClaim>(
     ensures decides { DecidesBlock graph.now source (C.claimed claim.now) result }
     ensures lists { OnOk result (IfSome lists.new (AreAdjacencyLists Tail graph.now.arcs)) }
 {
-    let linked = linked(alloc, graph.network(), lists.take())?;
-    let block = decide_block(alloc, graph, &linked, source, claim)?;
-    *lists = Some(linked);
+    let built = lists_or_new(alloc, graph.network(), lists.take())?;
+    let block = decide_block(alloc, graph, &built, source, claim)?;
+    *lists = Some(built);
     Ok(block)
 }
 
 /// The adjacency lists, built now if they weren't before.
-fn linked<N: Network>(
+fn lists_or_new<N: Network>(
     alloc: Global,
     network: &N,
     lists: Option<AdjacencyLists>,

@@ -9,7 +9,7 @@ ghost use Rattle.dimacs_decide.specs.inside.Cycles.{IsSaving, LeadsFrom, ending_
 ghost use Rattle.dimacs_decide.specs.inside.Heights.{AreHeights};
 ghost use Rattle.dimacs_decide.specs.inside.Traces.{IsCycle};
 
-use crate::heights::{Label, gain};
+use crate::heights::{HeightLabel, gain};
 use crate::residual_capacity::residual_capacity_from;
 use crate::trace::Cycle;
 use dimacs_lines::Memory;
@@ -27,7 +27,7 @@ pub(crate) fn is_saving<N: Network>(
     flow: &Flow,
     cycle: &[ResidualArc],
 ) -> Result<bool, Memory>
-    requires few_nodes { N.node_count network.now ≤ most_nodes }
+    requires node_limit { N.node_count network.now ≤ most_nodes }
     requires bounds { All HasBounds (N.list network.now) }
     requires within { KeepsBounds (N.list network.now) flow.now }
     ensures { IfOk result (λ saving. IsTrue saving → IsSaving (N.list network.now) flow.now cycle.now) }
@@ -85,7 +85,7 @@ pub(crate) fn raised_along<N: Network>(
     alloc: Global,
     network: &N,
     flow: &Flow,
-    labels: &NodeTable<Label>,
+    labels: &NodeTable<HeightLabel>,
     cycle: &Cycle,
 ) -> Result<Vec<ResidualArc>, Memory>
     requires heights { AreHeights (N.list network.now) flow.now (value_of labels.now) }

@@ -133,7 +133,7 @@ fn nodes_hold<N: Network, C: DistanceClaim>(
     claim: &C,
     tree: &TightTree,
 ) -> Result<(), (Where, Reason)>
-    requires few_nodes { N.node_count network.now ≤ most_nodes }
+    requires node_limit { N.node_count network.now ≤ most_nodes }
     requires tree { IsWholeTightTree (N.node_count network.now) (N.list network.now) (C.claimed claim.now) tree.now.block (value_of tree.now.reached) }
     ensures { TestsRow (reach_row (record { nodes = N.node_count network.now; arcs = N.list network.now }) tree.now.block.source (C.claimed claim.now)) result }
 {

@@ -90,7 +90,7 @@ fn first_look<N: Network>(
     let nodes = instance.network().nodes();
     match assess(nodes, &imbalance) {
         Standing::Even => Ok(Look::Decided(FeasibilityDecision::Balanced)),
-        Standing::Short => Ok(Look::Decided(FeasibilityDecision::Infeasible(every_node(
+        Standing::Deficit => Ok(Look::Decided(FeasibilityDecision::Infeasible(every_node(
             alloc, nodes,
         )?))),
         Standing::Excess => Ok(Look::Excess(imbalance)),

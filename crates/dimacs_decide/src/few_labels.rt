@@ -9,7 +9,7 @@ ghost use Rattle.dimacs_claims.specs.Labels.{IsBlock, label};
 ghost use Rattle.dimacs_optimality.specs.Tests.{Clear};
 ghost use Rattle.dimacs_nodes.specs.Tables.{value_of};
 ghost use Rattle.dimacs_decide.specs.Distances.{AreDistancesFrom, claim_row};
-ghost use Rattle.dimacs_decide.specs.inside.DistanceBlocks.{IsMadeOf};
+ghost use Rattle.dimacs_decide.specs.inside.DistanceBlocks.{IsBlockFor};
 ghost use Rattle.dimacs_decide.specs.inside.FewLabels.{AreFree, AreLightest, ArePassedFrom, IsUnreached, arcs_followed};
 ghost use Rattle.dimacs_decide.specs.inside.TightTrees.{ReachesAll};
 
@@ -55,7 +55,7 @@ impl Tables {
             return Ok(None);
         }
         let lightest = lightest_network(alloc, network, blocks)?;
-        let lists = links_of(alloc, network, &lightest)?;
+        let lists = lists_of(alloc, network, &lightest)?;
         Ok(Some(Tables {
             lightest,
             lists,
@@ -104,7 +104,7 @@ fn lightest_network<N: Network>(
 }
 
 /// The lists of the lightest arcs; without a hub, of all arcs.
-fn links_of<N: Network>(
+fn lists_of<N: Network>(
     alloc: Global,
     network: &N,
     lightest: &Option<PlainArcs<ArcView>>,
@@ -128,7 +128,7 @@ pub(crate) fn few_block<N: Network>(
     requires lawful { IsBlock graph.now.nodes claimed.now }
     requires free { AreFree graph.now tables }
     ensures distances { IfOk result (λ found. IfSome found (λ both. AreDistancesFrom graph.now claimed.now.source (label claimed.now))) }
-    ensures made { IfOk result (λ found. IfSome found (λ both. IsMadeOf graph.now claimed.now both.0)) }
+    ensures block { IfOk result (λ found. IfSome found (λ both. IsBlockFor graph.now claimed.now both.0)) }
     ensures free { IfOk result (λ found. IfSome found (λ both. AreFree graph.now both.1)) }
 {
     let Tables {
@@ -177,7 +177,7 @@ fn few_tree<N: Network, M: Network>(
     requires claimed { claim.now.block.now ≡ claimed.now }
     requires unreached { IsUnreached (value_of reached) }
     ensures distances { IfOk result (λ found. IfSome found (λ tree. AreDistancesFrom graph.now claimed.now.source (label claimed.now))) }
-    ensures made { IfOk result (λ found. IfSome found (λ tree. IsMadeOf graph.now claimed.now tree.block)) }
+    ensures block { IfOk result (λ found. IfSome found (λ tree. IsBlockFor graph.now claimed.now tree.block)) }
     ensures marked { IfOk result (λ found. IfSome found (λ tree. (v : ℕ) → value_of tree.reached v ≡ is_some (label tree.block v))) }
 {
     if !leaving_passed(network, lists, claimed, claim) {

@@ -22,17 +22,17 @@ use dimacs_optimality::Flow;
 /// How high a node's potential was raised, and by which residual arc: 1 plus the index of its arc, 0 for none, and the
 /// side from which it is taken.
 #[derive(Clone, Copy)]
-pub(crate) struct Label {
+pub(crate) struct HeightLabel {
     pub height: i128,
     pub parent_arc: u32,
     pub side: Side,
 }
 
 /// The label of a node that wasn't raised.
-pub(crate) fn unraised_label() -> Label
+pub(crate) fn unraised_label() -> HeightLabel
     ensures { result ≡ unraised }
 {
-    Label {
+    HeightLabel {
         height: 0,
         parent_arc: 0,
         side: Side::Tail,
@@ -41,7 +41,7 @@ pub(crate) fn unraised_label() -> Label
 
 /// The node from which a label was raised; 0 for none.
 #[inline(always)]
-pub(crate) fn below<N: Network>(network: &N, label: Label) -> u32
+pub(crate) fn below<N: Network>(network: &N, label: HeightLabel) -> u32
     requires { label.parent_arc ≤ length (N.list network.now) }
     ensures { result ≡ below_of (N.list network.now) label }
 {
@@ -71,10 +71,10 @@ fn lift<N: Network>(
     flow: &Flow,
     side: Side,
     parent_arc: u32,
-    labels: &mut NodeTable<Label>,
+    labels: &mut NodeTable<HeightLabel>,
 ) -> Result<bool, Memory>
     requires parent_arc { parent_arc < length (N.list network.now) }
-    requires few_arcs { length (N.list network.now) ≤ most_count }
+    requires arc_limit { length (N.list network.now) ≤ most_count }
     requires bounds { All HasBounds (N.list network.now) }
     requires within { KeepsBounds (N.list network.now) flow.now }
     requires least { (v : ℕ) → pos 0 ≤ℤ height_of (value_of labels.old) v }
@@ -90,7 +90,7 @@ fn lift<N: Network>(
     if height <= labels.get(to).height {
         return Ok(false);
     }
-    let label = Label {
+    let label = HeightLabel {
         height,
         parent_arc: parent_arc + 1,
         side,
@@ -111,10 +111,10 @@ fn either(changed: bool, forward: bool, backward: bool) -> bool
 pub(crate) fn round<N: Network>(
     network: &N,
     flow: &Flow,
-    labels: &mut NodeTable<Label>,
+    labels: &mut NodeTable<HeightLabel>,
 ) -> Result<bool, Memory>
-    requires few_nodes { N.node_count network.now ≤ most_nodes }
-    requires few_arcs { length (N.list network.now) ≤ most_count }
+    requires node_limit { N.node_count network.now ≤ most_nodes }
+    requires arc_limit { length (N.list network.now) ≤ most_count }
     requires joined { All (JoinsNodes (N.node_count network.now)) (N.list network.now) }
     requires bounds { All HasBounds (N.list network.now) }
     requires within { KeepsBounds (N.list network.now) flow.now }

@@ -30,7 +30,7 @@ pub(crate) fn imbalances<N: Network>(
     let mut table = NodeTable::new(alloc, 0i128);
     for id in 1..network.nodes() + 1 {
         let imbalance = i128::from(instance.supply(id)) - balances.of(id);
-        if is_some(imbalance) {
+        if is_unbalanced(imbalance) {
             table.set(id, imbalance)?;
         }
     }
@@ -38,7 +38,7 @@ pub(crate) fn imbalances<N: Network>(
 }
 
 /// Whether there is an excess or a deficit.
-fn is_some(imbalance: i128) -> bool
+fn is_unbalanced(imbalance: i128) -> bool
     ensures { IsTrue result ↔ (imbalance ≢ pos 0) }
 {
     imbalance != 0
@@ -50,7 +50,7 @@ pub(crate) enum Standing {
     /// No node has an excess or a deficit.
     Even,
     /// Some nodes have a deficit, and none has an excess.
-    Short,
+    Deficit,
     /// Some node has an excess.
     Excess,
 }
@@ -67,7 +67,7 @@ pub(crate) fn assess(nodes: u32, imbalance: &NodeTable<i128>) -> Standing
             return Standing::Excess;
         }
         if amount < 0 {
-            standing = Standing::Short;
+            standing = Standing::Deficit;
         }
     }
     standing

@@ -1,7 +1,7 @@
 //! Adjacency lists in both directions.
 
 ghost use Rattle.std.specs.Prelude.{◌≡◌, IfOk};
-ghost use Rattle.dimacs_decide.specs.Incidence.{IsIncidenceOf, links_at};
+ghost use Rattle.dimacs_decide.specs.Incidence.{IsIncidenceOf, lists_at};
 
 use dimacs_lines::Memory;
 use dimacs_network::{AdjacencyLists, Network, Side};
@@ -28,7 +28,7 @@ impl Incidence {
     /// The adjacency lists of this side.
     #[inline(always)]
     pub(crate) fn lists(&self, side: Side) -> &AdjacencyLists
-        ensures { result.now ≡ links_at side self.now }
+        ensures { result.now ≡ lists_at side self.now }
     {
         match side {
             Side::Tail => &self.leaving,

@@ -35,7 +35,7 @@ pub fn decide_infeasible<N: Network>(
 ) -> Result<Feasibility, Memory>
     ensures { IfOk result (DecidesInfeasible instance.now) }
 {
-    let mut flow = started(alloc, instance)?;
+    let mut flow = start_flow(alloc, instance)?;
     'asking: loop {
         match decide_feasible(alloc, instance, &flow)? {
             FeasibilityDecision::Balanced => return Ok(Feasibility::Feasible(flow)),
@@ -47,7 +47,7 @@ pub fn decide_infeasible<N: Network>(
 
 /// The start flow: what the preflow method makes of the lower bounds, if that keeps the bounds; otherwise the lower
 /// bounds.
-fn started<N: Network>(alloc: Global, instance: &MinInstance<N>) -> Result<Flow, Memory>
+fn start_flow<N: Network>(alloc: Global, instance: &MinInstance<N>) -> Result<Flow, Memory>
     ensures { IfOk result (KeepsBounds instance.now.arcs) }
 {
     let lowest = lower_bounds(alloc, instance.network())?;

@@ -10,11 +10,11 @@ ghost use Rattle.dimacs_nodes.specs.Tables.{value_of};
 ghost use Rattle.dimacs_network.specs.declared.adjacency_lists.Side.TheVariants.{Tail};
 ghost use Rattle.dimacs_decide.specs.MinDecision.{DecidesMin};
 ghost use Rattle.dimacs_decide.specs.inside.Cycles.{IsSaving};
-ghost use Rattle.dimacs_decide.specs.inside.Heights.{AreStarted, BelowBound, bound, height_of};
+ghost use Rattle.dimacs_decide.specs.inside.Heights.{AreStartHeights, BelowBound, bound, height_of};
 
 use crate::cancel::cancel;
 use crate::cycle::{is_saving, raised_along};
-use crate::heights::{Label, round, unraised_label};
+use crate::heights::{HeightLabel, round, unraised_label};
 use crate::trace::cycle_in;
 use dimacs_claims::Potentials;
 use dimacs_instance::MinInstance;
@@ -48,7 +48,7 @@ pub fn decide_min<N: Network>(
         Guess::Least(potentials) | Guess::GaveUp(potentials) => {
             decide_min_from(alloc, instance, flow, potentials)
         }
-        Guess::Cycle(cycle) => decided_by_cycle(alloc, instance, flow, &cycle),
+        Guess::Cycle(cycle) => decide_by_cycle(alloc, instance, flow, &cycle),
     }
 }
 
@@ -67,8 +67,8 @@ pub fn decide_min_from<N: Network>(
     if show_least(instance, flow, &start) {
         return Ok(MinDecision::Optimal(start));
     }
-    let labels = started(alloc, instance.network(), &start)?;
-    decided(alloc, instance, flow, labels)
+    let labels = start_labels(alloc, instance.network(), &start)?;
+    decide_by_rounds(alloc, instance, flow, labels)
 }
 
 /// Whether the potentials have the nodes of the instance and are slack.
@@ -81,7 +81,7 @@ fn show_least<N: Network>(instance: &MinInstance<N>, flow: &Flow, potentials: &P
 }
 
 /// Decides the question by residual arcs about which nothing is known.
-fn decided_by_cycle<N: Network>(
+fn decide_by_cycle<N: Network>(
     alloc: Global,
     instance: &MinInstance<N>,
     flow: &Flow,
@@ -94,7 +94,7 @@ fn decided_by_cycle<N: Network>(
         return better_by(alloc, instance, flow, cycle);
     }
     let labels = NodeTable::new(alloc, unraised_label());
-    decided(alloc, instance, flow, labels)
+    decide_by_rounds(alloc, instance, flow, labels)
 }
 
 /// The flow after cancelling this cycle, which costs less.
@@ -114,14 +114,14 @@ fn better_by<N: Network>(
 }
 
 /// Decides the question by raising potentials in rounds over the arcs.
-fn decided<N: Network>(
+fn decide_by_rounds<N: Network>(
     alloc: Global,
     instance: &MinInstance<N>,
     flow: &Flow,
-    labels: NodeTable<Label>,
+    labels: NodeTable<HeightLabel>,
 ) -> Result<MinDecision, Memory>
     requires feasible { FeasibleMin instance.now flow.now }
-    requires started { AreStarted (value_of labels) }
+    requires start_heights { AreStartHeights (value_of labels) }
     ensures { IfOk result (DecidesMin instance.now flow.now) }
 {
     let network = instance.network();
@@ -179,12 +179,12 @@ fn lesser(a: i128, b: i128) -> i128
 
 /// Start heights with the same differences as these potentials, if no difference is more than 2^96. Nodes without an
 /// arc get none.
-fn started<N: Network>(
+fn start_labels<N: Network>(
     alloc: Global,
     network: &N,
     start: &Potentials,
-) -> Result<NodeTable<Label>, Memory>
-    ensures { IfOk result (λ labels. AreStarted (value_of labels)) }
+) -> Result<NodeTable<HeightLabel>, Memory>
+    ensures { IfOk result (λ labels. AreStartHeights (value_of labels)) }
 {
     let least = least_of(network, start);
     let mut labels = NodeTable::new(alloc, unraised_label());
@@ -198,12 +198,12 @@ fn started<N: Network>(
 }
 
 /// Gives a node its start height. Node 0 stays the highest.
-fn start_at(labels: &mut NodeTable<Label>, id: u32, height: i128) -> Result<(), Memory>
-    requires started { AreStarted (value_of labels.old) }
+fn start_at(labels: &mut NodeTable<HeightLabel>, id: u32, height: i128) -> Result<(), Memory>
+    requires start_heights { AreStartHeights (value_of labels.old) }
     requires root { height_of (value_of labels.old) 0 ≡ bound 0 }
     requires low { pos 0 ≤ℤ height }
     requires high { height ≤ℤ bound 0 }
-    ensures started { OnOk result (AreStarted (value_of labels.new)) }
+    ensures start_heights { OnOk result (AreStartHeights (value_of labels.new)) }
     ensures root { OnOk result (height_of (value_of labels.new) 0 ≡ bound 0) }
 {
     if id == 0 || height == 0 {
@@ -213,10 +213,10 @@ fn start_at(labels: &mut NodeTable<Label>, id: u32, height: i128) -> Result<(), 
 }
 
 /// The label of a node with this height that wasn't raised.
-fn unraised_at(height: i128) -> Label
+fn unraised_at(height: i128) -> HeightLabel
     ensures { result ≡ record { height = height; parent_arc = 0; side = Tail } }
 {
-    Label {
+    HeightLabel {
         height,
         parent_arc: 0,
         side: Side::Tail,
@@ -224,8 +224,8 @@ fn unraised_at(height: i128) -> Label
 }
 
 /// The heights as potentials.
-fn potentials_of(alloc: Global, nodes: u32, labels: &NodeTable<Label>) -> Result<Potentials, Memory>
-    requires few_nodes { nodes ≤ most_nodes }
+fn potentials_of(alloc: Global, nodes: u32, labels: &NodeTable<HeightLabel>) -> Result<Potentials, Memory>
+    requires node_limit { nodes ≤ most_nodes }
     requires least { (v : ℕ) → pos 0 ≤ℤ height_of (value_of labels.now) v }
     requires bounded { BelowBound (nodes + 1) (value_of labels.now) }
     ensures nodes { IfOk result (λ p. p.nodes ≡ nodes) }

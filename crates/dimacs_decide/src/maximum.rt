@@ -56,7 +56,7 @@ pub fn decide_max_over<N: Network>(
     ensures { IfOk result (DecidesMax instance.now flow.now) }
 {
     let network = instance.network();
-    let search = begun(alloc, instance.source(), instance.sink())?;
+    let search = source_search(alloc, instance.source(), instance.sink())?;
     match send(alloc, network, incidence, flow, search)? {
         Sending::Sent(better) => Ok(MaxDecision::Better(better)),
         Sending::Stuck(cut) => Ok(MaxDecision::Optimal(cut)),
@@ -64,11 +64,11 @@ pub fn decide_max_over<N: Network>(
 }
 
 /// A search from the source to the sink.
-fn begun(alloc: Global, source: u32, sink: u32) -> Result<Search, Memory>
+fn source_search(alloc: Global, source: u32, sink: u32) -> Result<Search, Memory>
     requires { source ≢ sink }
     ensures ends { IfOk result (λ search. AreEnds source sink (value_of search.imbalance)) }
     ensures reached { IfOk result (λ search. 0 < rank_of (value_of search.visits) source) }
-    ensures begun { IfOk result (λ search. (nodes : ℕ) (arcs : List ArcView) (x : List ℤ) → IsNode nodes source
+    ensures search { IfOk result (λ search. (nodes : ℕ) (arcs : List ArcView) (x : List ℤ) → IsNode nodes source
         → IsResidualSearch nodes arcs x (value_of search.imbalance) (value_of search.visits) search.queue.items 0) }
 {
     let mut imbalance = NodeTable::new(alloc, 0i128);

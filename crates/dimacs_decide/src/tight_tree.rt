@@ -110,7 +110,7 @@ impl TightTree {
         lists: &AdjacencyLists,
         from: u32,
     ) -> Result<(), Memory>
-        requires few_nodes { N.node_count network.now ≤ most_nodes }
+        requires node_limit { N.node_count network.now ≤ most_nodes }
         requires joined { All (JoinsNodes (N.node_count network.now)) (N.list network.now) }
         requires lists { AreAdjacencyLists Tail (N.list network.now) lists.now }
         requires tree { IsTightTree (N.node_count network.now) (N.list network.now) (C.claimed claim.now) self.old.block (value_of self.old.reached) }
@@ -137,7 +137,7 @@ impl TightTree {
         claim: &C,
         arc_index: u32,
     ) -> Result<(), Memory>
-        requires few_nodes { N.node_count network.now ≤ most_nodes }
+        requires node_limit { N.node_count network.now ≤ most_nodes }
         requires joined { All (JoinsNodes (N.node_count network.now)) (N.list network.now) }
         requires arc_index { arc_index < length (N.list network.now) }
         requires tree { IsTightTree (N.node_count network.now) (N.list network.now) (C.claimed claim.now) self.old.block (value_of self.old.reached) }
@@ -200,7 +200,7 @@ pub(crate) fn tight_tree<N: Network, C: DistanceClaim>(
     claim: &C,
     reached: NodeTable<bool>,
 ) -> Result<TightTree, Memory>
-    requires few_nodes { N.node_count network.now ≤ most_nodes }
+    requires node_limit { N.node_count network.now ≤ most_nodes }
     requires joined { All (JoinsNodes (N.node_count network.now)) (N.list network.now) }
     requires lists { AreAdjacencyLists Tail (N.list network.now) lists.now }
     requires source { IsNode (N.node_count network.now) source }

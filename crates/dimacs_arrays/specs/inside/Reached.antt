@@ -13,7 +13,7 @@ use Rattle.dimacs_solve.specs.declared.error.SolveError.TheVariants as errors
 -- the distance of each node by its label; none without one
 pub record AreDistancesOf (nodes : ℕ) (b : BlockValue) (distances : List ℤ) : Type 0 where
   pub each : length distances ≡ nodes
-  pub says : (v : ℕ) → IsNode nodes v → claimed_by_node distances v ≡ label b v
+  pub agrees : (v : ℕ) → IsNode nodes v → claimed_by_node distances v ≡ label b v
 
 abbrev pub of_solver : SolveError → JudgeError
 of_solver (errors.NegativeWeight k) = Refused (Arc k) reasons.NegativeWeight

@@ -19,11 +19,11 @@ pub record IsBlockOf (g : NetworkValue) (s : ℕ) (claim : ℕ → Option ℤ) (
   pub source : b.source ≡ s
   pub whole : b.radius ≡ None
   pub passes : LabelsOk g.arcs b
-  pub says : (v : ℕ) → IsNode g.nodes v → label b v ≡ claim v
+  pub agrees : (v : ℕ) → IsNode g.nodes v → label b v ≡ claim v
 
 -- a block made for a claimed one
-abbrev pub IsMadeOf : NetworkValue → BlockValue → BlockValue → Type 0
-IsMadeOf g claimed b = IsBlockOf g claimed.source (label claimed) b
+abbrev pub IsBlockFor : NetworkValue → BlockValue → BlockValue → Type 0
+IsBlockFor g claimed b = IsBlockOf g claimed.source (label claimed) b
 
 -- the claim is true, with a block that shows it; or wrong, with the first test that fails
 abbrev pub DecidesBlock : NetworkValue → ℕ → (ℕ → Option ℤ) → Result BlockValue JudgeError → Type 0

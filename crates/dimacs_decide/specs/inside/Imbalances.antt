@@ -7,7 +7,7 @@ use Rattle.dimacs_decide.specs.FeasibilityDecision.{DecidesFeasible, imbalance_a
 use Rattle.dimacs_decide.specs.declared.feasible.Look.{Look}
 use Rattle.dimacs_decide.specs.declared.feasible.Look.TheVariants as looks
 use Rattle.dimacs_decide.specs.declared.imbalance.Standing.{Standing}
-use Rattle.dimacs_decide.specs.declared.imbalance.Standing.TheVariants.{Even, Excess, Short}
+use Rattle.dimacs_decide.specs.declared.imbalance.Standing.TheVariants.{Even, Excess, Deficit}
 
 abbrev pub AreImbalances : MinValue → List ℤ → (ℕ → ℤ) → Type 0
 AreImbalances i x imbalance = (v : ℕ) → IsNode i.nodes v → imbalance v ≡ imbalance_at i x v
@@ -15,7 +15,7 @@ AreImbalances i x imbalance = (v : ℕ) → IsNode i.nodes v → imbalance v ≡
 -- no node below this one has excess: none has a deficit, or some do; or some node has excess
 abbrev pub Stands : ℕ → ℕ → (ℕ → ℤ) → Standing → Type 0
 Stands nodes id imbalance Even = (v : ℕ) → 1 ≤ v → v < id → imbalance v ≡ pos 0
-Stands nodes id imbalance Short = ((v : ℕ) → 1 ≤ v → v < id → imbalance v ≤ℤ pos 0) × ((v : ℕ) × IsNode nodes v × (imbalance v <ℤ pos 0))
+Stands nodes id imbalance Deficit = ((v : ℕ) → 1 ≤ v → v < id → imbalance v ≤ℤ pos 0) × ((v : ℕ) × IsNode nodes v × (imbalance v <ℤ pos 0))
 Stands nodes id imbalance Excess = (v : ℕ) × IsNode nodes v × (pos 0 <ℤ imbalance v)
 
 -- the result of looking at the nodes: a decision, or the excess of each node, if some have one

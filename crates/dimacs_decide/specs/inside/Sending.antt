@@ -19,7 +19,7 @@ pub record IsSent (nodes : ℕ) (arcs : List ArcView) (x y : List ℤ) (imbalanc
   pub to_within : IsNode nodes to
   pub some : pos 0 <ℤ amount
   pub enough : amount ≤ℤ imbalance from
-  pub lacked : (amount +ℤ imbalance to) ≤ℤ pos 0
+  pub within_deficit : (amount +ℤ imbalance to) ≤ℤ pos 0
   pub within : KeepsBounds arcs y
   pub shifts : Shifts arcs x y from to amount
 
@@ -30,7 +30,7 @@ IsShutAt set a x = (leaves set a ≡ true → x ≡ a.cap) × (enters set a ≡ 
 -- no more can leave the set, and no node of it has a deficit
 pub record IsShut (nodes : ℕ) (arcs : List ArcView) (x : List ℤ) (imbalance : ℕ → ℤ) (set : ℕ → Bool) : Type 0 where
   pub shut : AllZip (IsShutAt set) arcs x
-  pub none_lacks : (v : ℕ) → IsNode nodes v → set v ≡ true → pos 0 ≤ℤ imbalance v
+  pub no_deficit : (v : ℕ) → IsNode nodes v → set v ≡ true → pos 0 ≤ℤ imbalance v
 
 -- the set has this number of nodes in all, and contains the nodes that were reached before
 pub record IsStuck (nodes : ℕ) (arcs : List ArcView) (x : List ℤ) (imbalance : ℕ → ℤ) (reached : ℕ → Type 0) (set : CutValue) : Type 0 where

@@ -22,7 +22,7 @@ pub record IsTightTree (nodes : ℕ) (arcs : List ArcView) (claim : ℕ → Opti
   pub lawful : IsBlock nodes b
   pub marked : (v : ℕ) → reached v ≡ is_some (label b v)
   pub claimed : (v : ℕ) (d : ℤ) → label b v ≡ Some d → claim v ≡ Some d
-  pub made : All (HasTightArc arcs b) b.labels
+  pub tight_arcs : All (HasTightArc arcs b) b.labels
   pub walks : (v : ℕ) → reached v ≡ true → IsTightlyReached arcs b.source claim v
   pub count : absent reached (nodes + 1) + length b.labels ≡ nodes
 

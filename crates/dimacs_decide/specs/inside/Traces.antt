@@ -1,7 +1,7 @@
 -- Inside: going down from raised nodes to those that they were raised from.
 use Rattle.std.specs.Prelude.{ℕ, ◌≡◌, ◌≢◌, ◌⊎◌, ◌<◌, ◌≤◌, ◌+◌, ◌-◌, ◌==◌, List, length, slice_index, ◌+ℤ◌, ◌≤ℤ◌, Option, Some, None}
 use Rattle.dimacs_network.specs.declared.network.ArcView.{ArcView}
-use Rattle.dimacs_decide.specs.declared.heights.Label.{Label}
+use Rattle.dimacs_decide.specs.declared.heights.HeightLabel.{HeightLabel}
 use Rattle.dimacs_decide.specs.inside.Counting.{count_below}
 use Rattle.dimacs_decide.specs.inside.Heights.{below_of, bound, height_of}
 
@@ -10,7 +10,7 @@ abbrev pub blanks : (ℕ → ℕ) → ℕ → ℕ
 blanks places n = count_below (λ v. places v == 0) n
 
 -- all visited nodes, each once, with their places from 1; their heights are bounded
-pub record IsTrace (nodes : ℕ) (labels : ℕ → Label) (path : List ℕ) (places : ℕ → ℕ) : Type 0 where
+pub record IsTrace (nodes : ℕ) (labels : ℕ → HeightLabel) (path : List ℕ) (places : ℕ → ℕ) : Type 0 where
   pub first : places 0 ≡ 1
   pub each : length path + blanks places (nodes + 1) ≡ nodes + 1
   pub there : (j : ℕ) → j < length path → places (slice_index path j) ≡ j + 1
@@ -18,7 +18,7 @@ pub record IsTrace (nodes : ℕ) (labels : ℕ → Label) (path : List ℕ) (pla
   pub low : (v : ℕ) → 0 < places v → height_of labels v ≤ℤ bound (length path)
 
 -- a path down from a node, after the nodes of earlier paths, up to `at`
-pub record IsFollowing (nodes : ℕ) (arcs : List ArcView) (labels : ℕ → Label) (start begin : ℕ) (path : List ℕ) (places : ℕ → ℕ) (at : ℕ) : Type 0 where
+pub record IsFollowing (nodes : ℕ) (arcs : List ArcView) (labels : ℕ → HeightLabel) (start begin : ℕ) (path : List ℕ) (places : ℕ → ℕ) (at : ℕ) : Type 0 where
   pub first : places 0 ≡ 1
   pub some : 1 ≤ begin
   pub begun : begin ≤ length path
@@ -33,7 +33,7 @@ pub record IsFollowing (nodes : ℕ) (arcs : List ArcView) (labels : ℕ → Lab
   pub started : (at ≡ start) ⊎ (0 < places start)
 
 -- a path down that returns to its first node: the places from `first` on
-pub record IsCycle (arcs : List ArcView) (labels : ℕ → Label) (path : List ℕ) (first last : ℕ) : Type 0 where
+pub record IsCycle (arcs : List ArcView) (labels : ℕ → HeightLabel) (path : List ℕ) (first last : ℕ) : Type 0 where
   pub ends : length path ≡ last + 1
   pub some : first < last
   pub steps : (j : ℕ) → first ≤ j → j < last → below_of arcs (labels (slice_index path j)) ≡ slice_index path (j + 1)
@@ -42,6 +42,6 @@ pub record IsCycle (arcs : List ArcView) (labels : ℕ → Label) (path : List �
   pub raised : (j : ℕ) → first ≤ j → j < last → 0 < (labels (slice_index path j)).parent_arc
 
 -- all nodes down from the start were visited, or they lead back to one of themselves
-abbrev pub Follows : ℕ → List ArcView → (ℕ → Label) → ℕ → List ℕ → (ℕ → ℕ) → Option ℕ → Type 0
+abbrev pub Follows : ℕ → List ArcView → (ℕ → HeightLabel) → ℕ → List ℕ → (ℕ → ℕ) → Option ℕ → Type 0
 Follows nodes arcs labels start path places None = IsTrace nodes labels path places × (0 < places start)
 Follows nodes arcs labels start path places (Some first) = IsCycle arcs labels path first (length path - 1)

@@ -6,7 +6,7 @@ use Rattle.dimacs_claims.specs.Labels.{AreLabels, BlockValue, LabelsValue, label
 use Rattle.dimacs_optimality.specs.inside.Labels.{block_at}
 use Rattle.dimacs_decide.specs.CertifiedPaths.{AreAllDistances}
 use Rattle.dimacs_decide.specs.Distances.{AreDistancesFrom}
-use Rattle.dimacs_decide.specs.inside.DistanceBlocks.{IsMadeOf}
+use Rattle.dimacs_decide.specs.inside.DistanceBlocks.{IsBlockFor}
 use Rattle.dimacs_decide.proofs.CertifiedPathsLemmas.{decided_here, fewer, made_more, next_source, paths_certified, refused_at, same_block, sources_within}
 use Rattle.dimacs_decide.proofs.certified_paths.certify_paths.Goals as goal
 
@@ -58,6 +58,6 @@ returns g c =
     let past = rw c.blocks-blocks.ensures.blocks at c.loop-i-test.false in
     let all : length blocks ≤ c.loop-i.i = omega (arith, past) in
     let hold : AreAllDistances value blocks = subst (AreAllDistances value) (take_all c.loop-i.i blocks all) c.loop-i.invariant.hold in
-    let zip : AllZip (IsMadeOf value) blocks c.loop-i.labels.blocks = subst (λ front. AllZip (IsMadeOf value) front c.loop-i.labels.blocks) (take_all c.loop-i.i blocks all) c.loop-i.invariant.made in
+    let zip : AllZip (IsBlockFor value) blocks c.loop-i.labels.blocks = subst (λ front. AllZip (IsBlockFor value) front c.loop-i.labels.blocks) (take_all c.loop-i.i blocks all) c.loop-i.invariant.made in
     let lawful : AreLabels c.args.distances.now = c.blocks-blocks.ensures.lawful.0 in
     (hold, paths_certified value blocks c.loop-i.labels.blocks lawful.sources zip c.loop-i.labels.nodes c.loop-i.invariant.nodes (sources_within value.nodes c.args.distances.now c.requires lawful))

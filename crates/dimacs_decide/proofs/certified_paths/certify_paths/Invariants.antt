@@ -4,7 +4,7 @@ use Rattle.std.specs.Prelude.{IfSome}
 use Rattle.dimacs_network.specs.AdjacencyLists.{AreAdjacencyLists}
 use Rattle.dimacs_network.specs.declared.adjacency_lists.Side.TheVariants.{Tail}
 use Rattle.dimacs_decide.specs.CertifiedPaths.{AreAllDistances}
-use Rattle.dimacs_decide.specs.inside.DistanceBlocks.{IsMadeOf}
+use Rattle.dimacs_decide.specs.inside.DistanceBlocks.{IsBlockFor}
 use Rattle.dimacs_decide.specs.inside.FewLabels.{AreFree}
 use Rattle.dimacs_decide.proofs.certified_paths.certify_paths.Given as goal
 
@@ -12,7 +12,7 @@ use Rattle.dimacs_decide.proofs.certified_paths.certify_paths.Given as goal
 abbrev pub invariant-loop-i : goal.invariant-loop-i
 invariant-loop-i g l = record {
   nodes : l.labels.nodes ≡ l.graph.nodes;
-  made : AllZip (IsMadeOf l.graph) (take l.i l.distances.blocks) l.labels.blocks;
+  made : AllZip (IsBlockFor l.graph) (take l.i l.distances.blocks) l.labels.blocks;
   lists : IfSome l.lists (AreAdjacencyLists Tail l.graph.arcs);
   free : IfSome l.tables (AreFree l.graph);
   hold : AreAllDistances l.graph (take l.i l.distances.blocks);

@@ -18,7 +18,7 @@ overflow_add-sum c =
     let fits_got : SFits w128 c.get.result = search rules in
     let more : c.excess_of-sum.result ≡ pos (positive_part (imbalance id)) = rw (to_z-of_z w128 c.get.result fits_got, c.get.ensures.value) at c.excess_of-sum.ensures in
     let next = excess_more imbalance id sum c.loop-id.auto.id (c.requires.sizes id) c.loop-id.invariant in
-    rw (to_z-of_z w128 c.excess_of-sum.result fits) (omega (arith, ints, more, next.least, next.most, c.loop-id-test.true, c.requires.few_nodes))
+    rw (to_z-of_z w128 c.excess_of-sum.result fits) (omega (arith, ints, more, next.least, next.most, c.loop-id-test.true, c.requires.node_limit))
 
 pub loop-id-preserved : goal.loop-id-preserved
 loop-id-preserved c =
@@ -29,5 +29,5 @@ loop-id-preserved c =
     let fits_got : SFits w128 c.get.result = search rules in
     let more : c.excess_of-sum.result ≡ pos (positive_part (imbalance id)) = rw (to_z-of_z w128 c.get.result fits_got, c.get.ensures.value) at c.excess_of-sum.ensures in
     let next = excess_more imbalance id sum c.loop-id.auto.id (c.requires.sizes id) c.loop-id.invariant in
-    let fits_sum : SFits w128 (sum +ℤ c.excess_of-sum.result) = omega (arith, ints, more, next.least, next.most, c.loop-id-test.true, c.requires.few_nodes) in
+    let fits_sum : SFits w128 (sum +ℤ c.excess_of-sum.result) = omega (arith, ints, more, next.least, next.most, c.loop-id-test.true, c.requires.node_limit) in
     rw (to_z-of_z w128 c.excess_of-sum.result fits, to_z-of_z w128 (sum +ℤ c.excess_of-sum.result) fits_sum, more) next

@@ -5,7 +5,7 @@ use Rattle.dimacs_nodes.specs.Tables.{value_of}
 use Rattle.dimacs_decide.specs.Distances.{claim_row}
 use Rattle.dimacs_decide.specs.inside.TightTrees.{IsTightTree}
 use Rattle.dimacs_decide.proofs.LightestLemmas.{lightest_clear, lightest_joined, lightest_tree}
-use Rattle.dimacs_decide.proofs.RisingLemmas.{certified}
+use Rattle.dimacs_decide.proofs.PredecessorTreeLemmas.{certified}
 use Rattle.dimacs_decide.proofs.few_labels.few_tree.Goals as goal
 
 pub tight_tree-requires-clause-joined : goal.tight_tree-requires-clause-joined
@@ -22,8 +22,8 @@ returns-clause-distances g c =
     (certified value b.source (label b) tree.block (value_of tree.reached) c.requires.graph.joined (c.in_ok-tree.ensures.source ∙ c.source-source.ensures) (lightest_tree value.arcs least (label b) c.requires.lightest value.nodes tree.block (value_of tree.reached) is)
     (c.if-not-reaches_all.ensures refl value.nodes) (lightest_clear value.arcs least (label b) c.requires.lightest arcs)).0
 
-pub returns-clause-made : goal.returns-clause-made
-returns-clause-made g c =
+pub returns-clause-block : goal.returns-clause-block
+returns-clause-block g c =
     let value = c.args.graph.now in
     let b = c.args.claimed.now in
     let least = g.M.Network.list c.args.network.now in

@@ -10,7 +10,7 @@ use Rattle.dimacs_optimality.specs.Rows.{amount_at}
 use Rattle.dimacs_network.specs.Arcs.{arc_at, no_arc}
 use Rattle.dimacs_optimality.proofs.Passing.{pair_at}
 use Rattle.dimacs_nodes.specs.Tables.{value_of}
-use Rattle.dimacs_decide.specs.declared.heights.Label.{Label}
+use Rattle.dimacs_decide.specs.declared.heights.HeightLabel.{HeightLabel}
 use Rattle.dimacs_decide.specs.inside.Heights.{gain_at, height_of}
 use Rattle.dimacs_decide.specs.inside.ResidualCapacities.{residual_capacity_at}
 use Rattle.dimacs_decide.proofs.HeightLemmas.{arc_bounds, gain_least, gain_most}
@@ -62,7 +62,7 @@ overflow_add-height g c =
     let arcs = g.N.Network.list c.args.network.now in
     let is : arc_at arcs c.args.parent_arc ≡ c.arc-arc.result = get_or_from_slice_get arcs c.args.parent_arc c.arc-arc.result no_arc c.arc-arc.ensures in
     let has : HasBounds c.arc-arc.result = subst HasBounds is (arc_bounds arcs c.args.parent_arc c.requires.bounds c.requires.parent_arc) in
-    let height : c.get.result.height ≡ height_of (value_of c.args.labels.now) c.near.result = ap (λ (l : Label). l.height) c.get.ensures.value in
+    let height : c.get.result.height ≡ height_of (value_of c.args.labels.now) c.near.result = ap (λ (l : HeightLabel). l.height) c.get.ensures.value in
     let fits_height : SFits w128 c.get.result.height = search rules in
     let fits_gain : SFits w128 c.gain.result = search rules in
     rw (to_z-of_z w128 c.get.result.height fits_height, to_z-of_z w128 c.gain.result fits_gain) (omega (arith, ints, height, c.gain.ensures, c.requires.least c.near.result, c.requires.bounded c.near.result, gain_most c.args.side c.arc-arc.result has, gain_least c.args.side c.arc-arc.result has))
@@ -76,8 +76,8 @@ returns-then-height-get g c =
     let far : c.far-to.result ≡ other_end c.args.side (arc_at arcs c.args.parent_arc) = c.far-to.ensures ∙ ap (other_end c.args.side) (sym is) in
     let has : HasBounds c.arc-arc.result = subst HasBounds is (arc_bounds arcs c.args.parent_arc c.requires.bounds c.requires.parent_arc) in
     let gain : c.gain.result ≡ gain_at c.args.side (arc_at arcs c.args.parent_arc) = c.gain.ensures ∙ ap (gain_at c.args.side) (sym is) in
-    let from : c.get.result.height ≡ height_of labels (end_of c.args.side (arc_at arcs c.args.parent_arc)) = ap (λ (l : Label). l.height) c.get.ensures.value ∙ ap (height_of labels) near in
-    let to : c.get-2.result.height ≡ height_of labels (other_end c.args.side (arc_at arcs c.args.parent_arc)) = ap (λ (l : Label). l.height) c.get-2.ensures.value ∙ ap (height_of labels) far in
+    let from : c.get.result.height ≡ height_of labels (end_of c.args.side (arc_at arcs c.args.parent_arc)) = ap (λ (l : HeightLabel). l.height) c.get.ensures.value ∙ ap (height_of labels) near in
+    let to : c.get-2.result.height ≡ height_of labels (other_end c.args.side (arc_at arcs c.args.parent_arc)) = ap (λ (l : HeightLabel). l.height) c.get-2.ensures.value ∙ ap (height_of labels) far in
     let fits_height : SFits w128 c.get.result.height = search rules in
     let fits_gain : SFits w128 c.gain.result = search rules in
     let fits_sum : SFits w128 (c.get.result.height +ℤ c.gain.result) = omega (arith, ints, from, c.gain.ensures, c.requires.least (end_of c.args.side (arc_at arcs c.args.parent_arc)), c.requires.bounded (end_of c.args.side (arc_at arcs c.args.parent_arc)), gain_most c.args.side c.arc-arc.result has, gain_least c.args.side c.arc-arc.result has) in
@@ -99,19 +99,19 @@ returns g c =
     let near : c.near.result ≡ end_of c.args.side (arc_at arcs k) = c.near.ensures ∙ ap (end_of c.args.side) (sym is) in
     let far : c.far-to.result ≡ other_end c.args.side (arc_at arcs k) = c.far-to.ensures ∙ ap (other_end c.args.side) (sym is) in
     let gain : c.gain.result ≡ gain_at c.args.side (arc_at arcs k) = c.gain.ensures ∙ ap (gain_at c.args.side) (sym is) in
-    let from : c.get.result.height ≡ height_of labels (end_of c.args.side (arc_at arcs k)) = ap (λ (l : Label). l.height) c.get.ensures.value ∙ ap (height_of labels) near in
-    let to : c.get-2.result.height ≡ height_of labels (other_end c.args.side (arc_at arcs k)) = ap (λ (l : Label). l.height) c.get-2.ensures.value ∙ ap (height_of labels) far in
+    let from : c.get.result.height ≡ height_of labels (end_of c.args.side (arc_at arcs k)) = ap (λ (l : HeightLabel). l.height) c.get.ensures.value ∙ ap (height_of labels) near in
+    let to : c.get-2.result.height ≡ height_of labels (other_end c.args.side (arc_at arcs k)) = ap (λ (l : HeightLabel). l.height) c.get-2.ensures.value ∙ ap (height_of labels) far in
     let fits_height : SFits w128 c.get.result.height = search rules in
     let fits_gain : SFits w128 c.gain.result = search rules in
     let more = rw (to_z-of_z w128 c.get.result.height fits_height, to_z-of_z w128 c.gain.result fits_gain) at c.if-height-get.false in
     let fits_sum : SFits w128 (c.get.result.height +ℤ c.gain.result) = omega (arith, ints, from, c.gain.ensures, c.requires.least (end_of c.args.side (arc_at arcs k)), c.requires.bounded (end_of c.args.side (arc_at arcs k)), gain_most c.args.side c.arc-arc.result has, gain_least c.args.side c.arc-arc.result has) in
     let set : value_of c.set.new.self (other_end c.args.side (arc_at arcs k)) ≡ record { height = c.get.result.height +ℤ c.gain.result; parent_arc = k + 1; side = c.args.side } = rw (far, to_z-of_z w128 c.get.result.height fits_height, to_z-of_z w128 c.gain.result fits_gain, to_z-of_z w128 (c.get.result.height +ℤ c.gain.result) fits_sum) at c.in_ok-set.ensures.set in
-    let sum = ap (λ (l : Label). l.height) set in
+    let sum = ap (λ (l : HeightLabel). l.height) set in
     record {
       residual_capacity = omega (arith, ints, some, residual_capacity_is);
       rises = omega (arith, ints, more, from, to, gain);
       height = omega (arith, ints, sum, from, gain);
-      parent_arc = ap (λ (l : Label). l.parent_arc) set;
-      side_is = ap (λ (l : Label). l.side) set;
+      parent_arc = ap (λ (l : HeightLabel). l.parent_arc) set;
+      side_is = ap (λ (l : HeightLabel). l.side) set;
       others = λ v ne. c.in_ok-set.ensures.others v (λ e. ne (e ∙ far));
     }

@@ -10,7 +10,7 @@ use Rattle.dimacs_nodes.specs.Tables.{value_of}
 use Rattle.dimacs_decide.specs.FeasibilityDecision.{imbalance_at}
 use Rattle.dimacs_decide.proofs.FeasibleLemmas.{imbalances_all, imbalances_more, imbalances_none, imbalances_skip}
 use Rattle.dimacs_decide.proofs.SumLemmas.{net_size}
-use Rattle.dimacs_decide.proofs.imbalance.imbalances.Goals.{then-is_some+in_ok-set, else-is_some}
+use Rattle.dimacs_decide.proofs.imbalance.imbalances.Goals.{then-is_unbalanced+in_ok-set, else-is_unbalanced}
 use Rattle.dimacs_decide.proofs.imbalance.imbalances.Goals as goal
 
 pub new-requires-clause-one_each : goal.new-requires-clause-one_each
@@ -50,9 +50,9 @@ loop-id-preserved g c =
     let fits_all : SFits w128 (c.from.result -ℤ c.of.result) = omega (arith, ints, is, size, from, fits_supply, law.arcs_few) in
     let imbalance : c.from.result -ℤ c.of.result ≡ imbalance_at i x id = omega (arith, ints, is, from, c.supply.ensures) in
     let small : IsOfSize (2 ^ 99) (c.from.result -ℤ c.of.result) = (omega (arith, ints, is, size, from, fits_supply, law.arcs_few), omega (arith, ints, is, size, from, fits_supply, law.arcs_few)) in
-    let outcome = rw (to_z-of_z w128 c.from.result fits_from, to_z-of_z w128 c.of.result fits, to_z-of_z w128 (c.from.result -ℤ c.of.result) fits_all) at c.is_some.ensures in
-    elim c.if-is_some.branch [
-      | then-is_some+in_ok-set w ↦
+    let outcome = rw (to_z-of_z w128 c.from.result fits_from, to_z-of_z w128 c.of.result fits, to_z-of_z w128 (c.from.result -ℤ c.of.result) fits_all) at c.is_unbalanced.ensures in
+    elim c.if-is_unbalanced.branch [
+      | then-is_unbalanced+in_ok-set w ↦
           let new = value_of w.set.new.self in
           let here : new id ≡ c.from.result -ℤ c.of.result = rw (to_z-of_z w128 c.from.result fits_from, to_z-of_z w128 c.of.result fits, to_z-of_z w128 (c.from.result -ℤ c.of.result) fits_all) at w.in_ok-set.ensures.set in
           rw w.table-is record {
@@ -62,8 +62,8 @@ loop-id-preserved g c =
               | inr ne ↦ subst (IsOfSize (2 ^ 99)) (sym (w.in_ok-set.ensures.others v ne)) (c.loop-id.invariant.sizes v)
             ];
           }
-      | else-is_some w ↦
-          let none : c.from.result -ℤ c.of.result ≡ pos 0 = same_number (c.from.result -ℤ c.of.result) (pos 0) (λ ne. absurd (let t = outcome.1 ne in let f = w.if-is_some.false in cc)) in
+      | else-is_unbalanced w ↦
+          let none : c.from.result -ℤ c.of.result ≡ pos 0 = same_number (c.from.result -ℤ c.of.result) (pos 0) (λ ne. absurd (let t = outcome.1 ne in let f = w.if-is_unbalanced.false in cc)) in
           rw w.table-is record {
             are = imbalances_skip i x id old c.loop-id.invariant.are (sym imbalance ∙ none);
             sizes = c.loop-id.invariant.sizes;

@@ -30,5 +30,5 @@ returns-clause-tree c =
     let near : IsNear b.radius d = subst (λ radius. IsNear radius d) (sym c.requires.tree.whole) tt in
     let label : IsLabel nodes (record { dist = d; id = u; pred = pred u }) = record { id = node; dist = c.in-Some.ensures.wide; pred = c.requires.tree.inside (pred u) c.requires.led } in
     let lawful : IsBlock nodes (with_label b (record { dist = d; id = u; pred = pred u })) =
-    keeps nodes c.requires.tree.lawful label (few nodes s claim pred b led u c.requires.tree new c.requires.few_nodes node) (pred_labelled nodes s claim pred b led u c.requires.tree new c.requires.led) near in
+    keeps nodes c.requires.tree.lawful label (few nodes s claim pred b led u c.requires.tree new c.requires.node_limit node) (pred_labelled nodes s claim pred b led u c.requires.tree new c.requires.led) near in
     rw (c.in_ok-add.ensures.added, exact, c.predecessor_of.ensures) (grown nodes s claim pred b led u c.requires.tree new d (value_of c.set.new.self) node c.requires.led (c.requires.next (record { dist = d; id = u; pred = pred u }) refl) named lawful adds c.in_ok-set.ensures.set c.in_ok-set.ensures.others)

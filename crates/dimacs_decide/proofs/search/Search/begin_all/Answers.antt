@@ -29,9 +29,9 @@ loop-id-preserved c =
               ]
             ];
             none = λ v h. b.others v (λ e. omega (arith, e, h)) ∙ now.none v (omega (arith, h));
-            begun = λ arcs x was.
-                let before = subst (λ (s : ℕ → ℤ). IsResidualSearch nodes arcs x s visits queue 0) (sym same) (now.begun arcs x was) in
-                subst (λ (s : ℕ → ℤ). IsResidualSearch nodes arcs x s (value_of w.begin.new.self.visits) w.begin.new.self.queue.items 0) same (b.begun nodes arcs x (omega arith, omega arith) before);
+            search = λ arcs x was.
+                let before = subst (λ (s : ℕ → ℤ). IsResidualSearch nodes arcs x s visits queue 0) (sym same) (now.search arcs x was) in
+                subst (λ (s : ℕ → ℤ). IsResidualSearch nodes arcs x s (value_of w.begin.new.self.visits) w.begin.new.self.queue.items 0) same (b.search nodes arcs x (omega arith, omega arith) before);
           }
       | else-get-gt0 w ↦
           rw w.self-is record {
@@ -41,6 +41,6 @@ loop-id-preserved c =
               | inr apart ↦ elim apart [ inl low ↦ now.reached v some low more | inr high ↦ absurd (omega (arith, high, less)) ]
             ];
             none = λ v h. now.none v (omega (arith, h));
-            begun = now.begun;
+            search = now.search;
           }
     ]

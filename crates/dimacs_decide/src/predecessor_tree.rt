@@ -7,7 +7,7 @@ ghost use Rattle.dimacs_optimality.specs.Tests.{Clear};
 ghost use Rattle.dimacs_decide.specs.Distances.{AreDistancesFrom, claim_row};
 ghost use Rattle.dimacs_decide.specs.inside.DenseTables.{HasNode, HasNodes, SameNodes, value_at};
 ghost use Rattle.dimacs_decide.specs.inside.DistanceBlocks.{IsBlockOf};
-ghost use Rattle.dimacs_decide.specs.inside.Rising.{AreTightTails, IsRisingTree, NotesTail, RisingGrows, is_reached};
+ghost use Rattle.dimacs_decide.specs.inside.PredecessorTrees.{AreTightTails, IsPredecessorTree, NotesTail, PredecessorTreeGrows, is_reached};
 ghost use Rattle.dimacs_decide.specs.inside.TightTrees.{ReachesAll};
 
 use crate::claim::DistanceClaim;
@@ -25,7 +25,7 @@ const REACHED: u32 = u32::MAX;
 
 /// A block that shows the claimed distances, if each has a tight arc of positive weight. None doesn't mean that they
 /// are wrong. One pass over the arcs.
-pub(crate) fn rising_block<N: Network, C: DistanceClaim>(
+pub(crate) fn block_by_predecessors<N: Network, C: DistanceClaim>(
     alloc: Global,
     graph: &Graph<N>,
     source: u32,
@@ -42,8 +42,8 @@ pub(crate) fn rising_block<N: Network, C: DistanceClaim>(
     let Some(tails) = tight_tails(alloc, network, claim)? else {
         return Ok(None);
     };
-    let mut tree = RisingTree::new(alloc, network, source, claim, tails)?;
-    if lead_all(alloc, network, claim, &mut tree)? {
+    let mut tree = PredecessorTree::new(alloc, network, source, claim, tails)?;
+    if reach_all(alloc, network, claim, &mut tree)? {
         Ok(Some(tree.block))
     } else {
         Ok(None)
@@ -87,13 +87,13 @@ fn note_tail<C: DistanceClaim>(claim: &C, arc: ArcView, tails: &mut DenseTable<u
 
 /// The nodes that were reached over tight arcs, in the order of the search, and tight arcs to the others.
 #[derive(Drop)]
-struct RisingTree {
+struct PredecessorTree {
     block: Block,
     /// For each node `REACHED`, or the tail of a tight arc of positive weight to it, 0 for none.
     tails: DenseTable<u32>,
 }
 
-impl RisingTree {
+impl PredecessorTree {
     /// The search tree after only the source was reached.
     fn new<N: Network, C: DistanceClaim>(
         alloc: Global,
@@ -101,21 +101,21 @@ impl RisingTree {
         source: u32,
         claim: &C,
         tails: DenseTable<u32>,
-    ) -> Result<RisingTree, Memory>
-        requires few_nodes { N.node_count network.now ≤ most_nodes }
+    ) -> Result<PredecessorTree, Memory>
+        requires node_limit { N.node_count network.now ≤ most_nodes }
         requires joined { All (JoinsNodes (N.node_count network.now)) (N.list network.now) }
         requires source { IsNode (N.node_count network.now) source }
         requires claimed { C.claimed claim.now source ≡ Some (pos 0) }
         requires nodes { HasNodes tails (N.node_count network.now) }
         requires tails { AreTightTails (N.list network.now) (C.claimed claim.now) (value_at tails) }
         ensures source { IfOk result (λ tree. tree.block.source ≡ source) }
-        ensures tree { IfOk result (λ tree. IsRisingTree (N.node_count network.now) (N.list network.now)
+        ensures tree { IfOk result (λ tree. IsPredecessorTree (N.node_count network.now) (N.list network.now)
             (C.claimed claim.now) tree.block tree.tails) }
     {
         let mut tails = tails;
         tails.set(source, REACHED);
         let block = Block::new(alloc, source);
-        Ok(RisingTree { block, tails })
+        Ok(PredecessorTree { block, tails })
     }
 
     /// Whether a node was reached.
@@ -142,12 +142,12 @@ impl RisingTree {
         claim: &C,
         node: u32,
     ) -> Result<(), Memory>
-        requires few_nodes { N.node_count network.now ≤ most_nodes }
+        requires node_limit { N.node_count network.now ≤ most_nodes }
         requires joined { All (JoinsNodes (N.node_count network.now)) (N.list network.now) }
-        requires tree { IsRisingTree (N.node_count network.now) (N.list network.now) (C.claimed claim.now) self.old.block self.old.tails }
-        ensures tree { OnOk result (IsRisingTree (N.node_count network.now) (N.list network.now) (C.claimed claim.now)
+        requires tree { IsPredecessorTree (N.node_count network.now) (N.list network.now) (C.claimed claim.now) self.old.block self.old.tails }
+        ensures tree { OnOk result (IsPredecessorTree (N.node_count network.now) (N.list network.now) (C.claimed claim.now)
             self.new.block self.new.tails) }
-        ensures grows { OnOk result (RisingGrows self.old.block self.old.tails self.new.block self.new.tails) }
+        ensures grows { OnOk result (PredecessorTreeGrows self.old.block self.old.tails self.new.block self.new.tails) }
     {
         let pred = self.tails.get(node);
         if !self.leads(pred) {
@@ -168,23 +168,23 @@ impl RisingTree {
 
 /// Reaches all nodes with a claim, in the order of IDs, each after its predecessors. Returns whether that succeeds.
 #[inline(never)]
-fn lead_all<N: Network, C: DistanceClaim>(
+fn reach_all<N: Network, C: DistanceClaim>(
     alloc: Global,
     network: &N,
     claim: &C,
-    tree: &mut RisingTree,
+    tree: &mut PredecessorTree,
 ) -> Result<bool, Memory>
-    requires few_nodes { N.node_count network.now ≤ most_nodes }
+    requires node_limit { N.node_count network.now ≤ most_nodes }
     requires joined { All (JoinsNodes (N.node_count network.now)) (N.list network.now) }
-    requires tree { IsRisingTree (N.node_count network.now) (N.list network.now) (C.claimed claim.now) tree.old.block tree.old.tails }
+    requires tree { IsPredecessorTree (N.node_count network.now) (N.list network.now) (C.claimed claim.now) tree.old.block tree.old.tails }
     ensures source { OnOk result (tree.new.block.source ≡ tree.old.block.source) }
-    ensures tree { OnOk result (IsRisingTree (N.node_count network.now) (N.list network.now) (C.claimed claim.now) tree.new.block tree.new.tails) }
+    ensures tree { OnOk result (IsPredecessorTree (N.node_count network.now) (N.list network.now) (C.claimed claim.now) tree.new.block tree.new.tails) }
     ensures all { IfOk result (λ all. IsTrue all → ReachesAll (N.node_count network.now) (C.claimed claim.now) (is_reached tree.new.tails)) }
 {
-    let mut way = Vec::new(alloc);
+    let mut path = Vec::new(alloc);
     for v in 1..network.nodes() + 1 {
-        let led = lead(network, claim, tree, &mut way, v)?;
-        if !led {
+        let reached = reach_node(network, claim, tree, &mut path, v)?;
+        if !reached {
             return Ok(false);
         }
     }
@@ -194,25 +194,25 @@ fn lead_all<N: Network, C: DistanceClaim>(
 /// Reaches a node, if it has a claim, after those of its predecessors that weren't reached. Returns whether that
 /// succeeds.
 #[inline(always)]
-fn lead<N: Network, C: DistanceClaim>(
+fn reach_node<N: Network, C: DistanceClaim>(
     network: &N,
     claim: &C,
-    tree: &mut RisingTree,
-    way: &mut Vec<u32>,
+    tree: &mut PredecessorTree,
+    path: &mut Vec<u32>,
     node: u32,
 ) -> Result<bool, Memory>
-    requires few_nodes { N.node_count network.now ≤ most_nodes }
+    requires node_limit { N.node_count network.now ≤ most_nodes }
     requires joined { All (JoinsNodes (N.node_count network.now)) (N.list network.now) }
-    requires tree { IsRisingTree (N.node_count network.now) (N.list network.now) (C.claimed claim.now) tree.old.block tree.old.tails }
-    ensures tree { OnOk result (IsRisingTree (N.node_count network.now) (N.list network.now) (C.claimed claim.now) tree.new.block tree.new.tails) }
-    ensures grows { OnOk result (RisingGrows tree.old.block tree.old.tails tree.new.block tree.new.tails) }
-    ensures led { IfOk result (λ led. IsTrue led → IsSome (C.claimed claim.now node) → is_reached tree.new.tails node ≡ true) }
+    requires tree { IsPredecessorTree (N.node_count network.now) (N.list network.now) (C.claimed claim.now) tree.old.block tree.old.tails }
+    ensures tree { OnOk result (IsPredecessorTree (N.node_count network.now) (N.list network.now) (C.claimed claim.now) tree.new.block tree.new.tails) }
+    ensures grows { OnOk result (PredecessorTreeGrows tree.old.block tree.old.tails tree.new.block tree.new.tails) }
+    ensures reached { IfOk result (λ reached. IsTrue reached → IsSome (C.claimed claim.now node) → is_reached tree.new.tails node ≡ true) }
 {
     if tree.reaches(node) || claim.of(node).is_none() {
         return Ok(true);
     }
-    climb(network, tree, way, node)?;
-    while let Some(next) = way.pop() {
+    climb(network, tree, path, node)?;
+    while let Some(next) = path.pop() {
         tree.place(network, claim, next)?;
     }
     tree.place(network, claim, node)?;
@@ -223,17 +223,17 @@ fn lead<N: Network, C: DistanceClaim>(
 #[inline(always)]
 fn climb<N: Network>(
     network: &N,
-    tree: &RisingTree,
-    way: &mut Vec<u32>,
+    tree: &PredecessorTree,
+    path: &mut Vec<u32>,
     node: u32,
 ) -> Result<(), Memory> {
     let mut at = tree.tails.get(node);
-    while at > 0 && way.len() < network.nodes() as usize {
+    while at > 0 && path.len() < network.nodes() as usize {
         let next = tree.tails.get(at);
         if next == REACHED {
             return Ok(());
         }
-        way.push(at)?;
+        path.push(at)?;
         at = next;
     }
     Ok(())

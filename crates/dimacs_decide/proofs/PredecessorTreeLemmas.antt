@@ -14,9 +14,9 @@ use Rattle.dimacs_optimality.specs.Walks.{IsWalk}
 use Rattle.dimacs_decide.specs.Distances.{AreDistancesFrom, IsTight, IsTightlyReached, claim_row, reach_row}
 use Rattle.dimacs_decide.specs.inside.DistanceBlocks.{IsBlockOf}
 use Rattle.dimacs_decide.specs.declared.dense_table.DenseTable.{DenseTable}
-use Rattle.dimacs_decide.specs.declared.rising.TheConstants.{REACHED}
+use Rattle.dimacs_decide.specs.declared.predecessor_tree.TheConstants.{REACHED}
 use Rattle.dimacs_decide.specs.inside.DenseTables.{HasNodes, SameNodes, value_at}
-use Rattle.dimacs_decide.specs.inside.Rising.{AreTightTails, HasTail, IsRisingTree, NotesTail, is_reached}
+use Rattle.dimacs_decide.specs.inside.PredecessorTrees.{AreTightTails, HasTail, IsPredecessorTree, NotesTail, is_reached}
 use Rattle.dimacs_decide.specs.inside.TightTrees.{IsTightTree, IsWholeTightTree, ReachesAll}
 use Rattle.dimacs_decide.proofs.ClaimLemmas.{made_of, true_claim}
 use Rattle.dimacs_decide.proofs.TightLemmas.{begun, few, grown}
@@ -57,10 +57,10 @@ module _ (nodes : ℕ) (arcs : List ArcView) (claim : ℕ → Option ℤ) (old n
       let ends : JoinsNodes nodes a = All-contains (JoinsNodes nodes) arcs a joined has in
       omega (arith, ends.0.1, small, tail, is)
 
-  pub rising_begun : (s : ℕ) → IsNode nodes s → HasNodes old nodes → claim s ≡ Some (pos 0) → IsBlock nodes (record { source = s; radius = None; labels = [] })
+  pub predecessor_tree_begun : (s : ℕ) → IsNode nodes s → HasNodes old nodes → claim s ≡ Some (pos 0) → IsBlock nodes (record { source = s; radius = None; labels = [] })
       → value_at new s ≡ REACHED → ((v : ℕ) → v ≢ s → value_at new v ≡ value_at old v) → SameNodes old new
-      → IsRisingTree nodes arcs claim (record { source = s; radius = None; labels = [] }) new
-  rising_begun s node each named lawful here others same = record {
+      → IsPredecessorTree nodes arcs claim (record { source = s; radius = None; labels = [] }) new
+  predecessor_tree_begun s node each named lawful here others same = record {
     each = omega (arith, each, same);
     tree = begun nodes arcs claim s (is_reached new) node named lawful (marks_same _ here) (λ v apart. marks_apart _ (λ is. unmarked v (sym (others v apart) ∙ is)));
     waiting = λ v waits some. elim (cases_eq v s) [
@@ -70,7 +70,7 @@ module _ (nodes : ℕ) (arcs : List ArcView) (claim : ℕ → Option ℤ) (old n
   }
 
 -- ---- one more node
-module _ (nodes : ℕ) (arcs : List ArcView) (claim : ℕ → Option ℤ) (b : BlockValue) (tails : DenseTable ℕ) (is : IsRisingTree nodes arcs claim b tails) (joined : All (JoinsNodes nodes) arcs)
+module _ (nodes : ℕ) (arcs : List ArcView) (claim : ℕ → Option ℤ) (b : BlockValue) (tails : DenseTable ℕ) (is : IsPredecessorTree nodes arcs claim b tails) (joined : All (JoinsNodes nodes) arcs)
     (node pred : ℕ) (from : pred ≡ value_at tails node) (some : pred ≢ 0) (waits : pred ≢ REACHED) where
   arc : (a : ArcView) × Contains arcs a × (a.tail ≡ value_at tails node) × (a.head ≡ node) × IsTight claim a
   arc = is.waiting node (λ marked. waits (from ∙ marked)) (λ none. some (from ∙ none))
@@ -110,7 +110,7 @@ module _ (nodes : ℕ) (arcs : List ArcView) (claim : ℕ → Option ℤ) (b : B
   pub placed : (d : ℤ) (after : DenseTable ℕ) → is_reached tails pred ≡ true → claim node ≡ Some d → IsBlock nodes (with_label b (record { dist = d; id = node; pred = pred }))
       → ((v : ℕ) → label (with_label b (record { dist = d; id = node; pred = pred })) v ≡ cond (node == v) (Some d) (label b v))
       → value_at after node ≡ REACHED → ((v : ℕ) → v ≢ node → value_at after v ≡ value_at tails v) → SameNodes tails after
-      → IsRisingTree nodes arcs claim (with_label b (record { dist = d; id = node; pred = pred })) after
+      → IsPredecessorTree nodes arcs claim (with_label b (record { dist = d; id = node; pred = pred })) after
   placed d after led named lawful adds here others same = record {
     each = omega (arith, is.each, same);
     tree = onto d (is_reached after) led not_reached named lawful adds (marks_same _ here) (λ v apart. ap (λ n. n == REACHED) (others v apart));

@@ -1,7 +1,7 @@
 use Rattle.std.proofs.Common.{◌≡◌, map}
 use Rattle.dimacs_network.specs.declared.network.ArcView.{ArcView}
 use Rattle.dimacs_decide.proofs.InfeasibleLemmas.{lowest_keeps}
-use Rattle.dimacs_decide.proofs.infeasible.started.Goals as goal
+use Rattle.dimacs_decide.proofs.infeasible.start_flow.Goals as goal
 
 pub returns : goal.returns
 returns g c =

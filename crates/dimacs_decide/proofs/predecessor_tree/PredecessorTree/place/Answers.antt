@@ -3,8 +3,8 @@ use Rattle.std.specs.Int.{w128}
 use Rattle.std.proofs.lemmas.Int.{to_z-of_z}
 use Rattle.dimacs_claims.specs.Labels.{IsBlock, IsLabel, IsNear, label, with_label}
 use Rattle.dimacs_decide.specs.inside.DenseTables.{value_at}
-use Rattle.dimacs_decide.proofs.RisingLemmas.{few_before, node_within, placed, pred_within}
-use Rattle.dimacs_decide.proofs.rising.RisingTree.place.Goals as goal
+use Rattle.dimacs_decide.proofs.PredecessorTreeLemmas.{few_before, node_within, placed, pred_within}
+use Rattle.dimacs_decide.proofs.predecessor_tree.PredecessorTree.place.Goals as goal
 
 pub set-requires : goal.set-requires
 set-requires g c =
@@ -41,5 +41,5 @@ returns-clause-tree g c =
     } in
     let before : is_some (label b pred) ≡ true = sym (is.tree.marked pred) ∙ led in
     let lawful : IsBlock nodes (with_label b (record { dist = d; id = node; pred = pred })) =
-    keeps nodes is.tree.lawful own (few_before nodes arcs claim b tails is c.requires.joined node pred from some waits c.requires.few_nodes) before near in
+    keeps nodes is.tree.lawful own (few_before nodes arcs claim b tails is c.requires.joined node pred from some waits c.requires.node_limit) before near in
     rw (c.in_ok-add.ensures.added, exact) (placed nodes arcs claim b tails is c.requires.joined node pred from some waits d c.set.new.self led (sym c.in-Some.ensures.claimed) lawful adds c.set.ensures.set c.set.ensures.others c.set.ensures.nodes)

@@ -4,7 +4,7 @@ use Rattle.dimacs_network.specs.declared.network.ArcView.{ArcView}
 use Rattle.dimacs_claims.specs.Labels.{BlockValue}
 use Rattle.dimacs_decide.specs.Distances.{IsTight}
 use Rattle.dimacs_decide.specs.declared.dense_table.DenseTable.{DenseTable}
-use Rattle.dimacs_decide.specs.declared.rising.TheConstants.{REACHED}
+use Rattle.dimacs_decide.specs.declared.predecessor_tree.TheConstants.{REACHED}
 use Rattle.dimacs_decide.specs.inside.DenseTables.{HasNodes, value_at}
 use Rattle.dimacs_decide.specs.inside.TightTrees.{IsTightTree, TreeGrows}
 
@@ -25,10 +25,10 @@ abbrev pub is_reached : DenseTable ℕ → ℕ → Bool
 is_reached tails v = value_at tails v == REACHED
 
 -- the nodes that are marked were reached over tight arcs; each other tail but 0 has a tight arc to its node
-pub record IsRisingTree (nodes : ℕ) (arcs : List ArcView) (claim : ℕ → Option ℤ) (b : BlockValue) (tails : DenseTable ℕ) : Type 0 where
+pub record IsPredecessorTree (nodes : ℕ) (arcs : List ArcView) (claim : ℕ → Option ℤ) (b : BlockValue) (tails : DenseTable ℕ) : Type 0 where
   pub each : HasNodes tails nodes
   pub tree : IsTightTree nodes arcs claim b (is_reached tails)
   pub waiting : (v : ℕ) → value_at tails v ≢ REACHED → value_at tails v ≢ 0 → HasTail arcs claim v (value_at tails v)
 
-abbrev pub RisingGrows : BlockValue → DenseTable ℕ → BlockValue → DenseTable ℕ → Type 0
-RisingGrows b tails b' tails' = TreeGrows b (is_reached tails) b' (is_reached tails')
+abbrev pub PredecessorTreeGrows : BlockValue → DenseTable ℕ → BlockValue → DenseTable ℕ → Type 0
+PredecessorTreeGrows b tails b' tails' = TreeGrows b (is_reached tails) b' (is_reached tails')
