@@ -20,7 +20,7 @@ use Rattle.dimacs_optimality.specs.Tests.{Clear, First, FirstOfRow, FirstAlone, 
 use Rattle.dimacs_optimality.proofs.Firsts.{AllOneWay, node_one_way, one_first, one_test_one_way}
 use Rattle.dimacs_decide.specs.Distances.{source_row}
 use Rattle.dimacs_arrays.specs.Paths.{AreInOrder, AreLabelsBy, JudgesByNode, IsDue, IsNext, IsPred, LeadsBack, back, back_row, label_rows, pred_row}
-use Rattle.dimacs_arrays.specs.inside.LabelTrees.{AreLed, IsLabelTree}
+use Rattle.dimacs_arrays.specs.inside.LabelTrees.{AreLabelled, IsLabelTree}
 
 -- ---- nodes of labels lead back
 module _ (s : ℕ) (pred : ℕ → ℕ) where
@@ -122,8 +122,8 @@ module _ (nodes s : ℕ) (claim : ℕ → Option ℤ) (pred : ℕ → ℕ) where
     | inr some ↦ absurd (clear v (Node v) NodeRange (node, refl, (refl, λ is. elim is [ inl due ↦ free due.0 | inr none ↦ some none.1 ])))
   ]
 
-  pub spelled : (b : BlockValue) (led : ℕ → Bool) → Clear (pred_row nodes s claim pred) → IsLabelTree nodes s claim pred b led → AreLed claim led → AreLabelsBy nodes s claim pred (record { nodes = nodes; blocks = b ∷ [] })
-  spelled b led clear is all = record {
+  pub spelled : (b : BlockValue) (labelled : ℕ → Bool) → Clear (pred_row nodes s claim pred) → IsLabelTree nodes s claim pred b labelled → AreLabelled claim labelled → AreLabelsBy nodes s claim pred (record { nodes = nodes; blocks = b ∷ [] })
+  spelled b labelled clear is all = record {
     block = b;
     alone = refl;
     lawful = is.lawful;
@@ -142,8 +142,8 @@ module _ (nodes s : ℕ) (claim : ℕ → Option ℤ) (pred : ℕ → ℕ) where
           let t : true ≡ false = sym (all v (ap is_some f)) ∙ (is.marked v ∙ ap is_some e) in
           absurd (cc)
 
-  pub in_order : (b : BlockValue) (led : ℕ → Bool) → IsLabelTree nodes s claim pred b led → AreInOrder s claim pred (record { nodes = nodes; blocks = b ∷ [] })
-  in_order b led is = All-cons (λ c. EachAfter (IsNext s claim pred) c.labels) b [] is.order (All-nil _)
+  pub in_order : (b : BlockValue) (labelled : ℕ → Bool) → IsLabelTree nodes s claim pred b labelled → AreInOrder s claim pred (record { nodes = nodes; blocks = b ∷ [] })
+  in_order b labelled is = All-cons (λ c. EachAfter (IsNext s claim pred) c.labels) b [] is.order (All-nil _)
 
   --   the error is the first test that fails
   pub refused : (place : Where) (reason : Reason) → HasNone place reason → (result : Result LabelsValue JudgeError) → IsErrAnd result (λ error. error ≡ Refused place reason) → Settles (AreLabelsBy nodes s claim pred) (label_rows nodes s claim pred) result

@@ -13,7 +13,7 @@ mod MinLemmas
 mod OrderLemmas
 mod PredLemmas
 mod ReachedLemmas
-mod RisingLemmas
+mod TightPredecessorLemmas
 mod SinkLemmas
 mod SolveLemmas
 mod TreeLemmas

@@ -45,46 +45,46 @@ last_apart v [] end first = (tt, inr refl)
 last_apart v (u ∷ path) end first = let parts = all_but_last (λ w. w ≢ v) path end first in (parts.0, inl parts.1)
 
 -- the last node of a way is removed, and its predecessor is labelled
-module _ (claim : ℕ → Option ℤ) (pred : ℕ → ℕ) (led : ℕ → Bool) (v : ℕ) (old front : List ℕ) (node : ℕ) (is : old ≡ front ++ node ∷ []) (path : (end : ℕ) × IsPathBack claim pred v old end × (led end ≡ true)) (once : ComesFirst v old) (unled : (old ≡ []) ⊎ (led v ≡ false)) where
-  pub taken : IsPathBack claim pred v front node × IsSome (claim node) × (led (pred node) ≡ true)
+module _ (claim : ℕ → Option ℤ) (pred : ℕ → ℕ) (labelled : ℕ → Bool) (v : ℕ) (old front : List ℕ) (node : ℕ) (is : old ≡ front ++ node ∷ []) (path : (end : ℕ) × IsPathBack claim pred v old end × (labelled end ≡ true)) (once : ComesFirst v old) (not_labelled : (old ≡ []) ⊎ (labelled v ≡ false)) where
+  pub taken : IsPathBack claim pred v front node × IsSome (claim node) × (labelled (pred node) ≡ true)
   taken =
       let (end, goes, on) = path in
       let parts = path_less claim pred v front node end (subst (λ w. IsPathBack claim pred v w end) is goes) in
-      (parts.0, parts.1, ap led parts.2 ∙ on)
+      (parts.0, parts.1, ap labelled parts.2 ∙ on)
 
   pub root_some : IsSome (claim v)
   root_some = first_some claim pred v front node path.0 (subst (λ w. IsPathBack claim pred v w path.0) is path.1)
 
-  pub root_unled : led v ≡ false
-  root_unled = elim unled [ inl none ↦ absurd (omega (arith, ap length (sym is ∙ none), length-append front (node ∷ []))) | inr off ↦ off ]
+  pub root_not_labelled : labelled v ≡ false
+  root_not_labelled = elim not_labelled [ inl none ↦ absurd (omega (arith, ap length (sym is ∙ none), length-append front (node ∷ []))) | inr off ↦ off ]
 
   pub root_apart : ComesFirst v front × ((node ≢ v) ⊎ (front ≡ []))
   root_apart = last_apart v front node (subst (ComesFirst v) is once)
 
   --   unless the start itself gets its label, it still has none
-  pub still_unled : (after : ℕ → Bool) → Places led after node → (front ≡ []) ⊎ (after v ≡ false)
-  still_unled after placed = elim root_apart.1 [ inl apart ↦ inr (placed.1 v (λ e. apart (sym e)) ∙ root_unled) | inr none ↦ inl none ]
+  pub still_not_labelled : (after : ℕ → Bool) → Places labelled after node → (front ≡ []) ⊎ (after v ≡ false)
+  still_not_labelled after placed = elim root_apart.1 [ inl apart ↦ inr (placed.1 v (λ e. apart (sym e)) ∙ root_not_labelled) | inr none ↦ inl none ]
 
 -- the result for a node that doesn't lead back to the source
-pub outcome : (claim : ℕ → Option ℤ) (pred : ℕ → ℕ) (s : ℕ) (led : ℕ → Bool) (v : ℕ) → (¬ LeadsBack pred s v) → (o : Option ℤ) → claim v ≡ o → (none : Bool) → is_some o ≡ not none → Leads pred s claim led v none
-outcome claim pred s led v off None is true tells = inl is
-outcome claim pred s led v off None is false tells = absurd (cc)
-outcome claim pred s led v off (Some d) is true tells = absurd (cc)
-outcome claim pred s led v off (Some d) is false tells = (ap is_some is, off)
+pub outcome : (claim : ℕ → Option ℤ) (pred : ℕ → ℕ) (s : ℕ) (labelled : ℕ → Bool) (v : ℕ) → (¬ LeadsBack pred s v) → (o : Option ℤ) → claim v ≡ o → (none : Bool) → is_some o ≡ not none → Leads pred s claim labelled v none
+outcome claim pred s labelled v off None is true tells = inl is
+outcome claim pred s labelled v off None is false tells = absurd (cc)
+outcome claim pred s labelled v off (Some d) is true tells = absurd (cc)
+outcome claim pred s labelled v off (Some d) is false tells = (ap is_some is, off)
 
 -- ---- going back
-pub climb_begin : (claim : ℕ → Option ℤ) (pred : ℕ → ℕ) (led : ℕ → Bool) (v : ℕ) (roots : ℕ → ℕ) → ((u : ℕ) → roots u < v) → IsClimbing claim pred led v roots [] v
-climb_begin claim pred led v roots below = record {
+pub climb_begin : (claim : ℕ → Option ℤ) (pred : ℕ → ℕ) (labelled : ℕ → Bool) (v : ℕ) (roots : ℕ → ℕ) → ((u : ℕ) → roots u < v) → IsClimbing claim pred labelled v roots [] v
+climb_begin claim pred labelled v roots below = record {
   goes = refl;
-  few = λ u. omega (arith, below u);
+  at_most = λ u. omega (arith, below u);
   begun = inl (refl, refl);
   once = tt;
   closed = λ u same. absurd (omega (arith, below u, same));
-  unled = λ u same. absurd (omega (arith, below u, same));
+  not_labelled = λ u same. absurd (omega (arith, below u, same));
 }
 
-module _ (claim : ℕ → Option ℤ) (pred : ℕ → ℕ) (led : ℕ → Bool) (v : ℕ) (roots : ℕ → ℕ) (path : List ℕ) (end : ℕ) (is : IsClimbing claim pred led v roots path end) where
-  module _ (some : IsSome (claim end)) (unled : led end ≡ false) (new : roots end ≢ v) (after : ℕ → ℕ) (here : after end ≡ v) (rest : (u : ℕ) → u ≢ end → after u ≡ roots u) where
+module _ (claim : ℕ → Option ℤ) (pred : ℕ → ℕ) (labelled : ℕ → Bool) (v : ℕ) (roots : ℕ → ℕ) (path : List ℕ) (end : ℕ) (is : IsClimbing claim pred labelled v roots path end) where
+  module _ (some : IsSome (claim end)) (not_labelled : labelled end ≡ false) (new : roots end ≢ v) (after : ℕ → ℕ) (here : after end ≡ v) (rest : (u : ℕ) → u ≢ end → after u ≡ roots u) where
     kept_root : (u : ℕ) → roots u ≡ v → after u ≡ v
     kept_root u same = elim (cases_eq u end) [ inl e ↦ ap after e ∙ here | inr apart ↦ rest u apart ∙ same ]
 
@@ -97,21 +97,21 @@ module _ (claim : ℕ → Option ℤ) (pred : ℕ → ℕ) (led : ℕ → Bool) 
       ]
     ]
 
-    pub climb_more : IsClimbing claim pred led v after (path ++ end ∷ []) (pred end)
+    pub climb_more : IsClimbing claim pred labelled v after (path ++ end ∷ []) (pred end)
     climb_more = record {
       goes = path_more claim pred v path end is.goes some;
-      few = λ u. elim (cases_eq u end) [ inl e ↦ omega (arith, ap after e ∙ here) | inr apart ↦ omega (arith, rest u apart, is.few u) ];
+      at_most = λ u. elim (cases_eq u end) [ inl e ↦ omega (arith, ap after e ∙ here) | inr apart ↦ omega (arith, rest u apart, is.at_most u) ];
       begun = inr (elim is.begun [ inl e ↦ ap after e.0 ∙ here | inr on ↦ kept_root v on ]);
       once = first_more v path end is.once (elim is.begun [ inl e ↦ inr e.1 | inr on ↦ inl (λ same. new (ap roots same ∙ on)) ]);
       closed = next;
-      unled = λ u same. elim (cases_eq u end) [ inl e ↦ ap led e ∙ unled | inr apart ↦ is.unled u (sym (rest u apart) ∙ same) ];
+      not_labelled = λ u same. elim (cases_eq u end) [ inl e ↦ ap labelled e ∙ not_labelled | inr apart ↦ is.not_labelled u (sym (rest u apart) ∙ same) ];
     }
 
     pub fewer_others : (n : ℕ) → end < n → others after v n + 1 ≡ others roots v n
     fewer_others n inside = one_fewer (λ u. not (roots u == v)) (λ u. not (after u == v)) end (λ u apart. ap (λ r. not (r == v)) (rest u apart)) n inside (ap not (ne_eqb (roots end) v new)) (ap not (eq-eqb (after end) v here))
 
   --   if the way ends without a label, it never comes to the source
-  module _ (s : ℕ) (off : led end ≡ false) (stops : (claim end ≡ None) ⊎ ((led end ≡ true) ⊎ (roots end ≡ v))) (out : (u : ℕ) → claim u ≡ None → claim (pred u) ≡ None) (at : led s ≡ true) (named : claim s ≡ Some (pos 0)) where
+  module _ (s : ℕ) (off : labelled end ≡ false) (stops : (claim end ≡ None) ⊎ ((labelled end ≡ true) ⊎ (roots end ≡ v))) (out : (u : ℕ) → claim u ≡ None → claim (pred u) ≡ None) (at : labelled s ≡ true) (named : claim s ≡ Some (pos 0)) where
     abbrev Stays : ℕ → Type 0
     Stays u = (claim u ≡ None) ⊎ (roots u ≡ v)
 
@@ -128,11 +128,11 @@ module _ (claim : ℕ → Option ℤ) (pred : ℕ → ℕ) (led : ℕ → Bool) 
 
     not_source : ¬ Stays s
     not_source (inl none) = let f : Some (pos 0) ≡ None = sym named ∙ none in absurd (cc)
-    not_source (inr on) = let f : true ≡ false = sym at ∙ is.unled s on in absurd (cc)
+    not_source (inr on) = let f : true ≡ false = sym at ∙ is.not_labelled s on in absurd (cc)
 
     pub never_back : ¬ LeadsBack pred s v
     never_back leads = not_source (subst Stays leads.1 (steps leads.0 v (elim is.begun [ inl e ↦ subst Stays (sym e.0) at_end | inr on ↦ inr on ])))
 
-pub led_so : (claim : ℕ → Option ℤ) (led : ℕ → Bool) (v : ℕ) → (claim v ≡ None) ⊎ (led v ≡ true) → IsSome (claim v) → led v ≡ true
-led_so claim led v (inl none) some = absurd (let f : true ≡ false = sym some ∙ ap is_some none in cc)
-led_so claim led v (inr on) some = on
+pub labelled_so : (claim : ℕ → Option ℤ) (labelled : ℕ → Bool) (v : ℕ) → (claim v ≡ None) ⊎ (labelled v ≡ true) → IsSome (claim v) → labelled v ≡ true
+labelled_so claim labelled v (inl none) some = absurd (let f : true ≡ false = sym some ∙ ap is_some none in cc)
+labelled_so claim labelled v (inr on) some = on

@@ -10,9 +10,9 @@ use Rattle.dimacs_claims.specs.Labels.{BlockValue, IsBlock, IsNear, LabelsValue,
 use Rattle.dimacs_claims.proofs.BlockLemmas.{block_empty, block_push, label-with_label}
 use Rattle.dimacs_optimality.specs.Tests.{Clear}
 use Rattle.dimacs_arrays.specs.Paths.{AreInOrder, AreLabelsBy, IsDue, IsNext, IsPred, LeadsBack, back, pred_row}
-use Rattle.dimacs_arrays.specs.inside.LabelTrees.{AreLed, AreLedBelow, IsLabelTree, Keeps}
+use Rattle.dimacs_arrays.specs.inside.LabelTrees.{AreLabelled, AreLabelledBelow, IsLabelTree, Keeps}
 use Rattle.dimacs_arrays.proofs.LabelLemmas.{in_order, spelled}
-use Rattle.dimacs_arrays.proofs.TreeLemmas.{begun, few, grown, next_label, pred_labelled, source_led, unlabelled}
+use Rattle.dimacs_arrays.proofs.TreeLemmas.{begun, few, grown, next_label, pred_labelled, source_labelled, unlabelled}
 
 -- ---- one more step back
 back_more : (pred : ℕ → ℕ) (n v : ℕ) → back pred (suc n) v ≡ pred (back pred n v)
@@ -46,25 +46,25 @@ pub record AreNearer (nodes s : ℕ) (claim : ℕ → Option ℤ) (pred : ℕ �
 module _ (nodes s : ℕ) (claim : ℕ → Option ℤ) (pred : ℕ → ℕ) (small : nodes ≤ most_nodes) (are : AreNearer nodes s claim pred) where
   --   only nodes with distances up to d are labelled
   abbrev OnlyNear : ℤ → (ℕ → Bool) → (ℕ → Bool) → Type 0
-  OnlyNear d led after = (w : ℕ) (c : ℤ) → after w ≡ true → claim w ≡ Some c → (led w ≡ true) ⊎ (c ≤ℤ d)
+  OnlyNear d labelled after = (w : ℕ) (c : ℤ) → after w ≡ true → claim w ≡ Some c → (labelled w ≡ true) ⊎ (c ≤ℤ d)
 
   --   no label is lost, and u is labelled
   abbrev Grown : ℕ → ℤ → (ℕ → Bool) → Type 0
-  Grown u d led = (b : BlockValue) × (after : ℕ → Bool) × IsLabelTree nodes s claim pred b after × Keeps led after × (after u ≡ true) × OnlyNear d led after
+  Grown u d labelled = (b : BlockValue) × (after : ℕ → Bool) × IsLabelTree nodes s claim pred b after × Keeps labelled after × (after u ≡ true) × OnlyNear d labelled after
 
   module _ (root : ℕ) (far : ℤ) (rooted : claim root ≡ Some far) where
     root_some : IsSome (claim root)
     root_some = ap is_some rooted
 
     --     the label of a node whose predecessor is labelled
-    placed : (b : BlockValue) (led : ℕ → Bool) (u : ℕ) (d : ℤ) → IsLabelTree nodes s claim pred b led → AreLedBelow claim led root → led root ≡ false → claim u ≡ Some d → pos 0 ≤ℤ d → LeadsBack pred u root → led u ≡ false → led (pred u) ≡ true → Grown u d led
-    placed b led u d is below unled named low leads new from = (with_label b l, after, grown nodes s claim pred b led u is new d after node from next named lawful adds here others, keeps, here, only)
+    placed : (b : BlockValue) (labelled : ℕ → Bool) (u : ℕ) (d : ℤ) → IsLabelTree nodes s claim pred b labelled → AreLabelledBelow claim labelled root → labelled root ≡ false → claim u ≡ Some d → pos 0 ≤ℤ d → LeadsBack pred u root → labelled u ≡ false → labelled (pred u) ≡ true → Grown u d labelled
+    placed b labelled u d is below not_labelled named low leads new from = (with_label b l, after, grown nodes s claim pred b labelled u is new d after node from next named lawful adds here others, keeps, here, only)
       where
         l : Label
         l = record { dist = d; id = u; pred = pred u }
 
         after : ℕ → Bool
-        after v = cond (u == v) true (led v)
+        after v = cond (u == v) true (labelled v)
 
         node : IsNode nodes u
         node = are.inside u (ap is_some named)
@@ -72,14 +72,14 @@ module _ (nodes s : ℕ) (claim : ℕ → Option ℤ) (pred : ℕ → ℕ) (smal
         here : after u ≡ true
         here = elim (eqb_tells u u) [ inl same ↦ rw same.0 refl | inr apart ↦ absurd (apart.1 refl) ]
 
-        others : (v : ℕ) → v ≢ u → after v ≡ led v
+        others : (v : ℕ) → v ≢ u → after v ≡ labelled v
         others v apart = rw (ne_eqb u v (λ e. apart (sym e))) refl
 
         next : IsNext s claim pred b.labels l
-        next = next_label nodes s claim pred b led is root l below root_some unled leads
+        next = next_label nodes s claim pred b labelled is root l below root_some not_labelled leads
 
         none : label b u ≡ None
-        none = unlabelled nodes s claim pred b led u is new
+        none = unlabelled nodes s claim pred b labelled u is new
 
         adds : (v : ℕ) → label (with_label b l) v ≡ cond (u == v) (Some d) (label b v)
         adds v = label-with_label b l none v
@@ -88,58 +88,58 @@ module _ (nodes s : ℕ) (claim : ℕ → Option ℤ) (pred : ℕ → ℕ) (smal
         near = subst (λ radius. IsNear radius d) (sym is.whole) tt
 
         lawful : IsBlock nodes (with_label b l)
-        lawful = block_push nodes b l is.lawful (record { id = node; dist = are.wide u d named low; pred = is.inside (pred u) from }) (few nodes s claim pred b led u is new small node) (ap is_some none) (pred_labelled nodes s claim pred b led u is new from) near
+        lawful = block_push nodes b l is.lawful (record { id = node; dist = are.wide u d named low; pred = is.inside (pred u) from }) (few nodes s claim pred b labelled u is new small node) (ap is_some none) (pred_labelled nodes s claim pred b labelled u is new from) near
 
-        keeps : Keeps led after
+        keeps : Keeps labelled after
         keeps v h = elim (cases_eq v u) [ inl same ↦ ap after same ∙ here | inr apart ↦ others v apart ∙ h ]
 
-        only : OnlyNear d led after
+        only : OnlyNear d labelled after
         only w c h at = elim (cases_eq w u) [
           | inl same ↦ (let e : Some d ≡ Some c = sym named ∙ (ap claim (sym same) ∙ at) in let f : d ≡ c = cc in inr (omega (arith, ints, f)))
           | inr apart ↦ inl (sym (others w apart) ∙ h)
         ]
 
-    nearer_too : (led : ℕ → Bool) (w : ℕ) (c d e : ℤ) → e <ℤ d → (led w ≡ true) ⊎ (c ≤ℤ e) → (led w ≡ true) ⊎ (c ≤ℤ d)
-    nearer_too led w c d e less (inl was) = inl was
-    nearer_too led w c d e less (inr near) = inr (omega (arith, ints, near, less))
+    nearer_too : (labelled : ℕ → Bool) (w : ℕ) (c d e : ℤ) → e <ℤ d → (labelled w ≡ true) ⊎ (c ≤ℤ e) → (labelled w ≡ true) ⊎ (c ≤ℤ d)
+    nearer_too labelled w c d e less (inl was) = inl was
+    nearer_too labelled w c d e less (inr near) = inr (omega (arith, ints, near, less))
 
     --     the label of u, after those of the way back from its predecessor
-    with_parent : (b : BlockValue) (led : ℕ → Bool) (u : ℕ) (d e : ℤ) → AreLedBelow claim led root → led root ≡ false → claim u ≡ Some d → d ≤ℤ far → LeadsBack pred u root → pos 0 ≤ℤ e → e <ℤ d → Grown (pred u) e led → Grown u d led
-    with_parent b led u d e below unled named close leads low less (b', after, tree, keeps, there, only) =
+    with_parent : (b : BlockValue) (labelled : ℕ → Bool) (u : ℕ) (d e : ℤ) → AreLabelledBelow claim labelled root → labelled root ≡ false → claim u ≡ Some d → d ≤ℤ far → LeadsBack pred u root → pos 0 ≤ℤ e → e <ℤ d → Grown (pred u) e labelled → Grown u d labelled
+    with_parent b labelled u d e below not_labelled named close leads low less (b', after, tree, keeps, there, only) =
         let still : after root ≡ false = elim (cases_Bool (after root)) [
           | inr off ↦ off
           | inl on ↦ elim (only root far on rooted) [
-            | inl was ↦ absurd (let f : true ≡ false = sym was ∙ unled in cc)
+            | inl was ↦ absurd (let f : true ≡ false = sym was ∙ not_labelled in cc)
             | inr near ↦ absurd (omega (arith, ints, near, less, close))
           ]
         ] in
-        let lower : AreLedBelow claim after root = λ v h some. keeps v (below v h some) in
+        let lower : AreLabelledBelow claim after root = λ v h some. keeps v (below v h some) in
         elim (cases_Bool (after u)) [
-          | inl on ↦ (b', after, tree, keeps, on, λ w c h at. nearer_too led w c d e less (only w c h at))
+          | inl on ↦ (b', after, tree, keeps, on, λ w c h at. nearer_too labelled w c d e less (only w c h at))
           | inr off ↦
               let (b'', last, whole, more, here, beyond) = placed b' after u d tree lower still named (omega (arith, ints, low, less)) leads off there in
-              (b'', last, whole, λ v h. more v (keeps v h), here, λ w c h at. elim (beyond w c h at) [ inl was ↦ nearer_too led w c d e less (only w c was at) | inr near ↦ inr near ])
+              (b'', last, whole, λ v h. more v (keeps v h), here, λ w c h at. elim (beyond w c h at) [ inl was ↦ nearer_too labelled w c d e less (only w c was at) | inr near ↦ inr near ])
         ]
 
-    not_the_source : (b : BlockValue) (led : ℕ → Bool) (u : ℕ) → IsLabelTree nodes s claim pred b led → led u ≡ false → u ≢ s
-    not_the_source b led u is off e = let f : true ≡ false = sym (source_led nodes s claim pred b led is).0 ∙ (ap led (sym e) ∙ off) in absurd (cc)
+    not_the_source : (b : BlockValue) (labelled : ℕ → Bool) (u : ℕ) → IsLabelTree nodes s claim pred b labelled → labelled u ≡ false → u ≢ s
+    not_the_source b labelled u is off e = let f : true ≡ false = sym (source_labelled nodes s claim pred b labelled is).0 ∙ (ap labelled (sym e) ∙ off) in absurd (cc)
 
     --     the labels of the way back from u, itself on the way from the root
-    climbed : (fuel : ℕ) (b : BlockValue) (led : ℕ → Bool) (u : ℕ) (d : ℤ) → IsLabelTree nodes s claim pred b led → AreLedBelow claim led root → led root ≡ false → claim u ≡ Some d → d ≤ℤ pos fuel → d ≤ℤ far → LeadsBack pred u root → Grown u d led
-    climbed zero b led u d is below unled named most close leads = elim (cases_Bool (led u)) [
-      | inl on ↦ (b, led, is, λ v h. h, on, λ w c h at. inl h)
-      | inr off ↦ (let (e, from, low, less) = are.nearer u d (not_the_source b led u is off) named in absurd (omega (arith, ints, most, low, less)))
+    climbed : (fuel : ℕ) (b : BlockValue) (labelled : ℕ → Bool) (u : ℕ) (d : ℤ) → IsLabelTree nodes s claim pred b labelled → AreLabelledBelow claim labelled root → labelled root ≡ false → claim u ≡ Some d → d ≤ℤ pos fuel → d ≤ℤ far → LeadsBack pred u root → Grown u d labelled
+    climbed zero b labelled u d is below not_labelled named most close leads = elim (cases_Bool (labelled u)) [
+      | inl on ↦ (b, labelled, is, λ v h. h, on, λ w c h at. inl h)
+      | inr off ↦ (let (e, from, low, less) = are.nearer u d (not_the_source b labelled u is off) named in absurd (omega (arith, ints, most, low, less)))
     ]
-    climbed (suc k) b led u d is below unled named most close leads = elim (cases_Bool (led u)) [
-      | inl on ↦ (b, led, is, λ v h. h, on, λ w c h at. inl h)
+    climbed (suc k) b labelled u d is below not_labelled named most close leads = elim (cases_Bool (labelled u)) [
+      | inl on ↦ (b, labelled, is, λ v h. h, on, λ w c h at. inl h)
       | inr off ↦
-          let (e, from, low, less) = are.nearer u d (not_the_source b led u is off) named in
-          with_parent b led u d e below unled named close leads low less (climbed k b led (pred u) e is below unled from (omega (arith, ints, most, less)) (omega (arith, ints, close, less)) (leads_more pred u root leads))
+          let (e, from, low, less) = are.nearer u d (not_the_source b labelled u is off) named in
+          with_parent b labelled u d e below not_labelled named close leads low less (climbed k b labelled (pred u) e is below not_labelled from (omega (arith, ints, most, less)) (omega (arith, ints, close, less)) (leads_more pred u root leads))
     ]
 
   --   all nodes before n with a distance are labelled
   abbrev LedBelow : ℕ → Type 0
-  LedBelow n = (b : BlockValue) × (led : ℕ → Bool) × IsLabelTree nodes s claim pred b led × AreLedBelow claim led n
+  LedBelow n = (b : BlockValue) × (labelled : ℕ → Bool) × IsLabelTree nodes s claim pred b labelled × AreLabelledBelow claim labelled n
 
   first : LedBelow 0
   first = (
@@ -149,8 +149,8 @@ module _ (nodes s : ℕ) (claim : ℕ → Option ℤ) (pred : ℕ → ℕ) (smal
     λ v h some. absurd (omega (arith, h)),
   )
 
-  with_node : (n : ℕ) (led after : ℕ → Bool) → Keeps led after → AreLedBelow claim led n → (IsSome (claim n) → after n ≡ true) → AreLedBelow claim after (suc n)
-  with_node n led after keeps below here v h some = elim (cases_order v n) [
+  with_node : (n : ℕ) (labelled after : ℕ → Bool) → Keeps labelled after → AreLabelledBelow claim labelled n → (IsSome (claim n) → after n ≡ true) → AreLabelledBelow claim after (suc n)
+  with_node n labelled after keeps below here v h some = elim (cases_order v n) [
     | inl same ↦ ap after same ∙ here (subst (λ u. IsSome (claim u)) same some)
     | inr other ↦ elim other [
       | inl before ↦ keeps v (below v before some)
@@ -159,17 +159,17 @@ module _ (nodes s : ℕ) (claim : ℕ → Option ℤ) (pred : ℕ → ℕ) (smal
   ]
 
   one_more : (n : ℕ) → LedBelow n → LedBelow (suc n)
-  one_more n (b, led, is, below) = elim (cases_Bool (led n)) [
-    | inl on ↦ (b, led, is, with_node n led led (λ v h. h) below (λ some. on))
+  one_more n (b, labelled, is, below) = elim (cases_Bool (labelled n)) [
+    | inl on ↦ (b, labelled, is, with_node n labelled labelled (λ v h. h) below (λ some. on))
     | inr off ↦ elim (cases_Bool (is_some (claim n))) [
-      | inr none ↦ (b, led, is, with_node n led led (λ v h. h) below (λ some. absurd (let f : true ≡ false = sym some ∙ none in cc)))
+      | inr none ↦ (b, labelled, is, with_node n labelled labelled (λ v h. h) below (λ some. absurd (let f : true ≡ false = sym some ∙ none in cc)))
       | inl some ↦
           let (d, named) = some_value (claim n) some in
-          let apart : n ≢ s = λ e. (let f : true ≡ false = sym (source_led nodes s claim pred b led is).0 ∙ (ap led (sym e) ∙ off) in cc) in
+          let apart : n ≢ s = λ e. (let f : true ≡ false = sym (source_labelled nodes s claim pred b labelled is).0 ∙ (ap labelled (sym e) ∙ off) in cc) in
           let (e, from, low, less) = are.nearer n d apart named in
           let (k, is_k) = natural d (omega (arith, ints, low, less)) in
-          let (b', after, tree, keeps, here, only) = climbed n d named k b led n d is below off named (omega (arith, ints, is_k)) (omega (arith, ints)) (zero, refl) in
-          (b', after, tree, with_node n led after keeps below (λ some. here))
+          let (b', after, tree, keeps, here, only) = climbed n d named k b labelled n d is below off named (omega (arith, ints, is_k)) (omega (arith, ints)) (zero, refl) in
+          (b', after, tree, with_node n labelled after keeps below (λ some. here))
     ]
   ]
 
@@ -195,6 +195,6 @@ module _ (nodes s : ℕ) (claim : ℕ → Option ℤ) (pred : ℕ → ℕ) (smal
   --   labels with these predecessors exist
   pub sink_labels : (labels : LabelsValue) × AreLabelsBy nodes s claim pred labels × AreInOrder s claim pred labels
   sink_labels =
-      let (b, led, is, below) = all_below (nodes + 1) in
-      let all : AreLed claim led = λ v some. below v (omega (arith, (are.inside v some).1)) some in
-      (record { nodes = nodes; blocks = b ∷ [] }, spelled nodes s claim pred b led preds_clear is all, in_order nodes s claim pred b led is)
+      let (b, labelled, is, below) = all_below (nodes + 1) in
+      let all : AreLabelled claim labelled = λ v some. below v (omega (arith, (are.inside v some).1)) some in
+      (record { nodes = nodes; blocks = b ∷ [] }, spelled nodes s claim pred b labelled preds_clear is all, in_order nodes s claim pred b labelled is)

@@ -11,20 +11,20 @@ use Rattle.dimacs_claims.proofs.BlockLemmas.{each_after_nil, each_after_push}
 use Rattle.dimacs_decide.specs.inside.TightTrees.{absent}
 use Rattle.dimacs_decide.proofs.CountLemmas.{count_all, one_fewer}
 use Rattle.dimacs_arrays.specs.Paths.{IsNext, LeadsBack}
-use Rattle.dimacs_arrays.specs.inside.LabelTrees.{AreLedBelow, IsLabelTree, Keeps, Places}
+use Rattle.dimacs_arrays.specs.inside.LabelTrees.{AreLabelledBelow, IsLabelTree, Keeps, Places}
 
-one_led : (led after : ℕ → Bool) (at : ℕ) → ((v : ℕ) → v ≢ at → after v ≡ led v) → (n : ℕ) → at < n → led at ≡ false → after at ≡ true → absent after n + 1 ≡ absent led n
-one_led led after at others n h old new = one_fewer (λ v. not (led v)) (λ v. not (after v)) at (λ v ne. ap not (others v ne)) n h (ap not old) (ap not new)
+one_labelled : (labelled after : ℕ → Bool) (at : ℕ) → ((v : ℕ) → v ≢ at → after v ≡ labelled v) → (n : ℕ) → at < n → labelled at ≡ false → after at ≡ true → absent after n + 1 ≡ absent labelled n
+one_labelled labelled after at others n h old new = one_fewer (λ v. not (labelled v)) (λ v. not (after v)) at (λ v ne. ap not (others v ne)) n h (ap not old) (ap not new)
 
 -- ---- only the source
-pub begun : (nodes : ℕ) (claim : ℕ → Option ℤ) (pred : ℕ → ℕ) (s : ℕ) (led : ℕ → Bool) → IsNode nodes s → claim s ≡ Some (pos 0) → IsBlock nodes (record { source = s; radius = None; labels = [] })
-    → led s ≡ true → ((v : ℕ) → v ≢ s → led v ≡ false) → IsLabelTree nodes s claim pred (record { source = s; radius = None; labels = [] }) led
-begun nodes claim pred s led node at lawful here others = record {
+pub begun : (nodes : ℕ) (claim : ℕ → Option ℤ) (pred : ℕ → ℕ) (s : ℕ) (labelled : ℕ → Bool) → IsNode nodes s → claim s ≡ Some (pos 0) → IsBlock nodes (record { source = s; radius = None; labels = [] })
+    → labelled s ≡ true → ((v : ℕ) → v ≢ s → labelled v ≡ false) → IsLabelTree nodes s claim pred (record { source = s; radius = None; labels = [] }) labelled
+begun nodes claim pred s labelled node at lawful here others = record {
   source = refl;
   whole = refl;
   lawful = lawful;
   marked = λ v. elim (eqb_tells s v) [
-    | inl same ↦ rw same.0 (ap led (sym same.1) ∙ here)
+    | inl same ↦ rw same.0 (ap labelled (sym same.1) ∙ here)
     | inr apart ↦ rw apart.0 (others v (λ e. apart.1 (sym e)))
   ];
   claimed = λ v d is. elim (eqb_tells s v) [
@@ -41,7 +41,7 @@ begun nodes claim pred s led node at lawful here others = record {
     | inl same ↦ subst (IsNode nodes) (sym same) node
     | inr apart ↦ absurd (let e : false ≡ true = sym (others v apart) ∙ is in cc)
   ];
-  count = omega (arith, count_all (λ v. true) (nodes + 1) (λ v h. refl), one_led (λ v. false) led s others (nodes + 1) (omega (arith, node.1)) refl here);
+  count = omega (arith, count_all (λ v. true) (nodes + 1) (λ v h. refl), one_labelled (λ v. false) labelled s others (nodes + 1) (omega (arith, node.1)) refl here);
 }
 
 -- ---- one more node
@@ -49,22 +49,22 @@ none_of : (o : Option ℤ) → is_some o ≡ false → o ≡ None
 none_of None none = refl
 none_of (Some d) none = absurd (cc)
 
-module _ (nodes s : ℕ) (claim : ℕ → Option ℤ) (pred : ℕ → ℕ) (b : BlockValue) (led : ℕ → Bool) (u : ℕ) (is : IsLabelTree nodes s claim pred b led) (new : led u ≡ false) where
+module _ (nodes s : ℕ) (claim : ℕ → Option ℤ) (pred : ℕ → ℕ) (b : BlockValue) (labelled : ℕ → Bool) (u : ℕ) (is : IsLabelTree nodes s claim pred b labelled) (new : labelled u ≡ false) where
   pub unlabelled : label b u ≡ None
   unlabelled = none_of (label b u) (sym (is.marked u) ∙ new)
 
   pub few : nodes ≤ most_nodes → IsNode nodes u → length b.labels < most_count
   few small node =
-      let one = one_led led (λ v. cond (v == u) true (led v)) u (λ v ne. elim (eqb_tells v u) [ inl same ↦ absurd (ne same.1) | inr apart ↦ rw apart.0 refl ]) (nodes + 1) (omega (arith, node.1)) new (elim (eqb_tells u u) [ inl same ↦ rw same.0 refl | inr apart ↦ absurd (apart.1 refl) ]) in
+      let one = one_labelled labelled (λ v. cond (v == u) true (labelled v)) u (λ v ne. elim (eqb_tells v u) [ inl same ↦ absurd (ne same.1) | inr apart ↦ rw apart.0 refl ]) (nodes + 1) (omega (arith, node.1)) new (elim (eqb_tells u u) [ inl same ↦ rw same.0 refl | inr apart ↦ absurd (apart.1 refl) ]) in
       omega (arith, one, is.count, small)
 
-  pub pred_labelled : led (pred u) ≡ true → is_some (label b (pred u)) ≡ true
+  pub pred_labelled : labelled (pred u) ≡ true → is_some (label b (pred u)) ≡ true
   pred_labelled from = sym (is.marked (pred u)) ∙ from
 
-  module _ (d : ℤ) (after : ℕ → Bool) (node : IsNode nodes u) (from : led (pred u) ≡ true) (next : IsNext s claim pred b.labels (record { dist = d; id = u; pred = pred u })) (named : claim u ≡ Some d)
+  module _ (d : ℤ) (after : ℕ → Bool) (node : IsNode nodes u) (from : labelled (pred u) ≡ true) (next : IsNext s claim pred b.labels (record { dist = d; id = u; pred = pred u })) (named : claim u ≡ Some d)
       (lawful : IsBlock nodes (with_label b (record { dist = d; id = u; pred = pred u })))
       (adds : (v : ℕ) → label (with_label b (record { dist = d; id = u; pred = pred u })) v ≡ cond (u == v) (Some d) (label b v))
-      (here : after u ≡ true) (others : (v : ℕ) → v ≢ u → after v ≡ led v) where
+      (here : after u ≡ true) (others : (v : ℕ) → v ≢ u → after v ≡ labelled v) where
     abbrev l : Label
     l = record { dist = d; id = u; pred = pred u }
 
@@ -100,32 +100,32 @@ module _ (nodes s : ℕ) (claim : ℕ → Option ℤ) (pred : ℕ → ℕ) (b : 
         | inl same ↦ subst (IsNode nodes) (sym same) node
         | inr apart ↦ is.inside v (sym (others v apart) ∙ h)
       ];
-      count = omega (arith, is.count, one_led led after u others (nodes + 1) (omega (arith, node.1)) new here, length-append b.labels (l ∷ []));
+      count = omega (arith, is.count, one_labelled labelled after u others (nodes + 1) (omega (arith, node.1)) new here, length-append b.labels (l ∷ []));
     }
 
 -- labels stay if one is added
-pub placed_keeps : (led after : ℕ → Bool) (u : ℕ) → Places led after u → Keeps led after
-placed_keeps led after u placed v h = elim (cases_eq v u) [ inl same ↦ ap after same ∙ placed.0 | inr apart ↦ placed.1 v apart ∙ h ]
+pub placed_keeps : (labelled after : ℕ → Bool) (u : ℕ) → Places labelled after u → Keeps labelled after
+placed_keeps labelled after u placed v h = elim (cases_eq v u) [ inl same ↦ ap after same ∙ placed.0 | inr apart ↦ placed.1 v apart ∙ h ]
 
 -- the source counts as labelled, with distance 0
-pub source_led : (nodes s : ℕ) (claim : ℕ → Option ℤ) (pred : ℕ → ℕ) (b : BlockValue) (led : ℕ → Bool) → IsLabelTree nodes s claim pred b led → (led s ≡ true) × (claim s ≡ Some (pos 0))
-source_led nodes s claim pred b led is = (is.marked s ∙ ap is_some own, is.claimed s (pos 0) own)
+pub source_labelled : (nodes s : ℕ) (claim : ℕ → Option ℤ) (pred : ℕ → ℕ) (b : BlockValue) (labelled : ℕ → Bool) → IsLabelTree nodes s claim pred b labelled → (labelled s ≡ true) × (claim s ≡ Some (pos 0))
+source_labelled nodes s claim pred b labelled is = (is.marked s ∙ ap is_some own, is.claimed s (pos 0) own)
   where
     own : label b s ≡ Some (pos 0)
     own = elim (eqb_tells b.source s) [ inl same ↦ rw same.0 refl | inr apart ↦ absurd (apart.1 is.source) ]
 
 -- ---- the next label
-module _ (nodes s : ℕ) (claim : ℕ → Option ℤ) (pred : ℕ → ℕ) (b : BlockValue) (led : ℕ → Bool) (is : IsLabelTree nodes s claim pred b led) where
+module _ (nodes s : ℕ) (claim : ℕ → Option ℤ) (pred : ℕ → ℕ) (b : BlockValue) (labelled : ℕ → Bool) (is : IsLabelTree nodes s claim pred b labelled) where
   among_labels : (v : ℕ) → v ≢ s → label b v ≡ distance_in b.labels v
   among_labels v apart = rw (ne_eqb b.source v (λ e. apart (sym e ∙ is.source))) refl
 
-  pub next_label : (v : ℕ) (l : Label) → AreLedBelow claim led v → IsSome (claim v) → led v ≡ false → LeadsBack pred l.id v → IsNext s claim pred b.labels l
-  next_label v l earlier some unled leads =
-      let apart : v ≢ s = λ e. (let f : true ≡ false = sym (source_led nodes s claim pred b led is).0 ∙ (ap led (sym e) ∙ unled) in cc) in (
+  pub next_label : (v : ℕ) (l : Label) → AreLabelledBelow claim labelled v → IsSome (claim v) → labelled v ≡ false → LeadsBack pred l.id v → IsNext s claim pred b.labels l
+  next_label v l earlier some not_labelled leads =
+      let apart : v ≢ s = λ e. (let f : true ≡ false = sym (source_labelled nodes s claim pred b labelled is).0 ∙ (ap labelled (sym e) ∙ not_labelled) in cc) in (
         v,
         record {
           due = (apart, some);
-          left = sym (among_labels v apart) ∙ none_of (label b v) (sym (is.marked v) ∙ unled);
+          left = sym (among_labels v apart) ∙ none_of (label b v) (sym (is.marked v) ∙ not_labelled);
           least = λ u less due. ap is_some (sym (among_labels u due.0)) ∙ (sym (is.marked u) ∙ earlier u less due.1);
         },
         leads,

@@ -109,17 +109,17 @@ CertifiesByNode g s claim (Err (Refused place reason)) = FirstAlone (claim_rows 
 CertifiesByNode g s claim (Err Memory) = Unit
 
 -- the distance fits into an array: 64 bits hold it, and it isn't their greatest number, which stands for none
-abbrev pub IsSayable : ℤ → Type 0
-IsSayable dist = IsWhole dist × (dist ≢ pos (2 ^ 63 - 1))
+abbrev pub FitsArray : ℤ → Type 0
+FitsArray dist = IsWhole dist × (dist ≢ pos (2 ^ 63 - 1))
 
-abbrev pub HasFar : BlockValue → Type 0
-HasFar b = (l : Label) × Contains b.labels l × ¬ IsSayable l.dist
+abbrev pub ExceedsArray : BlockValue → Type 0
+ExceedsArray b = (l : Label) × Contains b.labels l × ¬ FitsArray l.dist
 
 -- distances and predecessors that show them; or labels, if a distance doesn't fit into an array
 abbrev pub FindsByNode : NetworkValue → ℕ → PathsSolved → Type 0
 FindsByNode g s (Distances distances preds) =
     (length distances.items ≡ g.nodes) × AreDistancesFrom g s (claimed_by_node distances.items) × ArePredecessors g s (claimed_by_node distances.items) preds.items
-FindsByNode g s (Far labels) = AreProduced g (Sources (s ∷ [])) labels × ((b : BlockValue) × (labels.blocks ≡ b ∷ []) × HasFar b)
+FindsByNode g s (Far labels) = AreProduced g (Sources (s ∷ [])) labels × ((b : BlockValue) × (labels.blocks ≡ b ∷ []) × ExceedsArray b)
 
 -- distances if no weight is negative; otherwise the first arc with a negative weight; or out of memory
 abbrev pub SolvesByNode : NetworkValue → ℕ → Result PathsSolved JudgeError → Type 0

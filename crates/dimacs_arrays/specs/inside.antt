@@ -3,4 +3,4 @@ pub mod LabelTrees
 pub mod Lent
 pub mod MinCertified
 pub mod Reached
-pub mod Rising
+pub mod TightPredecessors

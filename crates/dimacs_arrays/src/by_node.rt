@@ -16,7 +16,7 @@ use std::alloc::Global;
 
 /// The set of the nodes whose byte isn't 0.
 pub(crate) fn cut_of(alloc: Global, nodes: u32, inside: &[u8]) -> Result<Cut, Memory>
-    requires few { nodes ≤ most_nodes }
+    requires node_limit { nodes ≤ most_nodes }
     requires one_each { length inside.now ≡ nodes }
     ensures nodes { IfOk result (λ cut. cut.nodes ≡ nodes) }
     ensures members { IfOk result (λ cut. members cut ≡ marked inside.now) }
@@ -50,7 +50,7 @@ pub(crate) fn potentials_of(
     nodes: u32,
     numbers: &[i64],
 ) -> Result<Potentials, Memory>
-    requires few { nodes ≤ most_nodes }
+    requires node_limit { nodes ≤ most_nodes }
     requires one_each { length numbers.now ≡ nodes }
     ensures nodes { IfOk result (λ potentials. potentials.nodes ≡ nodes) }
     ensures numbers { IfOk result (λ potentials. potential_of potentials ≡ number_of numbers.now) }
@@ -84,7 +84,7 @@ pub(crate) fn numbers_of(
 
 /// These potentials in 64 bits, with the same number added to each if they don't fit otherwise. None if two of them are
 /// 2^64 or more apart.
-pub(crate) fn fitted(alloc: Global, potentials: &Potentials) -> Result<Option<Vec<i64>>, Memory>
+pub(crate) fn fit_array(alloc: Global, potentials: &Potentials) -> Result<Option<Vec<i64>>, Memory>
     ensures numbers { IfOk result (λ outcome. IfSome outcome (λ numbers. (shift : ℤ) × AreShifted potentials.now shift numbers.items)) }
     ensures wider { IfOk result (λ outcome. IfNone outcome (IsWider potentials.now)) }
 {

@@ -5,7 +5,7 @@ ghost use Rattle.dimacs_optimality.specs.Tests.{Settles};
 ghost use Rattle.dimacs_arrays.specs.MinArrays.{CertifiesMinArrays, CertifiesMinFlow, min_claimed_rows};
 ghost use Rattle.dimacs_arrays.specs.inside.MinCertified.{IsLeastBy};
 
-use crate::by_node::fitted;
+use crate::by_node::fit_array;
 use crate::error::{Array, ArrayError};
 use crate::lengths::{ArrayLength, lengths_hold};
 use crate::min::MinArrays;
@@ -67,7 +67,7 @@ fn certify_over<N: Network>(
 fn least_by(alloc: Global, cost: i128, potentials: Potentials) -> Result<MinCertified, Memory>
     ensures { IfOk result (IsLeastBy cost potentials) }
 {
-    match fitted(alloc, &potentials)? {
+    match fit_array(alloc, &potentials)? {
         Some(numbers) => Ok(MinCertified::Optimal {
             cost,
             potentials: numbers,

@@ -8,7 +8,7 @@ ghost use Rattle.dimacs_arrays.specs.Paths.{CertifiesByNode, JudgesByNode, pred_
 
 use crate::labels::labels_by_node;
 use crate::predecessors::predecessors_of;
-use crate::rising::{rise_by, rising_predecessors};
+use crate::tight_predecessors::{are_tight_predecessors, tight_predecessors};
 use dimacs_decide::{DistancesByNode, decide_distances};
 use dimacs_instance::{Graph, Queries};
 use dimacs_judge::{JudgeError, Verdict, judge_paths};
@@ -37,7 +37,7 @@ pub fn judge_paths_by_node<N: Network>(
     requires predecessors { length predecessors.now ≡ graph.now.nodes }
     ensures { JudgesByNode graph.now source (claimed_by_node distances.now) (pred_by_node predecessors.now) result }
 {
-    if rise_by(alloc, graph.network(), source, distances, predecessors)? {
+    if are_tight_predecessors(alloc, graph.network(), source, distances, predecessors)? {
         return Ok(Verdict::Sources(1));
     }
     let nodes = graph.network().nodes();
@@ -67,7 +67,7 @@ pub fn certify_paths_by_node<N: Network>(
     requires source { IsNode graph.now.nodes source }
     ensures { CertifiesByNode graph.now source (claimed_by_node distances.now) result }
 {
-    if let Some(predecessors) = rising_predecessors(alloc, graph.network(), source, distances)? {
+    if let Some(predecessors) = tight_predecessors(alloc, graph.network(), source, distances)? {
         return Ok(predecessors);
     }
     let nodes = graph.network().nodes();

@@ -56,7 +56,7 @@ impl<'a> GraphArrays<'a> {
 
     /// Whether the source is a node.
     fn source_holds(&self, source: u32) -> Result<(), PastLimit>
-        ensures tells { TestsLimits (source_rows self.now.nodes source) result }
+        ensures first_fault { TestsLimits (source_rows self.now.nodes source) result }
         ensures source { OnOk result (IsNode self.now.nodes source) }
     {
         if source == 0 || source > self.nodes {

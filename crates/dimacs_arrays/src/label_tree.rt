@@ -43,7 +43,7 @@ pub(crate) fn predecessor_of(predecessors: &[u32], id: u32) -> u32
 #[derive(Drop)]
 pub(crate) struct LabelTree {
     block: Block,
-    led: NodeTable<bool>,
+    labelled: NodeTable<bool>,
 }
 
 impl LabelTree {
@@ -57,20 +57,20 @@ impl LabelTree {
         requires source { IsNode (length distances.now) source }
         requires distance { claimed_by_node distances.now source ≡ Some (pos 0) }
         ensures { IfOk result (λ tree. IsLabelTree (length distances.now) source
-            (claimed_by_node distances.now) (pred_by_node predecessors.now) tree.block (value_of tree.led)) }
+            (claimed_by_node distances.now) (pred_by_node predecessors.now) tree.block (value_of tree.labelled)) }
     {
-        let mut led = NodeTable::new(alloc, false);
-        led.set(source, true)?;
+        let mut labelled = NodeTable::new(alloc, false);
+        labelled.set(source, true)?;
         let block = Block::new(alloc, source);
-        Ok(LabelTree { block, led })
+        Ok(LabelTree { block, labelled })
     }
 
     /// Whether a node is labelled.
     #[inline(always)]
-    pub(crate) fn is_led(&self, node: u32) -> bool
-        ensures { result ≡ value_of self.now.led node }
+    pub(crate) fn is_labelled(&self, node: u32) -> bool
+        ensures { result ≡ value_of self.now.labelled node }
     {
-        self.led.get(node)
+        self.labelled.get(node)
     }
 
     pub(crate) fn into_block(self) -> Block
@@ -89,22 +89,22 @@ impl LabelTree {
     ) -> Result<(), Memory>
         requires node_limit { length distances.now ≤ most_nodes }
         requires tree { IsLabelTree (length distances.now) self.old.block.source
-            (claimed_by_node distances.now) (pred_by_node predecessors.now) self.old.block (value_of self.old.led) }
+            (claimed_by_node distances.now) (pred_by_node predecessors.now) self.old.block (value_of self.old.labelled) }
         requires distance { IsSome (claimed_by_node distances.now node) }
         requires next { (l : Label) → l.id ≡ node → IsNext self.old.block.source
             (claimed_by_node distances.now) (pred_by_node predecessors.now) self.old.block.labels l }
-        requires led { value_of self.old.led (pred_by_node predecessors.now node) ≡ true }
+        requires labelled { value_of self.old.labelled (pred_by_node predecessors.now node) ≡ true }
         ensures tree { OnOk result (IsLabelTree (length distances.now) self.old.block.source
-            (claimed_by_node distances.now) (pred_by_node predecessors.now) self.new.block (value_of self.new.led)) }
-        ensures placed { OnOk result (Places (value_of self.old.led) (value_of self.new.led) node) }
+            (claimed_by_node distances.now) (pred_by_node predecessors.now) self.new.block (value_of self.new.labelled)) }
+        ensures placed { OnOk result (Places (value_of self.old.labelled) (value_of self.new.labelled) node) }
     {
-        if self.led.get(node) {
+        if self.labelled.get(node) {
             return Ok(());
         }
         let Some(dist) = distance_of(distances, node) else {
             return Ok(());
         };
-        self.led.set(node, true)?;
+        self.labelled.set(node, true)?;
         self.block.add(Label {
             dist,
             id: node,

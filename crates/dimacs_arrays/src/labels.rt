@@ -6,7 +6,7 @@ ghost use Rattle.dimacs_nodes.specs.Tables.{value_of};
 ghost use Rattle.dimacs_optimality.specs.Tests.{FirstOfRow, Settles, TestsRow, Refuses};
 ghost use Rattle.dimacs_decide.specs.Claims.{claimed_by_node};
 ghost use Rattle.dimacs_arrays.specs.Paths.{AreInOrder, AreLabelsBy, IsPred, back_row, label_rows, pred_by_node, pred_row};
-ghost use Rattle.dimacs_arrays.specs.inside.LabelTrees.{AreLed, IsLabelTree};
+ghost use Rattle.dimacs_arrays.specs.inside.LabelTrees.{AreLabelled, IsLabelTree};
 
 use crate::label_tree::{LabelTree, distance_of, predecessor_of};
 use crate::path_back::PathBack;
@@ -86,14 +86,14 @@ fn label_tree(
     requires distance { claimed_by_node distances.now source ≡ Some (pos 0) }
     requires preds { (v : ℕ) → claimed_by_node distances.now v ≡ None → pred_by_node predecessors.now v ≡ 0 }
     ensures tree { IfOk result (λ tree. IsLabelTree (length distances.now) source (claimed_by_node distances.now)
-        (pred_by_node predecessors.now) tree.block (value_of tree.led) × AreLed (claimed_by_node distances.now) (value_of tree.led)) }
+        (pred_by_node predecessors.now) tree.block (value_of tree.labelled) × AreLabelled (claimed_by_node distances.now) (value_of tree.labelled)) }
     ensures first { IfErr result (Refuses (FirstOfRow (back_row (length distances.now) source
         (claimed_by_node distances.now) (pred_by_node predecessors.now)))) }
 {
     let mut tree = LabelTree::new(alloc, distances, predecessors, source)?;
     let mut back = PathBack::new(alloc);
     for v in 1..distances.len() as u32 + 1 {
-        if !back.lead(&mut tree, distances, predecessors, v)? {
+        if !back.label_from(&mut tree, distances, predecessors, v)? {
             return Err(JudgeError::Refused(Where::Node(v), Reason::PredUnknown));
         }
     }

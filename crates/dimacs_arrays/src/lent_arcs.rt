@@ -46,7 +46,7 @@ impl<A: ArcArrays> LentArcs<A> {
     /// The network, if all arcs are in the ranges of instances; otherwise the first that isn't.
     pub(crate) fn of(arrays: A, nodes: u32, count: usize) -> Result<LentArcs<A>, PastLimit>
         requires each { (k : ℕ) → k < count → A.HasArc arrays k }
-        requires few { count ≤ most_count }
+        requires arc_limit { count ≤ most_count }
         ensures network { IfOk result (λ network. network ≡ record { nodes = nodes; arcs = lent_arcs (A.arc_of arrays) count }) }
         ensures arcs { TestsArcs nodes (lent_arcs (A.arc_of arrays) count) result }
     {

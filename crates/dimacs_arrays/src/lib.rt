@@ -29,10 +29,10 @@ mod min;
 mod path_back;
 mod predecessors;
 mod reached;
-mod rising;
 mod solve_max;
 mod solve_min;
 mod solve_paths;
+mod tight_predecessors;
 
 pub use certify_infeasible::{InfeasibleCertified, certify_infeasible_arrays};
 pub use certify_max::{MaxCertified, certify_max_arrays};

@@ -20,8 +20,8 @@ pub(crate) struct PastLimit {
 
 /// Whether the numbers of nodes and arcs are in range.
 pub(crate) fn counts_hold(nodes: u32, arcs: usize) -> Result<(), PastLimit>
-    ensures tells { TestsLimits (count_rows nodes arcs) result }
-    ensures few { OnOk result ((nodes ≤ most_nodes) × (arcs ≤ most_count)) }
+    ensures first_fault { TestsLimits (count_rows nodes arcs) result }
+    ensures limits { OnOk result ((nodes ≤ most_nodes) × (arcs ≤ most_count)) }
 {
     if nodes > MAX_NODES {
         return Err(PastLimit {
@@ -57,7 +57,7 @@ pub(crate) fn arcs_hold<N: Network>(network: &N) -> Result<(), PastLimit>
 /// The reason to refuse an arc in a network with this many nodes, if there is one.
 #[inline(always)]
 fn arc_fault(nodes: u32, arc: ArcView) -> Option<Reason>
-    ensures tells { NamesReason (ArcFails nodes arc) result }
+    ensures reason { NamesReason (ArcFails nodes arc) result }
     ensures in_range { IfNone result (IsInRange nodes arc) }
 {
     if arc.tail == 0 || arc.tail > nodes || arc.head == 0 || arc.head > nodes {

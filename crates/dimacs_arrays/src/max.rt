@@ -58,7 +58,7 @@ impl<'a> MaxArrays<'a> {
 
     /// Whether source and sink are two different nodes.
     fn ends_hold(&self) -> Result<(), PastLimit>
-        ensures tells { TestsLimits (end_rows self.now.nodes self.now.source self.now.sink) result }
+        ensures first_fault { TestsLimits (end_rows self.now.nodes self.now.source self.now.sink) result }
         ensures source { OnOk result (IsNode self.now.nodes self.now.source) }
         ensures sink { OnOk result (IsNode self.now.nodes self.now.sink) }
         ensures apart { OnOk result (self.now.source ≢ self.now.sink) }

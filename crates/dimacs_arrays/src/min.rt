@@ -62,8 +62,8 @@ impl<'a> MinArrays<'a> {
     }
 
     /// The instance that the arrays spell, still without arcs.
-    fn supplied(&self, alloc: Global) -> Result<MinInstance<PlainArcs<ArcView>>, Memory>
-        requires few { self.now.nodes ≤ most_nodes }
+    fn without_arcs(&self, alloc: Global) -> Result<MinInstance<PlainArcs<ArcView>>, Memory>
+        requires node_limit { self.now.nodes ≤ most_nodes }
         requires supplies { length self.now.supplies.now ≡ self.now.nodes }
         ensures { IfOk result (λ instance. instance ≡ record { nodes = self.now.nodes; supplies = supplies_by_node self.now.supplies.now; arcs = [] }) }
     {
@@ -88,6 +88,6 @@ impl<'a> MinArrays<'a> {
     {
         counts_hold(self.nodes, self.tails.len())?;
         let network = LentArcs::of(*self, self.nodes, self.tails.len())?;
-        Ok(self.supplied(alloc)?.over(network))
+        Ok(self.without_arcs(alloc)?.over(network))
     }
 }

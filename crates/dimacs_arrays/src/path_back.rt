@@ -5,7 +5,7 @@ ghost use Rattle.dimacs_lines.specs.Limits.{most_nodes};
 ghost use Rattle.dimacs_nodes.specs.Tables.{value_of};
 ghost use Rattle.dimacs_decide.specs.Claims.{claimed_by_node};
 ghost use Rattle.dimacs_arrays.specs.Paths.{LeadsBack, pred_by_node};
-ghost use Rattle.dimacs_arrays.specs.inside.LabelTrees.{AreLedBelow, IsClimbing, IsLabelTree, Keeps, Leads};
+ghost use Rattle.dimacs_arrays.specs.inside.LabelTrees.{AreLabelledBelow, IsClimbing, IsLabelTree, Keeps, Leads};
 
 use crate::label_tree::{LabelTree, distance_of, predecessor_of};
 use dimacs_lines::Memory;
@@ -32,7 +32,7 @@ impl PathBack {
 
     /// Labels a node and those on the way back from it, if it leads back to the source. Returns whether it does; true
     /// if the node has no distance.
-    pub(crate) fn lead(
+    pub(crate) fn label_from(
         &mut self,
         tree: &mut LabelTree,
         distances: &[i64],
@@ -41,18 +41,18 @@ impl PathBack {
     ) -> Result<bool, Memory>
         requires node_limit { length distances.now ≤ most_nodes }
         requires tree { IsLabelTree (length distances.now) tree.old.block.source
-            (claimed_by_node distances.now) (pred_by_node predecessors.now) tree.old.block (value_of tree.old.led) }
+            (claimed_by_node distances.now) (pred_by_node predecessors.now) tree.old.block (value_of tree.old.labelled) }
         requires preds { (v : ℕ) → claimed_by_node distances.now v ≡ None → pred_by_node predecessors.now v ≡ 0 }
-        requires earlier { AreLedBelow (claimed_by_node distances.now) (value_of tree.old.led) from }
+        requires earlier { AreLabelledBelow (claimed_by_node distances.now) (value_of tree.old.labelled) from }
         requires roots { (v : ℕ) → value_of self.old.roots v < from }
         ensures tree { OnOk result (IsLabelTree (length distances.now) tree.old.block.source
-            (claimed_by_node distances.now) (pred_by_node predecessors.now) tree.new.block (value_of tree.new.led)) }
-        ensures keeps { OnOk result (Keeps (value_of tree.old.led) (value_of tree.new.led)) }
+            (claimed_by_node distances.now) (pred_by_node predecessors.now) tree.new.block (value_of tree.new.labelled)) }
+        ensures keeps { OnOk result (Keeps (value_of tree.old.labelled) (value_of tree.new.labelled)) }
         ensures roots { OnOk result ((v : ℕ) → value_of self.new.roots v ≤ from) }
-        ensures led { IfOk result (Leads (pred_by_node predecessors.now) tree.old.block.source (claimed_by_node distances.now) (value_of tree.new.led) from) }
+        ensures labelled { IfOk result (Leads (pred_by_node predecessors.now) tree.old.block.source (claimed_by_node distances.now) (value_of tree.new.labelled) from) }
     {
         let end = self.climb(tree, distances, predecessors, from)?;
-        if !tree.is_led(end) {
+        if !tree.is_labelled(end) {
             return Ok(distance_of(distances, from).is_none());
         }
         while let Some(node) = self.path.pop() {
@@ -72,9 +72,9 @@ impl PathBack {
     ) -> Result<u32, Memory>
         requires roots { (v : ℕ) → value_of self.old.roots v < from }
         ensures climbing { IfOk result (IsClimbing (claimed_by_node distances.now) (pred_by_node predecessors.now)
-            (value_of tree.now.led) from (value_of self.new.roots) self.new.path.items) }
+            (value_of tree.now.labelled) from (value_of self.new.roots) self.new.path.items) }
         ensures stops { IfOk result (λ end. (claimed_by_node distances.now end ≡ None)
-            ⊎ ((value_of tree.now.led end ≡ true) ⊎ (value_of self.new.roots end ≡ from))) }
+            ⊎ ((value_of tree.now.labelled end ≡ true) ⊎ (value_of self.new.roots end ≡ from))) }
     {
         self.path.clear();
         let mut at = from;
@@ -89,8 +89,8 @@ impl PathBack {
     /// Whether a node has a distance and no label, and isn't on the way from this start.
     #[inline(always)]
     fn goes_on(&self, tree: &LabelTree, distances: &[i64], from: u32, at: u32) -> bool
-        ensures { IsTrue result ↔ (IsSome (claimed_by_node distances.now at) × (value_of tree.now.led at ≡ false) × (value_of self.now.roots at ≢ from)) }
+        ensures { IsTrue result ↔ (IsSome (claimed_by_node distances.now at) × (value_of tree.now.labelled at ≡ false) × (value_of self.now.roots at ≢ from)) }
     {
-        distance_of(distances, at).is_some() && !tree.is_led(at) && self.roots.get(at) != from
+        distance_of(distances, at).is_some() && !tree.is_labelled(at) && self.roots.get(at) != from
     }
 }

@@ -3,7 +3,7 @@
 ghost use Rattle.std.specs.Prelude.{◌≡◌, IfNone, IfOk, IfSome};
 ghost use Rattle.dimacs_claims.specs.Labels.{IsBlock};
 ghost use Rattle.dimacs_records.specs.Ranges.{IsWide};
-ghost use Rattle.dimacs_arrays.specs.Paths.{HasFar, IsSayable};
+ghost use Rattle.dimacs_arrays.specs.Paths.{ExceedsArray, FitsArray};
 ghost use Rattle.dimacs_arrays.specs.inside.Reached.{AreDistancesOf};
 
 use dimacs_claims::Block;
@@ -19,14 +19,14 @@ pub(crate) fn distances_of(
 ) -> Result<Option<Vec<i64>>, Memory>
     requires { IsBlock nodes block.now }
     ensures distances { IfOk result (λ outcome. IfSome outcome (λ distances. AreDistancesOf nodes block.now distances.items)) }
-    ensures far { IfOk result (λ outcome. IfNone outcome (HasFar block.now)) }
+    ensures exceeds { IfOk result (λ outcome. IfNone outcome (ExceedsArray block.now)) }
 {
     let mut distances = vec![in alloc; i64::MAX; nodes as usize]?;
     distances[block.source() as usize - 1] = 0;
     let labels = block.labels();
     for i in 0..labels.len() {
         let label = labels.at(i);
-        let Some(distance) = near(label.dist) else {
+        let Some(distance) = to_64_bits(label.dist) else {
             return Ok(None);
         };
         distances[label.id as usize - 1] = distance;
@@ -36,13 +36,13 @@ pub(crate) fn distances_of(
 
 /// The distance in 64 bits, if it is in range and isn't `i64::MAX`, which stands for none.
 #[inline(always)]
-fn near(dist: i128) -> Option<i64>
+fn to_64_bits(dist: i128) -> Option<i64>
     requires { IsWide dist }
-    ensures some { IfSome result (λ near. (near ≡ dist) × IsSayable dist) }
-    ensures none { IfNone result (¬ IsSayable dist) }
+    ensures some { IfSome result (λ number. (number ≡ dist) × FitsArray dist) }
+    ensures none { IfNone result (¬ FitsArray dist) }
 {
     match i64::try_from(dist) {
-        Ok(near) if near < i64::MAX => Some(near),
+        Ok(number) if number < i64::MAX => Some(number),
         _ => None,
     }
 }

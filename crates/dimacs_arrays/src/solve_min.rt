@@ -7,7 +7,7 @@ ghost use Rattle.dimacs_optimality.specs.Potentials.{Slack};
 ghost use Rattle.dimacs_solve.specs.Descending.{start_flow};
 ghost use Rattle.dimacs_arrays.specs.MinArrays.{SolvesMinArrays, SolvesMinFlow};
 
-use crate::by_node::{bytes_of, fitted};
+use crate::by_node::{bytes_of, fit_array};
 use crate::error::ArrayError;
 use crate::min::MinArrays;
 use dimacs_claims::Potentials;
@@ -92,7 +92,7 @@ fn least_by<N: Network>(
     let Ok(cost) = cost_within(instance.network(), &flow) else {
         return Ok(MinSolved::GaveUp);
     };
-    match fitted(alloc, &potentials)? {
+    match fit_array(alloc, &potentials)? {
         Some(numbers) => Ok(MinSolved::Optimal {
             cost,
             flow,

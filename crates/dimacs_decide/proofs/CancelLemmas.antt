@@ -52,7 +52,7 @@ cancel_none arcs x cycle amount within = record {
 }
 
 pub residual_capacity_none : (arcs : List ArcView) (x : List ℤ) (cycle : List ResidualArc) (amount : ℤ) → pos 0 <ℤ amount → HasCapacityFor arcs x cycle 0 amount
-residual_capacity_none arcs x cycle amount some = record { some = some; each = λ i less. absurd (omega (arith, less)) }
+residual_capacity_none arcs x cycle amount some = record { positive = some; each = λ i less. absurd (omega (arith, less)) }
 
 module _ (arcs : List ArcView) (x : List ℤ) (cycle : List ResidualArc) (saving : IsSaving arcs x cycle) (j : ℕ) (short : j < length cycle) where
   abbrev r : ResidualArc
@@ -76,7 +76,7 @@ module _ (arcs : List ArcView) (x : List ℤ) (cycle : List ResidualArc) (saving
   --   the least residual capacity so far, and that of this residual arc
   pub residual_capacity_more : (amount less : ℤ) → HasCapacityFor arcs x cycle j amount → less ≤ℤ amount → less ≤ℤ residual_capacity_on arcs x r.side k → (pos 0 <ℤ amount → pos 0 <ℤ residual_capacity_on arcs x r.side k → pos 0 <ℤ less) → HasCapacityFor arcs x cycle (j + 1) less
   residual_capacity_more amount less is le here some = record {
-    some = some is.some leads.residual_capacity;
+    positive = some is.positive leads.residual_capacity;
     each = λ i before. elim (cases_order i j) [
       | inl e ↦ subst (λ m. less ≤ℤ residual_capacity_on arcs x (residual_at cycle m).side (residual_at cycle m).arc) (sym e) here
       | inr apart ↦ elim apart [ inl low ↦ omega (arith, ints, is.each i low, le) | inr high ↦ absurd (omega (arith, high, before)) ]
@@ -115,7 +115,7 @@ module _ (arcs : List ArcView) (x : List ℤ) (cycle : List ResidualArc) (saving
 
       cancel_forward : IsCancelling arcs x (set y k (amount_at y k +ℤ amount)) cycle (j + 1) amount
       cancel_forward = rw (add-one j) (record {
-        within = AllZip-set (λ a z. (a.low ≤ℤ z) × (z ≤ℤ a.cap)) arcs y k no_arc _ is.within (omega (arith, ints, low_here, residual_capacity.some), forward_fits);
+        within = AllZip-set (λ a z. (a.low ≤ℤ z) × (z ≤ℤ a.cap)) arcs y k no_arc _ is.within (omega (arith, ints, low_here, residual_capacity.positive), forward_fits);
         balance = λ u. let n = net-raise arcs y k amount u inside long in let m = rw (head_is, tail_is) at n in omega (arith, ints, is.balance u, m);
         heads = λ i less other. elim (cases_eq i k) [
           | inl same ↦ absurd (other j (omega arith) (sym (ap (λ m. (arc_at arcs m).head) same ∙ head_is)))
@@ -126,7 +126,7 @@ module _ (arcs : List ArcView) (x : List ℤ) (cycle : List ResidualArc) (saving
               let e = get_or-set_same y k (amount_at y k +ℤ amount) (pos 0) long in
               let h = is.tails i less (λ m before. other m (omega (arith, before))) in
               let g : amount_at x k ≤ℤ amount_at y k = subst (λ m. amount_at x m ≤ℤ amount_at y m) same h in
-              subst (λ m. amount_at x m ≤ℤ amount_at (set y k (amount_at y k +ℤ amount)) m) (sym same) (omega (arith, ints, e, g, residual_capacity.some))
+              subst (λ m. amount_at x m ≤ℤ amount_at (set y k (amount_at y k +ℤ amount)) m) (sym same) (omega (arith, ints, e, g, residual_capacity.positive))
           | inr ne ↦ let e = get_or-set_other y k i (amount_at y k +ℤ amount) (pos 0) ne in let h = is.tails i less (λ m before. other m (omega (arith, before))) in omega (arith, ints, e, h)
         ];
         costs = saved (cost arcs y) _ (cost arcs x) amount (gain_after arcs cycle j) (gain_at r.side (arc_at arcs k)) is.costs (rw forward (let c = cost-set arcs y k amount inside long in omega (arith, ints, c, mul_neg_left (arc_at arcs k).cost amount)));
@@ -147,7 +147,7 @@ module _ (arcs : List ArcView) (x : List ℤ) (cycle : List ResidualArc) (saving
 
       cancel_backward : IsCancelling arcs x (set y k (amount_at y k -ℤ amount)) cycle (j + 1) amount
       cancel_backward = rw (add-one j) (record {
-        within = AllZip-set (λ a z. (a.low ≤ℤ z) × (z ≤ℤ a.cap)) arcs y k no_arc _ is.within (backward_fits, omega (arith, ints, cap_here, residual_capacity.some));
+        within = AllZip-set (λ a z. (a.low ≤ℤ z) × (z ≤ℤ a.cap)) arcs y k no_arc _ is.within (backward_fits, omega (arith, ints, cap_here, residual_capacity.positive));
         balance = λ u.
             let n = net-raise arcs y k (neg_ℤ amount) u inside long in
             let m = rw (back_head, back_tail) at n in
@@ -157,7 +157,7 @@ module _ (arcs : List ArcView) (x : List ℤ) (cycle : List ResidualArc) (saving
               let e = get_or-set_same y k (amount_at y k -ℤ amount) (pos 0) long in
               let h = is.heads i less (λ m before. other m (omega (arith, before))) in
               let g : amount_at y k ≤ℤ amount_at x k = subst (λ m. amount_at y m ≤ℤ amount_at x m) same h in
-              subst (λ m. amount_at (set y k (amount_at y k -ℤ amount)) m ≤ℤ amount_at x m) (sym same) (omega (arith, ints, e, g, residual_capacity.some))
+              subst (λ m. amount_at (set y k (amount_at y k -ℤ amount)) m ≤ℤ amount_at x m) (sym same) (omega (arith, ints, e, g, residual_capacity.positive))
           | inr ne ↦ let e = get_or-set_other y k i (amount_at y k -ℤ amount) (pos 0) ne in let h = is.heads i less (λ m before. other m (omega (arith, before))) in omega (arith, ints, e, h)
         ];
         tails = λ i less other. elim (cases_eq i k) [

@@ -98,7 +98,7 @@ module _ (i : MinValue) (x y : List ℤ) (imbalance : ℕ → ℤ) (are : AreImb
   left z v = pos (positive_part (imbalance_at i z v))
 
   apart : sent.from ≢ sent.to
-  apart e = let f = ap imbalance e in omega (arith, ints, f, sent.some, sent.enough, sent.within_deficit)
+  apart e = let f = ap imbalance e in omega (arith, ints, f, sent.positive, sent.enough, sent.within_deficit)
 
   at_from : imbalance_at i y sent.from ≡ imbalance_at i x sent.from -ℤ sent.amount
   at_from =
@@ -124,9 +124,9 @@ module _ (i : MinValue) (x y : List ℤ) (imbalance : ℕ → ℤ) (are : AreImb
   less_at : left y sent.from <ℤ left x sent.from
   less_at =
       let is = are sent.from sent.from_within in
-      let before = part_of (imbalance_at i x sent.from) (omega (arith, ints, is, sent.some, sent.enough)) in
+      let before = part_of (imbalance_at i x sent.from) (omega (arith, ints, is, sent.positive, sent.enough)) in
       let after = part_of (imbalance_at i y sent.from) (omega (arith, ints, is, at_from, sent.enough)) in
-      omega (arith, ints, before, after, at_from, sent.some)
+      omega (arith, ints, before, after, at_from, sent.positive)
 
   no_more : (v : ℕ) → IsNode i.nodes v → left y v ≤ℤ left x v
   no_more v node = elim (cases_eq v sent.from) [
@@ -143,7 +143,7 @@ module _ (i : MinValue) (x y : List ℤ) (imbalance : ℕ → ℤ) (are : AreImb
 
   pub sent_tells : (¬ FeasibleMin i x) × KeepsBounds i.arcs y × (total_excess i y <ℤ total_excess i x)
   sent_tells = (
-    λ feasible. let is = are sent.from sent.from_within in let e = feasible.balanced sent.from sent.from_within in omega (arith, ints, is, e, sent.some, sent.enough),
+    λ feasible. let is = are sent.from sent.from_within in let e = feasible.balanced sent.from sent.from_within in omega (arith, ints, is, e, sent.positive, sent.enough),
     sent.within,
     sum_nodes-less (left y) (left x) i.nodes sent.from no_more sent.from_within less_at,
   )

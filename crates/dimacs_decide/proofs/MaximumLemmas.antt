@@ -75,12 +75,12 @@ module _ (i : MaxValue) (x : List ℤ) (imbalance : ℕ → ℤ) (law : IsMax i)
 
   pub sent_tells : (y : List ℤ) → IsSent i.nodes i.arcs x y imbalance → (¬ Maximum i x) × FeasibleMax i y × (value i x <ℤ value i y)
   sent_tells y sent =
-      let from : sent.from ≡ i.source = only_source sent.from (omega (arith, ints, sent.some, sent.enough)) in
-      let to : sent.to ≡ i.sink = only_sink sent.to (omega (arith, ints, sent.some, sent.within_deficit)) in
+      let from : sent.from ≡ i.source = only_source sent.from (omega (arith, ints, sent.positive, sent.enough)) in
+      let to : sent.to ≡ i.sink = only_sink sent.to (omega (arith, ints, sent.positive, sent.within_deficit)) in
       let there : (sent.to == i.source) ≡ false = ne_eqb sent.to i.source (λ e. law.ends_apart (sym e ∙ to)) in
       let here : (sent.from == i.source) ≡ true = eq-eqb sent.from i.source from in
       let more : value i y ≡ value i x +ℤ sent.amount = sent.shifts i.source ∙ rw (there, here) (omega (arith, ints)) in
-      let less : value i x <ℤ value i y = omega (arith, ints, more, sent.some) in
+      let less : value i x <ℤ value i y = omega (arith, ints, more, sent.positive) in
       let other : FeasibleMax i y = record {
         within = capacities_from_bounds i.arcs y law.capacities sent.within;
         balanced = λ v h not_source not_sink.

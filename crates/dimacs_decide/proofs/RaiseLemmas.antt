@@ -88,7 +88,7 @@ pub raising_none : (arcs : List ArcView) (x : List ℤ) (visits : ℕ → Visit)
     → IsRaising arcs x x visits to to amount
 raising_none arcs x visits to amount reached some residual_capacity within = record {
   reached = reached;
-  some = some;
+  positive = some;
   residual_capacity = residual_capacity;
   pushed = push_none arcs (rank_of visits) x to amount within;
 }
@@ -109,9 +109,9 @@ module _ (arcs : List ArcView) (x y : List ℤ) (visits : ℕ → Visit) (t at :
   pub step : IsRaising arcs x (set y k (carried_after by.side amount (amount_at y k))) visits t (end_of by.side (arc_at arcs k)) amount
   step = record {
     reached = by.reached;
-    some = now.some;
+    positive = now.positive;
     residual_capacity = omega (arith, ints, now.residual_capacity, by.before);
-    pushed = push by.side arcs (rank_of visits) x y t k amount (rw by.to now.pushed) by.within (rw by.to by.rank) (omega (arith, ints, now.some)) (omega (arith, ints, by.residual_capacity, now.residual_capacity));
+    pushed = push by.side arcs (rank_of visits) x y t k amount (rw by.to now.pushed) by.within (rw by.to by.rank) (omega (arith, ints, now.positive)) (omega (arith, ints, by.residual_capacity, now.residual_capacity));
   }
 
   --   the arc, and the side that was found for it

@@ -67,7 +67,7 @@ module _ (visits : ℕ → Visit) (at : ℕ) (e : Visit) (after : ℕ → Visit)
         to = rw (parent_arc_kept v h) r.to;
         reached = rw (parent_arc_kept v h) (reached_still before r.reached);
         rank = rw (parent_arc_kept v h) (omega (arith, r.rank, rank_kept v h, rank_kept before r.reached));
-        some = omega (arith, ints, r.some, residual_capacity_kept v h);
+        positive = omega (arith, ints, r.positive, residual_capacity_kept v h);
         before = rw (parent_arc_kept v h) (omega (arith, ints, r.before, residual_capacity_kept v h, residual_capacity_kept before r.reached));
         residual_capacity = rw (parent_arc_kept v h) (omega (arith, ints, r.residual_capacity, residual_capacity_kept v h));
       }
@@ -81,7 +81,7 @@ module _ (visits : ℕ → Visit) (at : ℕ) (e : Visit) (after : ℕ → Visit)
         to = rw parent_arc far;
         reached = rw (parent_arc, near) (reached_still from old);
         rank = rw (parent_arc, near) (omega (arith, rank_here, next.rank, rank_kept from old));
-        some = omega (arith, ints, next.some, residual_capacity_here);
+        positive = omega (arith, ints, next.positive, residual_capacity_here);
         before = rw (parent_arc, near) (omega (arith, ints, residual_capacity_here, next.before, residual_capacity_kept from old));
         residual_capacity = rw parent_arc (omega (arith, ints, residual_capacity_here, next.residual_capacity));
       }
@@ -143,7 +143,7 @@ pub reached_search : (nodes : ℕ) (arcs : List ArcView) (x : List ℤ) (imbalan
     → IsResidualSearch nodes arcs x imbalance visits queue done → at ≤ nodes → rank_of visits at ≡ 0 → 0 < rank_of visits from → k < length arcs → end_of side (arc_at arcs k) ≡ from → other_end side (arc_at arcs k) ≡ at
     → IsNext (visits from) k (residual_capacity_on arcs x side k) e → Becomes visits at e after → done ≤ length queue → IsResidualSearch nodes arcs x imbalance after (queue ++ at ∷ []) done
 reached_search nodes arcs x imbalance visits queue done side k from at e after now inside new old within near far next becomes short =
-    one_search visits at e after new becomes nodes queue inside (omega (arith, next.rank)) arcs x imbalance done now next.some (omega (arith, next.rank, now.ranks from))
+    one_search visits at e after new becomes nodes queue inside (omega (arith, next.rank)) arcs x imbalance done now next.positive (omega (arith, next.rank, now.ranks from))
     (λ h. is_reached visits at e after new becomes arcs x side k from old within near far next) (λ one. absurd (omega (arith, one, next.rank, old))) short
 
 -- or as a root

@@ -73,7 +73,7 @@ is_sent nodes arcs x y imbalance visits from to amount joined is some within_def
       amount = amount;
       from_within = node;
       to_within = reached_node nodes arcs x imbalance visits joined is.tree is.roots to is.found_is.0;
-      some = some;
+      positive = some;
       enough = omega (arith, ints, enough, residual_capacity);
       within_deficit = within_deficit;
       within = within;

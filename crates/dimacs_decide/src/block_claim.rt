@@ -41,7 +41,7 @@ impl BlockClaim32 {
         while at > 0 {
             at -= 1;
             let label = labels.at(at);
-            let Some(dist) = short(label.dist) else {
+            let Some(dist) = to_32_bits(label.dist) else {
                 return Ok(None);
             };
             distances.set(label.id, dist);
@@ -53,11 +53,11 @@ impl BlockClaim32 {
 
 /// A distance in 32 bits; none if it doesn't fit.
 #[inline(always)]
-fn short(dist: i128) -> Option<i32>
-    ensures { IfSome result (λ short. below_none short ≡ Some dist) }
+fn to_32_bits(dist: i128) -> Option<i32>
+    ensures { IfSome result (λ narrow. below_none narrow ≡ Some dist) }
 {
-    let short = i32::try_from(dist).ok()?;
-    if short < NONE { Some(short) } else { None }
+    let narrow = i32::try_from(dist).ok()?;
+    if narrow < NONE { Some(narrow) } else { None }
 }
 
 impl DistanceClaim for BlockClaim32 {

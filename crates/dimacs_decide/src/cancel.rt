@@ -16,7 +16,7 @@ use dimacs_optimality::Flow;
 fn lesser(a: i64, b: i64) -> i64
     ensures first { result ≤ℤ a }
     ensures second { result ≤ℤ b }
-    ensures some { pos 0 <ℤ a → pos 0 <ℤ b → pos 0 <ℤ result }
+    ensures positive { pos 0 <ℤ a → pos 0 <ℤ b → pos 0 <ℤ result }
 {
     if a < b { a } else { b }
 }

@@ -90,17 +90,17 @@ fn lightest_network<N: Network>(
     blocks: &[Block],
 ) -> Result<Option<PlainArcs<ArcView>>, Memory>
     requires { length (N.list network.now) ≤ most_count }
-    ensures nodes { IfOk result (λ found. IfSome found (λ least. least.nodes ≡ N.node_count network.now)) }
-    ensures arcs { IfOk result (λ found. IfSome found (λ least. AreLightest (N.list network.now) least.arcs)) }
+    ensures nodes { IfOk result (λ found. IfSome found (λ lightest. lightest.nodes ≡ N.node_count network.now)) }
+    ensures arcs { IfOk result (λ found. IfSome found (λ lightest. AreLightest (N.list network.now) lightest.arcs)) }
 {
     let Some(order) = lightest_arcs(alloc, network, blocks)? else {
         return Ok(None);
     };
-    let mut least = PlainArcs::new(alloc, network.nodes());
+    let mut lightest = PlainArcs::new(alloc, network.nodes());
     for k in 0..order.len() {
-        least.push(network.arc(order[k]))?;
+        lightest.push(network.arc(order[k]))?;
     }
-    Ok(Some(least))
+    Ok(Some(lightest))
 }
 
 /// The lists of the lightest arcs; without a hub, of all arcs.
@@ -112,7 +112,7 @@ fn lists_of<N: Network>(
     ensures { IfOk result (AreAdjacencyLists Tail (arcs_followed (N.list network.now) lightest.now)) }
 {
     match lightest {
-        Some(least) => AdjacencyLists::new(alloc, least, Side::Tail),
+        Some(arcs) => AdjacencyLists::new(alloc, arcs, Side::Tail),
         None => AdjacencyLists::new(alloc, network, Side::Tail),
     }
 }
@@ -140,7 +140,7 @@ pub(crate) fn few_block<N: Network>(
     let all = graph.network();
     let claim = PlacedClaim::new(claimed, places)?;
     let found = match &lightest {
-        Some(least) => few_tree(alloc, graph, least, &lists, claimed, &claim, reached)?,
+        Some(arcs) => few_tree(alloc, graph, arcs, &lists, claimed, &claim, reached)?,
         None => few_tree(alloc, graph, all, &lists, claimed, &claim, reached)?,
     };
     let Some(tree) = found else {

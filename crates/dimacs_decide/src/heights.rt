@@ -77,7 +77,7 @@ fn lift<N: Network>(
     requires arc_limit { length (N.list network.now) ≤ most_count }
     requires bounds { All HasBounds (N.list network.now) }
     requires within { KeepsBounds (N.list network.now) flow.now }
-    requires least { (v : ℕ) → pos 0 ≤ℤ height_of (value_of labels.old) v }
+    requires not_negative { (v : ℕ) → pos 0 ≤ℤ height_of (value_of labels.old) v }
     requires bounded { BelowBound 1073741824 (value_of labels.old) }
     ensures { IfOk result (λ lifted. Lifts (N.list network.now) flow.now side parent_arc (value_of labels.old) lifted (value_of labels.new)) }
 {

@@ -224,9 +224,13 @@ fn unraised_at(height: i128) -> HeightLabel
 }
 
 /// The heights as potentials.
-fn potentials_of(alloc: Global, nodes: u32, labels: &NodeTable<HeightLabel>) -> Result<Potentials, Memory>
+fn potentials_of(
+    alloc: Global,
+    nodes: u32,
+    labels: &NodeTable<HeightLabel>,
+) -> Result<Potentials, Memory>
     requires node_limit { nodes ≤ most_nodes }
-    requires least { (v : ℕ) → pos 0 ≤ℤ height_of (value_of labels.now) v }
+    requires not_negative { (v : ℕ) → pos 0 ≤ℤ height_of (value_of labels.now) v }
     requires bounded { BelowBound (nodes + 1) (value_of labels.now) }
     ensures nodes { IfOk result (λ p. p.nodes ≡ nodes) }
     ensures values { IfOk result (λ p. (v : ℕ) → IsNode nodes v → potential_of p v ≡ height_of (value_of labels.now) v) }

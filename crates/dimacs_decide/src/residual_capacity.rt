@@ -11,7 +11,7 @@ use dimacs_optimality::Flow;
 /// The residual capacity of an arc from this side.
 #[inline(always)]
 pub(crate) fn residual_capacity_from(side: Side, arc: ArcView, amount: i64) -> i64
-    requires least { pos 0 ≤ℤ arc.low }
+    requires not_negative { pos 0 ≤ℤ arc.low }
     requires low { arc.low ≤ℤ amount }
     requires high { amount ≤ℤ arc.cap }
     ensures { result ≡ residual_capacity_at side arc amount }

@@ -20,7 +20,7 @@ TestsLimits limits (Err limit) = First limits limit.place limit.reason
 
 -- the instance that is spelled, or the first number out of range, or out of memory
 abbrev pub Spells : {X : Type 0} → List Row → X → Result X ArrayError → Type 0
-Spells limits i (Ok made) = made ≡ i
+Spells limits i (Ok spelled) = spelled ≡ i
 Spells limits i (Err (Limit place reason)) = First limits place reason
 Spells limits i (Err Memory) = Unit
 Spells limits i (Err error) = ⊥

@@ -11,7 +11,7 @@ use Rattle.dimacs_decide.specs.inside.ResidualCapacities.{residual_capacity_on}
 
 -- the amount is positive, and the first n residual arcs have capacity for it
 pub record HasCapacityFor (arcs : List ArcView) (x : List ℤ) (cycle : List ResidualArc) (n : ℕ) (amount : ℤ) : Type 0 where
-  pub some : pos 0 <ℤ amount
+  pub positive : pos 0 <ℤ amount
   pub each : (j : ℕ) → j < n → amount ≤ℤ residual_capacity_on arcs x (residual_at cycle j).side (residual_at cycle j).arc
 
 -- the amount was sent along the first n residual arcs, which costs less by their gain for each unit

@@ -27,19 +27,19 @@ ArePassedFrom arcs claim v = (k : ℕ) → k < length arcs → (arc_at arcs k).t
 abbrev pub IsUnreached : (ℕ → Bool) → Type 0
 IsUnreached reached = (v : ℕ) → reached v ≡ false
 
--- each of the least arcs is one of all, and each of all has one of the least with its ends that weighs no more
-pub record AreLightest (all least : List ArcView) : Type 0 where
-  pub within : (a : ArcView) → Contains least a → Contains all a
-  pub cover : (a : ArcView) → Contains all a → (b : ArcView) × Contains least b × Covers b a
+-- each lightest arc is one of all, and each of all has a lightest one with its ends that weighs no more
+pub record AreLightest (all lightest : List ArcView) : Type 0 where
+  pub within : (a : ArcView) → Contains lightest a → Contains all a
+  pub cover : (a : ArcView) → Contains all a → (b : ArcView) × Contains lightest b × Covers b a
 
 -- the arcs of this network, if there is one
 abbrev pub arcs_followed : List ArcView → Option NetworkValue → List ArcView
 arcs_followed arcs None = arcs
-arcs_followed arcs (Some least) = least.arcs
+arcs_followed arcs (Some lightest) = lightest.arcs
 
 -- a search can begin in these tables, over the lightest arcs of the graph
 pub record AreFree (g : NetworkValue) (tables : Tables) : Type 0 where
   pub unreached : IsUnreached (value_of tables.reached)
-  pub nodes : IfSome tables.lightest (λ least. least.nodes ≡ g.nodes)
-  pub lightest : IfSome tables.lightest (λ least. AreLightest g.arcs least.arcs)
+  pub nodes : IfSome tables.lightest (λ network. network.nodes ≡ g.nodes)
+  pub lightest : IfSome tables.lightest (λ network. AreLightest g.arcs network.arcs)
   pub lists : AreAdjacencyLists Tail (arcs_followed g.arcs tables.lightest) tables.lists

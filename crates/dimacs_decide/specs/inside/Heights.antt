@@ -52,7 +52,7 @@ pub record AreHeights (arcs : List ArcView) (x : List ℤ) (labels : ℕ → Hei
   pub time : ℕ → ℕ
   pub now : ℕ
   pub earlier : (v : ℕ) → time v < now
-  pub least : (v : ℕ) → pos 0 ≤ℤ height_of labels v
+  pub not_negative : (v : ℕ) → pos 0 ≤ℤ height_of labels v
   pub low : (v : ℕ) → (labels v).parent_arc ≡ 0 → (height_of labels v ≤ℤ height_of labels 0) × (height_of labels v ≤ℤ bound 0)
   pub raised : (v : ℕ) → 0 < (labels v).parent_arc → IsRaised arcs x (height_of labels) time v (labels v)
 

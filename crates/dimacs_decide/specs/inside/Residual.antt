@@ -28,7 +28,7 @@ pub record IsReachedBy (arcs : List ArcView) (x : List ℤ) (visits : ℕ → Vi
   pub to : other_end side (arc_at arcs (parent_arc_of visits v)) ≡ v
   pub reached : 0 < rank_of visits (end_of side (arc_at arcs (parent_arc_of visits v)))
   pub rank : rank_of visits (end_of side (arc_at arcs (parent_arc_of visits v))) < rank_of visits v
-  pub some : pos 0 <ℤ residual_capacity_of visits v
+  pub positive : pos 0 <ℤ residual_capacity_of visits v
   pub before : residual_capacity_of visits v ≤ℤ residual_capacity_of visits (end_of side (arc_at arcs (parent_arc_of visits v)))
   pub residual_capacity : residual_capacity_of visits v ≤ℤ residual_capacity_on arcs x side (parent_arc_of visits v)
 
@@ -73,7 +73,7 @@ pub record IsResidualSearch (nodes : ℕ) (arcs : List ArcView) (x : List ℤ) (
 pub record IsNext (from : Visit) (arc : ℕ) (most : ℤ) (e : Visit) : Type 0 where
   pub rank : e.rank ≡ from.rank + 1
   pub parent_arc : e.parent_arc ≡ arc
-  pub some : pos 0 <ℤ e.residual_capacity
+  pub positive : pos 0 <ℤ e.residual_capacity
   pub before : e.residual_capacity ≤ℤ from.residual_capacity
   pub residual_capacity : e.residual_capacity ≤ℤ most
 

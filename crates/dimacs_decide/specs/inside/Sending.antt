@@ -17,7 +17,7 @@ pub record IsSent (nodes : ℕ) (arcs : List ArcView) (x y : List ℤ) (imbalanc
   pub amount : ℤ
   pub from_within : IsNode nodes from
   pub to_within : IsNode nodes to
-  pub some : pos 0 <ℤ amount
+  pub positive : pos 0 <ℤ amount
   pub enough : amount ≤ℤ imbalance from
   pub within_deficit : (amount +ℤ imbalance to) ≤ℤ pos 0
   pub within : KeepsBounds arcs y

@@ -5,7 +5,7 @@ use Rattle.dimacs_decide.specs.Claims.{claimed_by_node}
 use Rattle.dimacs_arrays.specs.inside.LabelTrees.{ArePredsOf}
 use Rattle.dimacs_arrays.proofs.CertifyPathsLemmas.{one_block}
 use Rattle.dimacs_arrays.proofs.OrderLemmas.{predecessors_by}
-use Rattle.dimacs_arrays.proofs.RisingLemmas.{rising_certified}
+use Rattle.dimacs_arrays.proofs.TightPredecessorLemmas.{tight_certified}
 use Rattle.dimacs_arrays.proofs.distances.certify_paths_by_node.Goals as goal
 
 pub predecessors_of-requires : goal.predecessors_of-requires
@@ -19,8 +19,8 @@ predecessors_of-requires g c =
 pub returns-in-Some : goal.returns-in-Some
 returns-in-Some g c =
     let lawful = c.network.ensures.lawful in
-    let rising = rw (c.in-Some.is, c.network.ensures.nodes, c.network.ensures.arcs) at c.in_ok-predecessors.ensures in
-    rising_certified c.args.graph.now c.args.source c.args.distances.now c.in-Some.predecessors.items c.requires.source lawful.nodes_few lawful.joined rising
+    let tight = rw (c.in-Some.is, c.network.ensures.nodes, c.network.ensures.arcs) at c.in_ok-predecessors.ensures in
+    tight_certified c.args.graph.now c.args.source c.args.distances.now c.in-Some.predecessors.items c.requires.source lawful.nodes_few lawful.joined tight
 
 pub returns : goal.returns
 returns g c =

@@ -2,7 +2,7 @@ use Rattle.std.proofs.Common.{inl}
 use Rattle.dimacs_decide.specs.Claims.{claimed_by_node}
 use Rattle.dimacs_arrays.specs.Paths.{pred_by_node}
 use Rattle.dimacs_arrays.proofs.LabelLemmas.{unlabelled}
-use Rattle.dimacs_arrays.proofs.RisingLemmas.{rising_judged}
+use Rattle.dimacs_arrays.proofs.TightPredecessorLemmas.{tight_judged}
 use Rattle.dimacs_arrays.proofs.distances.judge_paths_by_node.Goals as goal
 
 pub returns-in_err-labels : goal.returns-in_err-labels
@@ -13,8 +13,8 @@ returns-in_err-labels g c =
 pub returns-then-branch : goal.returns-then-branch
 returns-then-branch g c =
     let lawful = c.network.ensures.lawful in
-    let rising = rw (c.network.ensures.nodes, c.network.ensures.arcs) at (c.in_ok-rise_by.ensures c.if-branch.true) in
-    rising_judged c.args.graph.now c.args.source c.args.distances.now c.args.predecessors.now c.requires.source lawful.nodes_few lawful.joined rising
+    let tight = rw (c.network.ensures.nodes, c.network.ensures.arcs) at (c.in_ok-are_tight_predecessors.ensures c.if-branch.true) in
+    tight_judged c.args.graph.now c.args.source c.args.distances.now c.args.predecessors.now c.requires.source lawful.nodes_few lawful.joined tight
 
 pub returns : goal.returns
 returns g c =

@@ -9,7 +9,7 @@ returns-in-Some g c =
     let arcs = g.N.Network.list c.args.network.now in
     let is : arc_at arcs c.loop-i.i ≡ c.arc.result = get_or_from_slice_get arcs c.loop-i.i c.arc.result no_arc c.arc.ensures in
     let inside = slice_get_within arcs c.loop-i.i c.arc.result c.arc.ensures in
-    first_past (g.N.Network.node_count c.args.network.now) arcs c.loop-i.i c.in-Some.reason inside c.loop-i.invariant (rw (is, ← c.nodes-nodes.ensures) c.in-Some.ensures.tells)
+    first_past (g.N.Network.node_count c.args.network.now) arcs c.loop-i.i c.in-Some.reason inside c.loop-i.invariant (rw (is, ← c.nodes-nodes.ensures) c.in-Some.ensures.reason)
 
 pub loop-i-preserved : goal.loop-i-preserved
 loop-i-preserved g c =

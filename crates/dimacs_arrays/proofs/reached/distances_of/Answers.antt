@@ -5,7 +5,7 @@ use Rattle.std.proofs.lemmas.List.Elements.{All-get_or}
 use Rattle.dimacs_claims.specs.declared.block.Label.{Label}
 use Rattle.dimacs_claims.specs.Labels.{IsLabel, no_label}
 use Rattle.dimacs_claims.proofs.ByIdLemmas.{fresh_apart}
-use Rattle.dimacs_arrays.specs.Paths.{IsSayable}
+use Rattle.dimacs_arrays.specs.Paths.{FitsArray}
 use Rattle.dimacs_arrays.proofs.CertifyPathsLemmas.{not_source}
 use Rattle.dimacs_arrays.proofs.PredLemmas.{at_place}
 use Rattle.dimacs_arrays.proofs.ReachedLemmas.{reached_all, reached_more}
@@ -21,9 +21,9 @@ loop-i-preserved c =
     let other = All-get_or (λ (l : Label). l.id ≢ b.source) labels i no_label inside (not_source b.source [] labels c.requires.fresh) in
     let fits : SFits w64 c.in-Some.distance = search rules in
     let wide : SFits w128 c.at-label.result.dist = search rules in
-    let said : (c.in-Some.distance ≡ (at_place labels i).dist) × IsSayable (at_place labels i).dist = rw (to_z-of_z w128 c.at-label.result.dist wide, c.at-label.ensures, c.labels-labels.ensures) at c.in-Some.ensures.some in
-    let more = reached_more b c.args.nodes (fresh_apart b.source labels c.requires.fresh) c.loop-i.distances.items i inside node other said.1 c.loop-i.invariant in
-    rw (to_z-of_z w64 c.in-Some.distance fits, said.0, c.at-label.ensures, c.labels-labels.ensures) more
+    let fits_array : (c.in-Some.distance ≡ (at_place labels i).dist) × FitsArray (at_place labels i).dist = rw (to_z-of_z w128 c.at-label.result.dist wide, c.at-label.ensures, c.labels-labels.ensures) at c.in-Some.ensures.some in
+    let more = reached_more b c.args.nodes (fresh_apart b.source labels c.requires.fresh) c.loop-i.distances.items i inside node other fits_array.1 c.loop-i.invariant in
+    rw (to_z-of_z w64 c.in-Some.distance fits, fits_array.0, c.at-label.ensures, c.labels-labels.ensures) more
 
 pub returns-clause-distances : goal.returns-clause-distances
 returns-clause-distances c =

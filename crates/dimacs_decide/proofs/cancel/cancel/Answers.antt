@@ -29,7 +29,7 @@ returns-clause-balances g c =
     let fits_amount : SFits w64 amount = search rules in
     let all : c.loop-j.j ≡ length c.args.cycle.now = omega (arith, c.loop-j-test.false, c.loop-j.auto.j-end) in
     let is : IsCancelling arcs c.args.flow.now c.loop-j.flow c.args.cycle.now (length c.args.cycle.now) amount = rw (to_z-of_z w64 amount fits_amount, all) at c.loop-j.invariant in
-    C.round_balances arcs c.args.flow.now c.loop-j.flow c.args.cycle.now amount c.requires.cycle c.least_residual_capacity-amount.ensures.some is
+    C.round_balances arcs c.args.flow.now c.loop-j.flow c.args.cycle.now amount c.requires.cycle c.least_residual_capacity-amount.ensures.positive is
 
 pub returns-clause-less : goal.returns-clause-less
 returns-clause-less g c =
@@ -38,4 +38,4 @@ returns-clause-less g c =
     let fits_amount : SFits w64 amount = search rules in
     let all : c.loop-j.j ≡ length c.args.cycle.now = omega (arith, c.loop-j-test.false, c.loop-j.auto.j-end) in
     let is : IsCancelling arcs c.args.flow.now c.loop-j.flow c.args.cycle.now (length c.args.cycle.now) amount = rw (to_z-of_z w64 amount fits_amount, all) at c.loop-j.invariant in
-    C.round_less arcs c.args.flow.now c.loop-j.flow c.args.cycle.now amount c.requires.cycle c.least_residual_capacity-amount.ensures.some is
+    C.round_less arcs c.args.flow.now c.loop-j.flow c.args.cycle.now amount c.requires.cycle c.least_residual_capacity-amount.ensures.positive is

@@ -17,8 +17,8 @@ amount-requires g c =
     let within = inside (g.N.Network.list c.args.network.now) c.args.flow.now c.args.cycle.now c.requires.cycle c.loop-j.j c.loop-j-test.true in
     omega (arith, within, AllZip-long _ _ _ c.requires.within)
 
-pub residual_capacity_from-residual_capacity-requires-clause-least : goal.residual_capacity_from-residual_capacity-requires-clause-least
-residual_capacity_from-residual_capacity-requires-clause-least g c =
+pub residual_capacity_from-residual_capacity-requires-clause-not_negative : goal.residual_capacity_from-residual_capacity-requires-clause-not_negative
+residual_capacity_from-residual_capacity-requires-clause-not_negative g c =
     let arcs = g.N.Network.list c.args.network.now in
     let k = (residual_at c.args.cycle.now c.loop-j.j).arc in
     let within : k < length arcs = inside arcs c.args.flow.now c.args.cycle.now c.requires.cycle c.loop-j.j c.loop-j-test.true in
@@ -68,5 +68,5 @@ loop-j-preserved g c =
     let fits_residual_capacity : SFits w64 c.residual_capacity_from-residual_capacity.result = search rules in
     let fits_least : SFits w64 c.lesser-least.result = search rules in
     let second = rw (to_z-of_z w64 c.residual_capacity_from-residual_capacity.result fits_residual_capacity, here) at c.lesser-least.ensures.second in
-    let some = rw (to_z-of_z w64 c.residual_capacity_from-residual_capacity.result fits_residual_capacity, here) at c.lesser-least.ensures.some in
+    let some = rw (to_z-of_z w64 c.residual_capacity_from-residual_capacity.result fits_residual_capacity, here) at c.lesser-least.ensures.positive in
     rw (to_z-of_z w64 c.lesser-least.result fits_least) (residual_capacity_more arcs x c.args.cycle.now c.requires.cycle c.loop-j.j c.loop-j-test.true _ c.lesser-least.result c.loop-j.invariant c.lesser-least.ensures.first second some)

@@ -14,8 +14,8 @@ use Rattle.dimacs_decide.proofs.cycle.leads_from.Goals as goal
 pub amount-requires : goal.amount-requires
 amount-requires g c = omega (arith, c.if-residual-arcs.false, c.arcs.ensures, AllZip-long _ _ _ c.requires.within)
 
-pub residual_capacity_from-requires-clause-least : goal.residual_capacity_from-requires-clause-least
-residual_capacity_from-requires-clause-least g c =
+pub residual_capacity_from-requires-clause-not_negative : goal.residual_capacity_from-requires-clause-not_negative
+residual_capacity_from-requires-clause-not_negative g c =
     let arcs = g.N.Network.list c.args.network.now in
     let k = c.args.residual.arc in
     let within : k < length arcs = omega (arith, c.if-residual-arcs.false, c.arcs.ensures) in

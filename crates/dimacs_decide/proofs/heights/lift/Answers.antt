@@ -19,8 +19,8 @@ use Rattle.dimacs_decide.proofs.heights.lift.Goals as goal
 pub amount-requires : goal.amount-requires
 amount-requires g c = omega (arith, c.requires.parent_arc, AllZip-long _ _ _ c.requires.within)
 
-pub residual_capacity_from-requires-clause-least : goal.residual_capacity_from-requires-clause-least
-residual_capacity_from-requires-clause-least g c =
+pub residual_capacity_from-requires-clause-not_negative : goal.residual_capacity_from-requires-clause-not_negative
+residual_capacity_from-requires-clause-not_negative g c =
     let arcs = g.N.Network.list c.args.network.now in
     let is : arc_at arcs c.args.parent_arc ≡ c.arc-arc.result = get_or_from_slice_get arcs c.args.parent_arc c.arc-arc.result no_arc c.arc-arc.ensures in
     let low = ap (λ (a : ArcView). a.low) is in
@@ -65,7 +65,7 @@ overflow_add-height g c =
     let height : c.get.result.height ≡ height_of (value_of c.args.labels.now) c.near.result = ap (λ (l : HeightLabel). l.height) c.get.ensures.value in
     let fits_height : SFits w128 c.get.result.height = search rules in
     let fits_gain : SFits w128 c.gain.result = search rules in
-    rw (to_z-of_z w128 c.get.result.height fits_height, to_z-of_z w128 c.gain.result fits_gain) (omega (arith, ints, height, c.gain.ensures, c.requires.least c.near.result, c.requires.bounded c.near.result, gain_most c.args.side c.arc-arc.result has, gain_least c.args.side c.arc-arc.result has))
+    rw (to_z-of_z w128 c.get.result.height fits_height, to_z-of_z w128 c.gain.result fits_gain) (omega (arith, ints, height, c.gain.ensures, c.requires.not_negative c.near.result, c.requires.bounded c.near.result, gain_most c.args.side c.arc-arc.result has, gain_least c.args.side c.arc-arc.result has))
 
 pub returns-then-height-get : goal.returns-then-height-get
 returns-then-height-get g c =
@@ -80,7 +80,7 @@ returns-then-height-get g c =
     let to : c.get-2.result.height ≡ height_of labels (other_end c.args.side (arc_at arcs c.args.parent_arc)) = ap (λ (l : HeightLabel). l.height) c.get-2.ensures.value ∙ ap (height_of labels) far in
     let fits_height : SFits w128 c.get.result.height = search rules in
     let fits_gain : SFits w128 c.gain.result = search rules in
-    let fits_sum : SFits w128 (c.get.result.height +ℤ c.gain.result) = omega (arith, ints, from, c.gain.ensures, c.requires.least (end_of c.args.side (arc_at arcs c.args.parent_arc)), c.requires.bounded (end_of c.args.side (arc_at arcs c.args.parent_arc)), gain_most c.args.side c.arc-arc.result has, gain_least c.args.side c.arc-arc.result has) in
+    let fits_sum : SFits w128 (c.get.result.height +ℤ c.gain.result) = omega (arith, ints, from, c.gain.ensures, c.requires.not_negative (end_of c.args.side (arc_at arcs c.args.parent_arc)), c.requires.bounded (end_of c.args.side (arc_at arcs c.args.parent_arc)), gain_most c.args.side c.arc-arc.result has, gain_least c.args.side c.arc-arc.result has) in
     let low = rw (to_z-of_z w128 c.get.result.height fits_height, to_z-of_z w128 c.gain.result fits_gain) at c.if-height-get.true in
     (λ v. refl, λ residual_capacity. omega (arith, ints, from, to, gain, low, fits_sum))
 
@@ -104,7 +104,7 @@ returns g c =
     let fits_height : SFits w128 c.get.result.height = search rules in
     let fits_gain : SFits w128 c.gain.result = search rules in
     let more = rw (to_z-of_z w128 c.get.result.height fits_height, to_z-of_z w128 c.gain.result fits_gain) at c.if-height-get.false in
-    let fits_sum : SFits w128 (c.get.result.height +ℤ c.gain.result) = omega (arith, ints, from, c.gain.ensures, c.requires.least (end_of c.args.side (arc_at arcs k)), c.requires.bounded (end_of c.args.side (arc_at arcs k)), gain_most c.args.side c.arc-arc.result has, gain_least c.args.side c.arc-arc.result has) in
+    let fits_sum : SFits w128 (c.get.result.height +ℤ c.gain.result) = omega (arith, ints, from, c.gain.ensures, c.requires.not_negative (end_of c.args.side (arc_at arcs k)), c.requires.bounded (end_of c.args.side (arc_at arcs k)), gain_most c.args.side c.arc-arc.result has, gain_least c.args.side c.arc-arc.result has) in
     let set : value_of c.set.new.self (other_end c.args.side (arc_at arcs k)) ≡ record { height = c.get.result.height +ℤ c.gain.result; parent_arc = k + 1; side = c.args.side } = rw (far, to_z-of_z w128 c.get.result.height fits_height, to_z-of_z w128 c.gain.result fits_gain, to_z-of_z w128 (c.get.result.height +ℤ c.gain.result) fits_sum) at c.in_ok-set.ensures.set in
     let sum = ap (λ (l : HeightLabel). l.height) set in
     record {

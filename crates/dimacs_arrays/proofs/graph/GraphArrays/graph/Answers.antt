@@ -3,12 +3,12 @@ use Rattle.dimacs_arrays.proofs.graph.GraphArrays.graph.Goals as goal
 
 pub over-requires : goal.over-requires
 over-requires c =
-    let few = c.in_ok-counts_hold.ensures.few in
+    let limits = c.in_ok-counts_hold.ensures.limits in
     let lent = c.in_ok-of.ensures in
-    rw lent.network (graph_lawful c.args.self.now few.0 few.1 lent.arcs)
+    rw lent.network (graph_lawful c.args.self.now limits.0 limits.1 lent.arcs)
 
 pub returns-clause-lawful : goal.returns-clause-lawful
 returns-clause-lawful c =
-    let few = c.in_ok-counts_hold.ensures.few in
+    let limits = c.in_ok-counts_hold.ensures.limits in
     let lent = c.in_ok-of.ensures in
-    rw (c.over.ensures, lent.network) (graph_lawful c.args.self.now few.0 few.1 lent.arcs)
+    rw (c.over.ensures, lent.network) (graph_lawful c.args.self.now limits.0 limits.1 lent.arcs)

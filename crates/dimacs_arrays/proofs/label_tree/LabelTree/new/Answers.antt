@@ -10,4 +10,4 @@ returns c =
     let nodes = length c.args.distances.now in
     let lawful = rw c.new-block.ensures.made at (c.new-block.ensures.lawful nodes c.requires.source) in
     rw c.new-block.ensures.made (begun nodes (claimed_by_node c.args.distances.now) (pred_by_node c.args.predecessors.now) c.args.source (value_of c.set.new.self) c.requires.source c.requires.distance lawful
-    c.in_ok-set.ensures.set (λ v apart. c.in_ok-set.ensures.others v apart ∙ c.new-led.ensures.values v))
+    c.in_ok-set.ensures.set (λ v apart. c.in_ok-set.ensures.others v apart ∙ c.new-labelled.ensures.values v))

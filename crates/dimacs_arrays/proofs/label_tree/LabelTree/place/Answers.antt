@@ -17,10 +17,10 @@ returns-clause-tree c =
     let pred = pred_by_node c.args.predecessors.now in
     let b = c.args.self.now.block in
     let s = b.source in
-    let led = value_of c.args.self.now.led in
+    let labelled = value_of c.args.self.now.labelled in
     let u = c.args.node in
     let d = c.in-Some.dist in
-    let new : led u ≡ false = sym c.get.ensures.value ∙ c.if-get.false in
+    let new : labelled u ≡ false = sym c.get.ensures.value ∙ c.if-get.false in
     let node : IsNode nodes u = distance_within c.args.distances.now u c.requires.distance in
     let named : claim u ≡ Some d = sym c.distance_of.ensures.distance ∙ c.in-Some.is in
     let fits : SFits w128 d = search rules in
@@ -28,7 +28,7 @@ returns-clause-tree c =
     let adds = rw (c.in_ok-add.ensures.added, exact, c.predecessor_of.ensures) at c.in_ok-add.ensures.labels in
     let keeps = rw (c.in_ok-add.ensures.added, exact, c.predecessor_of.ensures) at c.in_ok-add.ensures.lawful in
     let near : IsNear b.radius d = subst (λ radius. IsNear radius d) (sym c.requires.tree.whole) tt in
-    let label : IsLabel nodes (record { dist = d; id = u; pred = pred u }) = record { id = node; dist = c.in-Some.ensures.wide; pred = c.requires.tree.inside (pred u) c.requires.led } in
+    let label : IsLabel nodes (record { dist = d; id = u; pred = pred u }) = record { id = node; dist = c.in-Some.ensures.wide; pred = c.requires.tree.inside (pred u) c.requires.labelled } in
     let lawful : IsBlock nodes (with_label b (record { dist = d; id = u; pred = pred u })) =
-    keeps nodes c.requires.tree.lawful label (few nodes s claim pred b led u c.requires.tree new c.requires.node_limit node) (pred_labelled nodes s claim pred b led u c.requires.tree new c.requires.led) near in
-    rw (c.in_ok-add.ensures.added, exact, c.predecessor_of.ensures) (grown nodes s claim pred b led u c.requires.tree new d (value_of c.set.new.self) node c.requires.led (c.requires.next (record { dist = d; id = u; pred = pred u }) refl) named lawful adds c.in_ok-set.ensures.set c.in_ok-set.ensures.others)
+    keeps nodes c.requires.tree.lawful label (few nodes s claim pred b labelled u c.requires.tree new c.requires.node_limit node) (pred_labelled nodes s claim pred b labelled u c.requires.tree new c.requires.labelled) near in
+    rw (c.in_ok-add.ensures.added, exact, c.predecessor_of.ensures) (grown nodes s claim pred b labelled u c.requires.tree new d (value_of c.set.new.self) node c.requires.labelled (c.requires.next (record { dist = d; id = u; pred = pred u }) refl) named lawful adds c.in_ok-set.ensures.set c.in_ok-set.ensures.others)

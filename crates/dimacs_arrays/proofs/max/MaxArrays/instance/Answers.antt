@@ -3,14 +3,14 @@ use Rattle.dimacs_arrays.proofs.max.MaxArrays.instance.Goals as goal
 
 pub over-requires : goal.over-requires
 over-requires c =
-    let few = c.in_ok-counts_hold.ensures.few in
+    let limits = c.in_ok-counts_hold.ensures.limits in
     let ends = c.in_ok-ends_hold.ensures in
     let lent = c.in_ok-network.ensures in
-    rw lent.network (max_lawful c.args.self.now few.0 few.1 ends.source ends.sink ends.apart lent.arcs)
+    rw lent.network (max_lawful c.args.self.now limits.0 limits.1 ends.source ends.sink ends.apart lent.arcs)
 
 pub returns-clause-lawful : goal.returns-clause-lawful
 returns-clause-lawful c =
-    let few = c.in_ok-counts_hold.ensures.few in
+    let limits = c.in_ok-counts_hold.ensures.limits in
     let ends = c.in_ok-ends_hold.ensures in
     let lent = c.in_ok-network.ensures in
-    rw (c.over.ensures, lent.network) (max_lawful c.args.self.now few.0 few.1 ends.source ends.sink ends.apart lent.arcs)
+    rw (c.over.ensures, lent.network) (max_lawful c.args.self.now limits.0 limits.1 ends.source ends.sink ends.apart lent.arcs)

@@ -12,7 +12,7 @@ loop-self-smaller c =
     let at = c.loop-self.at in
     let goes_on = c.loop-self-test.ensures.0 refl in
     let inside = distance_within ds at goes_on.0 in
-    let fewer = fewer_others (claimed_by_node ds) (pred_by_node c.args.predecessors.now) (value_of c.args.tree.now.led) c.args.from (value_of c.loop-self.self.roots) c.loop-self.self.path.items at c.loop-self.invariant
+    let fewer = fewer_others (claimed_by_node ds) (pred_by_node c.args.predecessors.now) (value_of c.args.tree.now.labelled) c.args.from (value_of c.loop-self.self.roots) c.loop-self.self.path.items at c.loop-self.invariant
     goes_on.0 goes_on.1 goes_on.2 (value_of c.set.new.self) c.in_ok-set.ensures.set c.in_ok-set.ensures.others (length ds + 1) (omega (arith, inside.1)) in
     omega (arith, fewer)
 
@@ -23,5 +23,5 @@ loop-self-preserved c =
     let path = c.loop-self.self.path.items in
     let goes_on = c.loop-self-test.ensures.0 refl in
     let longer : c.push.new.self.items ≡ path ++ at ∷ [] = c.in_ok-push.ensures.items in
-    rw (longer, c.predecessor_of-at.ensures) (climb_more (claimed_by_node ds) (pred_by_node c.args.predecessors.now) (value_of c.args.tree.now.led) c.args.from (value_of c.loop-self.self.roots) path at c.loop-self.invariant
+    rw (longer, c.predecessor_of-at.ensures) (climb_more (claimed_by_node ds) (pred_by_node c.args.predecessors.now) (value_of c.args.tree.now.labelled) c.args.from (value_of c.loop-self.self.roots) path at c.loop-self.invariant
     goes_on.0 goes_on.1 goes_on.2 (value_of c.set.new.self) c.in_ok-set.ensures.set c.in_ok-set.ensures.others)

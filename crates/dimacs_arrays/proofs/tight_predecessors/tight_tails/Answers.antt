@@ -6,9 +6,9 @@ use Rattle.dimacs_lines.specs.Limits.{IsNode}
 use Rattle.dimacs_network.specs.Arcs.{JoinsNodes, arc_at, no_arc}
 use Rattle.dimacs_decide.specs.Claims.{claimed_by_node}
 use Rattle.dimacs_arrays.specs.Paths.{pred_by_node}
-use Rattle.dimacs_arrays.proofs.RisingLemmas.{flat_more, rising_all, rising_more}
-use Rattle.dimacs_arrays.proofs.rising.rising_tails.Goals.{in-Flat, in-Rising}
-use Rattle.dimacs_arrays.proofs.rising.rising_tails.Goals as goal
+use Rattle.dimacs_arrays.proofs.TightPredecessorLemmas.{passes_more, tight_all, tight_more}
+use Rattle.dimacs_arrays.proofs.tight_predecessors.tight_tails.Goals.{in-Passes, in-Tight}
+use Rattle.dimacs_arrays.proofs.tight_predecessors.tight_tails.Goals as goal
 
 pub loop-i-preserved : goal.loop-i-preserved
 loop-i-preserved g c =
@@ -21,14 +21,14 @@ loop-i-preserved g c =
     let inside : i < length arcs = slice_get_within arcs i c.arc-arc.result c.arc-arc.ensures in
     let ends = All-get_or (JoinsNodes (g.N.Network.node_count c.args.network.now)) arcs i no_arc inside c.requires.joined in
     let head : IsNode (length tails) (arc_at arcs i).head = subst (λ n. IsNode n (arc_at arcs i).head) (sym (so_far.each ∙ c.requires.nodes)) ends.1 in
-    elim c.match-step_wanted.branch [
-      | in-Flat w ↦ rw w.tails-is record { each = so_far.each; rising = flat_more arcs claim (pred_by_node tails) i so_far.rising (rw is w.in-Flat.ensures) }
-      | in-Rising w ↦ rw w.tails-is record {
+    elim c.match-test_wanted.branch [
+      | in-Passes w ↦ rw w.tails-is record { each = so_far.each; tight = passes_more arcs claim (pred_by_node tails) i so_far.tight (rw is w.in-Passes.ensures) }
+      | in-Tight w ↦ rw w.tails-is record {
         each = length-set tails _ _ ∙ so_far.each;
-        rising = rw (← is) (rising_more arcs claim tails i inside head so_far.rising (rw is w.in-Rising.ensures.0) (rw is w.in-Rising.ensures.1));
+        tight = rw (← is) (tight_more arcs claim tails i inside head so_far.tight (rw is w.in-Tight.ensures.0) (rw is w.in-Tight.ensures.1));
       }
     ]
 
-pub returns-clause-rising : goal.returns-clause-rising
-returns-clause-rising g c =
-    rising_all (g.N.Network.list c.args.network.now) (claimed_by_node c.args.distances.now) (pred_by_node c.loop-i.tails.items) c.loop-i.i (omega (arith, c.loop-i-test.false, c.loop-i.auto.i-end, c.arcs-i-end.ensures)) c.loop-i.invariant.rising
+pub returns-clause-tight : goal.returns-clause-tight
+returns-clause-tight g c =
+    tight_all (g.N.Network.list c.args.network.now) (claimed_by_node c.args.distances.now) (pred_by_node c.loop-i.tails.items) c.loop-i.i (omega (arith, c.loop-i-test.false, c.loop-i.auto.i-end, c.arcs-i-end.ensures)) c.loop-i.invariant.tight

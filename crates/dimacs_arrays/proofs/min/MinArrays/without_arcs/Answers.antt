@@ -1,7 +1,7 @@
 use Rattle.std.proofs.Common.{get_or, pos, w64, rules, arith, SFits}
 use Rattle.std.proofs.lemmas.Int.{to_z-of_z}
 use Rattle.dimacs_arrays.proofs.MinLemmas.{all_supplies, no_supplies, supply_set}
-use Rattle.dimacs_arrays.proofs.min.MinArrays.supplied.Goals as goal
+use Rattle.dimacs_arrays.proofs.min.MinArrays.without_arcs.Goals as goal
 
 pub loop-i-init : goal.loop-i-init
 loop-i-init c = no_supplies c.args.self.now.supplies.now c.args.self.now.nodes _ c.new-instance.ensures

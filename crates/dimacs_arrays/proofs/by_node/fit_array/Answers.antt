@@ -2,7 +2,7 @@ use Rattle.std.proofs.Common.{rules, SFits}
 use Rattle.std.specs.Int.{w128}
 use Rattle.std.proofs.lemmas.Int.{to_z-of_z}
 use Rattle.dimacs_arrays.proofs.ByNodeLemmas.{if_wider, wider_by}
-use Rattle.dimacs_arrays.proofs.by_node.fitted.Goals as goal
+use Rattle.dimacs_arrays.proofs.by_node.fit_array.Goals as goal
 
 pub returns-clause-wider : goal.returns-clause-wider
 returns-clause-wider c =

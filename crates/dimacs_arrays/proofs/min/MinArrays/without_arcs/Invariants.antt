@@ -1,6 +1,6 @@
 use Rattle.std.proofs.Common.{◌≡◌}
 use Rattle.dimacs_arrays.proofs.MinLemmas.{supplied_by}
-use Rattle.dimacs_arrays.proofs.min.MinArrays.supplied.Given as goal
+use Rattle.dimacs_arrays.proofs.min.MinArrays.without_arcs.Given as goal
 
 -- the supplies so far
 abbrev pub invariant-loop-i : goal.invariant-loop-i

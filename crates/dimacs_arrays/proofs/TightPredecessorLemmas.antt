@@ -1,4 +1,4 @@
--- If every distance has a rising arc, the distances are right.
+-- If each distance has a tight arc of positive weight, the distances are right.
 use Rattle.std.proofs.Common.{◌≡◌, ◌≢◌, inl, inr, ℕ, suc, zero, ◌+◌, ◌-◌, ◌^◌, ◌<◌, ◌≤◌, List, [], ◌∷◌, All, length, get_or, Option, Some, None, Ok, IsSome, is_some, ℤ, pos, ◌+ℤ◌, ◌≤ℤ◌, ◌<ℤ◌, refl, sym, ap, subst, ◌∙◌, arith}
 use Rattle.std.specs.Prelude.{int_lt, slice_get, slice_set}
 use Rattle.std.proofs.lemmas.Bool.{cases_Bool, cases_eq, cases_order}
@@ -30,19 +30,19 @@ use Rattle.std.proofs.lemmas.Bool.{ne_eqb}
 use Rattle.dimacs_decide.specs.Claims.{claimed_by_node, unless_greatest}
 use Rattle.dimacs_decide.specs.Distances.{AreDistancesFrom}
 use Rattle.dimacs_arrays.specs.Paths.{AreLabelsBy, ArePredecessors, IsDue, JudgesByNode, pred_by_node}
-use Rattle.dimacs_arrays.specs.inside.Rising.{AreRising, AreRisingBy, HasRisingArc, Relaxes, Rises}
+use Rattle.dimacs_arrays.specs.inside.TightPredecessors.{AreTightPredecessors, AreTightPredecessorsFrom, HasPositiveTightArc, Relaxes, IsPositiveTight}
 use Rattle.dimacs_arrays.proofs.CertifyPathsLemmas.{not_source}
 use Rattle.dimacs_arrays.proofs.DistanceLemmas.{distance_within}
 use Rattle.dimacs_arrays.proofs.PredLemmas.{set_here, set_there}
 use Rattle.dimacs_arrays.proofs.SinkLemmas.{AreNearer, sink_labels}
 
 -- ---- the arcs so far
-pub record AreRisingBelow (arcs : List ArcView) (claim : ℕ → Option ℤ) (pred : ℕ → ℕ) (n : ℕ) : Type 0 where
+pub record AreTightBelow (arcs : List ArcView) (claim : ℕ → Option ℤ) (pred : ℕ → ℕ) (n : ℕ) : Type 0 where
   pub relaxed : (k : ℕ) → k < n → Relaxes claim (arc_at arcs k)
-  pub made : (v : ℕ) → pred v ≢ 0 → HasRisingArc arcs claim (pred v) v
+  pub tight_arc : (v : ℕ) → pred v ≢ 0 → HasPositiveTightArc arcs claim (pred v) v
 
 module _ (arcs : List ArcView) (claim : ℕ → Option ℤ) where
-  relaxed_more : (pred : ℕ → ℕ) (n : ℕ) → AreRisingBelow arcs claim pred n → Relaxes claim (arc_at arcs n) → (k : ℕ) → k < n + 1 → Relaxes claim (arc_at arcs k)
+  relaxed_more : (pred : ℕ → ℕ) (n : ℕ) → AreTightBelow arcs claim pred n → Relaxes claim (arc_at arcs n) → (k : ℕ) → k < n + 1 → Relaxes claim (arc_at arcs k)
   relaxed_more pred n are here k less = elim (cases_order k n) [
     | inl same ↦ subst (λ j. Relaxes claim (arc_at arcs j)) (sym same) here
     | inr other ↦ elim other [
@@ -51,18 +51,18 @@ module _ (arcs : List ArcView) (claim : ℕ → Option ℤ) where
     ]
   ]
 
-  pub flat_more : (pred : ℕ → ℕ) (n : ℕ) → AreRisingBelow arcs claim pred n → Relaxes claim (arc_at arcs n) → AreRisingBelow arcs claim pred (n + 1)
-  flat_more pred n are here = record { relaxed = relaxed_more pred n are here; made = are.made }
+  pub passes_more : (pred : ℕ → ℕ) (n : ℕ) → AreTightBelow arcs claim pred n → Relaxes claim (arc_at arcs n) → AreTightBelow arcs claim pred (n + 1)
+  passes_more pred n are here = record { relaxed = relaxed_more pred n are here; tight_arc = are.tight_arc }
 
-  pub rising_more : (preds : List ℕ) (n : ℕ) → n < length arcs → IsNode (length preds) (arc_at arcs n).head → AreRisingBelow arcs claim (pred_by_node preds) n → Relaxes claim (arc_at arcs n) → ((d : ℤ) × Rises claim (arc_at arcs n) d)
-      → AreRisingBelow arcs claim (pred_by_node (slice_set preds ((arc_at arcs n).head - 1) (arc_at arcs n).tail)) (n + 1)
-  rising_more preds n inside node are here rises = record {
+  pub tight_more : (preds : List ℕ) (n : ℕ) → n < length arcs → IsNode (length preds) (arc_at arcs n).head → AreTightBelow arcs claim (pred_by_node preds) n → Relaxes claim (arc_at arcs n) → ((d : ℤ) × IsPositiveTight claim (arc_at arcs n) d)
+      → AreTightBelow arcs claim (pred_by_node (slice_set preds ((arc_at arcs n).head - 1) (arc_at arcs n).tail)) (n + 1)
+  tight_more preds n inside node are here tight = record {
     relaxed = relaxed_more (pred_by_node preds) n are here;
-    made = λ v some. elim (cases_eq v a.head) [
-      | inl same ↦ subst (λ u. HasRisingArc arcs claim (pred_by_node after u) u) (sym same) (a, Contains-get_or arcs n no_arc inside, sym (set_here preds a.head a.tail node), refl, rises)
+    tight_arc = λ v some. elim (cases_eq v a.head) [
+      | inl same ↦ subst (λ u. HasPositiveTightArc arcs claim (pred_by_node after u) u) (sym same) (a, Contains-get_or arcs n no_arc inside, sym (set_here preds a.head a.tail node), refl, tight)
       | inr apart ↦
           let kept = set_there preds a.head v a.tail node.0 apart in
-          subst (λ p. HasRisingArc arcs claim p v) (sym kept) (are.made v (λ none. some (kept ∙ none)))
+          subst (λ p. HasPositiveTightArc arcs claim p v) (sym kept) (are.tight_arc v (λ none. some (kept ∙ none)))
     ];
   }
     where
@@ -72,8 +72,8 @@ module _ (arcs : List ArcView) (claim : ℕ → Option ℤ) where
       after : List ℕ
       after = slice_set preds (a.head - 1) a.tail
 
-  pub rising_all : (pred : ℕ → ℕ) (n : ℕ) → length arcs ≤ n → AreRisingBelow arcs claim pred n → AreRising arcs claim pred
-  rising_all pred n over are = record { relaxed = All-from_get_or (Relaxes claim) arcs no_arc (λ k inside. are.relaxed k (omega (arith, inside, over))); made = are.made }
+  pub tight_all : (pred : ℕ → ℕ) (n : ℕ) → length arcs ≤ n → AreTightBelow arcs claim pred n → AreTightPredecessors arcs claim pred
+  tight_all pred n over are = record { relaxed = All-from_get_or (Relaxes claim) arcs no_arc (λ k inside. are.relaxed k (omega (arith, inside, over))); tight_arc = are.tight_arc }
 
 -- ---- distances by node
 below_greatest : (o : Option ℤ) (d : ℤ) → unless_greatest o ≡ Some d → d <ℤ pos (2 ^ 63)
@@ -87,7 +87,7 @@ wide_claim : (distances : List ℤ) (v : ℕ) (d : ℤ) → claimed_by_node dist
 wide_claim distances zero d is low = absurd (cc)
 wide_claim distances (suc k) d is low = let less = below_greatest (slice_get distances k) d is in (omega (arith, ints, low), omega (arith, ints, less))
 
-module _ (g : NetworkValue) (s : ℕ) (distances : List ℤ) (preds : List ℕ) (node : IsNode g.nodes s) (small : g.nodes ≤ most_nodes) (joined : All (JoinsNodes g.nodes) g.arcs) (are : AreRisingBy g.nodes s g.arcs distances preds) where
+module _ (g : NetworkValue) (s : ℕ) (distances : List ℤ) (preds : List ℕ) (node : IsNode g.nodes s) (small : g.nodes ≤ most_nodes) (joined : All (JoinsNodes g.nodes) g.arcs) (are : AreTightPredecessorsFrom g.nodes s g.arcs distances preds) where
   abbrev claim : ℕ → Option ℤ
   claim = claimed_by_node distances
 
@@ -97,29 +97,29 @@ module _ (g : NetworkValue) (s : ℕ) (distances : List ℤ) (preds : List ℕ) 
   inside : (v : ℕ) → IsSome (claim v) → IsNode g.nodes v
   inside v some = subst (λ n. IsNode n v) are.whole (distance_within distances v some)
 
-  --   a rising arc to a node from its predecessor
-  made : (v : ℕ) (d : ℤ) → v ≢ s → claim v ≡ Some d → HasRisingArc g.arcs claim (pred v) v
-  made v d apart named = are.rising.made v (are.reached v (apart, ap is_some named))
+  --   a tight arc of positive weight to a node from its predecessor
+  tight_arc : (v : ℕ) (d : ℤ) → v ≢ s → claim v ≡ Some d → HasPositiveTightArc g.arcs claim (pred v) v
+  tight_arc v d apart named = are.tight.tight_arc v (are.reached v (apart, ap is_some named))
 
   nearer : (v : ℕ) (d : ℤ) → v ≢ s → claim v ≡ Some d → (e : ℤ) × (claim (pred v) ≡ Some e) × (pos 0 ≤ℤ e) × (e <ℤ d)
   nearer v d apart named =
-      let (a, has, tail, head, up) = made v d apart named in
-      let (e, rises) = up in
-      let both : Some (e +ℤ a.cost) ≡ Some d = sym rises.head ∙ (ap claim head ∙ named) in
+      let (a, has, tail, head, up) = tight_arc v d apart named in
+      let (e, tight) = up in
+      let both : Some (e +ℤ a.cost) ≡ Some d = sym tight.head ∙ (ap claim head ∙ named) in
       let adds : e +ℤ a.cost ≡ d = cc in
-      (e, ap claim (sym tail) ∙ rises.tail, rises.low, omega (arith, ints, adds, rises.more))
+      (e, ap claim (sym tail) ∙ tight.tail, tight.low, omega (arith, ints, adds, tight.more))
 
   others : (v : ℕ) → (¬ IsDue s claim v) → pred v ≡ 0
   others v free = elim (cases_eq (pred v) 0) [
     | inl none ↦ none
     | inr some ↦
-        let (a, has, tail, head, up) = are.rising.made v some in
-        let (e, rises) = up in
-        let named : claim v ≡ Some (e +ℤ a.cost) = ap claim (sym head) ∙ rises.head in
+        let (a, has, tail, head, up) = are.tight.tight_arc v some in
+        let (e, tight) = up in
+        let named : claim v ≡ Some (e +ℤ a.cost) = ap claim (sym head) ∙ tight.head in
         let apart : v ≢ s = λ same. (
         let both : Some (e +ℤ a.cost) ≡ Some (pos 0) = sym named ∙ (ap claim same ∙ are.source) in
         let adds : e +ℤ a.cost ≡ pos 0 = cc in
-        omega (arith, ints, adds, rises.low, rises.more)
+        omega (arith, ints, adds, tight.low, tight.more)
         ) in
         absurd (free (apart, ap is_some named))
   ]
@@ -134,7 +134,7 @@ module _ (g : NetworkValue) (s : ℕ) (distances : List ℤ) (preds : List ℕ) 
     relaxed : All (IsRelaxed b) g.arcs
     relaxed = All-from_get_or (IsRelaxed b) g.arcs no_arc (λ k h d is.
         let ends : JoinsNodes g.nodes (arc_at g.arcs k) = All-get_or (JoinsNodes g.nodes) g.arcs k no_arc h joined in
-        let (e, named, le) = All-get_or (Relaxes claim) g.arcs k no_arc h are.rising.relaxed d (sym (by.agrees _ ends.0) ∙ is) in
+        let (e, named, le) = All-get_or (Relaxes claim) g.arcs k no_arc h are.tight.relaxed d (sym (by.agrees _ ends.0) ∙ is) in
         inl (e, by.agrees _ ends.1 ∙ named, le))
 
     tight_at : (k : ℕ) → k < length b.labels → HasTightArc g.arcs b (get_or b.labels k no_label)
@@ -146,12 +146,12 @@ module _ (g : NetworkValue) (s : ℕ) (distances : List ℤ) (preds : List ℕ) 
         let here : label b l.id ≡ Some l.dist = rw (ne_eqb b.source l.id (λ e. other (sym e))) found in
         let named : claim l.id ≡ Some l.dist = sym (by.agrees l.id lawful.id) ∙ here in
         let from : l.pred ≡ pred l.id = All-get_or (λ (m : Label). m.pred ≡ pred m.id) b.labels k no_label h by.preds in
-        let (a, has, tail, head, up) = made l.id l.dist (λ same. other (same ∙ sym by.source)) named in
-        let (e, rises) = up in
-        let both : Some (e +ℤ a.cost) ≡ Some l.dist = sym rises.head ∙ (ap claim head ∙ named) in
+        let (a, has, tail, head, up) = tight_arc l.id l.dist (λ same. other (same ∙ sym by.source)) named in
+        let (e, tight) = up in
+        let both : Some (e +ℤ a.cost) ≡ Some l.dist = sym tight.head ∙ (ap claim head ∙ named) in
         let adds : e +ℤ a.cost ≡ l.dist = cc in
         let start : a.tail ≡ l.pred = tail ∙ sym from in
-        (e, by.agrees l.pred lawful.pred ∙ (ap claim (sym start) ∙ rises.tail), record { arc = a; present = has; from = start; to = head; adds = adds })
+        (e, by.agrees l.pred lawful.pred ∙ (ap claim (sym start) ∙ tight.tail), record { arc = a; present = has; from = start; to = head; adds = adds })
 
     passes : LabelsOk g.arcs b
     passes = record { weights = rw by.whole tt; tight = All-from_get_or (HasTightArc g.arcs b) b.labels no_label tight_at; relaxed = relaxed }
@@ -159,8 +159,8 @@ module _ (g : NetworkValue) (s : ℕ) (distances : List ℤ) (preds : List ℕ) 
     found_block : block_of (b ∷ []) s ≡ Some b
     found_block = elim (eqb_tells b.source s) [ inl same ↦ rw same.0 refl | inr apart ↦ absurd (apart.1 by.source) ]
 
-    pub rising_pass : PassesPaths g (Sources (s ∷ [])) labels
-    rising_pass =
+    pub tight_pass : PassesPaths g (Sources (s ∷ [])) labels
+    tight_pass =
         let alone : labels.blocks ≡ b ∷ [] = ap (λ (l : LabelsValue). l.blocks) by.alone in
         record {
           nodes = ap (λ (l : LabelsValue). l.nodes) by.alone;
@@ -172,20 +172,20 @@ module _ (g : NetworkValue) (s : ℕ) (distances : List ℤ) (preds : List ℕ) 
     carried : (s' v : ℕ) (outcome outcome' radius : Option ℤ) → b.source ≡ s' → outcome ≡ outcome' → radius ≡ None → IsDistance g.arcs b.source v outcome radius → IsDistance g.arcs s' v outcome' None
     carried s' v outcome outcome' radius source same none is = rw (← source, ← same, ← none) is
 
-    pub rising_true : AreDistancesFrom g s claim
-    rising_true v at = carried s v (label b v) (claim v) b.radius by.source (by.agrees v at) by.whole (labels_are_distances g.arcs b by.lawful.preds (stays_near g.nodes b by.lawful) passes v)
+    pub tight_true : AreDistancesFrom g s claim
+    tight_true v at = carried s v (label b v) (claim v) b.radius by.source (by.agrees v at) by.whole (labels_are_distances g.arcs b by.lawful.preds (stays_near g.nodes b by.lawful) passes v)
 
   --   the distances are right, and the predecessors show it
-  pub rising_certified : AreDistancesFrom g s claim × ArePredecessors g s claim preds
-  rising_certified =
+  pub tight_certified : AreDistancesFrom g s claim × ArePredecessors g s claim preds
+  tight_certified =
       let (labels, by, order) = sink_labels g.nodes s claim pred small are_nearer in
-      (rising_true labels by, record { each = are.each; some = (labels, by); pass = rising_pass })
+      (tight_true labels by, record { each = are.each; some = (labels, by); pass = tight_pass })
 
   --   the judge accepts the labels that they spell
-  pub rising_judged : JudgesByNode g s claim pred (Ok (verdicts.Sources 1))
-  rising_judged =
+  pub tight_judged : JudgesByNode g s claim pred (Ok (verdicts.Sources 1))
+  tight_judged =
       let (labels, by, order) = sink_labels g.nodes s claim pred small are_nearer in
-      let passes = rising_pass labels by in
+      let passes = tight_pass labels by in
       let none : AreLabels (record { nodes = g.nodes; blocks = [] }) = record { nodes_few = small; blocks_few = omega arith; blocks = All-nil _; sources = each_after_nil _ } in
       let one = labels_push g.nodes [] by.block none by.lawful (λ other among. absurd (omega (arith, among.1))) (omega arith) in
       let lawful : AreLabels labels = subst AreLabels (sym by.alone) one in

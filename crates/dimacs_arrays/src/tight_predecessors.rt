@@ -6,7 +6,7 @@ ghost use Rattle.dimacs_network.specs.Arcs.{JoinsNodes};
 ghost use Rattle.dimacs_records.specs.Ranges.{IsWide};
 ghost use Rattle.dimacs_decide.specs.Claims.{claimed_by_node};
 ghost use Rattle.dimacs_arrays.specs.Paths.{IsDue, pred_by_node};
-ghost use Rattle.dimacs_arrays.specs.inside.Rising.{AreReached, AreRising, AreRisingBy, Spans, Steps};
+ghost use Rattle.dimacs_arrays.specs.inside.TightPredecessors.{AreReached, AreTightPredecessors, AreTightPredecessorsFrom, IsArcTest, IsWeightTest};
 
 use crate::label_tree::{distance_of, predecessor_of};
 use dimacs_lines::Memory;
@@ -15,18 +15,18 @@ use std::alloc::Global;
 
 /// An arc, by the distances of its ends.
 #[derive(Clone, Copy)]
-pub(crate) enum Step {
+pub(crate) enum ArcTest {
     /// Nothing follows: the tail has no distance, or the arc isn't tight, or it isn't known to rise.
-    Flat,
+    Passes,
     /// The arc is tight, its weight is positive, and the distance of its tail isn't negative.
-    Rising,
+    Tight,
     /// The distances are wrong: the head has none, or too great a one.
-    Short,
+    Fails,
 }
 
 /// Predecessors that show the distances, if each node with a distance but the source has a rising arc: the tail of one.
 /// They are 0 at other nodes. None doesn't mean that the distances are wrong. One pass over the arcs.
-pub(crate) fn rising_predecessors<N: Network>(
+pub(crate) fn tight_predecessors<N: Network>(
     alloc: Global,
     network: &N,
     source: u32,
@@ -34,13 +34,13 @@ pub(crate) fn rising_predecessors<N: Network>(
 ) -> Result<Option<Vec<u32>>, Memory>
     requires node_limit { N.node_count network.now ≤ most_nodes }
     requires joined { All (JoinsNodes (N.node_count network.now)) (N.list network.now) }
-    ensures { IfOk result (λ found. IfSome found (λ predecessors. AreRisingBy (N.node_count network.now) source (N.list network.now)
+    ensures { IfOk result (λ found. IfSome found (λ predecessors. AreTightPredecessorsFrom (N.node_count network.now) source (N.list network.now)
         distances.now predecessors.items)) }
 {
-    if !is_begun(network.nodes(), source, distances) {
+    if !length_and_source_hold(network.nodes(), source, distances) {
         return Ok(None);
     }
-    let Some(predecessors) = rising_tails(alloc, network, distances, None)? else {
+    let Some(predecessors) = tight_tails(alloc, network, distances, None)? else {
         return Ok(None);
     };
     if all_reached(source, distances, &predecessors) {
@@ -52,7 +52,7 @@ pub(crate) fn rising_predecessors<N: Network>(
 
 /// Whether these predecessors show the distances by rising arcs. False doesn't mean that the distances are wrong. One
 /// pass over the arcs.
-pub(crate) fn rise_by<N: Network>(
+pub(crate) fn are_tight_predecessors<N: Network>(
     alloc: Global,
     network: &N,
     source: u32,
@@ -61,22 +61,22 @@ pub(crate) fn rise_by<N: Network>(
 ) -> Result<bool, Memory>
     requires node_limit { N.node_count network.now ≤ most_nodes }
     requires joined { All (JoinsNodes (N.node_count network.now)) (N.list network.now) }
-    ensures { IfOk result (λ yes. IsTrue yes → AreRisingBy (N.node_count network.now) source (N.list network.now)
+    ensures { IfOk result (λ yes. IsTrue yes → AreTightPredecessorsFrom (N.node_count network.now) source (N.list network.now)
         distances.now predecessors.now) }
 {
-    if !is_begun(network.nodes(), source, distances)
+    if !length_and_source_hold(network.nodes(), source, distances)
         || !all_reached(source, distances, predecessors)
     {
         return Ok(false);
     }
-    match rising_tails(alloc, network, distances, Some(predecessors))? {
+    match tight_tails(alloc, network, distances, Some(predecessors))? {
         Some(tails) => Ok(&tails[..] == predecessors),
         None => Ok(false),
     }
 }
 
 /// Whether there is a distance for each node, and that of the source is 0.
-fn is_begun(nodes: u32, source: u32, distances: &[i64]) -> bool
+fn length_and_source_hold(nodes: u32, source: u32, distances: &[i64]) -> bool
     ensures { IsTrue result → ((length distances.now ≡ nodes) × (claimed_by_node distances.now source ≡ Some (pos 0))) }
 {
     distances.len() == nodes as usize && is_zero(distance_of(distances, source))
@@ -93,7 +93,7 @@ fn is_zero(distance: Option<i128>) -> bool
 
 /// For each node the tail of the last rising arc to it, 0 for none. If predecessors are given, only arcs from these
 /// count. None if an arc shows the distances wrong.
-fn rising_tails<N: Network>(
+fn tight_tails<N: Network>(
     alloc: Global,
     network: &N,
     distances: &[i64],
@@ -102,15 +102,15 @@ fn rising_tails<N: Network>(
     requires nodes { length distances.now ≡ N.node_count network.now }
     requires joined { All (JoinsNodes (N.node_count network.now)) (N.list network.now) }
     ensures each { IfOk result (λ found. IfSome found (λ tails. length tails.items ≡ length distances.now)) }
-    ensures rising { IfOk result (λ found. IfSome found (λ tails. AreRising (N.list network.now) (claimed_by_node distances.now) (pred_by_node tails.items))) }
+    ensures tight { IfOk result (λ found. IfSome found (λ tails. AreTightPredecessors (N.list network.now) (claimed_by_node distances.now) (pred_by_node tails.items))) }
 {
     let mut tails = vec![in alloc; 0u32; distances.len()]?;
     for i in 0..network.arcs() {
         let arc = network.arc(i);
-        match step_wanted(distances, wanted, arc) {
-            Step::Flat => {}
-            Step::Rising => tails[arc.head as usize - 1] = arc.tail,
-            Step::Short => return Ok(None),
+        match test_wanted(distances, wanted, arc) {
+            ArcTest::Passes => {}
+            ArcTest::Tight => tails[arc.head as usize - 1] = arc.tail,
+            ArcTest::Fails => return Ok(None),
         }
     }
     Ok(Some(tails))
@@ -118,12 +118,12 @@ fn rising_tails<N: Network>(
 
 /// The step of an arc; it isn't rising if its tail isn't wanted.
 #[inline(always)]
-fn step_wanted(distances: &[i64], wanted: Option<&[u32]>, arc: ArcView) -> Step
-    ensures { Steps (claimed_by_node distances.now) arc result }
+fn test_wanted(distances: &[i64], wanted: Option<&[u32]>, arc: ArcView) -> ArcTest
+    ensures { IsArcTest (claimed_by_node distances.now) arc result }
 {
-    match step_along(distances, arc) {
-        Step::Rising if !is_wanted(wanted, arc) => Step::Flat,
-        step => step,
+    match test_arc(distances, arc) {
+        ArcTest::Tight if !is_wanted(wanted, arc) => ArcTest::Passes,
+        other => other,
     }
 }
 
@@ -138,32 +138,32 @@ fn is_wanted(wanted: Option<&[u32]>, arc: ArcView) -> bool {
 
 /// The step of an arc. Looks at the head only if the tail has a distance.
 #[inline(always)]
-fn step_along(distances: &[i64], arc: ArcView) -> Step
-    ensures { Steps (claimed_by_node distances.now) arc result }
+fn test_arc(distances: &[i64], arc: ArcView) -> ArcTest
+    ensures { IsArcTest (claimed_by_node distances.now) arc result }
 {
     let Some(from) = distance_of(distances, arc.tail) else {
-        return Step::Flat;
+        return ArcTest::Passes;
     };
     let Some(to) = distance_of(distances, arc.head) else {
-        return Step::Short;
+        return ArcTest::Fails;
     };
-    step_between(from, to, arc.cost)
+    test_weight(from, to, arc.cost)
 }
 
 /// The step of an arc with this weight between these distances.
 #[inline(always)]
-fn step_between(from: i128, to: i128, weight: i64) -> Step
+fn test_weight(from: i128, to: i128, weight: i64) -> ArcTest
     requires { IsWide from }
-    ensures { Spans from to weight result }
+    ensures { IsWeightTest from to weight result }
 {
     let end = from + i128::from(weight);
     if to > end {
-        return Step::Short;
+        return ArcTest::Fails;
     }
     if to == end && weight > 0 && from >= 0 {
-        Step::Rising
+        ArcTest::Tight
     } else {
-        Step::Flat
+        ArcTest::Passes
     }
 }
 
@@ -173,7 +173,7 @@ fn all_reached(source: u32, distances: &[i64], predecessors: &[u32]) -> bool
     ensures { IsTrue result → AreReached source (claimed_by_node distances.now) (pred_by_node predecessors.now) }
 {
     for v in 1..distances.len() as u32 + 1 {
-        if is_left(source, distances, predecessors, v) {
+        if lacks_predecessor(source, distances, predecessors, v) {
             return false;
         }
     }
@@ -182,7 +182,7 @@ fn all_reached(source: u32, distances: &[i64], predecessors: &[u32]) -> bool
 
 /// Whether the node isn't the source and has a distance but no predecessor.
 #[inline(always)]
-fn is_left(source: u32, distances: &[i64], predecessors: &[u32], node: u32) -> bool
+fn lacks_predecessor(source: u32, distances: &[i64], predecessors: &[u32], node: u32) -> bool
     ensures { IsTrue result ↔ (IsDue source (claimed_by_node distances.now) node × (pred_by_node predecessors.now node ≡ 0)) }
 {
     node != source

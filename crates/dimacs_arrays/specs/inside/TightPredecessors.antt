@@ -3,48 +3,48 @@ use Rattle.std.specs.Prelude.{ℕ, ◌≡◌, ◌≢◌, List, All, Contains, le
 use Rattle.dimacs_network.specs.declared.network.ArcView.{ArcView}
 use Rattle.dimacs_decide.specs.Claims.{claimed_by_node}
 use Rattle.dimacs_arrays.specs.Paths.{IsDue, pred_by_node}
-use Rattle.dimacs_arrays.specs.declared.rising.Step.{Step}
-use Rattle.dimacs_arrays.specs.declared.rising.Step.TheVariants.{Flat, Rising, Short}
+use Rattle.dimacs_arrays.specs.declared.tight_predecessors.ArcTest.{ArcTest}
+use Rattle.dimacs_arrays.specs.declared.tight_predecessors.ArcTest.TheVariants.{Passes, Tight, Fails}
 
 -- if its tail has a distance, so has its head, no greater than by the arc
 abbrev pub Relaxes : (ℕ → Option ℤ) → ArcView → Type 0
 Relaxes claim a = (d : ℤ) → claim a.tail ≡ Some d → (e : ℤ) × (claim a.head ≡ Some e) × (e ≤ℤ (d +ℤ a.cost))
 
 -- the arc is tight, and its tail's distance is less than d and not negative
-pub record Rises (claim : ℕ → Option ℤ) (a : ArcView) (d : ℤ) : Type 0 where
+pub record IsPositiveTight (claim : ℕ → Option ℤ) (a : ArcView) (d : ℤ) : Type 0 where
   pub tail : claim a.tail ≡ Some d
   pub head : claim a.head ≡ Some (d +ℤ a.cost)
   pub low : pos 0 ≤ℤ d
   pub more : pos 0 <ℤ a.cost
 
 -- the step of an arc with this weight between these distances
-abbrev pub Spans : ℤ → ℤ → ℤ → Step → Type 0
-Spans from to weight Flat = to ≤ℤ (from +ℤ weight)
-Spans from to weight Rising = (to ≡ from +ℤ weight) × (pos 0 ≤ℤ from) × (pos 0 <ℤ weight)
-Spans from to weight Short = Unit {0}
+abbrev pub IsWeightTest : ℤ → ℤ → ℤ → ArcTest → Type 0
+IsWeightTest from to weight Passes = to ≤ℤ (from +ℤ weight)
+IsWeightTest from to weight Tight = (to ≡ from +ℤ weight) × (pos 0 ≤ℤ from) × (pos 0 <ℤ weight)
+IsWeightTest from to weight Fails = Unit {0}
 
-abbrev pub Steps : (ℕ → Option ℤ) → ArcView → Step → Type 0
-Steps claim a Flat = Relaxes claim a
-Steps claim a Rising = Relaxes claim a × ((d : ℤ) × Rises claim a d)
-Steps claim a Short = Unit {0}
+abbrev pub IsArcTest : (ℕ → Option ℤ) → ArcView → ArcTest → Type 0
+IsArcTest claim a Passes = Relaxes claim a
+IsArcTest claim a Tight = Relaxes claim a × ((d : ℤ) × IsPositiveTight claim a d)
+IsArcTest claim a Fails = Unit {0}
 
 -- a rising arc leads from p to v
-abbrev pub HasRisingArc : List ArcView → (ℕ → Option ℤ) → ℕ → ℕ → Type 0
-HasRisingArc arcs claim p v = (a : ArcView) × Contains arcs a × (a.tail ≡ p) × (a.head ≡ v) × ((d : ℤ) × Rises claim a d)
+abbrev pub HasPositiveTightArc : List ArcView → (ℕ → Option ℤ) → ℕ → ℕ → Type 0
+HasPositiveTightArc arcs claim p v = (a : ArcView) × Contains arcs a × (a.tail ≡ p) × (a.head ≡ v) × ((d : ℤ) × IsPositiveTight claim a d)
 
 -- no arc shows the distances wrong, and each predecessor but 0 has a rising arc to its node
-pub record AreRising (arcs : List ArcView) (claim : ℕ → Option ℤ) (pred : ℕ → ℕ) : Type 0 where
+pub record AreTightPredecessors (arcs : List ArcView) (claim : ℕ → Option ℤ) (pred : ℕ → ℕ) : Type 0 where
   pub relaxed : All (Relaxes claim) arcs
-  pub made : (v : ℕ) → pred v ≢ 0 → HasRisingArc arcs claim (pred v) v
+  pub tight_arc : (v : ℕ) → pred v ≢ 0 → HasPositiveTightArc arcs claim (pred v) v
 
 -- each node that needs a predecessor has one
 abbrev pub AreReached : ℕ → (ℕ → Option ℤ) → (ℕ → ℕ) → Type 0
 AreReached s claim pred = (v : ℕ) → IsDue s claim v → pred v ≢ 0
 
 -- the predecessors of all nodes, which show the distances
-pub record AreRisingBy (nodes s : ℕ) (arcs : List ArcView) (distances : List ℤ) (preds : List ℕ) : Type 0 where
+pub record AreTightPredecessorsFrom (nodes s : ℕ) (arcs : List ArcView) (distances : List ℤ) (preds : List ℕ) : Type 0 where
   pub whole : length distances ≡ nodes
   pub each : length preds ≡ nodes
   pub source : claimed_by_node distances s ≡ Some (pos 0)
-  pub rising : AreRising arcs (claimed_by_node distances) (pred_by_node preds)
+  pub tight : AreTightPredecessors arcs (claimed_by_node distances) (pred_by_node preds)
   pub reached : AreReached s (claimed_by_node distances) (pred_by_node preds)

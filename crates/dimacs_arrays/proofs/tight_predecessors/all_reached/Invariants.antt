@@ -1,7 +1,7 @@
 use Rattle.std.proofs.Common.{◌≢◌, ℕ, ◌<◌}
 use Rattle.dimacs_decide.specs.Claims.{claimed_by_node}
 use Rattle.dimacs_arrays.specs.Paths.{IsDue, pred_by_node}
-use Rattle.dimacs_arrays.proofs.rising.all_reached.Given as goal
+use Rattle.dimacs_arrays.proofs.tight_predecessors.all_reached.Given as goal
 
 -- the nodes before v that need a predecessor have one
 abbrev pub invariant-loop-v : goal.invariant-loop-v
