@@ -37,9 +37,9 @@ use Rattle.dimacs_arrays.specs.Answers.{AnswersArrays, length_of}
 use Rattle.dimacs_arrays.specs.ByNode.{AreBits, marked, number_of}
 use Rattle.dimacs_arrays.specs.Limits.{count_rows, limit_row}
 
--- the arc with this index
 abbrev pub min_arc : MinArrays → ℕ → ArcView
-min_arc a k = cost_arc (get_or a.tails.now k 0) (get_or a.heads.now k 0) (get_or a.lows.now k (pos 0)) (get_or a.caps.now k (pos 0)) (get_or a.costs.now k (pos 0))
+min_arc a k =
+    cost_arc (get_or a.tails.now k 0) (get_or a.heads.now k 0) (get_or a.lows.now k (pos 0)) (get_or a.caps.now k (pos 0)) (get_or a.costs.now k (pos 0))
 
 -- the nodes with supplies other than 0
 abbrev pub supplies_by_node : List ℤ → FinMap nat_cmp ℤ

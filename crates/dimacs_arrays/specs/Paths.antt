@@ -63,12 +63,11 @@ pub record IsLeastLeft (s : ℕ) (claim : ℕ → Option ℤ) (before : List Lab
   pub left : distance_in before v ≡ None
   pub least : (u : ℕ) → u < v → IsDue s claim u → IsSome (distance_in before u)
 
--- the next label is of a node on the way back from the first node without a label
+-- the next label is of a node on the path back from the first node without a label
 abbrev pub IsNext : ℕ → (ℕ → Option ℤ) → (ℕ → ℕ) → List Label → Label → Type 0
 IsNext s claim pred before l = (v : ℕ) × IsLeastLeft s claim before v × LeadsBack pred l.id v
 
--- one block of labels without a radius, with these distances from the source and these predecessors; other nodes
--- have no label
+-- one block without a radius, with these distances from the source and predecessors; other nodes have no label
 pub record AreLabelsBy (nodes s : ℕ) (claim : ℕ → Option ℤ) (pred : ℕ → ℕ) (labels : LabelsValue) : Type 0 where
   pub block : BlockValue
   pub alone : labels ≡ record { nodes = nodes; blocks = block ∷ [] }
@@ -83,8 +82,7 @@ pub record AreLabelsBy (nodes s : ℕ) (claim : ℕ → Option ℤ) (pred : ℕ 
 abbrev pub AreInOrder : ℕ → (ℕ → Option ℤ) → (ℕ → ℕ) → LabelsValue → Type 0
 AreInOrder s claim pred labels = All (λ b. EachAfter (IsNext s claim pred) b.labels) labels.blocks
 
--- labels have these distances and predecessors, in this order; judge_paths has this answer for them and the
--- query for all distances from the source
+-- judge_paths has this answer for such labels, in this order, and the query for all distances from the source
 abbrev pub IsJudged : NetworkValue → ℕ → (ℕ → Option ℤ) → (ℕ → ℕ) → Result Verdict JudgeError → Type 0
 IsJudged g s claim pred result =
     (labels : LabelsValue) × AreLabelsBy g.nodes s claim pred labels × AreInOrder s claim pred labels
@@ -112,13 +110,15 @@ CertifiesByNode g s claim (Err Memory) = Unit
 abbrev pub FitsArray : ℤ → Type 0
 FitsArray dist = IsWhole dist × (dist ≢ pos (2 ^ 63 - 1))
 
+-- some label's distance doesn't fit into an array
 abbrev pub ExceedsArray : BlockValue → Type 0
 ExceedsArray b = (l : Label) × Contains b.labels l × ¬ FitsArray l.dist
 
 -- distances and predecessors that show them; or labels, if a distance doesn't fit into an array
 abbrev pub FindsByNode : NetworkValue → ℕ → PathsSolved → Type 0
 FindsByNode g s (Distances distances preds) =
-    (length distances.items ≡ g.nodes) × AreDistancesFrom g s (claimed_by_node distances.items) × ArePredecessors g s (claimed_by_node distances.items) preds.items
+    (length distances.items ≡ g.nodes) × AreDistancesFrom g s (claimed_by_node distances.items)
+    × ArePredecessors g s (claimed_by_node distances.items) preds.items
 FindsByNode g s (Far labels) = AreProduced g (Sources (s ∷ [])) labels × ((b : BlockValue) × (labels.blocks ≡ b ∷ []) × ExceedsArray b)
 
 -- distances if no weight is negative; otherwise the first arc with a negative weight; or out of memory

@@ -14,7 +14,7 @@ use dimacs_claims::{Cut, Potentials};
 use dimacs_lines::Memory;
 use std::alloc::Global;
 
-/// The set of the nodes whose byte isn't 0.
+/// The nodes whose byte isn't 0.
 pub(crate) fn cut_of(alloc: Global, nodes: u32, inside: &[u8]) -> Result<Cut, Memory>
     requires node_limit { nodes ≤ most_nodes }
     requires one_each { length inside.now ≡ nodes }
@@ -44,7 +44,6 @@ pub(crate) fn bytes_of(alloc: Global, cut: &Cut) -> Result<Vec<u8>, Memory>
     Ok(inside)
 }
 
-/// Potentials with these numbers.
 pub(crate) fn potentials_of(
     alloc: Global,
     nodes: u32,
@@ -94,7 +93,6 @@ pub(crate) fn fit_array(alloc: Global, potentials: &Potentials) -> Result<Option
     numbers_of(alloc, potentials, lowest_shift(potentials))
 }
 
-/// The sum, if it fits into 64 bits.
 fn whole(number: i128, shift: i128) -> Option<i64>
     requires number { IsWide number }
     requires shift { IsShift shift }
@@ -104,7 +102,7 @@ fn whole(number: i128, shift: i128) -> Option<i64>
     i64::try_from(number + shift).ok()
 }
 
-/// The number that makes the least potential the least number of 64 bits, when added to all.
+/// The number to add to each potential to make the least one the least of 64 bits.
 pub(crate) fn lowest_shift(potentials: &Potentials) -> i128
     ensures shift { IsShift result }
     ensures lowest { (least : ℤ) × IsLeastOf potentials.now least × ((least +ℤ result) ≡ neg_ℤ (pos (2 ^ 63))) }

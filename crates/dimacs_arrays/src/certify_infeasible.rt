@@ -1,4 +1,4 @@
-//! Certifying that an instance has no feasible flow, over arrays.
+//! Certifies over arrays that no flow is feasible.
 
 ghost use Rattle.std.specs.Prelude.{IfOk};
 ghost use Rattle.dimacs_arrays.specs.MinArrays.{CertifiesInfeasible, CertifiesInfeasibleArrays};
@@ -13,7 +13,7 @@ use dimacs_lines::Memory;
 use dimacs_network::Network;
 use std::alloc::Global;
 
-/// The answer to whether no flow is feasible.
+/// Whether no flow is feasible.
 #[derive(Drop)]
 pub enum InfeasibleCertified {
     /// No flow is feasible. The bytes show it: 1 for the nodes of a set that `judge_infeasible_arrays` accepts,
@@ -23,8 +23,8 @@ pub enum InfeasibleCertified {
     Feasible(Flow),
 }
 
-/// Decides whether no flow is feasible. It needs no certificate and never gives up. The lengths and limits are tested
-/// first, in the order of `judge_infeasible_arrays`. `Memory` is no answer about the arrays.
+/// Decides without a certificate whether no flow is feasible, and never gives up. First it tests the lengths and
+/// limits, in the order of `judge_infeasible_arrays`.
 pub fn certify_infeasible_arrays(
     alloc: Global,
     arrays: &MinArrays<'_>,
@@ -36,7 +36,6 @@ pub fn certify_infeasible_arrays(
     Ok(certify_over(alloc, &instance)?)
 }
 
-/// Decides whether no flow is feasible for the instance.
 fn certify_over<N: Network>(
     alloc: Global,
     instance: &MinInstance<N>,

@@ -1,4 +1,4 @@
-//! Certifying that a flow is maximum, over arrays.
+//! Certifies over arrays that a flow is maximum.
 
 ghost use Rattle.std.specs.Prelude.{◌≡◌, length};
 ghost use Rattle.dimacs_optimality.specs.FlowTests.{feasible_max_rows};
@@ -15,7 +15,7 @@ use dimacs_judge::{Flow, JudgeError, feasible_max, value_of};
 use dimacs_network::Network;
 use std::alloc::Global;
 
-/// The answer to whether a feasible flow is maximum.
+/// Whether a feasible flow is maximum.
 #[derive(Drop)]
 pub enum MaxCertified {
     /// It is maximum, with this value. The bytes show it: 1 for the nodes of a cut that `judge_max_arrays` accepts,
@@ -25,8 +25,8 @@ pub enum MaxCertified {
     Better(Flow),
 }
 
-/// Decides whether the flow is maximum. It needs no certificate and never gives up. Errors are those that
-/// `judge_max_arrays` returns before it tests `inside`, in the same order. `Memory` is no answer about the arrays.
+/// Decides without a certificate whether the flow is maximum, and never gives up. The errors are those of
+/// `judge_max_arrays` that don't concern `inside`, in the same order.
 pub fn certify_max_arrays(
     alloc: Global,
     arrays: &MaxArrays<'_>,
@@ -40,7 +40,6 @@ pub fn certify_max_arrays(
     Ok(certify_over(alloc, &instance, flows)?)
 }
 
-/// Decides whether the flow is maximum for the instance.
 fn certify_over<N: Network>(
     alloc: Global,
     instance: &MaxInstance<N>,

@@ -1,4 +1,4 @@
-//! Certifying that a flow costs least, over arrays.
+//! Certifies over arrays that a flow costs least.
 
 ghost use Rattle.std.specs.Prelude.{◌≡◌, length, IfOk};
 ghost use Rattle.dimacs_optimality.specs.Tests.{Settles};
@@ -17,21 +17,20 @@ use dimacs_lines::Memory;
 use dimacs_network::Network;
 use std::alloc::Global;
 
-/// The answer to whether a feasible flow costs least.
+/// Whether a feasible flow costs least.
 #[derive(Drop)]
 pub enum MinCertified {
-    /// It costs least. The potentials show it: `judge_min_arrays` accepts them; that of node 1 comes first.
+    /// It costs least. `judge_min_arrays` accepts these potentials.
     Optimal { cost: i128, potentials: Vec<i64> },
-    /// It costs least, but the potentials that show it don't fit into an array: two of them are 2^64 or more apart.
-    /// Others might fit.
+    /// It costs least, but these potentials don't fit into an array: two of them are 2^64 or more apart. Others might
+    /// fit.
     Wide { cost: i128, potentials: Potentials },
     /// It doesn't. This flow is feasible and costs less.
     Better(Flow),
 }
 
-/// Decides whether the flow costs least. It needs no certificate and never gives up. Errors are those that
-/// `judge_min_arrays` returns before it tests the potentials, in the same order. `Memory` is no answer about the
-/// arrays.
+/// Decides without a certificate whether the flow costs least, and never gives up. The errors are those of
+/// `judge_min_arrays` that don't concern `potentials`, in the same order.
 pub fn certify_min_arrays(
     alloc: Global,
     arrays: &MinArrays<'_>,
@@ -45,7 +44,6 @@ pub fn certify_min_arrays(
     Ok(certify_over(alloc, &instance, flows)?)
 }
 
-/// Decides whether the flow costs least for the instance.
 fn certify_over<N: Network>(
     alloc: Global,
     instance: &MinInstance<N>,
@@ -63,7 +61,7 @@ fn certify_over<N: Network>(
     }
 }
 
-/// The answer for a flow with this cost, if these potentials are slack for it.
+/// The answer for a flow with this cost and slack potentials.
 fn least_by(alloc: Global, cost: i128, potentials: Potentials) -> Result<MinCertified, Memory>
     ensures { IfOk result (IsLeastBy cost potentials) }
 {

@@ -1,4 +1,4 @@
-//! Certifying distances over arrays.
+//! Certifies distances over arrays.
 
 ghost use Rattle.dimacs_arrays.specs.GraphArrays.{CertifiesPathsArrays};
 
@@ -9,10 +9,9 @@ use crate::lengths::{ArrayLength, lengths_hold};
 use std::alloc::Global;
 
 /// Decides whether these are the distances from the source; `i64::MAX` stands for no distance. If they are, it returns
-/// a predecessor for each node that `judge_paths_arrays` accepts: 0 at the source and at nodes without a distance.
+/// predecessors that `judge_paths_arrays` accepts: 0 at the source and at nodes without a distance.
 ///
-/// The lengths and limits are tested first, in the order of `judge_paths_arrays`, then the tests of `decide_distances`.
-/// `Memory` is no answer about the arrays.
+/// It tests the lengths and limits, in the order of `judge_paths_arrays`, then makes the tests of `decide_distances`.
 pub fn certify_paths_arrays(
     alloc: Global,
     arrays: &GraphArrays<'_>,

@@ -16,15 +16,15 @@ use dimacs_lines::Memory;
 use dimacs_network::Network;
 use std::alloc::Global;
 
-/// Judges that these are the distances from the source, by these predecessors. `i64::MAX` stands for no distance; the
-/// source and nodes without a distance have the predecessor 0. The answer is that of `judge_paths` for the labels that
-/// this spells and the query for all distances from the source. Among them a label comes after that of its predecessor,
-/// and otherwise by ID.
+/// Judges by predecessors that these are the distances from the source. `i64::MAX` stands for no distance; the source
+/// and nodes without a distance have the predecessor 0. The answer is that of `judge_paths` for the query for all
+/// distances from the source and for labels with these numbers, each after that of its predecessor, and otherwise by
+/// ID.
 ///
 /// The tests, in order: `NotShortest` at the source if its distance isn't 0; for each node, by ID, `NodeRange` if its
-/// predecessor is 0 or above the number of nodes, or isn't 0 although it has to be; for each node with a distance, by
-/// ID, `PredUnknown` if its predecessors don't lead back to the source; then those of `label_tests`. If each distance
-/// has a tight arc of positive weight from its predecessor, one pass over the arcs replaces all of them.
+/// predecessor isn't a node, or isn't 0 although it has to be; for each node with a distance, by ID, `PredUnknown` if
+/// its predecessors don't lead back to the source; then those of `label_tests`. If each distance has a tight arc of
+/// positive weight from its predecessor, one pass over the arcs replaces all of them.
 pub fn judge_paths_by_node<N: Network>(
     alloc: Global,
     graph: &Graph<N>,
@@ -55,9 +55,8 @@ pub(crate) fn all_from(alloc: Global, source: u32) -> Result<Queries, Memory>
 }
 
 /// Decides whether these are the distances from the source. If they are, it returns predecessors that the judge
-/// accepts, by ID: 0 at the source and at nodes without a distance. Otherwise the error names the first test that
-/// fails, as `decide_distances` does. If each distance has a tight arc of positive weight, one pass over the arcs
-/// suffices.
+/// accepts: 0 at the source and at nodes without a distance. Otherwise `Refused` has the first test of
+/// `decide_distances` that fails. If each distance has a tight arc of positive weight, one pass over the arcs suffices.
 pub fn certify_paths_by_node<N: Network>(
     alloc: Global,
     graph: &Graph<N>,

@@ -5,7 +5,7 @@ use dimacs_judge::{JudgeError, Where};
 use dimacs_lines::Memory;
 use dimacs_records::Reason;
 
-/// An array that a call gets. `tails` is missing here, since its length is the number of arcs.
+/// An array whose length a call tests. The length of `tails` is the number of arcs.
 #[derive(Clone, Copy, Debug, PartialEq, Eq)]
 pub enum Array {
     Heads,
@@ -21,15 +21,14 @@ pub enum Array {
     Predecessors,
 }
 
-/// Why a call over arrays doesn't answer yes.
+/// Why a call over arrays fails, or answers no.
 #[derive(Clone, Copy, Debug, PartialEq, Eq)]
 pub enum ArrayError {
     /// The length of this array isn't the number of arcs, or of nodes.
     Length(Array),
-    /// A number is out of the range of instances: the first such number, with the reason for which a text would be
-    /// refused.
+    /// The first number past the limits of instances, with the reason why a text with it is refused.
     Limit(Where, Reason),
-    /// The first test of the claim that fails.
+    /// The first test of the claim that fails; of `solve_paths_arrays` the first arc of negative weight.
     Refused(Where, Reason),
     /// Out of memory.
     Memory,

@@ -43,7 +43,6 @@ impl<'a> ArcArrays for GraphArrays<'a> {
 }
 
 impl<'a> GraphArrays<'a> {
-    /// Whether there are a head and a weight for each tail.
     pub(crate) fn lengths_hold(&self) -> Result<(), ArrayError>
         ensures { TestsLengths (graph_lengths self.now) result }
     {
@@ -54,7 +53,6 @@ impl<'a> GraphArrays<'a> {
         ])
     }
 
-    /// Whether the source is a node.
     fn source_holds(&self, source: u32) -> Result<(), PastLimit>
         ensures first_fault { TestsLimits (source_rows self.now.nodes source) result }
         ensures source { OnOk result (IsNode self.now.nodes source) }
@@ -68,7 +66,7 @@ impl<'a> GraphArrays<'a> {
         Ok(())
     }
 
-    /// The graph that the arrays spell, or the first number out of range; the source is tested, too.
+    /// The graph that the arrays spell, or the first number past its limit; the source is tested, too.
     pub(crate) fn graph(&self, source: u32) -> Result<Graph<LentArcs<GraphArrays<'a>>>, ArrayError>
         requires heads { length self.now.heads.now ≡ length self.now.tails.now }
         requires weights { length self.now.weights.now ≡ length self.now.tails.now }

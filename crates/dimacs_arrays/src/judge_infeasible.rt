@@ -1,4 +1,4 @@
-//! Judging that an instance has no feasible flow, over arrays.
+//! Judges over arrays that no flow is feasible.
 
 ghost use Rattle.std.specs.Prelude.{◌≡◌, length};
 ghost use Rattle.dimacs_arrays.specs.ByNode.{marked};
@@ -13,8 +13,8 @@ use dimacs_judge::{JudgeError, Verdict, judge_infeasible};
 use dimacs_network::Network;
 use std::alloc::Global;
 
-/// Judges that no flow is feasible, by the set of the nodes whose byte isn't 0. The answer `Infeasible` means that no
-/// flow of whole numbers, of any size and sign, is feasible. `Memory` is no answer about the arrays.
+/// Judges that no flow is feasible, by the nodes whose byte isn't 0. The answer `Infeasible` means that no flow of
+/// whole numbers, of any size and sign, is feasible.
 ///
 /// The tests, in order: the lengths of `heads`, `lows`, `caps`, `costs`, `supplies` and `inside`; the limits, as in
 /// `judge_min_arrays`; then `NotViolated`, at the certificate, if the supply of the set could flow out of it.
@@ -31,7 +31,6 @@ pub fn judge_infeasible_arrays(
     Ok(judge_over(alloc, &instance, inside)?)
 }
 
-/// Judges that no flow is feasible for the instance.
 fn judge_over<N: Network>(
     alloc: Global,
     instance: &MinInstance<N>,

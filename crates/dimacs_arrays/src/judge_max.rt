@@ -1,4 +1,4 @@
-//! Judging that a flow is maximum, over arrays.
+//! Judges over arrays that a flow is maximum.
 
 ghost use Rattle.std.specs.Prelude.{◌≡◌, length};
 ghost use Rattle.dimacs_arrays.specs.ByNode.{marked};
@@ -14,7 +14,7 @@ use dimacs_network::Network;
 use std::alloc::Global;
 
 /// Judges that the flow is maximum, by the cut of the nodes whose byte isn't 0. The answer `Max` with the flow's value
-/// means that no feasible flow of whole numbers has a greater value. `Memory` is no answer about the arrays.
+/// means that no feasible flow of whole numbers has a greater value.
 ///
 /// The tests, in order: the lengths of `heads`, `caps`, `flows` and `inside`; the limits: `NumberRange` for the number
 /// of nodes, then of arcs; `NodeRange` at the source, then at the sink, if it is no node; `NodeTwice` if both are the
@@ -37,7 +37,6 @@ pub fn judge_max_arrays(
     Ok(judge_over(alloc, &instance, flows, inside)?)
 }
 
-/// Judges that the flow is maximum for the instance.
 fn judge_over<N: Network>(
     alloc: Global,
     instance: &MaxInstance<N>,

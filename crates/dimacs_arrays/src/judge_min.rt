@@ -1,4 +1,4 @@
-//! Judging that a flow costs least, over arrays.
+//! Judges over arrays that a flow costs least.
 
 ghost use Rattle.std.specs.Prelude.{◌≡◌, length};
 ghost use Rattle.dimacs_arrays.specs.ByNode.{number_of};
@@ -13,8 +13,8 @@ use dimacs_judge::{Flow, JudgeError, Verdict, judge_min_flow};
 use dimacs_network::Network;
 use std::alloc::Global;
 
-/// Judges that the flow costs least, by potentials; that of node 1 comes first. The answer `Min` with the flow's cost
-/// means that no feasible flow of whole numbers costs less. `Memory` is no answer about the arrays.
+/// Judges that the flow costs least, by potentials. The answer `Min` with the flow's cost means that no feasible flow
+/// of whole numbers costs less.
 ///
 /// The tests, in order: the lengths of `heads`, `lows`, `caps`, `costs`, `supplies`, `flows` and `potentials`; the
 /// limits: `NumberRange` for the number of nodes, then of arcs; for each arc, from 1, `NodeRange` if an end is no node
@@ -36,7 +36,6 @@ pub fn judge_min_arrays(
     Ok(judge_over(alloc, &instance, flows, potentials)?)
 }
 
-/// Judges that the flow costs least for the instance.
 fn judge_over<N: Network>(
     alloc: Global,
     instance: &MinInstance<N>,

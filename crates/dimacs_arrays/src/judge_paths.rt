@@ -1,4 +1,4 @@
-//! Judging distances over arrays.
+//! Judges distances over arrays.
 
 ghost use Rattle.dimacs_arrays.specs.GraphArrays.{JudgesPathsArrays};
 
@@ -9,10 +9,10 @@ use crate::lengths::{ArrayLength, lengths_hold};
 use dimacs_judge::Verdict;
 use std::alloc::Global;
 
-/// Judges that these are the distances from the source, by these predecessors. A node that can't be reached has the
-/// distance `i64::MAX` and the predecessor 0; the source has the predecessor 0, too. The answer `Sources(1)` means that
-/// each other distance is the least weight of all walks to its node, that no walk leads to a node without one, and that
-/// the predecessors lead back to the source along such walks. `Memory` is no answer about the arrays.
+/// Judges by predecessors that these are the distances from the source. A node that can't be reached has the distance
+/// `i64::MAX` and the predecessor 0; the source has the predecessor 0, too. The answer `Sources(1)` means that each
+/// other distance is the least weight of all walks to its node, that no walk leads to a node without one, and that the
+/// predecessors lead back to the source along such walks.
 ///
 /// The tests, in order: the lengths of `heads`, `weights`, `distances` and `predecessors`; the limits: `NumberRange`
 /// for the number of nodes, then of arcs; `NodeRange` if the source is no node; for each arc, from 1, `NodeRange` if an

@@ -65,7 +65,6 @@ impl LabelTree {
         Ok(LabelTree { block, labelled })
     }
 
-    /// Whether a node is labelled.
     #[inline(always)]
     pub(crate) fn is_labelled(&self, node: u32) -> bool
         ensures { result ≡ value_of self.now.labelled node }

@@ -16,12 +16,10 @@ use dimacs_judge::{JudgeError, Where};
 use dimacs_records::Reason;
 use std::alloc::Global;
 
-/// The labels with these distances (`i64::MAX` stands for none) and predecessors. A label comes after that of its
+/// The labels with these distances and predecessors; `i64::MAX` stands for no distance. A label comes after that of its
 /// predecessor, and otherwise by ID.
 ///
-/// The tests, in order: `NotShortest` at the source if its distance isn't 0; for each node, by ID, `NodeRange` if its
-/// predecessor is 0 or above the number of nodes, or isn't 0 at the source or at a node without a distance; for each
-/// node with a distance, by ID, `PredUnknown` if its predecessors don't lead back to the source.
+/// It makes the tests of `judge_paths_by_node` before those of `label_tests`.
 pub(crate) fn labels_by_node(
     alloc: Global,
     nodes: u32,
@@ -45,7 +43,6 @@ pub(crate) fn labels_by_node(
     Ok(labels)
 }
 
-/// Refuses the first node whose predecessor is out of range.
 fn predecessors_hold(
     source: u32,
     distances: &[i64],
@@ -62,7 +59,6 @@ fn predecessors_hold(
     Ok(())
 }
 
-/// Whether the number may be the predecessor of a node.
 #[inline(always)]
 fn is_predecessor(source: u32, distances: &[i64], node: u32, predecessor: u32) -> bool
     ensures { IsTrue result ↔ IsPred (length distances.now) source (claimed_by_node distances.now) node predecessor }

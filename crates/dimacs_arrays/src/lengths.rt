@@ -1,4 +1,4 @@
-//! Testing the lengths of arrays.
+//! Tests the lengths of arrays.
 
 ghost use Rattle.std.specs.Prelude.{◌≡◌};
 ghost use Rattle.dimacs_arrays.specs.Answers.{length_of};
@@ -6,7 +6,7 @@ ghost use Rattle.dimacs_arrays.specs.inside.Answers.{TestsLengths};
 
 use crate::error::{Array, ArrayError};
 
-/// The length of an array, and the length that it has to have.
+/// The length of an array, and the one that it has to have.
 #[derive(Clone, Copy, Debug, PartialEq, Eq)]
 pub struct ArrayLength {
     pub array: Array,

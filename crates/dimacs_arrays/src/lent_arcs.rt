@@ -1,4 +1,4 @@
-//! Arcs that a caller lends as arrays: a network without a copy.
+//! A network of the arcs in a caller's arrays, without a copy.
 
 ghost use Rattle.std.specs.Prelude.{◌≡◌, ◌<◌, ◌≤◌, ℕ, IfOk};
 ghost use Rattle.dimacs_lines.specs.Limits.{most_count};
@@ -21,7 +21,7 @@ pub(crate) trait ArcArrays: Copy {
         ensures { result ≡ arc_of self.now k };
 }
 
-/// The network of the arcs that arrays hold. It has no index: `find` goes over all of them.
+/// The arcs of arrays. There is no index: `find` goes over all of them.
 #[derive(Drop)]
 pub(crate) struct LentArcs<A: ArcArrays> {
     nodes: u32,
@@ -43,7 +43,7 @@ impl<A: ArcArrays> Model for LentArcs<A> {
 }
 
 impl<A: ArcArrays> LentArcs<A> {
-    /// The network, if all arcs are in the ranges of instances; otherwise the first that isn't.
+    /// The network, or the first arc out of the ranges of instances.
     pub(crate) fn of(arrays: A, nodes: u32, count: usize) -> Result<LentArcs<A>, PastLimit>
         requires each { (k : ℕ) → k < count → A.HasArc arrays k }
         requires arc_limit { count ≤ most_count }

@@ -1,10 +1,9 @@
-//! Judging, certifying and solving over arrays, for programs that hold an instance, a flow or distances in memory and
-//! don't write texts.
+//! Judges, certifies and solves instances in arrays, for programs that hold them in memory and don't write texts.
 //!
 //! An instance is a struct of slices: the k-th arc goes from the k-th tail to the k-th head. Nodes count from 1; an
-//! array by node begins with node 1. Each call first tests the lengths of the arrays, then whether the numbers are in
-//! the ranges of instances. Its answer is that of the judge, the certifier or the solver for the instance that the
-//! arrays spell. Arcs are read in place; a claim, and what is by node, is copied.
+//! array by node begins with node 1. Each call first tests the lengths of the arrays, then the limits of the numbers.
+//! Then it answers as the judge, certifier or solver of the instance that the arrays spell. The error `Memory` is no
+//! answer. Arcs are read in place; claims, and arrays by node, are copied.
 #![tactic(auto)]
 
 mod by_node;

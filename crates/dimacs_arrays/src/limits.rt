@@ -1,4 +1,4 @@
-//! Testing that the numbers of an instance are in the ranges that texts have.
+//! Tests the numbers of an instance against the limits of texts.
 
 ghost use Rattle.std.specs.Prelude.{◌≤◌, IfNone, OnOk};
 ghost use Rattle.dimacs_lines.specs.Limits.{most_count, most_nodes};
@@ -11,14 +11,15 @@ use dimacs_judge::Where;
 use dimacs_network::{ArcView, MAX_ARCS, Network};
 use dimacs_records::{MAX_NODES, Reason};
 
-/// The first number out of range: its place, and the reason.
+/// The first number past its limit, by its place and the reason.
 #[derive(Clone, Copy, Debug, PartialEq, Eq)]
 pub(crate) struct PastLimit {
     pub(crate) place: Where,
     pub(crate) reason: Reason,
 }
 
-/// Whether the numbers of nodes and arcs are in range.
+/// Tests the number of nodes, then that of arcs. If one is too great, the place is the first node or arc past the
+/// limit.
 pub(crate) fn counts_hold(nodes: u32, arcs: usize) -> Result<(), PastLimit>
     ensures first_fault { TestsLimits (count_rows nodes arcs) result }
     ensures limits { OnOk result ((nodes ≤ most_nodes) × (arcs ≤ most_count)) }
@@ -38,7 +39,7 @@ pub(crate) fn counts_hold(nodes: u32, arcs: usize) -> Result<(), PastLimit>
     Ok(())
 }
 
-/// Whether all arcs are in range.
+/// Tests the ends and bounds of all arcs.
 pub(crate) fn arcs_hold<N: Network>(network: &N) -> Result<(), PastLimit>
     ensures { TestsArcs (N.node_count network.now) (N.list network.now) result }
 {
@@ -54,7 +55,7 @@ pub(crate) fn arcs_hold<N: Network>(network: &N) -> Result<(), PastLimit>
     Ok(())
 }
 
-/// The reason to refuse an arc in a network with this many nodes, if there is one.
+/// The reason to refuse an arc among this many nodes, if there is one.
 #[inline(always)]
 fn arc_fault(nodes: u32, arc: ArcView) -> Option<Reason>
     ensures reason { NamesReason (ArcFails nodes arc) result }

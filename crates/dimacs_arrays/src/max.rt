@@ -45,7 +45,6 @@ impl<'a> ArcArrays for MaxArrays<'a> {
 }
 
 impl<'a> MaxArrays<'a> {
-    /// Whether there are a head and a capacity for each tail.
     pub(crate) fn lengths_hold(&self) -> Result<(), ArrayError>
         ensures { TestsLengths (max_lengths self.now) result }
     {
@@ -56,7 +55,6 @@ impl<'a> MaxArrays<'a> {
         ])
     }
 
-    /// Whether source and sink are two different nodes.
     fn ends_hold(&self) -> Result<(), PastLimit>
         ensures first_fault { TestsLimits (end_rows self.now.nodes self.now.source self.now.sink) result }
         ensures source { OnOk result (IsNode self.now.nodes self.now.source) }
@@ -84,7 +82,7 @@ impl<'a> MaxArrays<'a> {
         Ok(())
     }
 
-    /// The instance that the arrays spell, or the first number out of range.
+    /// The instance that the arrays spell, or the first number past its limit.
     pub(crate) fn instance(&self) -> Result<MaxInstance<LentArcs<MaxArrays<'a>>>, ArrayError>
         requires heads { length self.now.heads.now ≡ length self.now.tails.now }
         requires caps { length self.now.caps.now ≡ length self.now.tails.now }

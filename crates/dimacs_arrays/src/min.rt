@@ -47,7 +47,6 @@ impl<'a> ArcArrays for MinArrays<'a> {
 }
 
 impl<'a> MinArrays<'a> {
-    /// Whether there are a head, bounds and a cost for each tail, and a supply for each node.
     pub(crate) fn lengths_hold(&self) -> Result<(), ArrayError>
         ensures { TestsLengths (min_lengths self.now) result }
     {
@@ -61,7 +60,7 @@ impl<'a> MinArrays<'a> {
         ])
     }
 
-    /// The instance that the arrays spell, still without arcs.
+    /// The instance without its arcs.
     fn without_arcs(&self, alloc: Global) -> Result<MinInstance<PlainArcs<ArcView>>, Memory>
         requires node_limit { self.now.nodes ≤ most_nodes }
         requires supplies { length self.now.supplies.now ≡ self.now.nodes }
@@ -74,7 +73,7 @@ impl<'a> MinArrays<'a> {
         Ok(instance)
     }
 
-    /// The instance that the arrays spell, or the first number out of range.
+    /// The instance that the arrays spell, or the first number past its limit.
     pub(crate) fn instance(
         &self,
         alloc: Global,

@@ -1,4 +1,4 @@
-//! Going back from a node, predecessor by predecessor, to one with a label.
+//! Follows predecessors back from a node to one with a label.
 
 ghost use Rattle.std.specs.Prelude.{ℕ, ◌≡◌, ◌≢◌, ◌⊎◌, ◌<◌, ◌≤◌, ◌↔◌, None, true, false, length, IfOk, IsSome, IsTrue, OnOk};
 ghost use Rattle.dimacs_lines.specs.Limits.{most_nodes};
@@ -12,7 +12,7 @@ use dimacs_lines::Memory;
 use dimacs_nodes::NodeTable;
 use std::alloc::Global;
 
-/// The way back from a node, and for each node the start of the last way that had it.
+/// The path back from a node, and for each node the start of the last path that had it.
 #[derive(Drop)]
 pub(crate) struct PathBack {
     path: Vec<u32>,
@@ -20,7 +20,7 @@ pub(crate) struct PathBack {
 }
 
 impl PathBack {
-    /// The empty way. Allocates nothing.
+    /// The empty path. Allocates nothing.
     pub(crate) fn new(alloc: Global) -> PathBack
         ensures { (v : ℕ) → value_of result.roots v ≡ 0 }
     {
@@ -30,7 +30,7 @@ impl PathBack {
         }
     }
 
-    /// Labels a node and those on the way back from it, if it leads back to the source. Returns whether it does; true
+    /// Labels a node and those on the path back from it, if it leads back to the source. Returns whether it does; true
     /// if the node has no distance.
     pub(crate) fn label_from(
         &mut self,
@@ -49,7 +49,8 @@ impl PathBack {
             (claimed_by_node distances.now) (pred_by_node predecessors.now) tree.new.block (value_of tree.new.labelled)) }
         ensures keeps { OnOk result (Keeps (value_of tree.old.labelled) (value_of tree.new.labelled)) }
         ensures roots { OnOk result ((v : ℕ) → value_of self.new.roots v ≤ from) }
-        ensures labelled { IfOk result (Leads (pred_by_node predecessors.now) tree.old.block.source (claimed_by_node distances.now) (value_of tree.new.labelled) from) }
+        ensures labelled { IfOk result (Leads (pred_by_node predecessors.now) tree.old.block.source
+            (claimed_by_node distances.now) (value_of tree.new.labelled) from) }
     {
         let end = self.climb(tree, distances, predecessors, from)?;
         if !tree.is_labelled(end) {
@@ -61,7 +62,7 @@ impl PathBack {
         Ok(true)
     }
 
-    /// Goes back from a node to the first that has a label or no distance, or that this way has already. Returns that
+    /// Goes back from a node to the first that has a label or no distance, or that this path has already. Returns that
     /// node.
     fn climb(
         &mut self,
@@ -86,7 +87,6 @@ impl PathBack {
         Ok(at)
     }
 
-    /// Whether a node has a distance and no label, and isn't on the way from this start.
     #[inline(always)]
     fn goes_on(&self, tree: &LabelTree, distances: &[i64], from: u32, at: u32) -> bool
         ensures { IsTrue result ↔ (IsSome (claimed_by_node distances.now at) × (value_of tree.now.labelled at ≡ false) × (value_of self.now.roots at ≢ from)) }

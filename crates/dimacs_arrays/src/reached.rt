@@ -11,7 +11,7 @@ use dimacs_lines::Memory;
 use std::alloc::Global;
 
 /// The distance of each node, by ID from 1: 0 at the source, `i64::MAX` at nodes without a label. None if a distance is
-/// `i64::MAX` or more, or doesn't fit into 64 bits.
+/// `i64::MAX` or doesn't fit into 64 bits.
 pub(crate) fn distances_of(
     alloc: Global,
     nodes: u32,
@@ -34,7 +34,7 @@ pub(crate) fn distances_of(
     Ok(Some(distances))
 }
 
-/// The distance in 64 bits, if it is in range and isn't `i64::MAX`, which stands for none.
+/// The distance in 64 bits, if it fits and isn't `i64::MAX`, which stands for none.
 #[inline(always)]
 fn to_64_bits(dist: i128) -> Option<i64>
     requires { IsWide dist }

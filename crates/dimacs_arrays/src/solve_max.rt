@@ -1,4 +1,4 @@
-//! Finding a maximum flow, over arrays.
+//! Finds a maximum flow over arrays.
 
 ghost use Rattle.dimacs_arrays.specs.MaxArrays.{SolvesMaxArrays, SolvesMaxFlow};
 
@@ -25,8 +25,8 @@ pub enum MaxSolved {
     GaveUp,
 }
 
-/// Finds a maximum flow, starting at the zero flow. It tests at most `limit` flows for being maximum. The lengths and
-/// limits are tested first, in the order of `judge_max_arrays`. `Memory` is no answer about the arrays.
+/// Finds a maximum flow, from the zero flow on. At most `limit` flows are tested for being maximum. First it tests the
+/// lengths and limits, in the order of `judge_max_arrays`.
 pub fn solve_max_arrays(
     alloc: Global,
     arrays: &MaxArrays<'_>,
@@ -39,7 +39,6 @@ pub fn solve_max_arrays(
     Ok(solve_over(alloc, &instance, limit)?)
 }
 
-/// Finds a maximum flow for the instance.
 fn solve_over<N: Network>(
     alloc: Global,
     instance: &MaxInstance<N>,

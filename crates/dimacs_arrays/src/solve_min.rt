@@ -1,4 +1,4 @@
-//! Finding a flow of least cost, over arrays.
+//! Finds a flow of least cost over arrays.
 
 ghost use Rattle.std.specs.Prelude.{◌≡◌, ℕ, IfOk, Ok};
 ghost use Rattle.dimacs_claims.specs.Potentials.{potential_of};
@@ -21,8 +21,7 @@ use std::alloc::Global;
 /// The answer to a minimum cost flow instance.
 #[derive(Drop)]
 pub enum MinSolved {
-    /// A flow of least cost, and its cost. The potentials show it: `judge_min_arrays` accepts them; that of node 1
-    /// comes first.
+    /// A flow of least cost, and its cost. `judge_min_arrays` accepts the potentials.
     Optimal {
         cost: i128,
         flow: Flow,
@@ -44,8 +43,8 @@ pub enum MinSolved {
 }
 
 /// Finds a flow of least cost in at most `limit` steps, each to a better flow. The start flow gives each arc its lower
-/// bound, or its capacity if its cost is negative. The lengths and limits are tested first, in the order of
-/// `judge_min_arrays`. `Memory` is no answer about the arrays.
+/// bound, or its capacity if its cost is negative. First it tests the lengths and limits, in the order of
+/// `judge_min_arrays`.
 pub fn solve_min_arrays(
     alloc: Global,
     arrays: &MinArrays<'_>,
@@ -58,7 +57,6 @@ pub fn solve_min_arrays(
     Ok(solve_over(alloc, &instance, limit)?)
 }
 
-/// Finds a flow of least cost for the instance.
 fn solve_over<N: Network>(
     alloc: Global,
     instance: &MinInstance<N>,
@@ -77,7 +75,7 @@ fn solve_over<N: Network>(
     }
 }
 
-/// The answer for a flow for which these potentials are slack; `GaveUp` if its cost is out of range.
+/// The answer for a flow of least cost with slack potentials; `GaveUp` if its cost is out of range.
 fn least_by<N: Network>(
     alloc: Global,
     instance: &MinInstance<N>,

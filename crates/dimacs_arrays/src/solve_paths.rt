@@ -1,4 +1,4 @@
-//! Finding distances from a source, over arrays.
+//! Finds distances from a source over arrays.
 
 ghost use Rattle.std.specs.Prelude.{◌≡◌};
 ghost use Rattle.dimacs_lines.specs.Limits.{IsNode};
@@ -28,13 +28,13 @@ pub enum PathsSolved {
         distances: Vec<i64>,
         predecessors: Vec<u32>,
     },
-    /// A distance is `i64::MAX` or more and doesn't fit into an array. The labels have all distances.
+    /// A distance is `i64::MAX` or more, which doesn't fit into an array. The labels have all distances.
     Far(Labels),
 }
 
-/// Finds the distances from the source, and predecessors that show them. `Refused` with `NegativeWeight` comes exactly
-/// if a weight is negative, at the first such arc. The lengths and limits are tested first, in the order of
-/// `judge_paths_arrays`. `Memory` is no answer about the arrays.
+/// Finds the distances from the source, and predecessors that show them. `Refused` with `NegativeWeight` names the
+/// first arc of negative weight, if there is one. First it tests the lengths and limits, in the order of
+/// `judge_paths_arrays`.
 pub fn solve_paths_arrays(
     alloc: Global,
     arrays: &GraphArrays<'_>,
@@ -47,7 +47,6 @@ pub fn solve_paths_arrays(
     Ok(solve_over(alloc, &graph, source)?)
 }
 
-/// Finds the distances from the source in the graph.
 fn solve_over<N: Network>(
     alloc: Global,
     graph: &Graph<N>,
@@ -72,7 +71,6 @@ fn solve_over<N: Network>(
     })
 }
 
-/// The solver's error as a judge's.
 fn refused(error: SolveError) -> JudgeError
     ensures { result ≡ of_solver error }
 {

@@ -1,4 +1,4 @@
-//! A quick way to show distances: if each has a tight arc of positive weight, one pass over the arcs suffices.
+//! Shows distances by one pass over the arcs, if each has a tight arc of positive weight.
 
 ghost use Rattle.std.specs.Prelude.{◌≡◌, ◌≤◌, ◌↔◌, length, All, IfOk, IfSome, IsTrue, Some, pos};
 ghost use Rattle.dimacs_lines.specs.Limits.{most_nodes};
@@ -13,19 +13,19 @@ use dimacs_lines::Memory;
 use dimacs_network::{ArcView, Network};
 use std::alloc::Global;
 
-/// An arc, by the distances of its ends.
+/// What the distances of an arc's ends show.
 #[derive(Clone, Copy)]
 pub(crate) enum ArcTest {
-    /// Nothing follows: the tail has no distance, or the arc isn't tight, or it isn't known to rise.
+    /// Nothing: for example, the tail has no distance, or the arc isn't tight.
     Passes,
-    /// The arc is tight, its weight is positive, and the distance of its tail isn't negative.
+    /// The arc is tight, its weight is positive, and its tail's distance isn't negative.
     Tight,
     /// The distances are wrong: the head has none, or too great a one.
     Fails,
 }
 
-/// Predecessors that show the distances, if each node with a distance but the source has a rising arc: the tail of one.
-/// They are 0 at other nodes. None doesn't mean that the distances are wrong. One pass over the arcs.
+/// The tails of tight arcs of positive weight as predecessors, if each node with a distance but the source has such an
+/// arc; 0 at other nodes. None doesn't mean that the distances are wrong.
 pub(crate) fn tight_predecessors<N: Network>(
     alloc: Global,
     network: &N,
@@ -50,8 +50,8 @@ pub(crate) fn tight_predecessors<N: Network>(
     }
 }
 
-/// Whether these predecessors show the distances by rising arcs. False doesn't mean that the distances are wrong. One
-/// pass over the arcs.
+/// Whether each node with a distance but the source has such an arc from its predecessor, and other predecessors are 0.
+/// False doesn't mean that the distances are wrong.
 pub(crate) fn are_tight_predecessors<N: Network>(
     alloc: Global,
     network: &N,
@@ -75,7 +75,6 @@ pub(crate) fn are_tight_predecessors<N: Network>(
     }
 }
 
-/// Whether there is a distance for each node, and that of the source is 0.
 fn length_and_source_hold(nodes: u32, source: u32, distances: &[i64]) -> bool
     ensures { IsTrue result → ((length distances.now ≡ nodes) × (claimed_by_node distances.now source ≡ Some (pos 0))) }
 {
@@ -91,8 +90,8 @@ fn is_zero(distance: Option<i128>) -> bool
     }
 }
 
-/// For each node the tail of the last rising arc to it, 0 for none. If predecessors are given, only arcs from these
-/// count. None if an arc shows the distances wrong.
+/// For each node the tail of the last such arc to it, 0 for none. If predecessors are given, only arcs from these
+/// count. None if an arc shows that the distances are wrong.
 fn tight_tails<N: Network>(
     alloc: Global,
     network: &N,
@@ -102,7 +101,8 @@ fn tight_tails<N: Network>(
     requires nodes { length distances.now ≡ N.node_count network.now }
     requires joined { All (JoinsNodes (N.node_count network.now)) (N.list network.now) }
     ensures each { IfOk result (λ found. IfSome found (λ tails. length tails.items ≡ length distances.now)) }
-    ensures tight { IfOk result (λ found. IfSome found (λ tails. AreTightPredecessors (N.list network.now) (claimed_by_node distances.now) (pred_by_node tails.items))) }
+    ensures tight { IfOk result (λ found. IfSome found (λ tails. AreTightPredecessors (N.list network.now)
+        (claimed_by_node distances.now) (pred_by_node tails.items))) }
 {
     let mut tails = vec![in alloc; 0u32; distances.len()]?;
     for i in 0..network.arcs() {
@@ -116,7 +116,7 @@ fn tight_tails<N: Network>(
     Ok(Some(tails))
 }
 
-/// The step of an arc; it isn't rising if its tail isn't wanted.
+/// The result for an arc; `Passes` instead of `Tight` if its tail isn't wanted.
 #[inline(always)]
 fn test_wanted(distances: &[i64], wanted: Option<&[u32]>, arc: ArcView) -> ArcTest
     ensures { IsArcTest (claimed_by_node distances.now) arc result }
@@ -127,7 +127,6 @@ fn test_wanted(distances: &[i64], wanted: Option<&[u32]>, arc: ArcView) -> ArcTe
     }
 }
 
-/// Whether the tail of an arc may become the predecessor of its head.
 #[inline(always)]
 fn is_wanted(wanted: Option<&[u32]>, arc: ArcView) -> bool {
     match wanted {
@@ -136,7 +135,7 @@ fn is_wanted(wanted: Option<&[u32]>, arc: ArcView) -> bool {
     }
 }
 
-/// The step of an arc. Looks at the head only if the tail has a distance.
+/// Looks at the head only if the tail has a distance.
 #[inline(always)]
 fn test_arc(distances: &[i64], arc: ArcView) -> ArcTest
     ensures { IsArcTest (claimed_by_node distances.now) arc result }
@@ -150,7 +149,6 @@ fn test_arc(distances: &[i64], arc: ArcView) -> ArcTest
     test_weight(from, to, arc.cost)
 }
 
-/// The step of an arc with this weight between these distances.
 #[inline(always)]
 fn test_weight(from: i128, to: i128, weight: i64) -> ArcTest
     requires { IsWide from }
@@ -167,7 +165,6 @@ fn test_weight(from: i128, to: i128, weight: i64) -> ArcTest
     }
 }
 
-/// Whether each node with a distance, except the source, has a predecessor.
 fn all_reached(source: u32, distances: &[i64], predecessors: &[u32]) -> bool
     requires { length distances.now ≤ most_nodes }
     ensures { IsTrue result → AreReached source (claimed_by_node distances.now) (pred_by_node predecessors.now) }
@@ -180,7 +177,6 @@ fn all_reached(source: u32, distances: &[i64], predecessors: &[u32]) -> bool
     true
 }
 
-/// Whether the node isn't the source and has a distance but no predecessor.
 #[inline(always)]
 fn lacks_predecessor(source: u32, distances: &[i64], predecessors: &[u32], node: u32) -> bool
     ensures { IsTrue result ↔ (IsDue source (claimed_by_node distances.now) node × (pred_by_node predecessors.now node ≡ 0)) }

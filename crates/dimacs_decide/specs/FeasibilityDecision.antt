@@ -8,7 +8,7 @@ use Rattle.dimacs_decide.specs.Bounds.{KeepsBounds}
 use Rattle.dimacs_decide.specs.declared.feasible.FeasibilityDecision.{FeasibilityDecision}
 use Rattle.dimacs_decide.specs.declared.feasible.FeasibilityDecision.TheVariants.{Balanced, Infeasible, Nearer}
 
--- the excess of a node: its supply less its balance; a negative one is a deficit
+-- the imbalance of a node: its supply less its balance; an excess if positive, a deficit if negative
 abbrev pub imbalance_at : MinValue → List ℤ → ℕ → ℤ
 imbalance_at i x v = supply_of i v -ℤ net i.arcs x v
 

@@ -1,4 +1,4 @@
-//! The claimed distances of a block, by node.
+//! The claimed distances of a block, looked up in constant time.
 
 ghost use Rattle.std.specs.Prelude.{◌≡◌, ℕ, IfOk, IfSome, Some};
 ghost use Rattle.std.specs.FinMap as map;
@@ -18,15 +18,14 @@ use std::alloc::Global;
 /// Stands for no distance in a table of 32-bit distances.
 const NONE: i32 = i32::MAX;
 
-/// The claimed distances of a block, if all fit into 32 bits, each found in constant time, whatever the order of its
-/// labels is.
+/// Those of a block whose distances all fit into 32 bits.
 #[derive(Drop)]
 pub(crate) struct BlockClaim32 {
     distances: DenseTable<i32>,
 }
 
 impl BlockClaim32 {
-    /// Copies the labels, from the last to the first. None if a distance doesn't fit. Takes 4 bytes for each node.
+    /// None if a distance doesn't fit. Takes 4 bytes for each node.
     pub(crate) fn new(
         alloc: Global,
         nodes: u32,
@@ -51,7 +50,7 @@ impl BlockClaim32 {
     }
 }
 
-/// A distance in 32 bits; none if it doesn't fit.
+/// The distance, if it fits into 32 bits and isn't `NONE`.
 #[inline(always)]
 fn to_32_bits(dist: i128) -> Option<i32>
     ensures { IfSome result (λ narrow. below_none narrow ≡ Some dist) }
@@ -74,7 +73,7 @@ impl DistanceClaim for BlockClaim32 {
     }
 }
 
-/// The claimed distances of a block, each found in constant time, whatever the order of its labels is.
+/// Those of any block.
 #[derive(Drop)]
 pub(crate) struct BlockClaim {
     distances: WideMap,
@@ -82,7 +81,7 @@ pub(crate) struct BlockClaim {
 }
 
 impl BlockClaim {
-    /// Copies the labels, from the last to the first. Takes 16 or 32 bytes for each node, in pages of 64 nodes.
+    /// Takes 16 or 32 bytes for each node, in pages of 64 nodes.
     pub(crate) fn new(alloc: Global, block: &Block) -> Result<BlockClaim, Memory>
         requires { (nodes : ℕ) × IsBlock nodes block.now }
         ensures { IfOk result (λ claim. (id : ℕ) → map.get claim.distances id ≡ label block.now id) }

@@ -6,7 +6,7 @@ ghost use Rattle.dimacs_decide.specs.Bounds.{KeepsBounds};
 use dimacs_network::Network;
 use dimacs_optimality::{Flow, bounds_hold};
 
-/// Whether a flow has an amount for each arc, and no others, from its lower bound to its capacity.
+/// Whether a flow has exactly one amount for each arc, from its lower bound to its capacity.
 pub fn keeps_bounds<N: Network>(network: &N, flow: &Flow) -> bool
     ensures { IsTrue result ↔ KeepsBounds (N.list network.now) flow.now }
 {

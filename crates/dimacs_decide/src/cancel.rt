@@ -1,4 +1,4 @@
-//! Cancelling a cycle: sending as much round it as its residual capacity allows.
+//! Cancels a cycle of residual arcs.
 
 ghost use Rattle.std.specs.Prelude.{ℕ, ◌≡◌, ◌≤ℤ◌, ◌<ℤ◌, pos, All, length};
 ghost use Rattle.dimacs_instance.specs.MinFlows.{HasBounds};
@@ -21,7 +21,6 @@ fn lesser(a: i64, b: i64) -> i64
     if a < b { a } else { b }
 }
 
-/// The least residual capacity of the residual arcs of a cycle.
 fn least_residual_capacity<N: Network>(network: &N, cycle: &[ResidualArc], flow: &Flow) -> i64
     requires bounds { All HasBounds (N.list network.now) }
     requires within { KeepsBounds (N.list network.now) flow.now }

@@ -1,4 +1,4 @@
-//! Certifying that a claimed flow is maximum.
+//! Certifies that a claimed flow is maximum.
 
 ghost use Rattle.std.specs.Prelude.{◌≡◌};
 ghost use Rattle.dimacs_claims.specs.SolutionReading.{IsPlaced};
@@ -15,9 +15,9 @@ use dimacs_network::Network;
 use dimacs_optimality::{FlowPlaces, JudgeError, max_claim_tests, placed};
 use std::alloc::Global;
 
-/// Decides whether the solution's flow is maximum. `Optimal` has a cut with which `judge_max` accepts the solution, and
-/// `Better` a feasible flow of greater value. Otherwise the error is the first test that fails of those that
-/// `judge_max` makes before it looks at a cut, in the same order. `Memory` is no answer about the claim.
+/// Decides whether the solution's flow is maximum. `Optimal` has a cut with which `judge_max` accepts the solution,
+/// `Better` a feasible flow of greater value. `Refused` has the first test that fails of those that `judge_max` makes
+/// before the cut's.
 pub fn certify_max<N: Network>(
     alloc: Global,
     instance: &MaxInstance<N>,
@@ -29,8 +29,8 @@ pub fn certify_max<N: Network>(
     certify_max_placed(alloc, instance, &placed)
 }
 
-/// The same for a solution whose entries were put on the arcs. The result is one that `certify_max` may have for any
-/// solution that the placed values stand for.
+/// The same for entries that were placed on the arcs as they were read. The result is right for each solution that they
+/// stand for.
 pub fn certify_max_placed<N: Network>(
     alloc: Global,
     instance: &MaxInstance<N>,

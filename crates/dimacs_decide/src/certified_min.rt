@@ -1,4 +1,4 @@
-//! Certifying that a claimed flow costs least.
+//! Certifies that a claimed flow costs least.
 
 ghost use Rattle.std.specs.Prelude.{◌≡◌};
 ghost use Rattle.dimacs_claims.specs.SolutionReading.{IsPlaced};
@@ -16,9 +16,8 @@ use dimacs_optimality::{FlowPlaces, JudgeError, min_claim_tests, placed};
 use std::alloc::Global;
 
 /// Decides whether the solution's flow costs least. `Optimal` has potentials with which `judge_min` accepts the
-/// solution, and `Better` a feasible flow that costs less; its cost may be out of the range of solutions. Otherwise the
-/// error is the first test that fails of those that `judge_min` makes before it looks at potentials, in the same order.
-/// `Memory` is no answer about the claim.
+/// solution, `Better` a feasible flow that costs less; its cost may be out of the range of solutions. `Refused` has the
+/// first test that fails of those that `judge_min` makes before the potentials'.
 pub fn certify_min<N: Network>(
     alloc: Global,
     instance: &MinInstance<N>,
@@ -30,8 +29,8 @@ pub fn certify_min<N: Network>(
     certify_min_placed(alloc, instance, &placed)
 }
 
-/// The same for a solution whose entries were put on the arcs. The result is one that `certify_min` may have for any
-/// solution that the placed values stand for.
+/// The same for entries that were placed on the arcs as they were read. The result is right for each solution that they
+/// stand for.
 pub fn certify_min_placed<N: Network>(
     alloc: Global,
     instance: &MinInstance<N>,

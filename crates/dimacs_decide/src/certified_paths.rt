@@ -1,4 +1,4 @@
-//! Certifying claimed distances from several sources.
+//! Certifies claimed distances from several sources.
 
 ghost use Rattle.std.specs.Prelude.{◌≡◌, IfOk, IfSome, OnOk};
 ghost use Rattle.dimacs_lines.specs.Limits.{IsNode};
@@ -22,13 +22,12 @@ use dimacs_network::{AdjacencyLists, Network, Side};
 use dimacs_optimality::JudgeError;
 use std::alloc::Global;
 
-/// Decides whether the distances in every block are right. Weights may be negative. If they are right, it returns
-/// labels with which `judge_paths` answers yes for each source, block by block in the order of the claim. Otherwise the
-/// error is the first test that fails, block by block, of those that `decide_distances` makes. `Memory` is no answer
-/// about the claim.
+/// Decides whether the distances in every block are right. Weights may be negative. If all are right, it returns labels
+/// with which `judge_paths` answers yes for each source, in the order of the blocks. Otherwise `Refused` has the first
+/// test of `decide_distances` that fails, block by block.
 ///
-/// A block with few labels that are right takes time in proportion to them and to the arcs that leave their nodes, any
-/// other block in proportion to all nodes and arcs. Takes memory for the arcs and for the nodes reached from each source.
+/// A right block with few labels takes time in proportion to them and the arcs that leave their nodes, any other block
+/// to all nodes and arcs. Takes memory for the arcs and the nodes reached from each source.
 pub fn certify_paths<N: Network>(
     alloc: Global,
     graph: &Graph<N>,
@@ -49,7 +48,7 @@ pub fn certify_paths<N: Network>(
     Ok(labels)
 }
 
-/// Decides one block: by the arcs that leave its nodes, if it has few labels and they are right, otherwise over all arcs.
+/// Decides one block: by the arcs that leave its nodes, if it has few labels and is right, otherwise over all arcs.
 fn certify_one<N: Network>(
     alloc: Global,
     graph: &Graph<N>,
@@ -73,7 +72,6 @@ fn certify_one<N: Network>(
     certify_many(alloc, graph, lists, claimed)
 }
 
-/// Decides one block by a search.
 fn search_one<N: Network>(
     alloc: Global,
     graph: &Graph<N>,
@@ -89,7 +87,7 @@ fn search_one<N: Network>(
     search_block(alloc, graph, lists, claimed.source(), &claim)
 }
 
-/// Decides one block over all arcs, by tables in one list.
+/// Decides one block over all arcs, by tables with an item for each node.
 fn certify_many<N: Network>(
     alloc: Global,
     graph: &Graph<N>,
@@ -108,7 +106,7 @@ fn certify_many<N: Network>(
     certify_block(alloc, graph, lists, claimed.source(), &claim)
 }
 
-/// Labels for the claimed distances, found by the arcs that leave the block's nodes, if the distances are right.
+/// Labels for the claimed distances, if these are right, by the arcs that leave the block's nodes.
 fn certify_few<N: Network>(
     alloc: Global,
     graph: &Graph<N>,
@@ -131,7 +129,7 @@ fn certify_few<N: Network>(
     Ok(Some(block))
 }
 
-/// Decides one block by one pass over all arcs, if each distance has a tight arc of positive weight, otherwise by a search.
+/// Decides one block: by one pass over all arcs, if each distance has a tight arc of positive weight, or by a search.
 fn certify_block<N: Network, C: DistanceClaim>(
     alloc: Global,
     graph: &Graph<N>,
@@ -150,7 +148,7 @@ fn certify_block<N: Network, C: DistanceClaim>(
     }
 }
 
-/// Decides one block by a search over adjacency lists, which are built for the first block that needs them.
+/// Decides one block by a search. The first block that needs adjacency lists builds them.
 fn search_block<N: Network, C: DistanceClaim>(
     alloc: Global,
     graph: &Graph<N>,
@@ -169,7 +167,6 @@ fn search_block<N: Network, C: DistanceClaim>(
     Ok(block)
 }
 
-/// The adjacency lists, built now if they weren't before.
 fn lists_or_new<N: Network>(
     alloc: Global,
     network: &N,

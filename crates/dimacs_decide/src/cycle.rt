@@ -1,4 +1,4 @@
-//! Cycles of residual arcs: testing one that a heuristic found, and reading one from the labels of nodes.
+//! Tests cycles of residual arcs, and reads them from the labels of nodes.
 
 ghost use Rattle.std.specs.Prelude.{◌≡◌, ◌<◌, ◌≤◌, ◌+◌, ◌-◌, IsTrue, All, length, IfOk};
 ghost use Rattle.dimacs_lines.specs.Limits.{most_nodes};
@@ -19,8 +19,8 @@ use dimacs_nodes::NodeTable;
 use dimacs_optimality::Flow;
 use std::alloc::Global;
 
-/// Whether these residual arcs, about which nothing is known, form a cycle with residual capacity and negative cost
-/// that visits no node twice. Takes memory for the nodes on it.
+/// Whether any residual arcs form a cycle with residual capacity and negative cost that visits no node twice. Takes
+/// memory for its nodes.
 pub(crate) fn is_saving<N: Network>(
     alloc: Global,
     network: &N,
@@ -54,7 +54,6 @@ pub(crate) fn is_saving<N: Network>(
     Ok(saved > 0)
 }
 
-/// Whether a residual arc begins at the node and has residual capacity.
 #[inline(always)]
 fn leads_from<N: Network>(network: &N, flow: &Flow, from: u32, residual: ResidualArc) -> bool
     requires bounds { All HasBounds (N.list network.now) }

@@ -1,11 +1,11 @@
-//! A value for each node up to a last one, in one list.
+//! Values of all nodes up to a last one.
 
 ghost use Rattle.std.specs.Prelude.{◌≡◌, ◌≢◌, ℕ, IfOk};
 
 use dimacs_lines::Memory;
 use std::alloc::Global;
 
-/// A table of values by node ID. All are the same blank value until they are set.
+/// Values by node ID. Each is `blank` until it is set.
 #[derive(Drop)]
 pub(crate) struct DenseTable<T> {
     blank: T,
@@ -15,7 +15,6 @@ pub(crate) struct DenseTable<T> {
 impl<T: Copy> DenseTable<T> {
     ghost use Rattle.dimacs_decide.specs.inside.DenseTables.{HasNode, HasNodes, SameNodes, value_at};
 
-    /// A table of blank values for the nodes up to this one.
     pub(crate) fn new(alloc: Global, blank: T, last: u32) -> Result<DenseTable<T>, Memory>
         ensures values { IfOk result (λ table. (id : ℕ) → value_at table id ≡ blank) }
         ensures nodes { IfOk result (λ table. HasNodes table last) }
@@ -36,7 +35,6 @@ impl<T: Copy> DenseTable<T> {
         }
     }
 
-    /// Sets the value of a node.
     #[inline(always)]
     pub(crate) fn set(&mut self, id: u32, value: T)
         requires { HasNode self.old id }

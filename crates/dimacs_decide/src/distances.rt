@@ -1,4 +1,4 @@
-//! Deciding whether claimed distances are right, by a search over tight arcs.
+//! Decides by a search over tight arcs whether claimed distances are right.
 
 ghost use Rattle.std.specs.Prelude.{◌≤◌, ◌+ℤ◌, ◌<ℤ◌, ◌↔◌, IsTrue, None};
 ghost use Rattle.dimacs_lines.specs.Limits.{most_nodes, IsNode};
@@ -24,9 +24,8 @@ use dimacs_records::Reason;
 use std::alloc::Global;
 
 /// Decides whether the claimed distances from a source are right. Weights may be negative. If they are right, it
-/// returns labels with these distances that pass the judge's tests. Otherwise the error is the first test that fails,
-/// which shows that they are wrong. `Memory` is no answer about the claim. Takes time in proportion to the nodes and
-/// arcs, and memory for the arcs and the nodes that are reached.
+/// returns labels with these distances that pass the judge's tests, otherwise the first test that fails. Takes time in
+/// proportion to the nodes and arcs, and memory for the arcs and the nodes that are reached.
 ///
 /// The tests, in order: `NotShortest` at the source if its claim isn't 0; for each arc with a claim at its tail, from
 /// 1, `Escapes` if its head has no claim, and `NotShortest` if its head's claim is too great; for each node with a
@@ -83,7 +82,7 @@ pub(crate) fn decide_block<N: Network, C: DistanceClaim>(
     Ok(tree.into_block())
 }
 
-/// Whether the claim of the source is 0.
+/// Refuses the source if its claim isn't 0.
 pub fn source_holds<C: DistanceClaim>(source: u32, claim: &C) -> Result<(), (Where, Reason)>
     ensures { TestsRow (source_row source (C.claimed claim.now)) result }
 {
@@ -93,7 +92,7 @@ pub fn source_holds<C: DistanceClaim>(source: u32, claim: &C) -> Result<(), (Whe
     }
 }
 
-/// Refuses the first arc with a claim at its tail whose head has no claim or too great a one.
+/// Refuses the first arc that fails.
 fn arcs_hold<N: Network, C: DistanceClaim>(network: &N, claim: &C) -> Result<(), (Where, Reason)>
     ensures { TestsRow (claim_row (N.list network.now) (C.claimed claim.now)) result }
 {
@@ -118,7 +117,6 @@ pub(crate) fn arc_fault<C: DistanceClaim>(claim: &C, arc: ArcView) -> Option<Rea
     }
 }
 
-/// Whether `to` is greater than `from` and the weight.
 #[inline(always)]
 fn is_beyond(to: i128, from: i128, weight: i64) -> bool
     requires { IsWide from }

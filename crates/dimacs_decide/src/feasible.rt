@@ -1,4 +1,4 @@
-//! Deciding whether a flow within the bounds is feasible, by a search from its excesses to its deficits.
+//! Decides by a search from excesses to deficits whether a flow within the bounds is feasible.
 
 ghost use Rattle.std.specs.Prelude.{◌≡◌, ◌≤◌, ◌+◌, ◌<ℤ◌, ℕ, pos, true, IfOk};
 ghost use Rattle.dimacs_lines.specs.Limits.{most_nodes, IsNode};
@@ -21,19 +21,20 @@ use dimacs_nodes::NodeTable;
 use dimacs_optimality::Flow;
 use std::alloc::Global;
 
-/// The answer about a flow that keeps the bounds of the arcs.
+/// Whether a flow that keeps the bounds is feasible.
 #[derive(Drop)]
 pub enum FeasibilityDecision {
     /// It is feasible.
     Balanced,
     /// No flow is feasible; this violated set shows it.
     Infeasible(Cut),
-    /// It isn't feasible. This flow keeps the bounds, too, and leaves less excess.
+    /// It isn't. This flow keeps the bounds, too, with less excess.
     Nearer(Flow),
 }
 
-/// Decides whether a flow that keeps the bounds is feasible, and if it isn't, whether some flow can be. Takes time in
-/// proportion to the nodes and arcs, and memory for the arcs and the nodes that have one. The only error is `Memory`.
+/// Decides whether a flow that keeps the bounds is feasible. If it isn't, the answer is such a flow with less excess,
+/// or a set that shows that no flow is. Takes time in proportion to the nodes and arcs, and memory for the arcs and the
+/// nodes that have one.
 pub fn decide_feasible<N: Network>(
     alloc: Global,
     instance: &MinInstance<N>,
@@ -68,12 +69,12 @@ pub fn decide_feasible_over<N: Network>(
     }
 }
 
-/// The result of looking only at the nodes.
+/// What the imbalances alone show.
 #[derive(Drop)]
 enum Look {
-    /// No node has excess, which decides the question.
+    /// The answer, if no node has excess.
     Decided(FeasibilityDecision),
-    /// Some node has excess. The table has the excess of each node, a deficit being negative.
+    /// The imbalance of each node, if some has excess.
     Excess(NodeTable<i128>),
 }
 
@@ -120,7 +121,6 @@ fn nearer_or_stuck<N: Network>(
     }
 }
 
-/// The set of all nodes.
 fn every_node(alloc: Global, nodes: u32) -> Result<Cut, Memory>
     requires { nodes ≤ most_nodes }
     ensures nodes { IfOk result (λ set. set.nodes ≡ nodes) }

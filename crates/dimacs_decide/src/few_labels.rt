@@ -1,4 +1,4 @@
-//! Certifying a block with few labels by the arcs that leave its nodes.
+//! Certifies a block with few labels by the arcs that leave its nodes.
 
 ghost use Rattle.std.specs.Prelude.{◌≡◌, ◌≤◌, ℕ, IfOk, IfSome, IsTrue, is_some, length, true};
 ghost use Rattle.dimacs_lines.specs.Limits.{most_count};
@@ -25,14 +25,14 @@ use dimacs_nodes::NodeTable;
 use dimacs_optimality::lightest_arcs;
 use std::alloc::Global;
 
-/// A block has few labels if there are more than this many nodes for each of them.
+/// A block has few labels if there are more nodes than this for each of them.
 const NODES_A_LABEL: usize = 32;
 
-/// What all blocks with few labels share: the arcs by tail, and tables by node. A block sets only the items of the nodes
-/// that it labels.
+/// What blocks with few labels share. A block sets only the items of the nodes that it labels.
 #[derive(Drop)]
 pub(crate) struct Tables {
-    /// One lightest arc between each two nodes, if there is a hub. For each block may label the two ends of many arcs.
+    /// One lightest arc between each two nodes, if there is a hub, a node that very many arcs leave: each block may
+    /// label both ends of many parallel arcs.
     lightest: Option<PlainArcs<ArcView>>,
     /// The lists of the lightest arcs; without a hub, of all arcs.
     lists: AdjacencyLists,
@@ -65,15 +65,14 @@ impl Tables {
     }
 }
 
-/// Whether the block has so few labels that the arcs that leave their nodes take less time than all arcs: few for so
-/// many nodes, or so few that fewer pairs of labelled nodes can be joined than there are arcs.
+/// Whether a block has few labels for so many nodes, or fewer pairs of labelled nodes than there are arcs. The arcs
+/// that leave its nodes then take less time than all arcs.
 pub(crate) fn labels_few<N: Network>(block: &Block, network: &N) -> bool {
     let labels = block.labels().len();
     labels < network.nodes() as usize / NODES_A_LABEL
         || labels.saturating_mul(labels) < network.arcs() as usize
 }
 
-/// Whether any block has so few labels.
 fn any_labels_few<N: Network>(blocks: &[Block], network: &N) -> bool {
     for block in blocks {
         if labels_few(block, network) {
@@ -83,7 +82,6 @@ fn any_labels_few<N: Network>(blocks: &[Block], network: &N) -> bool {
     false
 }
 
-/// The network of one lightest arc between each two nodes, if there is a hub.
 fn lightest_network<N: Network>(
     alloc: Global,
     network: &N,
@@ -118,7 +116,7 @@ fn lists_of<N: Network>(
 }
 
 /// Labels for the claimed distances, if these are right, and the tables for the next block. Takes time in proportion to
-/// the labels and the arcs that leave their nodes; with a hub, only to the lightest of these.
+/// the labels and the arcs, or lightest arcs, that leave their nodes.
 pub(crate) fn few_block<N: Network>(
     alloc: Global,
     graph: &Graph<N>,
@@ -191,7 +189,6 @@ fn few_tree<N: Network, M: Network>(
     Ok(Some(tree))
 }
 
-/// Whether no arc that leaves a labelled node fails.
 fn leaving_passed<N: Network, C: DistanceClaim>(
     network: &N,
     lists: &AdjacencyLists,
@@ -235,7 +232,6 @@ fn node_passed<N: Network, C: DistanceClaim>(
     true
 }
 
-/// Whether the search reached every labelled node.
 fn reaches_all(claimed: &Block, tree: &TightTree) -> bool
     requires { value_of tree.now.reached claimed.now.source ≡ true }
     ensures { IsTrue result → (nodes : ℕ) → ReachesAll nodes (label claimed.now) (value_of tree.now.reached) }

@@ -1,4 +1,4 @@
-//! Raising potentials over residual arcs.
+//! Raises potentials over residual arcs.
 
 ghost use Rattle.std.specs.Prelude.{ℕ, ℤ, List, ◌≡◌, ◌<◌, ◌≤◌, ◌+◌, ◌*◌, ◌<ℤ◌, ◌≤ℤ◌, pos, All, length, IfOk, OnOk};
 ghost use Rattle.std.specs.List.{AllZip};
@@ -19,8 +19,8 @@ use dimacs_network::{ArcView, Network, Side};
 use dimacs_nodes::NodeTable;
 use dimacs_optimality::Flow;
 
-/// How high a node's potential was raised, and by which residual arc: 1 plus the index of its arc, 0 for none, and the
-/// side from which it is taken.
+/// A node's raised potential, and the residual arc that raised it: 1 plus the index of its arc, 0 for none, and the
+/// side from which it leads.
 #[derive(Clone, Copy)]
 pub(crate) struct HeightLabel {
     pub height: i128,
@@ -28,7 +28,6 @@ pub(crate) struct HeightLabel {
     pub side: Side,
 }
 
-/// The label of a node that wasn't raised.
 pub(crate) fn unraised_label() -> HeightLabel
     ensures { result ≡ unraised }
 {
@@ -63,7 +62,7 @@ pub(crate) fn gain(side: Side, arc: ArcView) -> i128
     }
 }
 
-/// Raises the node at the other end of an arc, if the arc has residual capacity from this side and the node is too low.
+/// Raises the node at the other end of an arc, if there is residual capacity from this side and the node is too low.
 /// Returns whether it did.
 #[inline(always)]
 fn lift<N: Network>(
@@ -99,7 +98,6 @@ fn lift<N: Network>(
     Ok(true)
 }
 
-/// Whether something had changed before, or a node was raised in one of both directions.
 #[inline(always)]
 fn either(changed: bool, forward: bool, backward: bool) -> bool
     ensures { result ≡ either_of changed forward backward }
@@ -107,7 +105,7 @@ fn either(changed: bool, forward: bool, backward: bool) -> bool
     if forward || backward { true } else { changed }
 }
 
-/// Goes over all arcs once, in both directions, and returns whether a node was raised.
+/// Goes over all arcs once, in both directions. Returns whether a node was raised.
 pub(crate) fn round<N: Network>(
     network: &N,
     flow: &Flow,

@@ -1,4 +1,4 @@
-//! The excess of each node under a flow; a deficit is negative.
+//! The imbalances of nodes under a flow.
 
 ghost use Rattle.std.specs.Prelude.{◌≡◌, ◌≢◌, ◌≤◌, ◌+◌, ◌^◌, ◌↔◌, ℕ, IsTrue, pos, IfOk};
 ghost use Rattle.dimacs_lines.specs.Limits.{most_nodes};
@@ -14,7 +14,7 @@ use dimacs_nodes::NodeTable;
 use dimacs_optimality::{Balances, Flow};
 use std::alloc::Global;
 
-/// The excess of each node: its supply less its balance. Takes memory for the ends of arcs and the nodes whose excess
+/// The imbalance of each node: its supply less its balance. Takes memory for the ends of arcs and the nodes where it
 /// isn't 0.
 pub(crate) fn imbalances<N: Network>(
     alloc: Global,
@@ -37,25 +37,23 @@ pub(crate) fn imbalances<N: Network>(
     Ok(table)
 }
 
-/// Whether there is an excess or a deficit.
 fn is_unbalanced(imbalance: i128) -> bool
     ensures { IsTrue result ↔ (imbalance ≢ pos 0) }
 {
     imbalance != 0
 }
 
-/// The excesses of all nodes, summed up.
+/// Which imbalances the nodes have.
 #[derive(Clone, Copy)]
 pub(crate) enum Standing {
     /// No node has an excess or a deficit.
     Even,
-    /// Some nodes have a deficit, and none has an excess.
+    /// Some node has a deficit, and none an excess.
     Deficit,
     /// Some node has an excess.
     Excess,
 }
 
-/// Sums up the excesses of all nodes.
 pub(crate) fn assess(nodes: u32, imbalance: &NodeTable<i128>) -> Standing
     requires { nodes ≤ most_nodes }
     ensures { Stands nodes (nodes + 1) (value_of imbalance.now) result }

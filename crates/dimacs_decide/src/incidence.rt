@@ -7,7 +7,7 @@ use dimacs_lines::Memory;
 use dimacs_network::{AdjacencyLists, Network, Side};
 use std::alloc::Global;
 
-/// The arcs of a network by their ends: for each node those that leave it and those that enter it.
+/// For each node the arcs that leave it and those that enter it.
 #[derive(Drop)]
 pub struct Incidence {
     leaving: AdjacencyLists,
@@ -15,7 +15,7 @@ pub struct Incidence {
 }
 
 impl Incidence {
-    /// Goes over the arcs once for each direction. Takes 8 bytes for each arc, and 8 for each node that has one.
+    /// Takes 8 bytes for each arc, and 8 for each node that has one.
     pub fn new<N: Network>(alloc: Global, network: &N) -> Result<Incidence, Memory>
         ensures { IfOk result (IsIncidenceOf (N.list network.now)) }
     {
@@ -25,7 +25,6 @@ impl Incidence {
         })
     }
 
-    /// The adjacency lists of this side.
     #[inline(always)]
     pub(crate) fn lists(&self, side: Side) -> &AdjacencyLists
         ensures { result.now ≡ lists_at side self.now }

@@ -1,4 +1,4 @@
-//! Deciding whether an instance has a feasible flow, by flows that leave less and less excess.
+//! Decides whether an instance has a feasible flow, by flows of less and less excess.
 
 ghost use Rattle.std.specs.Prelude.{◌≡◌, ◌≤ℤ◌, map, IfOk, IsTrue};
 ghost use Rattle.dimacs_network.specs.declared.network.ArcView.{ArcView};
@@ -17,7 +17,7 @@ use dimacs_network::Network;
 use dimacs_optimality::Flow;
 use std::alloc::Global;
 
-/// The answer about an instance.
+/// Whether an instance has a feasible flow.
 #[derive(Drop)]
 pub enum Feasibility {
     /// No flow is feasible; this violated set shows it.
@@ -26,9 +26,8 @@ pub enum Feasibility {
     Feasible(Flow),
 }
 
-/// Decides whether no flow is feasible. It never gives up: it calls `decide_feasible` for successive flows, each of
-/// which leaves less excess, until one decides the question. Usually one call does. The only error is `Memory`, which
-/// is no answer about the instance.
+/// Decides whether no flow is feasible, and never gives up: it calls `decide_feasible` for flows of less and less
+/// excess, until one call decides. Usually the first does.
 pub fn decide_infeasible<N: Network>(
     alloc: Global,
     instance: &MinInstance<N>,
@@ -45,8 +44,7 @@ pub fn decide_infeasible<N: Network>(
     }
 }
 
-/// The start flow: what the preflow method makes of the lower bounds, if that keeps the bounds; otherwise the lower
-/// bounds.
+/// What the preflow method makes of the lower bounds, if that keeps the bounds; otherwise the lower bounds.
 fn start_flow<N: Network>(alloc: Global, instance: &MinInstance<N>) -> Result<Flow, Memory>
     ensures { IfOk result (KeepsBounds instance.now.arcs) }
 {
@@ -58,7 +56,6 @@ fn start_flow<N: Network>(alloc: Global, instance: &MinInstance<N>) -> Result<Fl
     Ok(lowest)
 }
 
-/// The flow that carries the lower bound of each arc.
 fn lower_bounds<N: Network>(alloc: Global, network: &N) -> Result<Flow, Memory>
     ensures { IfOk result (λ flow. flow ≡ map (λ (a : ArcView). a.low) (N.list network.now)) }
 {
@@ -83,7 +80,6 @@ fn sent_on<N: Network>(alloc: Global, instance: &MinInstance<N>, flow: Flow) -> 
     Ok(flow)
 }
 
-/// Whether `other` leaves no more excess than `flow`.
 fn leaves_no_more<N: Network>(
     alloc: Global,
     instance: &MinInstance<N>,

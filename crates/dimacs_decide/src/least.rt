@@ -1,5 +1,5 @@
-//! Deciding whether a flow costs least: a heuristic proposes potentials or a cycle, which are tested. If they fail,
-//! potentials are raised over residual arcs.
+//! Decides whether a flow costs least. A heuristic proposes potentials or a cycle. If these fail their test, potentials
+//! are raised over residual arcs.
 
 ghost use Rattle.std.specs.Prelude.{◌≡◌, ◌≤◌, ◌≤ℤ◌, ◌+◌, ℕ, pos, IfOk, OnOk, IsTrue};
 ghost use Rattle.dimacs_lines.specs.Limits.{most_nodes, IsNode};
@@ -25,7 +25,7 @@ use dimacs_nodes::NodeTable;
 use dimacs_optimality::{Flow, slack_tests};
 use std::alloc::Global;
 
-/// The answer about the cost of a feasible flow.
+/// Whether a feasible flow costs least.
 #[derive(Drop)]
 pub enum MinDecision {
     /// It costs least; these potentials are slack.
@@ -34,8 +34,8 @@ pub enum MinDecision {
     Better(Flow),
 }
 
-/// Decides whether a feasible flow costs least. It usually takes a few passes over the arcs, and memory for the arcs
-/// and the nodes that have one. The only error is `Memory`, which is no answer about the flow.
+/// Decides whether a feasible flow costs least. Usually takes a few passes over the arcs, and memory for the arcs and
+/// the nodes that have one.
 pub fn decide_min<N: Network>(
     alloc: Global,
     instance: &MinInstance<N>,
@@ -52,9 +52,8 @@ pub fn decide_min<N: Network>(
     }
 }
 
-/// The same, from any potentials: one pass over the arcs, if they are slack; otherwise they are raised in rounds over
-/// the arcs, at most as many rounds as there are nodes and usually far fewer. Takes memory for the nodes that have an
-/// arc.
+/// The same, from any potentials: one pass over the arcs, if they are slack. Otherwise they are raised in rounds over
+/// the arcs, at most as many as there are nodes, usually far fewer. Takes memory for the nodes that have an arc.
 pub fn decide_min_from<N: Network>(
     alloc: Global,
     instance: &MinInstance<N>,
@@ -71,7 +70,6 @@ pub fn decide_min_from<N: Network>(
     decide_by_rounds(alloc, instance, flow, labels)
 }
 
-/// Whether the potentials have the nodes of the instance and are slack.
 fn show_least<N: Network>(instance: &MinInstance<N>, flow: &Flow, potentials: &Potentials) -> bool
     requires { FeasibleMin instance.now flow.now }
     ensures { IsTrue result → DecidesMin instance.now flow.now (MinDecision.Optimal potentials.now) }
@@ -80,7 +78,7 @@ fn show_least<N: Network>(instance: &MinInstance<N>, flow: &Flow, potentials: &P
         && slack_tests(instance, flow, potentials).is_ok()
 }
 
-/// Decides the question by residual arcs about which nothing is known.
+/// Cancels these residual arcs, if they form a cycle of negative cost; otherwise raises potentials.
 fn decide_by_cycle<N: Network>(
     alloc: Global,
     instance: &MinInstance<N>,
@@ -97,7 +95,6 @@ fn decide_by_cycle<N: Network>(
     decide_by_rounds(alloc, instance, flow, labels)
 }
 
-/// The flow after cancelling this cycle, which costs less.
 fn better_by<N: Network>(
     alloc: Global,
     instance: &MinInstance<N>,
@@ -113,7 +110,7 @@ fn better_by<N: Network>(
     Ok(MinDecision::Better(better))
 }
 
-/// Decides the question by raising potentials in rounds over the arcs.
+/// Raises potentials in rounds over the arcs, until none rises, or there is a cycle to cancel.
 fn decide_by_rounds<N: Network>(
     alloc: Global,
     instance: &MinInstance<N>,
@@ -157,7 +154,7 @@ fn clamped(number: i128) -> i128
     }
 }
 
-/// The least potential of a node that has an arc, or 0.
+/// The least of 0 and the potentials of nodes that have an arc.
 fn least_of<N: Network>(network: &N, start: &Potentials) -> i128
     ensures { IsWide result }
 {
@@ -177,8 +174,8 @@ fn lesser(a: i128, b: i128) -> i128
     if a < b { a } else { b }
 }
 
-/// Start heights with the same differences as these potentials, if no difference is more than 2^96. Nodes without an
-/// arc get none.
+/// The potentials less `least_of` as start heights, from 0 to `HIGHEST`. Nodes without an arc get none, node 0 the
+/// greatest.
 fn start_labels<N: Network>(
     alloc: Global,
     network: &N,
@@ -212,7 +209,6 @@ fn start_at(labels: &mut NodeTable<HeightLabel>, id: u32, height: i128) -> Resul
     labels.set(id, unraised_at(height))
 }
 
-/// The label of a node with this height that wasn't raised.
 fn unraised_at(height: i128) -> HeightLabel
     ensures { result ≡ record { height = height; parent_arc = 0; side = Tail } }
 {
@@ -223,7 +219,6 @@ fn unraised_at(height: i128) -> HeightLabel
     }
 }
 
-/// The heights as potentials.
 fn potentials_of(
     alloc: Global,
     nodes: u32,

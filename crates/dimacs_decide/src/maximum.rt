@@ -1,4 +1,4 @@
-//! Deciding whether a flow is maximum, by a search for an augmenting path.
+//! Decides by a search for an augmenting path whether a flow is maximum.
 
 ghost use Rattle.std.specs.Prelude.{◌≢◌, ◌<◌, ℕ, List, ℤ, IfOk};
 ghost use Rattle.dimacs_lines.specs.Limits.{IsNode};
@@ -21,7 +21,7 @@ use dimacs_nodes::NodeTable;
 use dimacs_optimality::Flow;
 use std::alloc::Global;
 
-/// The answer about the value of a feasible flow.
+/// Whether a feasible flow is maximum.
 #[derive(Drop)]
 pub enum MaxDecision {
     /// It is maximum; this tight cut shows it.
@@ -31,7 +31,7 @@ pub enum MaxDecision {
 }
 
 /// Decides whether a feasible flow is maximum. Takes time in proportion to the nodes and arcs, and memory for the arcs
-/// and the nodes that have one. The only error is `Memory`, which is no answer about the flow.
+/// and the nodes that have one.
 pub fn decide_max<N: Network>(
     alloc: Global,
     instance: &MaxInstance<N>,

@@ -1,4 +1,4 @@
-//! The distances that a block with few labels claims, by node, in a table shared by many blocks.
+//! The distances that a block with few labels claims, looked up by a table that many blocks share.
 
 ghost use Rattle.std.specs.Prelude.{◌≡◌, ℕ, IfOk};
 ghost use Rattle.std.specs.Option.{ForSome};
@@ -12,7 +12,7 @@ use dimacs_claims::Block;
 use dimacs_lines::Memory;
 use dimacs_nodes::NodeTable;
 
-/// The distances that a block claims. Looking one up takes constant time.
+/// A look-up takes constant time.
 #[derive(Drop)]
 pub(crate) struct PlacedClaim<'a> {
     block: &'a Block,
@@ -24,8 +24,7 @@ pub(crate) struct PlacedClaim<'a> {
 }
 
 impl<'a> PlacedClaim<'a> {
-    /// Sets the place of each label, in a table that may still hold the places of other blocks. Takes memory only for nodes
-    /// that it doesn't hold yet.
+    /// The table may still hold places of other blocks. Takes memory only for nodes that it doesn't hold yet.
     pub(crate) fn new(block: &'a Block, places: NodeTable<u32>) -> Result<PlacedClaim<'a>, Memory>
         requires { (nodes : ℕ) × IsBlock nodes block.now }
         ensures { IfOk result (λ claim. claim.block.now ≡ block.now) }

@@ -1,4 +1,4 @@
-//! Deciding whether claimed distances are right, by predecessors that one pass over the arcs finds.
+//! Shows claimed distances by predecessors that one pass over the arcs finds.
 
 ghost use Rattle.std.specs.Prelude.{◌≡◌, ◌≢◌, ◌≤◌, All, IfOk, IfSome, IsSome, IsTrue, OnOk, Some, pos, true};
 ghost use Rattle.dimacs_lines.specs.Limits.{most_nodes, IsNode};
@@ -23,8 +23,8 @@ use std::alloc::Global;
 /// Stands for a node that was reached, in a table of tails. Greater than every ID.
 const REACHED: u32 = u32::MAX;
 
-/// A block that shows the claimed distances, if each has a tight arc of positive weight. None doesn't mean that they
-/// are wrong. One pass over the arcs.
+/// A block that shows the claimed distances, if each but the source's has a tight arc of positive weight. Takes one
+/// pass over the arcs. None doesn't mean that the claim is wrong.
 pub(crate) fn block_by_predecessors<N: Network, C: DistanceClaim>(
     alloc: Global,
     graph: &Graph<N>,
@@ -73,7 +73,6 @@ fn tight_tails<N: Network, C: DistanceClaim>(
     Ok(Some(tails))
 }
 
-/// Keeps the tail of an arc, if the arc is tight and its weight is positive.
 #[inline(always)]
 fn note_tail<C: DistanceClaim>(claim: &C, arc: ArcView, tails: &mut DenseTable<u32>)
     requires { HasNode tails.old arc.head }
@@ -89,12 +88,12 @@ fn note_tail<C: DistanceClaim>(claim: &C, arc: ArcView, tails: &mut DenseTable<u
 #[derive(Drop)]
 struct PredecessorTree {
     block: Block,
-    /// For each node `REACHED`, or the tail of a tight arc of positive weight to it, 0 for none.
+    /// For each node `REACHED`, or a tail as `tight_tails` finds it.
     tails: DenseTable<u32>,
 }
 
 impl PredecessorTree {
-    /// The search tree after only the source was reached.
+    /// Reaches only the source.
     fn new<N: Network, C: DistanceClaim>(
         alloc: Global,
         network: &N,
@@ -118,7 +117,6 @@ impl PredecessorTree {
         Ok(PredecessorTree { block, tails })
     }
 
-    /// Whether a node was reached.
     #[inline(always)]
     fn reaches(&self, node: u32) -> bool
         ensures { result ≡ is_reached self.now.tails node }
@@ -126,7 +124,7 @@ impl PredecessorTree {
         self.tails.get(node) == REACHED
     }
 
-    /// Whether this is a node that was reached.
+    /// Whether this is a node's ID, and the node was reached.
     #[inline(always)]
     fn leads(&self, pred: u32) -> bool
         ensures { IsTrue result → (pred ≢ 0) × (pred ≢ REACHED) × (is_reached self.now.tails pred ≡ true) }
@@ -166,7 +164,7 @@ impl PredecessorTree {
     }
 }
 
-/// Reaches all nodes with a claim, in the order of IDs, each after its predecessors. Returns whether that succeeds.
+/// Reaches all nodes with a claim, each after its predecessors. Returns whether that succeeds.
 #[inline(never)]
 fn reach_all<N: Network, C: DistanceClaim>(
     alloc: Global,
@@ -191,8 +189,7 @@ fn reach_all<N: Network, C: DistanceClaim>(
     Ok(true)
 }
 
-/// Reaches a node, if it has a claim, after those of its predecessors that weren't reached. Returns whether that
-/// succeeds.
+/// Reaches a node with a claim, after those of its predecessors that weren't reached. Returns whether that succeeds.
 #[inline(always)]
 fn reach_node<N: Network, C: DistanceClaim>(
     network: &N,

@@ -22,7 +22,7 @@ pub(crate) fn residual_capacity_from(side: Side, arc: ArcView, amount: i64) -> i
     }
 }
 
-/// Sends the amount along the arc with this index, from 0, from this side.
+/// Sends the amount from this side along the arc with this index, from 0.
 #[inline(always)]
 pub(crate) fn send_from(side: Side, arc_index: u32, amount: i64, flow: &mut Flow)
     requires arc_index { arc_index < length flow.old }

@@ -1,4 +1,4 @@
-//! The search over tight arcs: their weight is the difference of the claims of their ends.
+//! A search in breadth over tight arcs: their weight is the difference of the claims of their ends.
 
 ghost use Rattle.std.specs.Prelude.{◌≡◌, ◌≢◌, ◌<◌, ◌≤◌, ◌+ℤ◌, ◌↔◌, ℕ, is_some, IsTrue, All, length, false, true, Some, IfOk, IfSome, OnOk, MatchOption, pos};
 ghost use Rattle.dimacs_lines.specs.Limits.{most_nodes, IsNode};
@@ -19,8 +19,7 @@ use dimacs_network::{AdjacencyLists, ArcView, Network};
 use dimacs_nodes::NodeTable;
 use std::alloc::Global;
 
-/// The nodes that a search over tight arcs has reached: labels in the order of the search, each with the node from
-/// which it was reached as predecessor.
+/// The labels of the nodes that a search over tight arcs has reached, in order, with predecessors in the search.
 #[derive(Drop)]
 pub(crate) struct TightTree {
     block: Block,
@@ -28,7 +27,7 @@ pub(crate) struct TightTree {
 }
 
 impl TightTree {
-    /// The search that has reached only its source, over a table with no node reached yet.
+    /// The search that has reached only its source. No node of the table is reached yet.
     pub fn new<N: Network, C: DistanceClaim>(
         alloc: Global,
         network: &N,
@@ -49,7 +48,6 @@ impl TightTree {
         Ok(TightTree { block, reached })
     }
 
-    /// Whether the search has reached a node.
     #[inline(always)]
     pub fn reaches(&self, node: u32) -> bool
         ensures { result ≡ value_of self.now.reached node }
@@ -57,15 +55,13 @@ impl TightTree {
         self.reached.get(node)
     }
 
-    /// The labels of the nodes that were reached.
     pub fn into_block(self) -> Block
         ensures { result ≡ self.block }
     {
         self.block
     }
 
-    /// The labels of the nodes that were reached, and the table, with no node reached. Takes time in proportion to the
-    /// labels.
+    /// The labels, and the table, with no node reached. Takes time in proportion to the labels.
     pub fn into_parts(self) -> Result<(Block, NodeTable<bool>), Memory>
         requires { (v : ℕ) → value_of self.reached v ≡ is_some (label self.block v) }
         ensures block { IfOk result (λ parts. parts.0 ≡ self.block) }
@@ -81,7 +77,7 @@ impl TightTree {
         Ok((block, reached))
     }
 
-    /// The number of nodes reached from the source, which doesn't count.
+    /// The number of nodes reached, without the source.
     #[inline(always)]
     fn len(&self) -> usize
         ensures { result ≡ length self.now.block.labels }
@@ -102,7 +98,7 @@ impl TightTree {
         }
     }
 
-    /// Goes over the arcs that leave a node that was reached.
+    /// Follows the arcs that leave a reached node.
     fn pass<N: Network, C: DistanceClaim>(
         &mut self,
         network: &N,
@@ -129,7 +125,7 @@ impl TightTree {
         Ok(())
     }
 
-    /// Reaches the head of an arc, if the arc is tight and the head wasn't reached. Its tail was.
+    /// Reaches the head of an arc whose tail was reached, if the arc is tight and the head wasn't reached.
     #[inline(always)]
     fn follow<N: Network, C: DistanceClaim>(
         &mut self,
@@ -181,7 +177,6 @@ pub(crate) fn tight_dist<C: DistanceClaim>(claim: &C, arc: ArcView) -> Option<i1
     }
 }
 
-/// Whether `to` is the sum of `from` and the weight.
 #[inline(always)]
 fn leads_to(from: i128, weight: i64, to: i128) -> bool
     requires { IsWide from }
@@ -190,8 +185,7 @@ fn leads_to(from: i128, weight: i64, to: i128) -> bool
     to == from + i128::from(weight)
 }
 
-/// All nodes that paths of tight arcs lead to from the source, in the order of the search, over a table with no node
-/// reached yet.
+/// The nodes to which tight arcs lead from the source, in the order of the search. No node of the table is reached yet.
 pub(crate) fn tight_tree<N: Network, C: DistanceClaim>(
     alloc: Global,
     network: &N,

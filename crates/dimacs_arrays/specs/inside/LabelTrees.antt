@@ -1,4 +1,4 @@
--- Inside: labels of nodes that lead back to the source, and the way back from one more.
+-- Inside: labels of nodes that lead back to the source, and the path back from one more.
 use Rattle.std.specs.Prelude.{ℕ, ◌≡◌, ◌≢◌, ◌<◌, ◌≤◌, ◌+◌, ◌⊎◌, ◌==◌, Bool, true, false, not, List, [], ◌∷◌, All, length, Option, Some, None, IsSome, is_some, ℤ}
 use Rattle.dimacs_lines.specs.Limits.{IsNode}
 use Rattle.dimacs_claims.specs.declared.block.Label.{Label}
@@ -32,12 +32,12 @@ Places labelled after u = (after u ≡ true) × ((v : ℕ) → v ≢ u → after
 abbrev pub AreLabelledBelow : (ℕ → Option ℤ) → (ℕ → Bool) → ℕ → Type 0
 AreLabelledBelow claim labelled n = (v : ℕ) → v < n → IsSome (claim v) → labelled v ≡ true
 
--- the way back from v: nodes with distances, each the predecessor of the one before; the next is `end`
+-- the path back from v: nodes with distances, each the predecessor of the one before; the next is `end`
 abbrev pub IsPathBack : (ℕ → Option ℤ) → (ℕ → ℕ) → ℕ → List ℕ → ℕ → Type 0
 IsPathBack claim pred v [] end = v ≡ end
 IsPathBack claim pred v (u ∷ path) end = (v ≡ u) × IsSome (claim v) × IsPathBack claim pred (pred v) path end
 
--- the node is at most the first on the way
+-- the node is at most the first on the path
 abbrev pub ComesFirst : ℕ → List ℕ → Type 0
 ComesFirst v [] = Unit {0}
 ComesFirst v (u ∷ path) = All (λ w. w ≢ v) path
@@ -46,7 +46,7 @@ ComesFirst v (u ∷ path) = All (λ w. w ≢ v) path
 abbrev pub others : (ℕ → ℕ) → ℕ → ℕ → ℕ
 others roots v n = count_below (λ u. not (roots u == v)) n
 
--- the way back from v to `end`; v is the start of its nodes, and of no others
+-- the path back from v to `end`; v is the start of its nodes, and of no others
 pub record IsClimbing (claim : ℕ → Option ℤ) (pred : ℕ → ℕ) (labelled : ℕ → Bool) (v : ℕ) (roots : ℕ → ℕ) (path : List ℕ) (end : ℕ) : Type 0 where
   pub goes : IsPathBack claim pred v path end
   pub at_most : (u : ℕ) → roots u ≤ v

@@ -21,7 +21,7 @@ pub record IsBlockOf (g : NetworkValue) (s : ℕ) (claim : ℕ → Option ℤ) (
   pub passes : LabelsOk g.arcs b
   pub agrees : (v : ℕ) → IsNode g.nodes v → label b v ≡ claim v
 
--- a block made for a claimed one
+-- a block with the source and the distances of a claimed one
 abbrev pub IsBlockFor : NetworkValue → BlockValue → BlockValue → Type 0
 IsBlockFor g claimed b = IsBlockOf g claimed.source (label claimed) b
 

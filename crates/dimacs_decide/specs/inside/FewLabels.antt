@@ -21,7 +21,9 @@ AreNamed b = (j : ℕ) → j < length b.labels → distance_in b.labels (get_or 
 
 -- no arc that leaves this node fails
 abbrev pub ArePassedFrom : List ArcView → (ℕ → Option ℤ) → ℕ → Type 0
-ArePassedFrom arcs claim v = (k : ℕ) → k < length arcs → (arc_at arcs k).tail ≡ v → (reason : Reason) → ¬ RelaxFails None (claim (arc_at arcs k).tail) (claim (arc_at arcs k).head) (arc_at arcs k).cost reason
+ArePassedFrom arcs claim v =
+    (k : ℕ) → k < length arcs → (arc_at arcs k).tail ≡ v
+    → (reason : Reason) → ¬ RelaxFails None (claim (arc_at arcs k).tail) (claim (arc_at arcs k).head) (arc_at arcs k).cost reason
 
 -- no node is reached
 abbrev pub IsUnreached : (ℕ → Bool) → Type 0

@@ -34,7 +34,8 @@ BelowBound n labels = (v : ℕ) → height_of labels v ≤ℤ bound n
 -- the residual arc from this side can't raise its other end
 abbrev pub IsSettled : List ArcView → List ℤ → (ℕ → HeightLabel) → Side → ℕ → Type 0
 IsSettled arcs x labels side k =
-    pos 0 <ℤ residual_capacity_on arcs x side k → (height_of labels (end_of side (arc_at arcs k)) +ℤ gain_at side (arc_at arcs k)) ≤ℤ height_of labels (other_end side (arc_at arcs k))
+    pos 0 <ℤ residual_capacity_on arcs x side k
+    → (height_of labels (end_of side (arc_at arcs k)) +ℤ gain_at side (arc_at arcs k)) ≤ℤ height_of labels (other_end side (arc_at arcs k))
 
 abbrev pub AreSettled : List ArcView → List ℤ → ℕ → (ℕ → HeightLabel) → Type 0
 AreSettled arcs x n labels = (k : ℕ) → k < n → (side : Side) → IsSettled arcs x labels side k
@@ -45,7 +46,8 @@ pub record IsRaised (arcs : List ArcView) (x : List ℤ) (height : ℕ → ℤ) 
   pub to : other_end l.side (arc_at arcs (l.parent_arc - 1)) ≡ v
   pub residual_capacity : pos 0 <ℤ residual_capacity_on arcs x l.side (l.parent_arc - 1)
   pub low : height v ≤ℤ (height (end_of l.side (arc_at arcs (l.parent_arc - 1))) +ℤ gain_at l.side (arc_at arcs (l.parent_arc - 1)))
-  pub strict : (height v <ℤ (height (end_of l.side (arc_at arcs (l.parent_arc - 1))) +ℤ gain_at l.side (arc_at arcs (l.parent_arc - 1)))) ⊎ (time (end_of l.side (arc_at arcs (l.parent_arc - 1))) < time v)
+  pub strict : (height v <ℤ (height (end_of l.side (arc_at arcs (l.parent_arc - 1))) +ℤ gain_at l.side (arc_at arcs (l.parent_arc - 1))))
+      ⊎ (time (end_of l.side (arc_at arcs (l.parent_arc - 1))) < time v)
 
 -- heights that came from raising, each node at its own time
 pub record AreHeights (arcs : List ArcView) (x : List ℤ) (labels : ℕ → HeightLabel) : Type 0 where
@@ -58,7 +60,9 @@ pub record AreHeights (arcs : List ArcView) (x : List ℤ) (labels : ℕ → Hei
 
 -- start heights: no node is higher than node 0, which has no arc
 abbrev pub AreStartHeights : (ℕ → HeightLabel) → Type 0
-AreStartHeights labels = (v : ℕ) → ((labels v).parent_arc ≡ 0) × (pos 0 ≤ℤ height_of labels v) × (height_of labels v ≤ℤ height_of labels 0) × (height_of labels v ≤ℤ bound 0)
+AreStartHeights labels =
+    (v : ℕ) → ((labels v).parent_arc ≡ 0) × (pos 0 ≤ℤ height_of labels v)
+    × (height_of labels v ≤ℤ height_of labels 0) × (height_of labels v ≤ℤ bound 0)
 
 -- the other end of the arc is raised from this side
 pub record Lifted (arcs : List ArcView) (x : List ℤ) (side : Side) (k : ℕ) (labels labels' : ℕ → HeightLabel) : Type 0 where

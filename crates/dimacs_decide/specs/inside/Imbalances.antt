@@ -1,4 +1,4 @@
--- Inside: the excess of each node; a deficit is negative.
+-- Inside: the imbalances of nodes.
 use Rattle.std.specs.Prelude.{ℕ, ◌≡◌, ◌≢◌, ◌<◌, ◌≤◌, List, ℤ, pos, ◌≤ℤ◌, ◌<ℤ◌}
 use Rattle.dimacs_instance.specs.MinFlows.{MinValue}
 use Rattle.dimacs_lines.specs.Limits.{IsNode}
@@ -18,7 +18,7 @@ Stands nodes id imbalance Even = (v : ℕ) → 1 ≤ v → v < id → imbalance 
 Stands nodes id imbalance Deficit = ((v : ℕ) → 1 ≤ v → v < id → imbalance v ≤ℤ pos 0) × ((v : ℕ) × IsNode nodes v × (imbalance v <ℤ pos 0))
 Stands nodes id imbalance Excess = (v : ℕ) × IsNode nodes v × (pos 0 <ℤ imbalance v)
 
--- the result of looking at the nodes: a decision, or the excess of each node, if some have one
+-- the result of a look at the nodes: a decision; or all imbalances, if some node has excess
 abbrev pub IsLook : MinValue → List ℤ → Look → Type 0
 IsLook i x (looks.Decided decision) = DecidesFeasible i x decision
 IsLook i x (looks.Excess imbalance) = AreImbalances i x (value_of imbalance) × ((v : ℕ) × IsNode i.nodes v × (pos 0 <ℤ value_of imbalance v))
