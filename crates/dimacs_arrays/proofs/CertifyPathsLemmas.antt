@@ -11,7 +11,7 @@ use Rattle.dimacs_claims.specs.Labels.{BlockValue, EachAfter, IsBlock, IsFresh, 
 use Rattle.dimacs_optimality.specs.Answers.{block_of}
 use Rattle.dimacs_optimality.specs.QueryTests.{HasFullBlock}
 use Rattle.dimacs_decide.specs.Distances.{AreLabelsOf}
-use Rattle.dimacs_arrays.specs.Paths.{AreLabelsBy, IsDue, pred_by_node}
+use Rattle.dimacs_arrays.specs.Paths.{AreLabelsBy, NeedsPredecessor, pred_by_node}
 use Rattle.dimacs_arrays.specs.inside.LabelTrees.{ArePredsOf}
 
 -- no label is of the source
@@ -67,7 +67,7 @@ module _ (g : NetworkValue) (s : ℕ) (claim : ℕ → Option ℤ) (labels : Lab
       unlabelled : (v : ℕ) → v ≢ s → label b v ≡ None → distance_in b.labels v ≡ None
       unlabelled v apart none = rw (ne_eqb b.source v (λ e. apart (sym e ∙ full.0))) at none
 
-      unnamed : (v : ℕ) → IsNode g.nodes v → (¬ IsDue s claim v) → distance_in b.labels v ≡ None
+      unnamed : (v : ℕ) → IsNode g.nodes v → (¬ NeedsPredecessor s claim v) → distance_in b.labels v ≡ None
       unnamed v node free = elim (cases_eq v s) [
         | inl same ↦ not_among b.labels v (subst (λ u. All (λ (l : Label). l.id ≢ u) b.labels) (full.0 ∙ sym same) (not_source b.source [] b.labels lawful.fresh))
         | inr apart ↦ unlabelled v apart (agrees v node ∙ no_claim (claim v) (λ some. free (apart, some)))

@@ -19,7 +19,7 @@ use Rattle.dimacs_optimality.specs.declared.verdict.JudgeError.TheVariants.{Refu
 use Rattle.dimacs_optimality.specs.Tests.{Clear, First, FirstOfRow, FirstAlone, Refutes, Settles, Refuses}
 use Rattle.dimacs_optimality.proofs.Firsts.{AllOneWay, node_one_way, one_first, one_test_one_way}
 use Rattle.dimacs_decide.specs.Distances.{source_row}
-use Rattle.dimacs_arrays.specs.Paths.{AreInOrder, AreLabelsBy, JudgesByNode, IsDue, IsNext, IsPred, LeadsBack, back, back_row, label_rows, pred_row}
+use Rattle.dimacs_arrays.specs.Paths.{AreInOrder, AreLabelsBy, JudgesByNode, NeedsPredecessor, IsNext, IsPred, LeadsBack, back, back_row, label_rows, pred_row}
 use Rattle.dimacs_arrays.specs.inside.LabelTrees.{AreLabelled, IsLabelTree}
 
 -- ---- nodes of labels lead back
@@ -75,9 +75,9 @@ module _ (nodes s : ℕ) (claim : ℕ → Option ℤ) (pred : ℕ → ℕ) where
 
   pub spelled_pred : (labels : LabelsValue) → AreLabelsBy nodes s claim pred labels → (v : ℕ) → IsNode nodes v → IsPred nodes s claim v (pred v)
   spelled_pred labels are v node = elim (cases_eq v s) [
-    | inl same ↦ (let free : ¬ IsDue s claim v = λ due. due.0 same in inr (free, are.others v node free))
+    | inl same ↦ (let free : ¬ NeedsPredecessor s claim v = λ due. due.0 same in inr (free, are.others v node free))
     | inr apart ↦ elim (cases_Bool (is_some (claim v))) [
-      | inr none ↦ (let free : ¬ IsDue s claim v = λ due. (let f : true ≡ false = sym due.1 ∙ none in cc) in inr (free, are.others v node free))
+      | inr none ↦ (let free : ¬ NeedsPredecessor s claim v = λ due. (let f : true ≡ false = sym due.1 ∙ none in cc) in inr (free, are.others v node free))
       | inl some ↦
           let b = are.block in
           let named : is_some (label b v) ≡ true = ap is_some (are.agrees v node) ∙ some in
@@ -116,7 +116,7 @@ module _ (nodes s : ℕ) (claim : ℕ → Option ℤ) (pred : ℕ → ℕ) where
     )
 
   --   ---- if no test fails
-  pub zero_pred : Clear (pred_row nodes s claim pred) → (v : ℕ) → IsNode nodes v → (¬ IsDue s claim v) → pred v ≡ 0
+  pub zero_pred : Clear (pred_row nodes s claim pred) → (v : ℕ) → IsNode nodes v → (¬ NeedsPredecessor s claim v) → pred v ≡ 0
   zero_pred clear v node free = elim (cases_eq (pred v) 0) [
     | inl none ↦ none
     | inr some ↦ absurd (clear v (Node v) NodeRange (node, refl, (refl, λ is. elim is [ inl due ↦ free due.0 | inr none ↦ some none.1 ])))

@@ -12,7 +12,7 @@ mod MaxLemmas
 mod MinLemmas
 mod OrderLemmas
 mod PredLemmas
-mod ReachedLemmas
+mod LabelDistanceLemmas
 mod TightPredecessorLemmas
 mod SinkLemmas
 mod SolveLemmas

@@ -9,7 +9,7 @@ use Rattle.dimacs_claims.specs.declared.block.Label.{Label}
 use Rattle.dimacs_claims.specs.Labels.{BlockValue, IsBlock, IsNear, LabelsValue, label, with_label}
 use Rattle.dimacs_claims.proofs.BlockLemmas.{block_empty, block_push, label-with_label}
 use Rattle.dimacs_optimality.specs.Tests.{Clear}
-use Rattle.dimacs_arrays.specs.Paths.{AreInOrder, AreLabelsBy, IsDue, IsNext, IsPred, LeadsBack, back, pred_row}
+use Rattle.dimacs_arrays.specs.Paths.{AreInOrder, AreLabelsBy, NeedsPredecessor, IsNext, IsPred, LeadsBack, back, pred_row}
 use Rattle.dimacs_arrays.specs.inside.LabelTrees.{AreLabelled, AreLabelledBelow, IsLabelTree, Keeps}
 use Rattle.dimacs_arrays.proofs.LabelLemmas.{in_order, spelled}
 use Rattle.dimacs_arrays.proofs.TreeLemmas.{begun, few, grown, next_label, pred_labelled, source_labelled, unlabelled}
@@ -41,7 +41,7 @@ pub record AreNearer (nodes s : ℕ) (claim : ℕ → Option ℤ) (pred : ℕ �
   pub inside : (v : ℕ) → IsSome (claim v) → IsNode nodes v
   pub wide : (v : ℕ) (d : ℤ) → claim v ≡ Some d → pos 0 ≤ℤ d → IsWide d
   pub nearer : (v : ℕ) (d : ℤ) → v ≢ s → claim v ≡ Some d → IsNearer claim (pred v) d
-  pub others : (v : ℕ) → (¬ IsDue s claim v) → pred v ≡ 0
+  pub others : (v : ℕ) → (¬ NeedsPredecessor s claim v) → pred v ≡ 0
 
 module _ (nodes s : ℕ) (claim : ℕ → Option ℤ) (pred : ℕ → ℕ) (small : nodes ≤ most_nodes) (are : AreNearer nodes s claim pred) where
   --   only nodes with distances up to d are labelled
@@ -179,9 +179,9 @@ module _ (nodes s : ℕ) (claim : ℕ → Option ℤ) (pred : ℕ → ℕ) (smal
 
   is_pred : (v : ℕ) → IsPred nodes s claim v (pred v)
   is_pred v = elim (cases_eq v s) [
-    | inl same ↦ (let free : ¬ IsDue s claim v = λ due. due.0 same in inr (free, are.others v free))
+    | inl same ↦ (let free : ¬ NeedsPredecessor s claim v = λ due. due.0 same in inr (free, are.others v free))
     | inr apart ↦ elim (cases_Bool (is_some (claim v))) [
-      | inr none ↦ (let free : ¬ IsDue s claim v = λ due. (let f : true ≡ false = sym due.1 ∙ none in cc) in inr (free, are.others v free))
+      | inr none ↦ (let free : ¬ NeedsPredecessor s claim v = λ due. (let f : true ≡ false = sym due.1 ∙ none in cc) in inr (free, are.others v free))
       | inl some ↦
           let (d, named) = some_value (claim v) some in
           let (e, from, low, less) = are.nearer v d apart named in

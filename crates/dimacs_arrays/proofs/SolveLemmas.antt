@@ -21,7 +21,7 @@ use Rattle.dimacs_arrays.specs.ByNode.{AreBits, marked}
 use Rattle.dimacs_arrays.specs.MinArrays.{IsInfeasibleBy}
 use Rattle.dimacs_arrays.specs.Paths.{ArePredecessors}
 use Rattle.dimacs_arrays.specs.inside.LabelTrees.{ArePredsOf}
-use Rattle.dimacs_arrays.specs.inside.Reached.{AreDistancesOf}
+use Rattle.dimacs_arrays.specs.inside.LabelDistances.{AreDistancesOf}
 use Rattle.dimacs_arrays.proofs.OrderLemmas.{predecessors_by}
 
 -- ---- no flow

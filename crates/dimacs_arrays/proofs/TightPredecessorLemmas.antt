@@ -29,7 +29,7 @@ use Rattle.dimacs_claims.proofs.ByIdLemmas.{distance_in-at, fresh_apart}
 use Rattle.std.proofs.lemmas.Bool.{ne_eqb}
 use Rattle.dimacs_decide.specs.Claims.{claimed_by_node, unless_greatest}
 use Rattle.dimacs_decide.specs.Distances.{AreDistancesFrom}
-use Rattle.dimacs_arrays.specs.Paths.{AreLabelsBy, ArePredecessors, IsDue, JudgesByNode, pred_by_node}
+use Rattle.dimacs_arrays.specs.Paths.{AreLabelsBy, ArePredecessors, NeedsPredecessor, JudgesByNode, pred_by_node}
 use Rattle.dimacs_arrays.specs.inside.TightPredecessors.{AreTightPredecessors, AreTightPredecessorsFrom, HasPositiveTightArc, Relaxes, IsPositiveTight}
 use Rattle.dimacs_arrays.proofs.CertifyPathsLemmas.{not_source}
 use Rattle.dimacs_arrays.proofs.DistanceLemmas.{distance_within}
@@ -99,7 +99,7 @@ module _ (g : NetworkValue) (s : ℕ) (distances : List ℤ) (preds : List ℕ) 
 
   --   a tight arc of positive weight to a node from its predecessor
   tight_arc : (v : ℕ) (d : ℤ) → v ≢ s → claim v ≡ Some d → HasPositiveTightArc g.arcs claim (pred v) v
-  tight_arc v d apart named = are.tight.tight_arc v (are.reached v (apart, ap is_some named))
+  tight_arc v d apart named = are.tight.tight_arc v (are.predecessors v (apart, ap is_some named))
 
   nearer : (v : ℕ) (d : ℤ) → v ≢ s → claim v ≡ Some d → (e : ℤ) × (claim (pred v) ≡ Some e) × (pos 0 ≤ℤ e) × (e <ℤ d)
   nearer v d apart named =
@@ -109,7 +109,7 @@ module _ (g : NetworkValue) (s : ℕ) (distances : List ℤ) (preds : List ℕ) 
       let adds : e +ℤ a.cost ≡ d = cc in
       (e, ap claim (sym tail) ∙ tight.tail, tight.low, omega (arith, ints, adds, tight.more))
 
-  others : (v : ℕ) → (¬ IsDue s claim v) → pred v ≡ 0
+  others : (v : ℕ) → (¬ NeedsPredecessor s claim v) → pred v ≡ 0
   others v free = elim (cases_eq (pred v) 0) [
     | inl none ↦ none
     | inr some ↦

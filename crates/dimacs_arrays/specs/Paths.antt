@@ -38,12 +38,12 @@ abbrev pub LeadsBack : (ℕ → ℕ) → ℕ → ℕ → Type 0
 LeadsBack pred s v = (steps : ℕ) × (back pred steps v ≡ s)
 
 -- the node needs a predecessor: it has a distance and isn't the source
-abbrev pub IsDue : ℕ → (ℕ → Option ℤ) → ℕ → Type 0
-IsDue s claim v = (v ≢ s) × IsSome (claim v)
+abbrev pub NeedsPredecessor : ℕ → (ℕ → Option ℤ) → ℕ → Type 0
+NeedsPredecessor s claim v = (v ≢ s) × IsSome (claim v)
 
 -- the predecessor is a node if one is needed, otherwise 0
 abbrev pub IsPred : ℕ → ℕ → (ℕ → Option ℤ) → ℕ → ℕ → Type 0
-IsPred nodes s claim v p = (IsDue s claim v × IsNode nodes p) ⊎ ((¬ IsDue s claim v) × (p ≡ 0))
+IsPred nodes s claim v p = (NeedsPredecessor s claim v × IsNode nodes p) ⊎ ((¬ NeedsPredecessor s claim v) × (p ≡ 0))
 
 -- the predecessor of a node is out of range
 abbrev pub pred_row : ℕ → ℕ → (ℕ → Option ℤ) → (ℕ → ℕ) → Row
@@ -58,14 +58,14 @@ abbrev pub label_rows : ℕ → ℕ → (ℕ → Option ℤ) → (ℕ → ℕ) �
 label_rows nodes s claim pred = source_row s claim ∷ pred_row nodes s claim pred ∷ back_row nodes s claim pred ∷ []
 
 -- the first node that needs a predecessor and has none of these labels
-pub record IsLeastLeft (s : ℕ) (claim : ℕ → Option ℤ) (before : List Label) (v : ℕ) : Type 0 where
-  pub due : IsDue s claim v
+pub record IsFirstUnlabelled (s : ℕ) (claim : ℕ → Option ℤ) (before : List Label) (v : ℕ) : Type 0 where
+  pub due : NeedsPredecessor s claim v
   pub left : distance_in before v ≡ None
-  pub least : (u : ℕ) → u < v → IsDue s claim u → IsSome (distance_in before u)
+  pub least : (u : ℕ) → u < v → NeedsPredecessor s claim u → IsSome (distance_in before u)
 
 -- the next label is of a node on the path back from the first node without a label
 abbrev pub IsNext : ℕ → (ℕ → Option ℤ) → (ℕ → ℕ) → List Label → Label → Type 0
-IsNext s claim pred before l = (v : ℕ) × IsLeastLeft s claim before v × LeadsBack pred l.id v
+IsNext s claim pred before l = (v : ℕ) × IsFirstUnlabelled s claim before v × LeadsBack pred l.id v
 
 -- one block without a radius, with these distances from the source and predecessors; other nodes have no label
 pub record AreLabelsBy (nodes s : ℕ) (claim : ℕ → Option ℤ) (pred : ℕ → ℕ) (labels : LabelsValue) : Type 0 where
@@ -76,7 +76,7 @@ pub record AreLabelsBy (nodes s : ℕ) (claim : ℕ → Option ℤ) (pred : ℕ 
   pub whole : block.radius ≡ None
   pub agrees : (v : ℕ) → IsNode nodes v → label block v ≡ claim v
   pub preds : All (λ (l : Label). l.pred ≡ pred l.id) block.labels
-  pub others : (v : ℕ) → IsNode nodes v → (¬ IsDue s claim v) → pred v ≡ 0
+  pub others : (v : ℕ) → IsNode nodes v → (¬ NeedsPredecessor s claim v) → pred v ≡ 0
 
 -- the labels are ordered by ID, but each comes after that of its predecessor
 abbrev pub AreInOrder : ℕ → (ℕ → Option ℤ) → (ℕ → ℕ) → LabelsValue → Type 0

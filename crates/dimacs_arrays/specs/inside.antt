@@ -2,5 +2,5 @@ pub mod Answers
 pub mod LabelTrees
 pub mod Lent
 pub mod MinCertified
-pub mod Reached
+pub mod LabelDistances
 pub mod TightPredecessors

@@ -4,13 +4,13 @@ ghost use Rattle.std.specs.Prelude.{◌≡◌};
 ghost use Rattle.dimacs_lines.specs.Limits.{IsNode};
 ghost use Rattle.dimacs_arrays.specs.GraphArrays.{SolvesPathsArrays};
 ghost use Rattle.dimacs_arrays.specs.Paths.{SolvesByNode};
-ghost use Rattle.dimacs_arrays.specs.inside.Reached.{of_solver};
+ghost use Rattle.dimacs_arrays.specs.inside.LabelDistances.{of_solver};
 
 use crate::distances::all_from;
 use crate::error::ArrayError;
 use crate::graph::GraphArrays;
+use crate::label_distances::distances_of;
 use crate::predecessors::predecessors_of;
-use crate::reached::distances_of;
 use dimacs_claims::Labels;
 use dimacs_instance::Graph;
 use dimacs_judge::{JudgeError, Where};

@@ -5,8 +5,8 @@ ghost use Rattle.dimacs_lines.specs.Limits.{most_nodes};
 ghost use Rattle.dimacs_network.specs.Arcs.{JoinsNodes};
 ghost use Rattle.dimacs_records.specs.Ranges.{IsWide};
 ghost use Rattle.dimacs_decide.specs.Claims.{claimed_by_node};
-ghost use Rattle.dimacs_arrays.specs.Paths.{IsDue, pred_by_node};
-ghost use Rattle.dimacs_arrays.specs.inside.TightPredecessors.{AreReached, AreTightPredecessors, AreTightPredecessorsFrom, IsArcTest, IsWeightTest};
+ghost use Rattle.dimacs_arrays.specs.Paths.{NeedsPredecessor, pred_by_node};
+ghost use Rattle.dimacs_arrays.specs.inside.TightPredecessors.{AreTightPredecessors, AreTightPredecessorsFrom, HavePredecessors, IsArcTest, IsWeightTest};
 
 use crate::label_tree::{distance_of, predecessor_of};
 use dimacs_lines::Memory;
@@ -43,7 +43,7 @@ pub(crate) fn tight_predecessors<N: Network>(
     let Some(predecessors) = tight_tails(alloc, network, distances, None)? else {
         return Ok(None);
     };
-    if all_reached(source, distances, &predecessors) {
+    if all_have_predecessors(source, distances, &predecessors) {
         Ok(Some(predecessors))
     } else {
         Ok(None)
@@ -65,7 +65,7 @@ pub(crate) fn are_tight_predecessors<N: Network>(
         distances.now predecessors.now) }
 {
     if !length_and_source_hold(network.nodes(), source, distances)
-        || !all_reached(source, distances, predecessors)
+        || !all_have_predecessors(source, distances, predecessors)
     {
         return Ok(false);
     }
@@ -165,9 +165,9 @@ fn test_weight(from: i128, to: i128, weight: i64) -> ArcTest
     }
 }
 
-fn all_reached(source: u32, distances: &[i64], predecessors: &[u32]) -> bool
+fn all_have_predecessors(source: u32, distances: &[i64], predecessors: &[u32]) -> bool
     requires { length distances.now ≤ most_nodes }
-    ensures { IsTrue result → AreReached source (claimed_by_node distances.now) (pred_by_node predecessors.now) }
+    ensures { IsTrue result → HavePredecessors source (claimed_by_node distances.now) (pred_by_node predecessors.now) }
 {
     for v in 1..distances.len() as u32 + 1 {
         if lacks_predecessor(source, distances, predecessors, v) {
@@ -179,7 +179,7 @@ fn all_reached(source: u32, distances: &[i64], predecessors: &[u32]) -> bool
 
 #[inline(always)]
 fn lacks_predecessor(source: u32, distances: &[i64], predecessors: &[u32], node: u32) -> bool
-    ensures { IsTrue result ↔ (IsDue source (claimed_by_node distances.now) node × (pred_by_node predecessors.now node ≡ 0)) }
+    ensures { IsTrue result ↔ (NeedsPredecessor source (claimed_by_node distances.now) node × (pred_by_node predecessors.now node ≡ 0)) }
 {
     node != source
         && distance_of(distances, node).is_some()

@@ -17,7 +17,7 @@ use Rattle.dimacs_claims.proofs.ByIdLemmas.{distance_in-at, fresh_apart}
 use Rattle.dimacs_optimality.specs.CertificateTests.{RelaxFails}
 use Rattle.dimacs_optimality.specs.Tests.{Clear}
 use Rattle.dimacs_decide.specs.Distances.{claim_row}
-use Rattle.dimacs_decide.specs.inside.FewLabels.{AreNamed, ArePassedFrom, ArePlaced, IsUnreached}
+use Rattle.dimacs_decide.specs.inside.FewLabels.{AreNamed, ArcsHoldFrom, ArePlaced, IsUnreached}
 use Rattle.dimacs_decide.specs.inside.TightTrees.{ReachesAll, node_at}
 use Rattle.dimacs_decide.proofs.TightLemmas.{none_of, placed}
 
@@ -84,14 +84,14 @@ module _ (arcs : List ArcView) (claim : ℕ → Option ℤ) (node : ℕ) where
 
 -- ---- the nodes of a block
 abbrev pub ArePassedFirst : List ArcView → (ℕ → Option ℤ) → BlockValue → ℕ → Type 0
-ArePassedFirst arcs claim b n = ArePassedFrom arcs claim b.source × ((k : ℕ) → k < n → ArePassedFrom arcs claim (id_at b k))
+ArePassedFirst arcs claim b n = ArcsHoldFrom arcs claim b.source × ((k : ℕ) → k < n → ArcsHoldFrom arcs claim (id_at b k))
 
-pub first_passed : (arcs : List ArcView) (claim : ℕ → Option ℤ) (b : BlockValue) (n v : ℕ) → v ≡ id_at b n → ArePassedFrom arcs claim v → ArePassedFirst arcs claim b n → ArePassedFirst arcs claim b (n + 1)
+pub first_passed : (arcs : List ArcView) (claim : ℕ → Option ℤ) (b : BlockValue) (n v : ℕ) → v ≡ id_at b n → ArcsHoldFrom arcs claim v → ArePassedFirst arcs claim b n → ArePassedFirst arcs claim b (n + 1)
 first_passed arcs claim b n v same this (source, are) = (
   source,
   λ k below. elim (cases_lt k n) [
     | inl less ↦ are k less
-    | inr last ↦ (let e : k ≡ n = omega (arith, below, last) in subst (ArePassedFrom arcs claim) (same ∙ sym (ap (id_at b) e)) this)
+    | inr last ↦ (let e : k ≡ n = omega (arith, below, last) in subst (ArcsHoldFrom arcs claim) (same ∙ sym (ap (id_at b) e)) this)
   ],
 )
 
@@ -101,9 +101,9 @@ all_passed arcs claim b n same all (source, are) k place reason f = from (placed
     v : ℕ
     v = (arc_at arcs k).tail
 
-    from : ((j : ℕ) × (j ≤ length b.labels) × (node_at b j ≡ v)) → ArePassedFrom arcs claim v
-    from (zero, inside, is) = subst (ArePassedFrom arcs claim) is source
-    from (suc j, inside, is) = subst (ArePassedFrom arcs claim) is (are j (omega (arith, inside, all)))
+    from : ((j : ℕ) × (j ≤ length b.labels) × (node_at b j ≡ v)) → ArcsHoldFrom arcs claim v
+    from (zero, inside, is) = subst (ArcsHoldFrom arcs claim) is source
+    from (suc j, inside, is) = subst (ArcsHoldFrom arcs claim) is (are j (omega (arith, inside, all)))
 
 -- ---- the nodes that were reached
 abbrev pub AreReachedFirst : BlockValue → (ℕ → Bool) → ℕ → Type 0

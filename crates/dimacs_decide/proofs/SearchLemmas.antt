@@ -13,7 +13,7 @@ use Rattle.dimacs_network.specs.declared.adjacency_lists.Side.TheVariants.{Tail,
 use Rattle.dimacs_decide.specs.declared.search.Visit.{Visit}
 use Rattle.dimacs_network.specs.AdjacencyLists.{end_of, other_end}
 use Rattle.dimacs_network.specs.AdjacencyLists.{IsLast}
-use Rattle.dimacs_decide.specs.inside.Residual.{unvisited, rank_of, residual_capacity_of, parent_arc_of, IsReachedBy, unreached, IsSidePassed, IsDone, IsQueued, IsResidualSearch, IsNext, Becomes, Reaches, Grows, IsExplored}
+use Rattle.dimacs_decide.specs.inside.Residual.{unvisited, rank_of, residual_capacity_of, parent_arc_of, IsReachedBy, unreached, IsSideFollowed, IsDone, IsQueued, IsResidualSearch, IsNext, Becomes, Reaches, Grows, IsExplored}
 use Rattle.dimacs_decide.specs.inside.ResidualCapacities.{residual_capacity_on}
 use Rattle.dimacs_decide.proofs.CountLemmas.{count_most, one_zero_fewer}
 
@@ -29,7 +29,7 @@ grows_then nodes a p b q c r f g = record {
   each = g.each ∙ f.each;
 }
 
-pub passed_still : (arcs : List ArcView) (x : List ℤ) (visits visits' : ℕ → Visit) (v : ℕ) (side : Side) → ((u : ℕ) → 0 < rank_of visits u → 0 < rank_of visits' u) → IsSidePassed arcs x visits v side → IsSidePassed arcs x visits' v side
+pub passed_still : (arcs : List ArcView) (x : List ℤ) (visits visits' : ℕ → Visit) (v : ℕ) (side : Side) → ((u : ℕ) → 0 < rank_of visits u → 0 < rank_of visits' u) → IsSideFollowed arcs x visits v side → IsSideFollowed arcs x visits' v side
 passed_still arcs x visits visits' v side more is k inside near residual_capacity = more _ (is k inside near residual_capacity)
 
 -- ---- one more node, which wasn't reached
@@ -215,7 +215,7 @@ module _ (nodes : ℕ) (arcs : List ArcView) (x : List ℤ) (imbalance : ℕ →
   ]
 
 -- all arcs of the node
-pub passing_all : (nodes : ℕ) (arcs : List ArcView) (x : List ℤ) (imbalance : ℕ → ℤ) (side : Side) (at from next : ℕ) (visits : ℕ → Visit) (queue : List ℕ) (visits' : ℕ → Visit) (queue' : List ℕ) → (¬ (0 < next)) → IsPassing nodes arcs x imbalance side at from next visits queue visits' queue' → IsSidePassed arcs x visits' from side
+pub passing_all : (nodes : ℕ) (arcs : List ArcView) (x : List ℤ) (imbalance : ℕ → ℤ) (side : Side) (at from next : ℕ) (visits : ℕ → Visit) (queue : List ℕ) (visits' : ℕ → Visit) (queue' : List ℕ) → (¬ (0 < next)) → IsPassing nodes arcs x imbalance side at from next visits queue visits' queue' → IsSideFollowed arcs x visits' from side
 passing_all nodes arcs x imbalance side at from next visits queue visits' queue' over is k inside near residual_capacity = is.passed k (omega (arith, over_is next over)) inside near residual_capacity
   where
     over_is : (n : ℕ) → (¬ (0 < n)) → n ≤ 0
@@ -229,7 +229,7 @@ both_sides P t h Head = h
 
 -- the next node of the queue is done
 pub search_next : (nodes : ℕ) (arcs : List ArcView) (x : List ℤ) (imbalance : ℕ → ℤ) (visits : ℕ → Visit) (queue : List ℕ) (at : ℕ) → IsResidualSearch nodes arcs x imbalance visits queue at → pos 0 ≤ℤ imbalance (slice_index queue at)
-    → IsSidePassed arcs x visits (slice_index queue at) Tail → IsSidePassed arcs x visits (slice_index queue at) Head → IsResidualSearch nodes arcs x imbalance visits queue (at + 1)
+    → IsSideFollowed arcs x visits (slice_index queue at) Tail → IsSideFollowed arcs x visits (slice_index queue at) Head → IsResidualSearch nodes arcs x imbalance visits queue (at + 1)
 search_next nodes arcs x imbalance visits queue at is enough tail head = record {
   tree = is.tree;
   roots = is.roots;
@@ -241,7 +241,7 @@ search_next nodes arcs x imbalance visits queue at is enough tail head = record 
     | inl w ↦
         let (j, behind, less, here) = w in
         elim (cases_order j at) [
-          | inl same ↦ inr (subst (IsDone arcs x imbalance visits) (sym (ap (slice_index queue) same) ∙ here) (enough, both_sides (IsSidePassed arcs x visits (slice_index queue at)) tail head))
+          | inl same ↦ inr (subst (IsDone arcs x imbalance visits) (sym (ap (slice_index queue) same) ∙ here) (enough, both_sides (IsSideFollowed arcs x visits (slice_index queue at)) tail head))
           | inr apart ↦ elim apart [ inl low ↦ absurd (omega (arith, low, behind)) | inr high ↦ inl (j, omega (arith, high), less, here) ]
         ]
   ];

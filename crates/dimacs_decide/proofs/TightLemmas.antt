@@ -14,7 +14,7 @@ use Rattle.dimacs_optimality.specs.Labels.{HasTightArc}
 use Rattle.dimacs_network.specs.Arcs.{arc_at, no_arc}
 use Rattle.dimacs_optimality.specs.Walks.{IsWalk}
 use Rattle.dimacs_decide.specs.Distances.{IsTight, IsTightlyReached}
-use Rattle.dimacs_decide.specs.inside.TightTrees.{IsPassed, IsTightTree, IsWholeTightTree, TreeGrows, absent, node_at}
+use Rattle.dimacs_decide.specs.inside.TightTrees.{IsFollowed, IsTightTree, IsWholeTightTree, TreeGrows, absent, node_at}
 use Rattle.dimacs_decide.proofs.ClaimLemmas.{walk_one}
 use Rattle.dimacs_decide.proofs.CountLemmas.{count_all, one_fewer}
 
@@ -55,7 +55,7 @@ grows_then a p b q c r f g = record {
   longer = omega (arith, f.longer, g.longer);
 }
 
-pub passed_still : (arcs : List ArcView) (claim : ℕ → Option ℤ) (reached after : ℕ → Bool) (v : ℕ) → ((u : ℕ) → reached u ≡ true → after u ≡ true) → IsPassed arcs claim reached v → IsPassed arcs claim after v
+pub passed_still : (arcs : List ArcView) (claim : ℕ → Option ℤ) (reached after : ℕ → Bool) (v : ℕ) → ((u : ℕ) → reached u ≡ true → after u ≡ true) → IsFollowed arcs claim reached v → IsFollowed arcs claim after v
 passed_still arcs claim reached after v more passed = All-weaker (λ (a : ArcView). a.tail ≡ v → IsTight claim a → reached a.head ≡ true) (λ (a : ArcView). a.tail ≡ v → IsTight claim a → after a.head ≡ true) (λ a is from tight. more _ (is from tight)) arcs passed
 
 -- ---- one more node
@@ -186,7 +186,7 @@ passing_more nodes arcs claim from next before linked b reached old marks new ma
     last : IsLast Tail arcs (next - 1) from before
     last = rw same_link (subst (λ v. IsLast Tail arcs (next - 1) v linked) (is.found some) held)
 
-pub passing_all : (nodes : ℕ) (arcs : List ArcView) (claim : ℕ → Option ℤ) (from next : ℕ) (b : BlockValue) (reached : ℕ → Bool) (b' : BlockValue) (reached' : ℕ → Bool) → next ≤ 0 → IsTreePassing nodes arcs claim from next b reached b' reached' → IsPassed arcs claim reached' from
+pub passing_all : (nodes : ℕ) (arcs : List ArcView) (claim : ℕ → Option ℤ) (from next : ℕ) (b : BlockValue) (reached : ℕ → Bool) (b' : BlockValue) (reached' : ℕ → Bool) → next ≤ 0 → IsTreePassing nodes arcs claim from next b reached b' reached' → IsFollowed arcs claim reached' from
 passing_all nodes arcs claim from next b reached b' reached' over is = All-from_get_or (λ (a : ArcView). a.tail ≡ from → IsTight claim a → reached' a.head ≡ true) arcs no_arc (λ k h. is.passed k (omega (arith, over)) h)
 
 -- ---- the whole search
@@ -223,24 +223,24 @@ node_reached nodes arcs claim b reached is (suc k) h = is.marked _ ∙ some_unde
 
 -- the nodes at the first places are passed
 abbrev pub ArePassed : List ArcView → (ℕ → Option ℤ) → BlockValue → (ℕ → Bool) → ℕ → Type 0
-ArePassed arcs claim b reached so_many = (j : ℕ) → j < so_many → IsPassed arcs claim reached (node_at b j)
+ArePassed arcs claim b reached so_many = (j : ℕ) → j < so_many → IsFollowed arcs claim reached (node_at b j)
 
-pub passed_more : (arcs : List ArcView) (claim : ℕ → Option ℤ) (b : BlockValue) (reached : ℕ → Bool) (b' : BlockValue) (reached' : ℕ → Bool) (at : ℕ) → at ≤ length b.labels → TreeGrows b reached b' reached' → IsPassed arcs claim reached' (node_at b at)
+pub passed_more : (arcs : List ArcView) (claim : ℕ → Option ℤ) (b : BlockValue) (reached : ℕ → Bool) (b' : BlockValue) (reached' : ℕ → Bool) (at : ℕ) → at ≤ length b.labels → TreeGrows b reached b' reached' → IsFollowed arcs claim reached' (node_at b at)
     → ArePassed arcs claim b reached at → ArePassed arcs claim b' reached' (at + 1)
 passed_more arcs claim b reached b' reached' at short grows here before j h = elim (cases_order j at) [
-  | inl same ↦ subst (IsPassed arcs claim reached') (sym (grows.places j (omega (arith, same, short)) ∙ ap (node_at b) same)) here
+  | inl same ↦ subst (IsFollowed arcs claim reached') (sym (grows.places j (omega (arith, same, short)) ∙ ap (node_at b) same)) here
   | inr apart ↦ elim apart [
-    | inl less ↦ subst (IsPassed arcs claim reached') (sym (grows.places j (omega (arith, less, short)))) (passed_still arcs claim reached reached' (node_at b j) grows.kept (before j less))
+    | inl less ↦ subst (IsFollowed arcs claim reached') (sym (grows.places j (omega (arith, less, short)))) (passed_still arcs claim reached reached' (node_at b j) grows.kept (before j less))
     | inr more ↦ absurd (omega (arith, more, h))
   ]
 ]
 
 module _ (nodes : ℕ) (arcs : List ArcView) (claim : ℕ → Option ℤ) (b : BlockValue) (reached : ℕ → Bool) (at : ℕ) (is : IsTightTree nodes arcs claim b reached) (over : length b.labels < at) (passed : ArePassed arcs claim b reached at) where
-  step : (u : ℕ) → reached u ≡ true → IsPassed arcs claim reached u
+  step : (u : ℕ) → reached u ≡ true → IsFollowed arcs claim reached u
   step u h =
       let (d, at_u) = some_of (label b u) (sym (is.marked u) ∙ h) in
       let (j, inside, same) = placed b u d at_u in
-      subst (IsPassed arcs claim reached) same (passed j (omega (arith, inside, over)))
+      subst (IsFollowed arcs claim reached) same (passed j (omega (arith, inside, over)))
 
   along : (walk : List ArcView) (u v : ℕ) → IsWalk arcs u v walk → All (IsTight claim) walk → reached u ≡ true → reached v ≡ true
   along [] u v w all h = rw (← w) h

@@ -10,7 +10,7 @@ ghost use Rattle.dimacs_optimality.specs.Tests.{Clear};
 ghost use Rattle.dimacs_nodes.specs.Tables.{value_of};
 ghost use Rattle.dimacs_decide.specs.Distances.{AreDistancesFrom, claim_row};
 ghost use Rattle.dimacs_decide.specs.inside.DistanceBlocks.{IsBlockFor};
-ghost use Rattle.dimacs_decide.specs.inside.FewLabels.{AreFree, AreLightest, ArePassedFrom, IsUnreached, arcs_followed};
+ghost use Rattle.dimacs_decide.specs.inside.FewLabels.{AreFree, AreLightest, ArcsHoldFrom, IsUnreached, arcs_followed};
 ghost use Rattle.dimacs_decide.specs.inside.TightTrees.{ReachesAll};
 
 use crate::claim::DistanceClaim;
@@ -178,7 +178,7 @@ fn few_tree<N: Network, M: Network>(
     ensures block { IfOk result (λ found. IfSome found (λ tree. IsBlockFor graph.now claimed.now tree.block)) }
     ensures marked { IfOk result (λ found. IfSome found (λ tree. (v : ℕ) → value_of tree.reached v ≡ is_some (label tree.block v))) }
 {
-    if !leaving_passed(network, lists, claimed, claim) {
+    if !leaving_arcs_hold(network, lists, claimed, claim) {
         return Ok(None);
     }
     let source = claimed.source();
@@ -189,7 +189,7 @@ fn few_tree<N: Network, M: Network>(
     Ok(Some(tree))
 }
 
-fn leaving_passed<N: Network, C: DistanceClaim>(
+fn leaving_arcs_hold<N: Network, C: DistanceClaim>(
     network: &N,
     lists: &AdjacencyLists,
     claimed: &Block,
@@ -199,12 +199,12 @@ fn leaving_passed<N: Network, C: DistanceClaim>(
     requires claimed { (v : ℕ) → C.claimed claim.now v ≡ label claimed.now v }
     ensures { IsTrue result → Clear (claim_row (N.list network.now) (C.claimed claim.now)) }
 {
-    if !node_passed(network, lists, claim, claimed.source()) {
+    if !arcs_hold_from(network, lists, claim, claimed.source()) {
         return false;
     }
     let labels = claimed.labels();
     for i in 0..labels.len() {
-        if !node_passed(network, lists, claim, labels.at(i).id) {
+        if !arcs_hold_from(network, lists, claim, labels.at(i).id) {
             return false;
         }
     }
@@ -212,14 +212,14 @@ fn leaving_passed<N: Network, C: DistanceClaim>(
 }
 
 /// Whether no arc that leaves this node fails.
-fn node_passed<N: Network, C: DistanceClaim>(
+fn arcs_hold_from<N: Network, C: DistanceClaim>(
     network: &N,
     lists: &AdjacencyLists,
     claim: &C,
     node: u32,
 ) -> bool
     requires { AreAdjacencyLists Tail (N.list network.now) lists.now }
-    ensures { IsTrue result → ArePassedFrom (N.list network.now) (C.claimed claim.now) node }
+    ensures { IsTrue result → ArcsHoldFrom (N.list network.now) (C.claimed claim.now) node }
 {
     let mut next = lists.last(node);
     while next > 0 {

@@ -10,7 +10,7 @@ ghost use Rattle.dimacs_claims.specs.Labels.{label};
 ghost use Rattle.dimacs_nodes.specs.Tables.{value_of};
 ghost use Rattle.dimacs_decide.specs.Distances.{IsTight};
 ghost use Rattle.dimacs_decide.specs.inside.FewLabels.{IsUnreached};
-ghost use Rattle.dimacs_decide.specs.inside.TightTrees.{IsPassed, IsTightTree, IsWholeTightTree, TreeGrows, node_at};
+ghost use Rattle.dimacs_decide.specs.inside.TightTrees.{IsFollowed, IsTightTree, IsWholeTightTree, TreeGrows, node_at};
 
 use crate::claim::DistanceClaim;
 use dimacs_claims::{Block, Label};
@@ -99,7 +99,7 @@ impl TightTree {
     }
 
     /// Follows the arcs that leave a reached node.
-    fn pass<N: Network, C: DistanceClaim>(
+    fn follow_arcs<N: Network, C: DistanceClaim>(
         &mut self,
         network: &N,
         claim: &C,
@@ -114,7 +114,7 @@ impl TightTree {
         ensures tree { OnOk result (IsTightTree (N.node_count network.now) (N.list network.now) (C.claimed claim.now)
             self.new.block (value_of self.new.reached)) }
         ensures grows { OnOk result (TreeGrows self.old.block (value_of self.old.reached) self.new.block (value_of self.new.reached)) }
-        ensures passed { OnOk result (IsPassed (N.list network.now) (C.claimed claim.now) (value_of self.new.reached) from) }
+        ensures followed { OnOk result (IsFollowed (N.list network.now) (C.claimed claim.now) (value_of self.new.reached) from) }
     {
         let mut next = lists.last(from);
         while next > 0 {
@@ -208,7 +208,7 @@ pub(crate) fn tight_tree<N: Network, C: DistanceClaim>(
     let mut at = 0;
     while at <= tree.len() {
         let from = tree.node(at);
-        tree.pass(network, claim, lists, from)?;
+        tree.follow_arcs(network, claim, lists, from)?;
         at += 1;
     }
     Ok(tree)

@@ -2,7 +2,7 @@
 use Rattle.std.specs.Prelude.{ℕ, ◌≡◌, ◌≢◌, List, All, Contains, length, Option, Some, ℤ, pos, ◌+ℤ◌, ◌≤ℤ◌, ◌<ℤ◌}
 use Rattle.dimacs_network.specs.declared.network.ArcView.{ArcView}
 use Rattle.dimacs_decide.specs.Claims.{claimed_by_node}
-use Rattle.dimacs_arrays.specs.Paths.{IsDue, pred_by_node}
+use Rattle.dimacs_arrays.specs.Paths.{NeedsPredecessor, pred_by_node}
 use Rattle.dimacs_arrays.specs.declared.tight_predecessors.ArcTest.{ArcTest}
 use Rattle.dimacs_arrays.specs.declared.tight_predecessors.ArcTest.TheVariants.{Passes, Tight, Fails}
 
@@ -38,8 +38,8 @@ pub record AreTightPredecessors (arcs : List ArcView) (claim : ℕ → Option �
   pub tight_arc : (v : ℕ) → pred v ≢ 0 → HasPositiveTightArc arcs claim (pred v) v
 
 -- each node that needs a predecessor has one
-abbrev pub AreReached : ℕ → (ℕ → Option ℤ) → (ℕ → ℕ) → Type 0
-AreReached s claim pred = (v : ℕ) → IsDue s claim v → pred v ≢ 0
+abbrev pub HavePredecessors : ℕ → (ℕ → Option ℤ) → (ℕ → ℕ) → Type 0
+HavePredecessors s claim pred = (v : ℕ) → NeedsPredecessor s claim v → pred v ≢ 0
 
 -- the predecessors of all nodes, which show the distances
 pub record AreTightPredecessorsFrom (nodes s : ℕ) (arcs : List ArcView) (distances : List ℤ) (preds : List ℕ) : Type 0 where
@@ -47,4 +47,4 @@ pub record AreTightPredecessorsFrom (nodes s : ℕ) (arcs : List ArcView) (dista
   pub each : length preds ≡ nodes
   pub source : claimed_by_node distances s ≡ Some (pos 0)
   pub tight : AreTightPredecessors arcs (claimed_by_node distances) (pred_by_node preds)
-  pub reached : AreReached s (claimed_by_node distances) (pred_by_node preds)
+  pub predecessors : HavePredecessors s (claimed_by_node distances) (pred_by_node preds)

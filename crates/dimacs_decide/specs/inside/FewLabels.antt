@@ -20,8 +20,8 @@ abbrev pub AreNamed : BlockValue → Type 0
 AreNamed b = (j : ℕ) → j < length b.labels → distance_in b.labels (get_or b.labels j no_label).id ≡ Some (get_or b.labels j no_label).dist
 
 -- no arc that leaves this node fails
-abbrev pub ArePassedFrom : List ArcView → (ℕ → Option ℤ) → ℕ → Type 0
-ArePassedFrom arcs claim v =
+abbrev pub ArcsHoldFrom : List ArcView → (ℕ → Option ℤ) → ℕ → Type 0
+ArcsHoldFrom arcs claim v =
     (k : ℕ) → k < length arcs → (arc_at arcs k).tail ≡ v
     → (reason : Reason) → ¬ RelaxFails None (claim (arc_at arcs k).tail) (claim (arc_at arcs k).head) (arc_at arcs k).cost reason
 

@@ -48,14 +48,14 @@ abbrev pub is_in : (ℕ → Visit) → ℕ → Bool
 is_in visits v = nat_lt 0 (rank_of visits v)
 
 -- each residual arc from v of this side leads to a node that was reached
-abbrev pub IsSidePassed : List ArcView → List ℤ → (ℕ → Visit) → ℕ → Side → Type 0
-IsSidePassed arcs x visits v side =
+abbrev pub IsSideFollowed : List ArcView → List ℤ → (ℕ → Visit) → ℕ → Side → Type 0
+IsSideFollowed arcs x visits v side =
     (k : ℕ) → k < length arcs → end_of side (arc_at arcs k) ≡ v
     → pos 0 <ℤ residual_capacity_on arcs x side k → 0 < rank_of visits (other_end side (arc_at arcs k))
 
 -- a node without deficit whose residual arcs were followed on both sides
 abbrev pub IsDone : List ArcView → List ℤ → (ℕ → ℤ) → (ℕ → Visit) → ℕ → Type 0
-IsDone arcs x imbalance visits v = (pos 0 ≤ℤ imbalance v) × ((side : Side) → IsSidePassed arcs x visits v side)
+IsDone arcs x imbalance visits v = (pos 0 ≤ℤ imbalance v) × ((side : Side) → IsSideFollowed arcs x visits v side)
 
 -- v is in the queue after the first places
 abbrev pub IsQueued : List ℕ → ℕ → ℕ → Type 0

@@ -27,8 +27,8 @@ pub record IsTightTree (nodes : ℕ) (arcs : List ArcView) (claim : ℕ → Opti
   pub count : absent reached (nodes + 1) + length b.labels ≡ nodes
 
 -- each tight arc from v leads to a node that was reached
-abbrev pub IsPassed : List ArcView → (ℕ → Option ℤ) → (ℕ → Bool) → ℕ → Type 0
-IsPassed arcs claim reached v = All (λ a. a.tail ≡ v → IsTight claim a → reached a.head ≡ true) arcs
+abbrev pub IsFollowed : List ArcView → (ℕ → Option ℤ) → (ℕ → Bool) → ℕ → Type 0
+IsFollowed arcs claim reached v = All (λ a. a.tail ≡ v → IsTight claim a → reached a.head ≡ true) arcs
 
 -- more nodes may be reached, and earlier ones keep their places
 pub record TreeGrows (b : BlockValue) (reached : ℕ → Bool) (b' : BlockValue) (reached' : ℕ → Bool) : Type 0 where

@@ -1,5 +1,5 @@
-use Rattle.dimacs_arrays.proofs.ReachedLemmas.{AreReachedBy}
-use Rattle.dimacs_arrays.proofs.reached.distances_of.Given as goal
+use Rattle.dimacs_arrays.proofs.LabelDistanceLemmas.{AreReachedBy}
+use Rattle.dimacs_arrays.proofs.label_distances.distances_of.Given as goal
 
 -- the distances of the labels before i
 abbrev pub invariant-loop-i : goal.invariant-loop-i

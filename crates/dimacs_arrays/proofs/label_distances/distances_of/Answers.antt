@@ -8,8 +8,8 @@ use Rattle.dimacs_claims.proofs.ByIdLemmas.{fresh_apart}
 use Rattle.dimacs_arrays.specs.Paths.{FitsArray}
 use Rattle.dimacs_arrays.proofs.CertifyPathsLemmas.{not_source}
 use Rattle.dimacs_arrays.proofs.PredLemmas.{at_place}
-use Rattle.dimacs_arrays.proofs.ReachedLemmas.{reached_all, reached_more}
-use Rattle.dimacs_arrays.proofs.reached.distances_of.Goals as goal
+use Rattle.dimacs_arrays.proofs.LabelDistanceLemmas.{reached_all, reached_more}
+use Rattle.dimacs_arrays.proofs.label_distances.distances_of.Goals as goal
 
 pub loop-i-preserved : goal.loop-i-preserved
 loop-i-preserved c =

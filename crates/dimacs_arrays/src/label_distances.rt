@@ -4,7 +4,7 @@ ghost use Rattle.std.specs.Prelude.{◌≡◌, IfNone, IfOk, IfSome};
 ghost use Rattle.dimacs_claims.specs.Labels.{IsBlock};
 ghost use Rattle.dimacs_records.specs.Ranges.{IsWide};
 ghost use Rattle.dimacs_arrays.specs.Paths.{ExceedsArray, FitsArray};
-ghost use Rattle.dimacs_arrays.specs.inside.Reached.{AreDistancesOf};
+ghost use Rattle.dimacs_arrays.specs.inside.LabelDistances.{AreDistancesOf};
 
 use dimacs_claims::Block;
 use dimacs_lines::Memory;

@@ -1,7 +1,7 @@
 use Rattle.std.proofs.Common.{◌≡◌, ◌<◌, ◌≤◌, ◌-◌, length}
 use Rattle.dimacs_network.specs.Arcs.{arc_at}
 use Rattle.dimacs_decide.proofs.FewLemmas.{ArePassedOn}
-use Rattle.dimacs_decide.proofs.few_labels.node_passed.Given as goal
+use Rattle.dimacs_decide.proofs.few_labels.arcs_hold_from.Given as goal
 
 -- the arcs of the node from `next` on are passed
 abbrev pub invariant-loop-next : goal.invariant-loop-next

@@ -7,7 +7,7 @@ use Rattle.dimacs_network.specs.declared.adjacency_lists.Side.TheVariants.{Tail}
 use Rattle.dimacs_optimality.specs.CertificateTests.{RelaxFails}
 use Rattle.dimacs_decide.proofs.FewLemmas.{passed_on}
 use Rattle.dimacs_decide.proofs.PredecessorTreeLemmas.{no_fault}
-use Rattle.dimacs_decide.proofs.few_labels.node_passed.Goals as goal
+use Rattle.dimacs_decide.proofs.few_labels.arcs_hold_from.Goals as goal
 
 pub loop-next-init : goal.loop-next-init
 loop-next-init g c =

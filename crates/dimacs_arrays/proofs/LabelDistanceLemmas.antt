@@ -13,7 +13,7 @@ use Rattle.dimacs_claims.specs.Labels.{BlockValue, distance_in, label}
 use Rattle.dimacs_claims.proofs.ByIdLemmas.{distance_in-at}
 use Rattle.dimacs_decide.specs.Claims.{claimed_by_node, unless_greatest}
 use Rattle.dimacs_arrays.specs.Paths.{FitsArray}
-use Rattle.dimacs_arrays.specs.inside.Reached.{AreDistancesOf}
+use Rattle.dimacs_arrays.specs.inside.LabelDistances.{AreDistancesOf}
 use Rattle.dimacs_arrays.proofs.PredLemmas.{at_place}
 
 -- ---- one more distance

@@ -1,5 +1,5 @@
 use Rattle.dimacs_decide.proofs.FewLemmas.{ArePassedFirst}
-use Rattle.dimacs_decide.proofs.few_labels.leaving_passed.Given as goal
+use Rattle.dimacs_decide.proofs.few_labels.leaving_arcs_hold.Given as goal
 
 -- the arcs that leave the source and the nodes of the labels so far are passed
 abbrev pub invariant-loop-i : goal.invariant-loop-i

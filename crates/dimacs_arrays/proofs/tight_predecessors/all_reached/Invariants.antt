@@ -1,8 +1,0 @@
-use Rattle.std.proofs.Common.{◌≢◌, ℕ, ◌<◌}
-use Rattle.dimacs_decide.specs.Claims.{claimed_by_node}
-use Rattle.dimacs_arrays.specs.Paths.{IsDue, pred_by_node}
-use Rattle.dimacs_arrays.proofs.tight_predecessors.all_reached.Given as goal
-
--- the nodes before v that need a predecessor have one
-abbrev pub invariant-loop-v : goal.invariant-loop-v
-invariant-loop-v l = (u : ℕ) → u < l.v → IsDue l.source (claimed_by_node l.distances) u → pred_by_node l.predecessors u ≢ 0
