@@ -7,7 +7,7 @@ use Rattle.std.proofs.lemmas.Int.{by_lt_z, ints}
 use Rattle.std.proofs.lemmas.List.{get_or-replicate, get_or-set_other, get_or-set_same, length-replicate, length-set}
 use Rattle.std.proofs.lemmas.Option.{slice_get-get_or, slice_get_past}
 use Rattle.dimacs_lines.specs.Limits.{IsNode}
-use Rattle.dimacs_claims.specs.ById.{NodesAreApart}
+use Rattle.dimacs_claims.specs.ById.{NodesAreDistinct}
 use Rattle.dimacs_claims.specs.declared.block.Label.{Label}
 use Rattle.dimacs_claims.specs.Labels.{BlockValue, distance_in, label}
 use Rattle.dimacs_claims.proofs.ByIdLemmas.{distance_in-at}
@@ -77,7 +77,7 @@ module _ (b : BlockValue) (nodes : ℕ) where
         others = λ v apart none. claim_there blank b.source v (pos 0) there apart ∙ none_claimed nodes v;
       }
 
-  module _ (apart : NodesAreApart b.labels) (distances : List ℤ) where
+  module _ (apart : NodesAreDistinct b.labels) (distances : List ℤ) where
     pub reached_more : (n : ℕ) → n < length b.labels → IsNode nodes (at_place b.labels n).id → (at_place b.labels n).id ≢ b.source → FitsArray (at_place b.labels n).dist → AreReachedBy b nodes distances n
         → AreReachedBy b nodes (slice_set distances ((at_place b.labels n).id - 1) (at_place b.labels n).dist) (n + 1)
     reached_more n inside node other is are =

@@ -7,7 +7,7 @@ use Rattle.dimacs_lines.specs.Limits.{IsNode}
 use Rattle.dimacs_network.specs.Arcs.{JoinsNodes, NetworkValue, arc_at, no_arc}
 use Rattle.dimacs_instance.specs.QueryTexts.{Sources}
 use Rattle.dimacs_claims.specs.declared.block.Label.{Label}
-use Rattle.dimacs_claims.specs.Labels.{BlockValue, IsBlock, IsLabel, IsNear, LabelsValue, distance_in, label, no_label}
+use Rattle.dimacs_claims.specs.Labels.{BlockValue, IsBlock, IsLabel, IsWithinRadius, LabelsValue, distance_in, label, no_label}
 use Rattle.dimacs_claims.proofs.ByIdLemmas.{distance_in-at, fresh_apart}
 use Rattle.dimacs_optimality.specs.Answers.{block_of}
 use Rattle.dimacs_optimality.specs.Labels.{HasTightArc, IsReached, IsRelaxed, LabelsOk}
@@ -38,7 +38,7 @@ module _ (g : NetworkValue) (s : ℕ) (claim : ℕ → Option ℤ) (pred : ℕ �
 
   reached : (v : ℕ) (far : ℤ) → IsNode g.nodes v → IsReached b v far → IsReached b' v far
   reached v far node (inl labelled) = inl (labelled.0, same_label v node ∙ labelled.1, labelled.2)
-  reached v far node (inr out) = inr (same_label v node ∙ out.0, subst (λ r. ¬ IsNear r far) (mine.whole ∙ sym yours.whole) out.1)
+  reached v far node (inr out) = inr (same_label v node ∙ out.0, subst (λ r. ¬ IsWithinRadius r far) (mine.whole ∙ sym yours.whole) out.1)
 
   relaxed : All (IsRelaxed b) g.arcs → All (IsRelaxed b') g.arcs
   relaxed all = All-from_get_or (IsRelaxed b') g.arcs no_arc (λ k inside d at.

@@ -5,7 +5,7 @@ use Rattle.std.proofs.lemmas.Bool.{cases_order}
 use Rattle.std.proofs.lemmas.List.{get_or-set_other, get_or-set_same}
 use Rattle.std.proofs.lemmas.List.Elements.{All-from_get_or}
 use Rattle.dimacs_lines.specs.Limits.{IsNode}
-use Rattle.dimacs_claims.specs.ById.{NodesAreApart}
+use Rattle.dimacs_claims.specs.ById.{NodesAreDistinct}
 use Rattle.dimacs_claims.specs.declared.block.Label.{Label}
 use Rattle.dimacs_claims.specs.Labels.{distance_in, no_label}
 use Rattle.dimacs_claims.proofs.ByIdLemmas.{distance_in-at}
@@ -28,7 +28,7 @@ pub set_there : (preds : List ℕ) (u v p : ℕ) → 1 ≤ u → v ≢ u → pre
 set_there preds u zero p some apart = refl
 set_there preds u (suc k) p some apart = get_or-set_other preds (u - 1) k p 0 (λ e. apart (omega (arith, e, some)))
 
-module _ (labels : List Label) (apart : NodesAreApart labels) (preds : List ℕ) where
+module _ (labels : List Label) (apart : NodesAreDistinct labels) (preds : List ℕ) where
   --   one more label
   pub filled_more : (n : ℕ) → n < length labels → IsNode (length preds) (at_place labels n).id → AreFilled labels preds n → AreFilled labels (slice_set preds ((at_place labels n).id - 1) (at_place labels n).pred) (n + 1)
   filled_more n inside node is = record {

@@ -6,7 +6,7 @@ use Rattle.std.proofs.lemmas.Int.{ints}
 use Rattle.dimacs_lines.specs.Limits.{most_nodes, IsNode}
 use Rattle.dimacs_records.specs.Ranges.{IsWide}
 use Rattle.dimacs_claims.specs.declared.block.Label.{Label}
-use Rattle.dimacs_claims.specs.Labels.{BlockValue, IsBlock, IsNear, LabelsValue, label, with_label}
+use Rattle.dimacs_claims.specs.Labels.{BlockValue, IsBlock, IsWithinRadius, LabelsValue, label, with_label}
 use Rattle.dimacs_claims.proofs.BlockLemmas.{block_empty, block_push, label-with_label}
 use Rattle.dimacs_optimality.specs.Tests.{Clear}
 use Rattle.dimacs_arrays.specs.Paths.{AreInOrder, AreLabelsBy, NeedsPredecessor, IsNext, IsPred, LeadsBack, back, pred_row}
@@ -84,8 +84,8 @@ module _ (nodes s : ℕ) (claim : ℕ → Option ℤ) (pred : ℕ → ℕ) (smal
         adds : (v : ℕ) → label (with_label b l) v ≡ cond (u == v) (Some d) (label b v)
         adds v = label-with_label b l none v
 
-        near : IsNear b.radius d
-        near = subst (λ radius. IsNear radius d) (sym is.whole) tt
+        near : IsWithinRadius b.radius d
+        near = subst (λ radius. IsWithinRadius radius d) (sym is.whole) tt
 
         lawful : IsBlock nodes (with_label b l)
         lawful = block_push nodes b l is.lawful (record { id = node; dist = are.wide u d named low; pred = is.inside (pred u) from }) (few nodes s claim pred b labelled u is new small node) (ap is_some none) (pred_labelled nodes s claim pred b labelled u is new from) near

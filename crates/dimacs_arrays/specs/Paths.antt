@@ -21,7 +21,7 @@ use Rattle.dimacs_decide.specs.Claims.{claimed_by_node}
 use Rattle.dimacs_decide.specs.Distances.{AreDistancesFrom, claim_rows, source_row}
 use Rattle.dimacs_solve.specs.Paths.{AreProduced, HasNoNegativeWeight, IsFirstNegative}
 use Rattle.dimacs_arrays.specs.declared.solve_paths.PathsSolved.{PathsSolved}
-use Rattle.dimacs_arrays.specs.declared.solve_paths.PathsSolved.TheVariants.{Distances, Far}
+use Rattle.dimacs_arrays.specs.declared.solve_paths.PathsSolved.TheVariants.{Distances, Wide}
 
 -- the predecessor of node v is item v - 1; 0 past the end
 abbrev pub pred_by_node : List ℕ → ℕ → ℕ
@@ -119,7 +119,7 @@ abbrev pub FindsByNode : NetworkValue → ℕ → PathsSolved → Type 0
 FindsByNode g s (Distances distances preds) =
     (length distances.items ≡ g.nodes) × AreDistancesFrom g s (claimed_by_node distances.items)
     × ArePredecessors g s (claimed_by_node distances.items) preds.items
-FindsByNode g s (Far labels) = AreProduced g (Sources (s ∷ [])) labels × ((b : BlockValue) × (labels.blocks ≡ b ∷ []) × ExceedsArray b)
+FindsByNode g s (Wide labels) = AreProduced g (Sources (s ∷ [])) labels × ((b : BlockValue) × (labels.blocks ≡ b ∷ []) × ExceedsArray b)
 
 -- distances if no weight is negative; otherwise the first arc with a negative weight; or out of memory
 abbrev pub SolvesByNode : NetworkValue → ℕ → Result PathsSolved JudgeError → Type 0

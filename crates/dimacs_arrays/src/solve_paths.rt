@@ -29,7 +29,7 @@ pub enum PathsSolved {
         predecessors: Vec<u32>,
     },
     /// A distance is `i64::MAX` or more, which doesn't fit into an array. The labels have all distances.
-    Far(Labels),
+    Wide(Labels),
 }
 
 /// Finds the distances from the source, and predecessors that show them. `Refused` with `NegativeWeight` names the
@@ -62,7 +62,7 @@ fn solve_over<N: Network>(
     };
     let block = &labels.blocks()[0];
     let Some(distances) = distances_of(alloc, nodes, block)? else {
-        return Ok(PathsSolved::Far(labels));
+        return Ok(PathsSolved::Wide(labels));
     };
     let predecessors = predecessors_of(alloc, nodes, block)?;
     Ok(PathsSolved::Distances {

@@ -91,7 +91,7 @@ min_found min_solved.GaveUp = only 5 gave_up_line
 -- 5 if a distance doesn't fit into an array
 abbrev pub paths_found : PathsSolved → Printed
 paths_found (paths_solved.Distances distances preds) = record (only 0 (sources_line 1)) { marks = preds.items; numbers = distances.items }
-paths_found (paths_solved.Far labels) = only 5 gave_up_line
+paths_found (paths_solved.Wide labels) = only 5 gave_up_line
 
 -- the line of a possible answer of the judge is handed out, with its status; out of memory is one, without a line
 abbrev pub AnswersLine : (Result Verdict ArrayError → Type 0) → ℕ → Handed ℕ → Type 0

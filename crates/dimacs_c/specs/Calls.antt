@@ -1,6 +1,6 @@
 -- What calls return and hand out.
 use Rattle.std.specs.Prelude.{ℕ, ◌≡◌, ◌++◌, ◌⊎◌, List, [], ◌∷◌, Option, None, Some, Ok, length, take, drop}
-use Rattle.dimacs_runs.specs.declared.outcome.Status.{Status}
+use Rattle.dimacs_runs.specs.declared.status.Status.{Status}
 use Rattle.dimacs_runs.specs.Outcomes.{status_number}
 use Rattle.dimacs_runs.specs.Runs.{ReportsAlone}
 

@@ -129,7 +129,7 @@ fn put_solved<K: Sink>(
 {
     match answer {
         Ok(PathsSolved::Distances { .. }) => put_yes(sink, &Verdict::Sources(1)),
-        Ok(PathsSolved::Far(_)) => put_unsolved(sink),
+        Ok(PathsSolved::Wide(_)) => put_unsolved(sink),
         Err(error) => put_error(sink, *error),
     }
 }

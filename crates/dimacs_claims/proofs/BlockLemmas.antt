@@ -11,7 +11,7 @@ use Rattle.dimacs_records.specs.Blocks.{is_past}
 use Rattle.dimacs_records.specs.Earlier.{or_else}
 use Rattle.dimacs_records.proofs.SplitLemmas.{two_places, same, sooner, later}
 use Rattle.dimacs_claims.specs.declared.block.Label.{Label}
-use Rattle.dimacs_claims.specs.Labels.{BlockValue, label, label_at, distance_in, with_label, EachAfter, IsFresh, HasPred, IsLabel, IsBlock, IsNear, IsNewSource, AreLabels}
+use Rattle.dimacs_claims.specs.Labels.{BlockValue, label, label_at, distance_in, with_label, EachAfter, IsFresh, HasPred, IsLabel, IsBlock, IsWithinRadius, IsNewSource, AreLabels}
 use Rattle.dimacs_records.specs.Ranges.{IsRadius, IsWide}
 
 -- a test before a choice
@@ -134,13 +134,13 @@ fresh_has_none b l h = false_from_ne_true _ (λ t. by_test (b.source == l.id) re
     by_test false e t = let m = label_found b.labels l.id t in h.1 m.0 m.1 m.2
 
 -- a block with one more label
-pub block_push : (nodes : ℕ) (b : BlockValue) (l : Label) → IsBlock nodes b → IsLabel nodes l → length b.labels < most_count → is_some (label b l.id) ≡ false → is_some (label b l.pred) ≡ true → IsNear b.radius l.dist → IsBlock nodes (with_label b l)
+pub block_push : (nodes : ℕ) (b : BlockValue) (l : Label) → IsBlock nodes b → IsLabel nodes l → length b.labels < most_count → is_some (label b l.id) ≡ false → is_some (label b l.pred) ≡ true → IsWithinRadius b.radius l.dist → IsBlock nodes (with_label b l)
 block_push nodes b l is label_is room fresh pred near = record {
   source_within = is.source_within;
   radius_within = is.radius_within;
   few = omega (arith, room, length-append b.labels (l ∷ []));
   within = All-push (IsLabel nodes) b.labels l is.within label_is;
-  near = All-push (λ (m : Label). IsNear b.radius m.dist) b.labels l is.near near;
+  within_radius = All-push (λ (m : Label). IsWithinRadius b.radius m.dist) b.labels l is.within_radius near;
   fresh = each_after_push (IsFresh b.source) b.labels l is.fresh (is_fresh b l fresh);
   preds = each_after_push (HasPred b.source) b.labels l is.preds (has_pred b l pred);
 }
@@ -152,17 +152,17 @@ block_empty nodes source radius within radius_within = record {
   radius_within = radius_within;
   few = omega arith;
   within = All-nil (IsLabel nodes);
-  near = All-nil (λ (m : Label). IsNear radius m.dist);
+  within_radius = All-nil (λ (m : Label). IsWithinRadius radius m.dist);
   fresh = each_after_nil (IsFresh source);
   preds = each_after_nil (HasPred source);
 }
 
 -- a distance that isn't beyond the radius
-pub near_radius : (radius : Option ℤ) (dist : ℤ) → is_past radius dist ≡ false → IsNear radius dist
+pub near_radius : (radius : Option ℤ) (dist : ℤ) → is_past radius dist ≡ false → IsWithinRadius radius dist
 near_radius None dist h = tt
 near_radius (Some r) dist h = omega (arith, ints, h)
 
-pub not_past : (radius : Option ℤ) (dist : ℤ) → IsNear radius dist → is_past radius dist ≡ false
+pub not_past : (radius : Option ℤ) (dist : ℤ) → IsWithinRadius radius dist → is_past radius dist ≡ false
 not_past None dist near = refl
 not_past (Some r) dist near = false_from_ne_true (int_lt r dist) (λ past. omega (arith, ints, past, near))
 

@@ -22,7 +22,7 @@ use Rattle.dimacs_records.specs.Texts.{AreFaultless, Reads, SpellsValue}
 use Rattle.dimacs_records.proofs.CanonicalLaws.{canonical_spelled, numbered_all}
 use Rattle.dimacs_records.specs.Faults.{Fault}
 use Rattle.dimacs_claims.specs.declared.block.Label.{Label}
-use Rattle.dimacs_claims.specs.Labels.{BlockValue, LabelsValue, AreLabels, EachAfter, IsBlock, IsLabel, IsFresh, HasPred, IsNear, IsNewSource}
+use Rattle.dimacs_claims.specs.Labels.{BlockValue, LabelsValue, AreLabels, EachAfter, IsBlock, IsLabel, IsFresh, HasPred, IsWithinRadius, IsNewSource}
 use Rattle.dimacs_claims.specs.LabelTexts.{label_line, block_lines, label_records, GivesLabels, SpellsLabels, canonical_labels, FitText}
 use Rattle.dimacs_claims.proofs.BlockLemmas.{label_id, is_some-label, fresh_has_none, not_past, pred_has_label}
 use Rattle.dimacs_claims.proofs.LineCounts.{one_a_line}
@@ -62,7 +62,7 @@ not_full count n room = grind (arith, nat_tests, room)
 
 -- the labels of a block are allowed after its line
 labels_allowed : (ls done : List Label) (earlier : List Record) (nodes declared : ℕ) (sources : List ℕ) (source count : ℕ) (radius : Option ℤ) → Say earlier nodes declared sources (Some (opened source count radius (map label_id done)))
-    → length done + length ls ≡ count → All (IsLabel nodes) ls → All (λ (l : Label). IsNear radius l.dist) ls → EachAfter (IsFresh source) (done ++ ls) → EachAfter (HasPred source) (done ++ ls) → AllAllowed earlier (map label_line ls)
+    → length done + length ls ≡ count → All (IsLabel nodes) ls → All (λ (l : Label). IsWithinRadius radius l.dist) ls → EachAfter (IsFresh source) (done ++ ls) → EachAfter (HasPred source) (done ++ ls) → AllAllowed earlier (map label_line ls)
 unfolding AllAllowed
 labels_allowed [] done earlier nodes declared sources source count radius say all within near fresh preds = tt
 labels_allowed (l ∷ ls) done earlier nodes declared sources source count radius say all within near fresh preds =
@@ -72,8 +72,8 @@ labels_allowed (l ∷ ls) done earlier nodes declared sources source count radiu
     let known = sym (is_some-label b l.pred) ∙ pred_has_label b l (each_here (HasPred source) done ls l preds) in
     let room : nat_le count (length (map label_id done)) ≡ false = rw (length-map done label_id) (not_full count (length done) (omega (arith, all))) in
     let next = subst (λ ids. Say (earlier ++ label_line l ∷ []) nodes declared sources (Some (opened source count radius ids))) (sym (map-append label_id done (l ∷ []))) (say_label earlier nodes declared sources source count radius (map label_id done) say l.id l.dist l.pred) in (
-      label_allowed earlier nodes declared sources (Some (opened source count radius (map label_id done))) say l.id l.dist l.pred refl is.id.1 is.pred.1 new room known (not_past radius l.dist (All-head (λ (m : Label). IsNear radius m.dist) l ls near)),
-      labels_allowed ls (done ++ l ∷ []) (earlier ++ label_line l ∷ []) nodes declared sources source count radius next (omega (arith, all, length-append done (l ∷ []))) (All-tail (IsLabel nodes) l ls within) (All-tail (λ (m : Label). IsNear radius m.dist) l ls near)
+      label_allowed earlier nodes declared sources (Some (opened source count radius (map label_id done))) say l.id l.dist l.pred refl is.id.1 is.pred.1 new room known (not_past radius l.dist (All-head (λ (m : Label). IsWithinRadius radius m.dist) l ls near)),
+      labels_allowed ls (done ++ l ∷ []) (earlier ++ label_line l ∷ []) nodes declared sources source count radius next (omega (arith, all, length-append done (l ∷ []))) (All-tail (IsLabel nodes) l ls within) (All-tail (λ (m : Label). IsWithinRadius radius m.dist) l ls near)
           (each_next (IsFresh source) done ls l fresh) (each_next (HasPred source) done ls l preds),
     )
 
@@ -105,7 +105,7 @@ blocks_fit (b ∷ bs) done earlier nodes declared last say full all are sources 
     let opens = block_allowed earlier nodes declared (map source_of done) last say b.source count b.radius is.source_within.1 new (omega (arith, all, length-map done source_of)) full in
     let begun = earlier ++ LabelsBlock b.source count b.radius ∷ [] in
     let said = say_block earlier nodes declared (map source_of done) last say b.source count b.radius in
-    let labels = labels_allowed b.labels [] begun nodes declared (map source_of done ++ b.source ∷ []) b.source count b.radius said (omega arith) is.within is.near is.fresh is.preds in
+    let labels = labels_allowed b.labels [] begun nodes declared (map source_of done ++ b.source ∷ []) b.source count b.radius said (omega arith) is.within is.within_radius is.fresh is.preds in
     let behind = say_labels b.labels begun nodes declared (map source_of done ++ b.source ∷ []) b.source count b.radius [] said in
     let here : AllAllowed earlier (block_lines b) = (opens, labels) in
     let next = subst (λ xs. Say (begun ++ map label_line b.labels) nodes declared xs (Some (opened b.source count b.radius (map label_id b.labels)))) (sym (map-append source_of done (b ∷ []))) behind in

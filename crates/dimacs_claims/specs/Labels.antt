@@ -63,8 +63,8 @@ pub record IsLabel (nodes : ℕ) (l : Label) : Type 0 where
   pub pred : IsNode nodes l.pred
 
 -- the distance isn't greater than the radius, if there is one
-abbrev pub IsNear : Option ℤ → ℤ → Type 0
-IsNear radius dist = IfSome radius (λ r. dist ≤ℤ r)
+abbrev pub IsWithinRadius : Option ℤ → ℤ → Type 0
+IsWithinRadius radius dist = IfSome radius (λ r. dist ≤ℤ r)
 
 -- numbers in their ranges, no label beyond the radius, one label a node, each after that of its predecessor
 pub record IsBlock (nodes : ℕ) (b : BlockValue) : Type 0 where
@@ -72,7 +72,7 @@ pub record IsBlock (nodes : ℕ) (b : BlockValue) : Type 0 where
   pub radius_within : IfSome b.radius IsRadius
   pub few : length b.labels ≤ most_count
   pub within : All (IsLabel nodes) b.labels
-  pub near : All (λ (l : Label). IsNear b.radius l.dist) b.labels
+  pub within_radius : All (λ (l : Label). IsWithinRadius b.radius l.dist) b.labels
   pub fresh : EachAfter (IsFresh b.source) b.labels
   pub preds : PredsAreEarlier b
 

@@ -3,7 +3,7 @@
 ghost use Rattle.std.specs.Prelude.{◌≡◌, ◌==◌, ◌<◌, if◌then◌else◌, ℕ, [], length, OnOk, OnErr, IsSome, Option, Some, None};
 ghost use Rattle.dimacs_lines.specs.Limits.{most_count, IsNode};
 ghost use Rattle.dimacs_records.specs.Blocks.{is_past};
-ghost use Rattle.dimacs_claims.specs.Labels.{BlockValue, IsBlock, IsLabel, IsNear, with_label};
+ghost use Rattle.dimacs_claims.specs.Labels.{BlockValue, IsBlock, IsLabel, IsWithinRadius, with_label};
 ghost use Rattle.dimacs_claims.specs.Labels as claims;
 
 use crate::label_list::LabelList;
@@ -40,7 +40,7 @@ impl Block {
     /// The block of a source, without labels and radius. Allocates nothing.
     #[tactic(auto, using(crate::proofs::BlockLemmas::block_empty))]
     pub fn new(alloc: Global, source: u32) -> Block
-        ensures made { result ≡ record { source = source; radius = None; labels = [] } }
+        ensures empty { result ≡ record { source = source; radius = None; labels = [] } }
         ensures lawful { (nodes : ℕ) → IsNode nodes source → IsBlock nodes result }
     {
         Block::within(alloc, source, None)
@@ -65,7 +65,7 @@ impl Block {
         ensures labels { OnOk result ((id : ℕ) → claims.label self.new id ≡ (if label.id == id then Some label.dist else claims.label self.old id)) }
         ensures lawful { OnOk result ((nodes : ℕ) → IsBlock nodes self.old → IsLabel nodes label
             → length self.old.labels < most_count → IsSome (claims.label self.old label.pred)
-            → IsNear self.old.radius label.dist → IsBlock nodes self.new) }
+            → IsWithinRadius self.old.radius label.dist → IsBlock nodes self.new) }
         ensures unchanged { OnErr result (self.new ≡ self.old) }
     {
         self.labels.push(label)?;

@@ -60,7 +60,7 @@ impl Labels {
     /// Labels in a graph with so many nodes, without blocks. Allocates nothing.
     pub fn new(alloc: Global, nodes: u32) -> Labels
         requires { nodes ≤ most_nodes }
-        ensures made { result ≡ record { nodes = nodes; blocks = [] } }
+        ensures empty { result ≡ record { nodes = nodes; blocks = [] } }
         ensures lawful { AreLabels result }
     {
         Labels {

@@ -6,7 +6,7 @@ use Rattle.dimacs_optimality.specs.Flows.{net, sum_nodes}
 use Rattle.dimacs_optimality.specs.InfeasibleJudge.{ShowsNoFlow}
 use Rattle.dimacs_decide.specs.Bounds.{KeepsBounds}
 use Rattle.dimacs_decide.specs.declared.feasible.FeasibilityDecision.{FeasibilityDecision}
-use Rattle.dimacs_decide.specs.declared.feasible.FeasibilityDecision.TheVariants.{Balanced, Infeasible, Nearer}
+use Rattle.dimacs_decide.specs.declared.feasible.FeasibilityDecision.TheVariants.{Balanced, Infeasible, LessExcess}
 
 -- the imbalance of a node: its supply less its balance; an excess if positive, a deficit if negative
 abbrev pub imbalance_at : MinValue → List ℤ → ℕ → ℤ
@@ -20,4 +20,4 @@ total_excess i x = sum_nodes (λ v. pos (positive_part (imbalance_at i x v))) i.
 abbrev pub DecidesFeasible : MinValue → List ℤ → FeasibilityDecision → Type 0
 DecidesFeasible i x Balanced = FeasibleMin i x
 DecidesFeasible i x (Infeasible set) = ShowsNoFlow i set
-DecidesFeasible i x (Nearer y) = (¬ FeasibleMin i x) × KeepsBounds i.arcs y × (total_excess i y <ℤ total_excess i x)
+DecidesFeasible i x (LessExcess y) = (¬ FeasibleMin i x) × KeepsBounds i.arcs y × (total_excess i y <ℤ total_excess i x)

@@ -64,7 +64,7 @@ fn leads_from<N: Network>(network: &N, flow: &Flow, from: u32, residual: Residua
         return false;
     }
     let arc = network.arc(residual.arc);
-    residual.side.near(arc) == from
+    residual.side.end_of(arc) == from
         && residual_capacity_from(residual.side, arc, flow.amount(residual.arc as usize)) > 0
 }
 
@@ -76,7 +76,7 @@ fn ending<N: Network>(network: &N, residual: ResidualArc) -> u32
     if residual.arc >= network.arcs() {
         return 0;
     }
-    residual.side.far(network.arc(residual.arc))
+    residual.side.other_end(network.arc(residual.arc))
 }
 
 /// The residual arcs by which the nodes of a cycle were raised, in the order of the cycle.

@@ -29,7 +29,7 @@ pub enum FeasibilityDecision {
     /// No flow is feasible; this violated set shows it.
     Infeasible(Cut),
     /// It isn't. This flow keeps the bounds, too, with less excess.
-    Nearer(Flow),
+    LessExcess(Flow),
 }
 
 /// Decides whether a flow that keeps the bounds is feasible. If it isn't, the answer is such a flow with less excess,
@@ -116,7 +116,7 @@ fn nearer_or_stuck<N: Network>(
     let mut search = Search::new(alloc, imbalance);
     search.begin_all(network.nodes())?;
     match send(alloc, network, incidence, flow, search)? {
-        Sending::Sent(nearer) => Ok(FeasibilityDecision::Nearer(nearer)),
+        Sending::Sent(nearer) => Ok(FeasibilityDecision::LessExcess(nearer)),
         Sending::Stuck(set) => Ok(FeasibilityDecision::Infeasible(set)),
     }
 }

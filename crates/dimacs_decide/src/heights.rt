@@ -47,7 +47,7 @@ pub(crate) fn below<N: Network>(network: &N, label: HeightLabel) -> u32
     if label.parent_arc == 0 {
         return 0;
     }
-    label.side.near(network.arc(label.parent_arc - 1))
+    label.side.end_of(network.arc(label.parent_arc - 1))
 }
 
 /// What sending one unit along the arc from this side saves.
@@ -84,8 +84,8 @@ fn lift<N: Network>(
     if residual_capacity_from(side, arc, flow.amount(parent_arc as usize)) <= 0 {
         return Ok(false);
     }
-    let to = side.far(arc);
-    let height = labels.get(side.near(arc)).height + gain(side, arc);
+    let to = side.other_end(arc);
+    let height = labels.get(side.end_of(arc)).height + gain(side, arc);
     if height <= labels.get(to).height {
         return Ok(false);
     }

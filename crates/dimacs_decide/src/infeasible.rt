@@ -39,7 +39,7 @@ pub fn decide_infeasible<N: Network>(
         match decide_feasible(alloc, instance, &flow)? {
             FeasibilityDecision::Balanced => return Ok(Feasibility::Feasible(flow)),
             FeasibilityDecision::Infeasible(set) => return Ok(Feasibility::Infeasible(set)),
-            FeasibilityDecision::Nearer(nearer) => flow = sent_on(alloc, instance, nearer)?,
+            FeasibilityDecision::LessExcess(nearer) => flow = sent_on(alloc, instance, nearer)?,
         }
     }
 }

@@ -45,7 +45,7 @@ pub fn decide_min<N: Network>(
     ensures { IfOk result (DecidesMin instance.now flow.now) }
 {
     match guess_potentials(alloc, instance, flow.amounts())? {
-        Guess::Least(potentials) | Guess::GaveUp(potentials) => {
+        Guess::Optimal(potentials) | Guess::GaveUp(potentials) => {
             decide_min_from(alloc, instance, flow, potentials)
         }
         Guess::Cycle(cycle) => decide_by_cycle(alloc, instance, flow, &cycle),

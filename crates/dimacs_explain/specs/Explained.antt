@@ -2,7 +2,7 @@
 use Rattle.std.specs.Prelude.{ℕ, ◌≡◌, List, Option, Result}
 use Rattle.dimacs_lines.specs.Devices.{Written, after_piece}
 use Rattle.dimacs_runs.specs.declared.failure.CommandError.{CommandError}
-use Rattle.dimacs_runs.specs.declared.outcome.Status.{Status}
+use Rattle.dimacs_runs.specs.declared.status.Status.{Status}
 use Rattle.dimacs_runs.specs.Commands.{Commands, Contents, Seen, seen_by}
 use Rattle.dimacs_runs.specs.Files.{FilesSeen}
 

@@ -14,7 +14,9 @@ ghost use Rattle.dimacs_network.specs.KeptArcs.{weight_arc};
 ghost use Rattle.dimacs_instance.specs.GraphReading.{graph_begun_records, after_lines};
 
 use dimacs_lines::{DeviceFault, Memory, Sink, Source};
-use dimacs_network::{ArcView, ForwardStar, KeptArc, Network, OfWeightArcs, PlainArcs, WeightArc};
+use dimacs_network::{
+    ArcView, ForwardStar, Network, OfWeightArcs, PlainArcs, StoredArc, WeightArc,
+};
 use dimacs_records::{
     Begun, CountedReading, Declared, Earlier, ReadError, Record, TextKind, put_text, read_counted,
 };
@@ -81,7 +83,7 @@ impl<N: Network> Graph<N> {
     }
 }
 
-impl<A: KeptArc> Graph<PlainArcs<A>> {
+impl<A: StoredArc> Graph<PlainArcs<A>> {
     /// The same graph with an index of its arcs by their ends. An error drops it.
     pub fn indexed(self, alloc: Global) -> Result<Graph<ForwardStar<A>>, Memory>
         ensures { IfOk result (λ indexed. indexed ≡ self) }
@@ -92,7 +94,7 @@ impl<A: KeptArc> Graph<PlainArcs<A>> {
     }
 }
 
-impl<A: KeptArc> Graph<ForwardStar<A>> {
+impl<A: StoredArc> Graph<ForwardStar<A>> {
     /// The same graph without the index. Allocates nothing.
     pub fn into_plain(self) -> Graph<PlainArcs<A>>
         ensures { result ≡ self }

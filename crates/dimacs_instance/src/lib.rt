@@ -9,8 +9,8 @@ mod summaries;
 mod texts;
 
 pub use dimacs_network::{
-    ArcEnds, ArcView, BoundsAndCost, CapacityArc, ForwardStar, KeptArc, MAX_ARCS, Network,
-    PlainArcs, WeightArc,
+    ArcEnds, ArcView, BoundsAndCost, CapacityArc, ForwardStar, MAX_ARCS, Network, PlainArcs,
+    StoredArc, WeightArc,
 };
 pub use graph::{
     Graph, GraphReading, PlainGraphReading, read_graph, read_plain_graph, write_graph,

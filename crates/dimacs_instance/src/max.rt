@@ -19,7 +19,7 @@ mod build;
 use crate::summaries::CountedMax;
 use dimacs_lines::{DeviceFault, Memory, Sink, Source};
 use dimacs_network::{
-    ArcView, CapacityArc, ForwardStar, KeptArc, Network, OfCapacityArcs, PlainArcs,
+    ArcView, CapacityArc, ForwardStar, Network, OfCapacityArcs, PlainArcs, StoredArc,
 };
 use dimacs_records::{
     Begun, CountedReading, Earlier, End, ReadError, Record, TextKind, put_text, read_counted,
@@ -70,7 +70,7 @@ impl<N: Network> MaxInstance<N> {
     }
 }
 
-impl<A: KeptArc> MaxInstance<PlainArcs<A>> {
+impl<A: StoredArc> MaxInstance<PlainArcs<A>> {
     /// The same instance with an index of its arcs by their ends. An error drops it.
     pub fn indexed(self, alloc: Global) -> Result<MaxInstance<ForwardStar<A>>, Memory>
         ensures { IfOk result (λ indexed. indexed ≡ self) }
@@ -83,7 +83,7 @@ impl<A: KeptArc> MaxInstance<PlainArcs<A>> {
     }
 }
 
-impl<A: KeptArc> MaxInstance<ForwardStar<A>> {
+impl<A: StoredArc> MaxInstance<ForwardStar<A>> {
     /// The same instance without the index. Allocates nothing.
     pub fn into_plain(self) -> MaxInstance<PlainArcs<A>>
         ensures { result ≡ self }

@@ -17,7 +17,7 @@ ghost use Rattle.dimacs_instance.specs.MinReading.{IsMinBegunBy, after_lines, be
 mod build;
 
 use dimacs_lines::{DeviceFault, Memory, OutputBuffer, Sink, Source};
-use dimacs_network::{ArcView, ForwardStar, KeptArc, Network, OfCostArcs, PlainArcs};
+use dimacs_network::{ArcView, ForwardStar, Network, OfCostArcs, PlainArcs, StoredArc};
 use dimacs_nodes::NodeMap;
 use dimacs_records::{
     Begun, CountedReading, Declared, Earlier, ReadError, Record, TextKind, read_counted,
@@ -113,7 +113,7 @@ impl<N: Network> MinInstance<N> {
     }
 }
 
-impl<A: KeptArc> MinInstance<PlainArcs<A>> {
+impl<A: StoredArc> MinInstance<PlainArcs<A>> {
     /// The same instance with an index of its arcs by their ends. An error drops it.
     pub fn indexed(self, alloc: Global) -> Result<MinInstance<ForwardStar<A>>, Memory>
         ensures { IfOk result (λ indexed. indexed ≡ self) }
@@ -125,7 +125,7 @@ impl<A: KeptArc> MinInstance<PlainArcs<A>> {
     }
 }
 
-impl<A: KeptArc> MinInstance<ForwardStar<A>> {
+impl<A: StoredArc> MinInstance<ForwardStar<A>> {
     /// The same instance without the index. Allocates nothing.
     pub fn into_plain(self) -> MinInstance<PlainArcs<A>>
         ensures { result ≡ self }

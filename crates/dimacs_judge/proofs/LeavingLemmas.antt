@@ -12,7 +12,7 @@ use Rattle.dimacs_network.specs.declared.network.ArcView.{ArcView}
 use Rattle.dimacs_network.specs.declared.adjacency_lists.Side.TheVariants.{Tail}
 use Rattle.dimacs_network.specs.AdjacencyLists.{IsLast}
 use Rattle.dimacs_claims.specs.declared.block.Label.{Label}
-use Rattle.dimacs_claims.specs.Labels.{BlockValue, IsBlock, IsNear, label, no_label}
+use Rattle.dimacs_claims.specs.Labels.{BlockValue, IsBlock, IsWithinRadius, label, no_label}
 use Rattle.dimacs_claims.proofs.BlockLemmas.{has_pred}
 use Rattle.dimacs_optimality.specs.CertificateTests.{RelaxFails, relax_row}
 use Rattle.dimacs_optimality.specs.LightestArcs.{AreCovering, Covers}
@@ -28,7 +28,7 @@ use Rattle.dimacs_judge.proofs.NodeLabelLemmas.{labels_still, labels_this, some_
 use Rattle.dimacs_optimality.proofs.LeastLemmas.{at_place}
 
 -- ---- one arc
-near_less : (radius : Option ℤ) (x y : ℤ) → x ≤ℤ y → IsNear radius y → IsNear radius x
+near_less : (radius : Option ℤ) (x y : ℤ) → x ≤ℤ y → IsWithinRadius radius y → IsWithinRadius radius x
 near_less None x y less near = tt
 near_less (Some r) x y less near = omega (arith, ints, less, near)
 
@@ -64,14 +64,14 @@ relaxed_covered arcs b at one other are covers is = record {
 }
 
 -- an arc that leads beyond the radius
-pub relaxed_beyond : (nodes : ℕ) (arcs : List ArcView) (b : BlockValue) (at : ℕ → NodeEntry) (a : ArcView) (d : ℤ) → IsBlock nodes b → HasLabels arcs b at → label b a.tail ≡ Some d → (¬ IsNear b.radius (d +ℤ a.cost)) → IsRelaxedBy b at a
+pub relaxed_beyond : (nodes : ℕ) (arcs : List ArcView) (b : BlockValue) (at : ℕ → NodeEntry) (a : ArcView) (d : ℤ) → IsBlock nodes b → HasLabels arcs b at → label b a.tail ≡ Some d → (¬ IsWithinRadius b.radius (d +ℤ a.cost)) → IsRelaxedBy b at a
 relaxed_beyond nodes arcs b at a d is are tail beyond = record {
   holds = λ reason fails.
       let (e, from, why) = fails in
       let both : Some e ≡ Some d = sym from ∙ tail in
       let same : e ≡ d = cc in
       elim why [
-        | inl out ↦ beyond (subst (λ z. IsNear b.radius (z +ℤ a.cost)) same out.2)
+        | inl out ↦ beyond (subst (λ z. IsWithinRadius b.radius (z +ℤ a.cost)) same out.2)
         | inr far ↦
             let (to, head, less) = far.1 in
             beyond (near_less b.radius (d +ℤ a.cost) to (below to (subst (λ z. (z +ℤ a.cost) <ℤ to) same less)) (near_label b (stays_near nodes b is) a.head to head))
@@ -79,7 +79,7 @@ relaxed_beyond nodes arcs b at a d is are tail beyond = record {
   labelled = λ l has tight_for.
       let both : Some tight_for.base ≡ Some d = sym tight_for.labelled ∙ (ap (label b) (sym tight_for.from) ∙ tail) in
       let same : tight_for.base ≡ d = cc in
-      absurd (beyond (subst (IsNear b.radius) (sym tight_for.adds ∙ ap (λ z. z +ℤ a.cost) same) (near_label b (stays_near nodes b is) l.id l.dist (are.named l has))));
+      absurd (beyond (subst (IsWithinRadius b.radius) (sym tight_for.adds ∙ ap (λ z. z +ℤ a.cost) same) (near_label b (stays_near nodes b is) l.id l.dist (are.named l has))));
 }
   where
     below : (to : ℤ) → (d +ℤ a.cost) <ℤ to → (d +ℤ a.cost) ≤ℤ to
@@ -123,7 +123,7 @@ module _ (arcs : List ArcView) (order : List ℕ) (b : BlockValue) (at : ℕ →
       let tail : (arc_at (arcs_in arcs order) p).tail ≡ node = ap (λ (c : ArcView). c.tail) same ∙ (covers.tail ∙ here) in
       relaxed_covered arcs b at (arc_at arcs i) (arc_at arcs k) are covers (subst (IsRelaxedBy b at) same (relaxed p (omega arith) there tail))
 
-  pub node_beyond : (nodes : ℕ) (d : ℤ) (next : ℕ) → IsBlock nodes b → HasLabels arcs b at → label b node ≡ Some d → WeightsFall (arcs_in arcs order) → next < length order → (¬ IsNear b.radius (d +ℤ (arc_at (arcs_in arcs order) next).cost))
+  pub node_beyond : (nodes : ℕ) (d : ℤ) (next : ℕ) → IsBlock nodes b → HasLabels arcs b at → label b node ≡ Some d → WeightsFall (arcs_in arcs order) → next < length order → (¬ IsWithinRadius b.radius (d +ℤ (arc_at (arcs_in arcs order) next).cost))
       → AreRelaxedOn (next + 1) → AreRelaxedOn 0
   node_beyond nodes d next is are from fall inside beyond relaxed p after there here = elim (cases_lt next p) [
     | inl more ↦ relaxed p (omega (arith, more)) there here

@@ -1,7 +1,7 @@
 //! Tests whether labels are distances, without allocating.
 
 ghost use Rattle.std.specs.Prelude.{◌≡◌, ◌<◌, ◌+ℤ◌, ◌<ℤ◌, ℤ, Some, All, length, IsTrue, ◌↔◌, IfSome, OnOk};
-ghost use Rattle.dimacs_claims.specs.Labels.{AreLabels, IsNear, label_at};
+ghost use Rattle.dimacs_claims.specs.Labels.{AreLabels, IsWithinRadius, label_at};
 ghost use Rattle.dimacs_optimality.specs.CertificateTests.{RelaxFails, label_rows, negative_row, relax_row, support_row, weight_row};
 ghost use Rattle.dimacs_judge.specs.inside.CertificateTests.{block_rows};
 ghost use Rattle.dimacs_optimality.specs.Labels.{AreDistances, HasArcOfWeight, LabelsOk};
@@ -199,7 +199,7 @@ pub(crate) fn relax_fault_from(
 #[inline(always)]
 pub(crate) fn escape_fault(radius: Option<i128>, from: i128, weight: i64) -> Option<Reason>
     requires { IsWide from }
-    ensures { NamesReason (λ reason. (reason ≡ reasons.Escapes) × IsNear radius (from +ℤ weight)) result }
+    ensures { NamesReason (λ reason. (reason ≡ reasons.Escapes) × IsWithinRadius radius (from +ℤ weight)) result }
 {
     match radius {
         Some(radius) if from + i128::from(weight) > radius => None,

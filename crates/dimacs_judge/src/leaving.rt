@@ -2,7 +2,7 @@
 
 ghost use Rattle.std.specs.Prelude.{◌≡◌, ◌≤◌, ◌+ℤ◌, ℕ, Some, IsTrue};
 ghost use Rattle.dimacs_network.specs.declared.network.ArcView.{ArcView};
-ghost use Rattle.dimacs_claims.specs.Labels.{IsBlock, IsNear, label};
+ghost use Rattle.dimacs_claims.specs.Labels.{IsBlock, IsWithinRadius, label};
 ghost use Rattle.dimacs_records.specs.Ranges.{IsWide};
 ghost use Rattle.dimacs_optimality.specs.CertificateTests.{relax_row};
 ghost use Rattle.dimacs_judge.specs.inside.Leaving.{AreRelaxedFrom, IsRelaxedBy};
@@ -94,7 +94,7 @@ fn relax_node<N: Network, D: Distance>(
 #[inline(always)]
 fn leads_past(radius: Option<i128>, from: i128, weight: i64) -> bool
     requires { IsWide from }
-    ensures { IsTrue result → ¬ IsNear radius (from +ℤ weight) }
+    ensures { IsTrue result → ¬ IsWithinRadius radius (from +ℤ weight) }
 {
     escape_fault(radius, from, weight).is_none()
 }

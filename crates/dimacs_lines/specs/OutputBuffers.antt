@@ -6,7 +6,7 @@ use Rattle.dimacs_lines.specs.Devices.{Written, after_piece, one_more}
 use Rattle.dimacs_lines.specs.Puts.{AcceptsFront}
 
 -- the bytes in the buffer, and whether a write has failed
-pub record PageState : Type 0 where
+pub record BufferState : Type 0 where
   pub kept : List ℕ
   pub failed : Bool
 
@@ -22,11 +22,11 @@ IsWrittenBy false old text new kept = Keeps old text new kept
 IsWrittenBy true old text new kept = AcceptsFront old.accepted text new.accepted × (new.faults ≡ one_more old.faults)
 
 -- the text was accepted, or its rest is in the buffer; after a fault, which is counted, its first bytes were accepted
-abbrev pub IsWritten : Written → List ℕ → Written → PageState → Type 0
+abbrev pub IsWritten : Written → List ℕ → Written → BufferState → Type 0
 IsWritten old text new output = IsWrittenBy output.failed old text new output.kept
 
 -- more was appended to whatever was written: the sink accepted it, or the buffer holds it
-abbrev pub Appends : List ℕ → Written → PageState → Written → PageState → Type 0
+abbrev pub Appends : List ℕ → Written → BufferState → Written → BufferState → Type 0
 Appends more old output new after = (start : Written) (text : List ℕ) → IsWritten start text old output → IsWritten start (text ++ more) new after
 
 -- a blank and a number

@@ -43,9 +43,9 @@ impl Drop for OutputBuffer {
 
 impl Model for OutputBuffer {
     ghost use Rattle.std.specs.Prelude.{◌≤◌, take};
-    ghost use Rattle.dimacs_lines.specs.OutputBuffers.{PageState};
+    ghost use Rattle.dimacs_lines.specs.OutputBuffers.{BufferState};
 
-    ghost Value = { PageState };
+    ghost Value = { BufferState };
 
     ghost view = { λ output. record { kept = take output.length output.bytes; failed = output.failed } };
 

@@ -47,7 +47,7 @@ use std::alloc::Global;
 #[derive(Drop)]
 pub enum Guess {
     /// It costs least: these potentials are slack.
-    Least(Potentials),
+    Optimal(Potentials),
     /// It doesn't: these residual arcs form a cycle of negative cost. Each begins where the one before it ends, the
     /// first where the last ends.
     Cycle(Vec<ResidualArc>),
@@ -93,7 +93,7 @@ fn tie_and_link<N: Network, V: Number>(
     let mut distances = vec![in alloc; V::of(0); places.groups as usize]?;
     if rounds_suffice(&links, &mut distances) {
         let potentials = potentials(alloc, claim, &places, &distances)?;
-        return Ok(Guess::Least(potentials));
+        return Ok(Guess::Optimal(potentials));
     }
     drop(distances);
     join_and_correct(alloc, claim, places, links)
@@ -133,7 +133,7 @@ fn correct_labels<N: Network, V: Number>(
     match end {
         End::Optimal => {
             let potentials = potentials(alloc, claim, places, &tree.distances)?;
-            Ok(Guess::Least(potentials))
+            Ok(Guess::Optimal(potentials))
         }
         End::Cycle(groups) => cycle_over(alloc, claim, places, &groups),
         End::TooLong => {

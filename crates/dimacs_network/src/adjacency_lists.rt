@@ -19,7 +19,7 @@ pub enum Side {
 impl Side {
     /// The end on this side.
     #[inline(always)]
-    pub fn near(self, arc: ArcView) -> u32
+    pub fn end_of(self, arc: ArcView) -> u32
         ensures { result ≡ end_of self arc }
     {
         match self {
@@ -30,7 +30,7 @@ impl Side {
 
     /// The end on the other side.
     #[inline(always)]
-    pub fn far(self, arc: ArcView) -> u32
+    pub fn other_end(self, arc: ArcView) -> u32
         ensures { result ≡ other_end self arc }
     {
         match self {
@@ -56,7 +56,7 @@ impl AdjacencyLists {
         let mut last = NodeTable::new(alloc, 0);
         let mut before = Vec::with_capacity(alloc, network.arcs() as usize)?;
         for i in 0..network.arcs() {
-            let node = side.near(network.arc(i));
+            let node = side.end_of(network.arc(i));
             before.push(last.get(node))?;
             last.set(node, i + 1)?;
         }

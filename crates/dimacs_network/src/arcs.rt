@@ -10,7 +10,7 @@ use dimacs_nodes::ShortForm;
 
 /// An arc of a kind of instance. Its ends are stored apart, since many passes read only them. Numbers that are the same
 /// for all arcs of the kind aren't stored.
-pub trait KeptArc: Copy {
+pub trait StoredArc: Copy {
     /// The numbers in 32 bits each.
     type Short: ShortForm;
 
@@ -58,7 +58,7 @@ impl WeightArc {
     }
 }
 
-impl KeptArc for WeightArc {
+impl StoredArc for WeightArc {
     type Short = i32;
 
     ghost shows = { λ a. weight_arc a.tail a.head a.weight };
@@ -102,7 +102,7 @@ impl CapacityArc {
     }
 }
 
-impl KeptArc for CapacityArc {
+impl StoredArc for CapacityArc {
     type Short = i32;
 
     ghost shows = { λ a. capacity_arc a.tail a.head a.cap };
@@ -164,7 +164,7 @@ impl ShortForm for ShortBoundsAndCost {
 }
 
 /// An arc of a minimum cost flow: 20 bytes while all numbers fit into 32 bits, otherwise 32.
-impl KeptArc for ArcView {
+impl StoredArc for ArcView {
     type Short = ShortBoundsAndCost;
 
     ghost shows = { λ a. a };

@@ -4,7 +4,7 @@ ghost use Rattle.std.specs.Prelude.{◌≡◌, IfOk, IfErr};
 ghost use Rattle.dimacs_network.specs.declared.network.ArcView.{ArcView};
 
 use crate::arc_index::ArcIndex;
-use crate::arcs::KeptArc;
+use crate::arcs::StoredArc;
 use crate::network::{ArcView, Network};
 use crate::plain_arcs::PlainArcs;
 use dimacs_lines::Memory;
@@ -13,12 +13,12 @@ use std::marker::Model;
 
 /// Arcs in the order of the text with an index by their ends, which takes at most 16 bytes an arc.
 #[derive(Drop)]
-pub struct ForwardStar<A: KeptArc> {
+pub struct ForwardStar<A: StoredArc> {
     arcs: PlainArcs<A>,
     index: ArcIndex,
 }
 
-impl<A: KeptArc> Model for ForwardStar<A> {
+impl<A: StoredArc> Model for ForwardStar<A> {
     ghost use Rattle.dimacs_network.specs.Arcs.{NetworkValue};
     ghost use Rattle.dimacs_network.specs.ArcOrder.{Indexes};
 
@@ -29,7 +29,7 @@ impl<A: KeptArc> Model for ForwardStar<A> {
     ghost invariant = { λ s. Indexes s.arcs.arcs s.index };
 }
 
-impl<A: KeptArc> ForwardStar<A> {
+impl<A: StoredArc> ForwardStar<A> {
     /// Builds the index. If there is no memory for it, returns the arcs unchanged.
     pub fn build(
         alloc: Global,
@@ -63,7 +63,7 @@ impl<A: KeptArc> ForwardStar<A> {
     }
 }
 
-impl<A: KeptArc> Network for ForwardStar<A> {
+impl<A: StoredArc> Network for ForwardStar<A> {
     ghost node_count = { λ n. n.nodes };
 
     ghost list = { λ n. n.arcs };

@@ -17,7 +17,7 @@ mod tail_starts;
 
 pub use adjacency_lists::{AdjacencyLists, Side};
 pub use arc_index::ArcIndex;
-pub use arcs::{ArcEnds, BoundsAndCost, CapacityArc, KeptArc, ShortBoundsAndCost, WeightArc};
+pub use arcs::{ArcEnds, BoundsAndCost, CapacityArc, ShortBoundsAndCost, StoredArc, WeightArc};
 pub use forward_star::ForwardStar;
 pub use network::{ArcView, Network};
 pub use of_arcs::{OfCapacityArcs, OfCostArcs, OfWeightArcs};

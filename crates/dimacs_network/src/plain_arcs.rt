@@ -4,7 +4,7 @@ ghost use Rattle.std.specs.Prelude.{◌≡◌, ◌<◌, ◌≤◌, ◌+◌, ◌+
 ghost use Rattle.dimacs_lines.specs.Limits.{most_count};
 ghost use Rattle.dimacs_network.specs.declared.network.ArcView.{ArcView};
 
-use crate::arcs::{ArcEnds, KeptArc};
+use crate::arcs::{ArcEnds, StoredArc};
 use crate::network::{ArcView, Network};
 use dimacs_lines::Memory;
 use dimacs_nodes::{ShortForm, WideningList};
@@ -16,13 +16,13 @@ pub const MAX_ARCS: u32 = 268_435_456;
 
 /// Arcs in the order of the text, without an index: `find` goes over all of them.
 #[derive(Drop)]
-pub struct PlainArcs<A: KeptArc> {
+pub struct PlainArcs<A: StoredArc> {
     nodes: u32,
     ends: Vec<ArcEnds>,
     numbers: WideningList<A::Short, Vec<<A::Short as ShortForm>::Long>>,
 }
 
-impl<A: KeptArc> Model for PlainArcs<A> {
+impl<A: StoredArc> Model for PlainArcs<A> {
     ghost use Rattle.std.specs.Prelude.{◌≤◌, ◌≡◌, length};
     ghost use Rattle.dimacs_lines.specs.Limits.{most_count};
     ghost use Rattle.dimacs_network.specs.Arcs.{NetworkValue};
@@ -35,7 +35,7 @@ impl<A: KeptArc> Model for PlainArcs<A> {
     ghost invariant = { λ n. (length n.ends.items ≤ most_count) × (length n.numbers ≡ length n.ends.items) };
 }
 
-impl<A: KeptArc> PlainArcs<A> {
+impl<A: StoredArc> PlainArcs<A> {
     /// A network without arcs.
     pub fn new(alloc: Global, nodes: u32) -> PlainArcs<A>
         ensures { result ≡ record { nodes = nodes; arcs = [] } }
@@ -62,7 +62,7 @@ impl<A: KeptArc> PlainArcs<A> {
     }
 }
 
-impl<A: KeptArc> Network for PlainArcs<A> {
+impl<A: StoredArc> Network for PlainArcs<A> {
     ghost node_count = { λ n. n.nodes };
 
     ghost list = { λ n. n.arcs };

@@ -7,7 +7,7 @@ use Rattle.std.proofs.lemmas.Bool.Decides.{eqb_tells}
 use Rattle.dimacs_network.specs.declared.network.ArcView.{ArcView}
 use Rattle.dimacs_claims.specs.declared.block.Label.{Label}
 use Rattle.dimacs_optimality.specs.Walks.{IsWalk, weight, Dist, IsDistance}
-use Rattle.dimacs_claims.specs.Labels.{BlockValue, IsNear, distance_in, label, PredsAreEarlier}
+use Rattle.dimacs_claims.specs.Labels.{BlockValue, IsWithinRadius, distance_in, label, PredsAreEarlier}
 use Rattle.dimacs_optimality.specs.Labels.{HasTightArc, HasWeights, IsReached, IsRelaxed, LabelsOk, StaysNear}
 
 -- ---- no walk weighs less
@@ -15,7 +15,7 @@ use Rattle.dimacs_optimality.specs.Labels.{HasTightArc, HasWeights, IsReached, I
 abbrev pub IsPast : Option ℤ → ℤ → Type 0
 IsPast radius length = (r : ℤ) × (radius ≡ Some r) × (r <ℤ length)
 
-past_where_not_near : (radius : Option ℤ) (length : ℤ) → (¬ IsNear radius length) → IsPast radius length
+past_where_not_near : (radius : Option ℤ) (length : ℤ) → (¬ IsWithinRadius radius length) → IsPast radius length
 past_where_not_near None length off = absurd (off tt)
 past_where_not_near (Some r) length off = (r, refl, by_lt_z r length (λ l. l) (λ le. absurd (off le)))
 
@@ -152,20 +152,20 @@ walks g s labels known tight earlier (l ∷ rest) e w =
     walks g s labels known tight (earlier ++ l ∷ []) rest (e ∙ sym (append_assoc earlier (l ∷ []) rest)) (one_more g s earlier rest l here (known earlier rest l e) w)
 
 -- no label of the block is beyond its radius
-pub near_label : (b : BlockValue) → StaysNear b → (v : ℕ) (d : ℤ) → label b v ≡ Some d → IsNear b.radius d
+pub near_label : (b : BlockValue) → StaysNear b → (v : ℕ) (d : ℤ) → label b v ≡ Some d → IsWithinRadius b.radius d
 near_label b near v d at = elim (eqb_tells b.source v) [
-  | inl same ↦ (let own : Some (pos 0) ≡ Some d = (rw same.0 at at) in let e : pos 0 ≡ d = cc in subst (IsNear b.radius) e near.source)
+  | inl same ↦ (let own : Some (pos 0) ≡ Some d = (rw same.0 at at) in let e : pos 0 ≡ d = cc in subst (IsWithinRadius b.radius) e near.source)
   | inr off ↦ near_in b.radius b.labels near.labels v d (rw off.0 at at)
 ]
   where
-    near_in : (radius : Option ℤ) (labels : List Label) → All (λ (l : Label). IsNear radius l.dist) labels → (v : ℕ) (d : ℤ) → distance_in labels v ≡ Some d → IsNear radius d
+    near_in : (radius : Option ℤ) (labels : List Label) → All (λ (l : Label). IsWithinRadius radius l.dist) labels → (v : ℕ) (d : ℤ) → distance_in labels v ≡ Some d → IsWithinRadius radius d
     near_in radius [] all v d at = absurd (cc)
     near_in radius (l ∷ labels) all v d at = elim (eqb_tells l.id v) [
-      | inl same ↦ (let own : Some l.dist ≡ Some d = (rw same.0 at at) in let e : l.dist ≡ d = cc in subst (IsNear radius) e (All-head (λ (m : Label). IsNear radius m.dist) l labels all))
-      | inr off ↦ near_in radius labels (All-tail (λ (m : Label). IsNear radius m.dist) l labels all) v d (rw off.0 at at)
+      | inl same ↦ (let own : Some l.dist ≡ Some d = (rw same.0 at at) in let e : l.dist ≡ d = cc in subst (IsWithinRadius radius) e (All-head (λ (m : Label). IsWithinRadius radius m.dist) l labels all))
+      | inr off ↦ near_in radius labels (All-tail (λ (m : Label). IsWithinRadius radius m.dist) l labels all) v d (rw off.0 at at)
     ]
 
-near_before_past : (radius : Option ℤ) (d length : ℤ) → IsNear radius d → IsPast radius length → d ≤ℤ length
+near_before_past : (radius : Option ℤ) (d length : ℤ) → IsWithinRadius radius d → IsPast radius length → d ≤ℤ length
 near_before_past None d length near (r, is, far) = absurd (cc)
 near_before_past (Some s) d length near (r, is, far) = let same : s ≡ r = cc in omega (arith, ints, near, far, same)
 

@@ -12,7 +12,7 @@ use Rattle.dimacs_records.specs.declared.reasons.Reason.TheVariants as reasons
 use Rattle.dimacs_claims.specs.declared.block.Label.{Label}
 use Rattle.dimacs_optimality.specs.declared.verdict.Where.{Where}
 use Rattle.dimacs_optimality.specs.declared.verdict.Where.TheVariants as places
-use Rattle.dimacs_claims.specs.Labels.{BlockValue, LabelsValue, AreLabels, IsBlock, IsNear, label, no_label}
+use Rattle.dimacs_claims.specs.Labels.{BlockValue, LabelsValue, AreLabels, IsBlock, IsWithinRadius, label, no_label}
 use Rattle.dimacs_optimality.specs.Labels.{HasArcOfWeight, HasTightArc, HasWeights, IsReached, IsRelaxed, LabelsOk, AreDistances, StaysNear}
 use Rattle.dimacs_optimality.specs.Tests.{Clear, AllClear}
 use Rattle.dimacs_optimality.specs.inside.Tests.{TestsRows}
@@ -85,7 +85,7 @@ supported arcs b clear = all_from (HasTightArc arcs b) b.labels no_label (λ k h
 support_clear : (arcs : List ArcView) (b : BlockValue) → All (HasTightArc arcs b) b.labels → Clear (support_row arcs b)
 support_clear arcs b all k place reason f = f.3 (all_at (HasTightArc arcs b) b.labels no_label k f.0 all)
 
-relaxed_where_not_failed : (radius head : Option ℤ) (d w : ℤ) → ((reason : Reason) → ¬ RelaxFails radius (Some d) head w reason) → ((e : ℤ) × (head ≡ Some e) × (e ≤ℤ (d +ℤ w))) ⊎ ((head ≡ None) × (¬ IsNear radius (d +ℤ w)))
+relaxed_where_not_failed : (radius head : Option ℤ) (d w : ℤ) → ((reason : Reason) → ¬ RelaxFails radius (Some d) head w reason) → ((e : ℤ) × (head ≡ Some e) × (e ≤ℤ (d +ℤ w))) ⊎ ((head ≡ None) × (¬ IsWithinRadius radius (d +ℤ w)))
 relaxed_where_not_failed radius None d w h = inr (refl, λ near. h reasons.Escapes (d, refl, inl (refl, refl, near)))
 relaxed_where_not_failed radius (Some e) d w h =
     inl (e, refl, by_lt_z (d +ℤ w) e (λ l. absurd (h reasons.NotShortest (d, refl, inr (refl, (e, refl, l))))) (λ l. l))
@@ -99,7 +99,7 @@ relax_clear arcs b all k place reason f =
     let (d, is, fails) = f.2 in
     not_both (all_at (IsRelaxed b) arcs no_arc k f.0 all d is) fails
   where
-    not_both : {length : ℤ} → IsReached b (arc_at arcs k).head length → ((reason ≡ reasons.Escapes) × (label b (arc_at arcs k).head ≡ None) × IsNear b.radius length) ⊎ ((reason ≡ reasons.NotShortest) × ((e : ℤ) × (label b (arc_at arcs k).head ≡ Some e) × (length <ℤ e))) → ⊥
+    not_both : {length : ℤ} → IsReached b (arc_at arcs k).head length → ((reason ≡ reasons.Escapes) × (label b (arc_at arcs k).head ≡ None) × IsWithinRadius b.radius length) ⊎ ((reason ≡ reasons.NotShortest) × ((e : ℤ) × (label b (arc_at arcs k).head ≡ Some e) × (length <ℤ e))) → ⊥
     not_both (inl (e, named, le)) (inl out) = let both : None ≡ Some e = sym out.1 ∙ named in cc
     not_both (inl (e, named, le)) (inr far) = let (g, also, less) = far.1 in let both : Some g ≡ Some e = sym also ∙ named in let same : g ≡ e = cc in omega (arith, ints, le, less, same)
     not_both (inr past) (inl out) = past.1 out.2
@@ -132,9 +132,9 @@ labels_clear arcs (b ∷ blocks) all =
     (weights_clear arcs b here.weights, (support_clear arcs b here.tight, (relax_clear arcs b here.relaxed, labels_clear arcs blocks (All-tail (LabelsOk arcs) b blocks all))))
 
 pub stays_near : (nodes : ℕ) (b : BlockValue) → IsBlock nodes b → StaysNear b
-stays_near nodes b is = record { source = go b.radius is.radius_within; labels = is.near }
+stays_near nodes b is = record { source = go b.radius is.radius_within; labels = is.within_radius }
   where
-    go : (radius : Option ℤ) → IfSome radius IsRadius → IsNear radius (pos 0)
+    go : (radius : Option ℤ) → IfSome radius IsRadius → IsWithinRadius radius (pos 0)
     go None within = tt
     go (Some r) within = omega (arith, ints, within.0)
 

@@ -9,7 +9,7 @@ use Rattle.dimacs_instance.specs.MinFlows.{MinValue}
 use Rattle.dimacs_optimality.specs.ViolatedSets.{Violated}
 use Rattle.dimacs_optimality.specs.Cuts.{leaves, enters}
 use Rattle.dimacs_optimality.specs.Potentials.{reduced_cost}
-use Rattle.dimacs_claims.specs.Labels.{BlockValue, IsNear, label, no_label}
+use Rattle.dimacs_claims.specs.Labels.{BlockValue, IsWithinRadius, label, no_label}
 use Rattle.dimacs_optimality.specs.Labels.{HasTightArc}
 use Rattle.dimacs_optimality.specs.Rows.{arc_row, flow_row, one_test}
 use Rattle.dimacs_network.specs.Arcs.{arc_at}
@@ -58,7 +58,7 @@ support_row arcs b k place reason =
 abbrev pub RelaxFails : Option ℤ → Option ℤ → Option ℤ → ℤ → Reason → Type 0
 RelaxFails radius tail head weight reason =
     (d : ℤ) × (tail ≡ Some d)
-    × (((reason ≡ Escapes) × (head ≡ None) × IsNear radius (d +ℤ weight)) ⊎ ((reason ≡ NotShortest) × ((e : ℤ) × (head ≡ Some e) × ((d +ℤ weight) <ℤ e))))
+    × (((reason ≡ Escapes) × (head ≡ None) × IsWithinRadius radius (d +ℤ weight)) ⊎ ((reason ≡ NotShortest) × ((e : ℤ) × (head ≡ Some e) × ((d +ℤ weight) <ℤ e))))
 
 abbrev pub relax_row : List ArcView → BlockValue → Row
 relax_row arcs b = arc_row arcs (λ k reason. RelaxFails b.radius (label b (arc_at arcs k).tail) (label b (arc_at arcs k).head) (arc_at arcs k).cost reason)

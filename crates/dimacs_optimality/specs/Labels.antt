@@ -2,7 +2,7 @@
 use Rattle.std.specs.Prelude.{ℕ, ◌≡◌, ◌⊎◌, List, All, Contains, Option, Some, None, ℤ, pos, ◌+ℤ◌, ◌≤ℤ◌}
 use Rattle.dimacs_network.specs.declared.network.ArcView.{ArcView}
 use Rattle.dimacs_claims.specs.declared.block.Label.{Label}
-use Rattle.dimacs_claims.specs.Labels.{BlockValue, IsNear, label}
+use Rattle.dimacs_claims.specs.Labels.{BlockValue, IsWithinRadius, label}
 use Rattle.dimacs_optimality.specs.Walks.{IsDistance}
 
 -- an arc from the label's predecessor to its node, with the weight from distance `base` to the label's
@@ -19,7 +19,7 @@ HasTightArc g b l = (base : ℤ) × (label b l.pred ≡ Some base) × HasArcOfWe
 
 -- a walk of this length to v respects the labels: v's is no greater, or v has none and the length is beyond the radius
 abbrev pub IsReached : BlockValue → ℕ → ℤ → Type 0
-IsReached b v length = ((e : ℤ) × (label b v ≡ Some e) × (e ≤ℤ length)) ⊎ ((label b v ≡ None) × (¬ IsNear b.radius length))
+IsReached b v length = ((e : ℤ) × (label b v ≡ Some e) × (e ≤ℤ length)) ⊎ ((label b v ≡ None) × (¬ IsWithinRadius b.radius length))
 
 -- if the tail of the arc has a label, the head is reached by it plus the weight
 abbrev pub IsRelaxed : BlockValue → ArcView → Type 0
@@ -32,8 +32,8 @@ HasWeights (Some r) g = All (λ (a : ArcView). pos 0 ≤ℤ a.cost) g
 
 -- no label of the block is beyond its radius, not even the source's
 pub record StaysNear (b : BlockValue) : Type 0 where
-  pub source : IsNear b.radius (pos 0)
-  pub labels : All (λ (l : Label). IsNear b.radius l.dist) b.labels
+  pub source : IsWithinRadius b.radius (pos 0)
+  pub labels : All (λ (l : Label). IsWithinRadius b.radius l.dist) b.labels
 
 pub record LabelsOk (g : List ArcView) (b : BlockValue) : Type 0 where
   pub weights : HasWeights b.radius g

@@ -5,7 +5,7 @@ use Rattle.std.proofs.lemmas.Grind.{flat_map-append}
 use Rattle.std.proofs.lemmas.List.{append-nil, length-map, take_all}
 use Rattle.std.proofs.lemmas.Option.{slice_get-map}
 use Rattle.dimacs_lines.specs.Devices.{Written}
-use Rattle.dimacs_lines.specs.OutputBuffers.{PageState, IsWritten}
+use Rattle.dimacs_lines.specs.OutputBuffers.{BufferState, IsWritten}
 use Rattle.dimacs_records.specs.declared.records.Record.{Record}
 use Rattle.dimacs_records.specs.Canonical.{AreLines, canonical_line, canonical_text, records_of_line}
 
@@ -13,11 +13,11 @@ pub canonical_text-append : (rs more : List Record) → canonical_text (rs ++ mo
 canonical_text-append rs more = flat_map-append canonical_line rs more
 
 -- one record after other text
-pub line_after : (start new : Written) (output : PageState) (text : List ℕ) (r : Record) → IsWritten start (text ++ canonical_line r) new output → IsWritten start (text ++ canonical_text (r ∷ [])) new output
+pub line_after : (start new : Written) (output : BufferState) (text : List ℕ) (r : Record) → IsWritten start (text ++ canonical_line r) new output → IsWritten start (text ++ canonical_text (r ∷ [])) new output
 line_after start new output text r h = subst (λ t. IsWritten start (text ++ t) new output) (sym (append-nil (canonical_line r))) h
 
 -- more records after other text
-pub lines_after : (start new : Written) (output : PageState) (text : List ℕ) (before more all : List Record) → all ≡ before ++ more → IsWritten start ((text ++ canonical_text before) ++ canonical_text more) new output → IsWritten start (text ++ canonical_text all) new output
+pub lines_after : (start new : Written) (output : BufferState) (text : List ℕ) (before more all : List Record) → all ≡ before ++ more → IsWritten start ((text ++ canonical_text before) ++ canonical_text more) new output → IsWritten start (text ++ canonical_text all) new output
 lines_after start new output text before more all is h =
     let same : (text ++ canonical_text before) ++ canonical_text more ≡ text ++ canonical_text all = append_assoc text (canonical_text before) (canonical_text more) ∙ ap (λ t. text ++ t) (sym (ap canonical_text is ∙ canonical_text-append before more)) in
     subst (λ t. IsWritten start t new output) same h

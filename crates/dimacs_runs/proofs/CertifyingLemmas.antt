@@ -30,9 +30,9 @@ use Rattle.dimacs_optimality.proofs.MinJudge as min
 use Rattle.dimacs_decide.specs.CertifiedMax.{CertifiesMax}
 use Rattle.dimacs_decide.specs.CertifiedMin.{CertifiesMin}
 use Rattle.dimacs_decide.specs.CertifiedPaths.{AreAllDistances, AreLabelsOfAll, CertifiesPaths}
-use Rattle.dimacs_runs.specs.declared.outcome.Status.{Status}
-use Rattle.dimacs_runs.specs.declared.outcome.Status.TheVariants.{Done, Refused, GaveUp}
-use Rattle.dimacs_runs.specs.declared.run_outcome.OutputText.TheVariants as output_texts
+use Rattle.dimacs_runs.specs.declared.status.Status.{Status}
+use Rattle.dimacs_runs.specs.declared.status.Status.TheVariants.{Done, Refused, GaveUp}
+use Rattle.dimacs_runs.specs.declared.outcome.OutputText.TheVariants as output_texts
 use Rattle.dimacs_runs.specs.declared.report.Report.TheVariants as reports
 use Rattle.dimacs_runs.specs.Certified.{CertificateOr, CertifiesDistances, CertifiesInfeasible, CertifiesLeast, CertifiesMaximum, IsCheaperText, IsCutText, IsFeasibleText, IsGreaterText, IsPotentialsText, IsSetText, uncertified}
 use Rattle.dimacs_runs.specs.Outputs.{WritesAlike, report_of}

@@ -8,9 +8,9 @@ use Rattle.dimacs_runs.specs.declared.failure.Failure.{Failure}
 use Rattle.dimacs_runs.specs.declared.failure.Failure.TheVariants.{File, Output}
 use Rattle.dimacs_runs.specs.declared.failure.FileCall.{FileCall}
 use Rattle.dimacs_runs.specs.declared.failure.FileCall.TheVariants as calls
-use Rattle.dimacs_runs.specs.declared.outcome.RunError.{RunError}
-use Rattle.dimacs_runs.specs.declared.outcome.RunError.TheVariants.{Device, Memory}
-use Rattle.dimacs_runs.specs.declared.outcome.Status.{Status}
+use Rattle.dimacs_runs.specs.declared.status.RunError.{RunError}
+use Rattle.dimacs_runs.specs.declared.status.RunError.TheVariants.{Device, Memory}
+use Rattle.dimacs_runs.specs.declared.status.Status.{Status}
 use Rattle.dimacs_runs.specs.Commands.{WritesNothing, failures_named, output_faults}
 use Rattle.dimacs_runs.specs.Files.{FileEvent, FilesSeen, Read, ReadFile, Sees, WrittenFile, Wrote, after_events, failures, faults_after}
 use Rattle.dimacs_runs.specs.Judgings.{CountsDevices, OneMore}

@@ -15,10 +15,10 @@ use Rattle.dimacs_instance.specs.QueryTexts.{QueriesValue}
 use Rattle.std.specs.List.{flat_map}
 use Rattle.dimacs_runs.specs.Judged.{paths_lines}
 use Rattle.dimacs_optimality.specs.Tests.{Row, Judges}
-use Rattle.dimacs_runs.specs.declared.outcome.Status.{Status}
-use Rattle.dimacs_runs.specs.declared.outcome.Status.TheVariants.{Done, Refused, GaveUp}
+use Rattle.dimacs_runs.specs.declared.status.Status.{Status}
+use Rattle.dimacs_runs.specs.declared.status.Status.TheVariants.{Done, Refused, GaveUp}
 use Rattle.dimacs_runs.specs.Judgings.{CountsDevices, VerdictOr}
-use Rattle.dimacs_runs.specs.Runs.{TextSays}
+use Rattle.dimacs_runs.specs.Runs.{TextSpells}
 use Rattle.dimacs_runs.specs.inside.Judgings.{ReadsIn}
 use Rattle.dimacs_runs.specs.Runs.{ReportsAlone}
 use Rattle.dimacs_runs.specs.inside.Outcomes.{MayReport, judge_outcome, outcome_of}
@@ -52,12 +52,12 @@ module _ (holds : Type 0) (rows : List Row) (says : Verdict → Type 0) (lines :
   answer_alone (Err judge_errors.Memory) answer = tt
 
 -- a text that was read into a place
-pub one_placed : {V T : Type 0} (like : V → T → Type 0) (text : TextSays V) (read : Result V ReadError) (w : T) → AnswersAlike like read (Ok w) → ReadsIn text read → (v : V) × like v w × ReadsIn text (Ok v)
+pub one_placed : {V T : Type 0} (like : V → T → Type 0) (text : TextSpells V) (read : Result V ReadError) (w : T) → AnswersAlike like read (Ok w) → ReadsIn text read → (v : V) × like v w × ReadsIn text (Ok v)
 one_placed like text (Ok v) w alike reads = (v, alike, reads)
 one_placed like text (Err error) w alike read = absurd alike
 
 -- a text that could not be read
-pub none_placed : {V T : Type 0} (like : V → T → Type 0) (text : TextSays V) (read : Result V ReadError) (error : ReadError) → AnswersAlike like read (Err error) → ReadsIn text read → ReadsIn text (Err error)
+pub none_placed : {V T : Type 0} (like : V → T → Type 0) (text : TextSpells V) (read : Result V ReadError) (error : ReadError) → AnswersAlike like read (Err error) → ReadsIn text read → ReadsIn text (Err error)
 none_placed like text (Ok v) error alike read = absurd alike
 none_placed like text (Err other) error alike read = subst (λ (e : ReadError). ReadsIn text (Err e)) alike read
 

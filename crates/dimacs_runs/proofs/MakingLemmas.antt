@@ -5,12 +5,12 @@ use Rattle.std.proofs.lemmas.Grind.{flat_map-append}
 use Rattle.dimacs_lines.specs.Devices.{Written}
 use Rattle.dimacs_runs.specs.declared.failure.CommandError.{CommandError}
 use Rattle.dimacs_runs.specs.declared.failure.Failure.{Failure}
-use Rattle.dimacs_runs.specs.declared.outcome.RunError.{RunError}
-use Rattle.dimacs_runs.specs.declared.outcome.RunError.TheVariants.{Device, Memory}
-use Rattle.dimacs_runs.specs.declared.outcome.Status.{Status}
-use Rattle.dimacs_runs.specs.declared.run_outcome.OutputText.{OutputText}
-use Rattle.dimacs_runs.specs.declared.run_outcome.OutputText.TheVariants.{Cut, Labels, Nothing, Potentials, Solution}
-use Rattle.dimacs_runs.specs.declared.run_outcome.Outcome.{Outcome}
+use Rattle.dimacs_runs.specs.declared.status.RunError.{RunError}
+use Rattle.dimacs_runs.specs.declared.status.RunError.TheVariants.{Device, Memory}
+use Rattle.dimacs_runs.specs.declared.status.Status.{Status}
+use Rattle.dimacs_runs.specs.declared.outcome.OutputText.{OutputText}
+use Rattle.dimacs_runs.specs.declared.outcome.OutputText.TheVariants.{Cut, Labels, Nothing, Potentials, Solution}
+use Rattle.dimacs_runs.specs.declared.outcome.Outcome.{Outcome}
 use Rattle.dimacs_runs.specs.Commands.{Contents, Making, MakesOfFiles, files_for, seen_by}
 use Rattle.dimacs_runs.specs.Files.{Created, FileEvent, FilesSeen, NotCreated, NotOpened, Opened, Read, ReadFile, Sees, WrittenFile, closed_written, failures}
 use Rattle.dimacs_runs.specs.Judgings.{CountsDevices, OneMore}

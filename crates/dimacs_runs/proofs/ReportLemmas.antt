@@ -1,16 +1,16 @@
 -- The report on a text that was read or refused.
 use Rattle.std.proofs.Common.{◌≡◌, ℕ, List, Result, Ok, refl, ap, ◌∙◌, inl, inr, ◌⊎◌}
-use Rattle.dimacs_runs.specs.declared.run_outcome.Outcome.{Outcome}
-use Rattle.dimacs_runs.specs.declared.outcome.Status.{Status}
-use Rattle.dimacs_runs.specs.declared.outcome.Status.TheVariants.{Done, Refused, GaveUp}
+use Rattle.dimacs_runs.specs.declared.outcome.Outcome.{Outcome}
+use Rattle.dimacs_runs.specs.declared.status.Status.{Status}
+use Rattle.dimacs_runs.specs.declared.status.Status.TheVariants.{Done, Refused, GaveUp}
 use Rattle.dimacs_runs.specs.declared.stop.Stop.{Stop}
 use Rattle.dimacs_runs.specs.declared.texts_in_turn.Unread.{Unread}
-use Rattle.dimacs_runs.specs.Runs.{PrintsText, ReportsAlone, TextSays}
+use Rattle.dimacs_runs.specs.Runs.{PrintsText, ReportsAlone, TextSpells}
 use Rattle.dimacs_runs.specs.inside.Judgings.{ReadsIn, StopsAt}
 use Rattle.dimacs_runs.specs.inside.Outcomes.{MayReport, outcome_of}
 use Rattle.dimacs_runs.proofs.TextLemmas.{FaultLine, Stopped, reporting_way, unread_ends}
 
-module _ {V : Type 0} (text : TextSays V) (printed : V → List ℕ) where
+module _ {V : Type 0} (text : TextSpells V) (printed : V → List ℕ) where
   abbrev prints : Status → List ℕ → Type 0
   prints = PrintsText text printed
 

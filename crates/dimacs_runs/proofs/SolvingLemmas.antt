@@ -24,9 +24,9 @@ use Rattle.dimacs_solve.specs.declared.least.MinAnswer.TheVariants as min_answer
 use Rattle.dimacs_solve.specs.Paths.{IsFirstNegative, SolvesPaths}
 use Rattle.dimacs_solve.specs.SolveMax.{SolvesMax}
 use Rattle.dimacs_solve.specs.SolveMin.{SolvesMin}
-use Rattle.dimacs_runs.specs.declared.outcome.Status.TheVariants.{Refused}
-use Rattle.dimacs_runs.specs.declared.outcome.RunError.{RunError}
-use Rattle.dimacs_runs.specs.declared.outcome.RunError.TheVariants.{Device}
+use Rattle.dimacs_runs.specs.declared.status.Status.TheVariants.{Refused}
+use Rattle.dimacs_runs.specs.declared.status.RunError.{RunError}
+use Rattle.dimacs_runs.specs.declared.status.RunError.TheVariants.{Device}
 use Rattle.dimacs_runs.specs.Judgings.{CountsDevices}
 use Rattle.dimacs_runs.specs.Outputs.{MayWrite}
 use Rattle.dimacs_runs.specs.inside.Outcomes.{MaySolve, least_outcome, maximum_outcome, outcome_of, solve_stop}

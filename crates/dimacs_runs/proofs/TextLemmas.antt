@@ -6,10 +6,10 @@ use Rattle.dimacs_records.specs.declared.faults.ReadError.{ReadError}
 use Rattle.dimacs_records.specs.declared.faults.ReadError.TheVariants as read_errors
 use Rattle.dimacs_records.specs.declared.kinds.TextKind.{TextKind}
 use Rattle.dimacs_records.specs.declared.reasons.Reason.{Reason}
-use Rattle.dimacs_runs.specs.declared.outcome.Status.{Status}
-use Rattle.dimacs_runs.specs.declared.outcome.Status.TheVariants.{Refused}
-use Rattle.dimacs_runs.specs.declared.outcome.RunError.{RunError}
-use Rattle.dimacs_runs.specs.declared.run_outcome.Outcome.{Outcome}
+use Rattle.dimacs_runs.specs.declared.status.Status.{Status}
+use Rattle.dimacs_runs.specs.declared.status.Status.TheVariants.{Refused}
+use Rattle.dimacs_runs.specs.declared.status.RunError.{RunError}
+use Rattle.dimacs_runs.specs.declared.outcome.Outcome.{Outcome}
 use Rattle.dimacs_runs.specs.declared.report.Report.{Report}
 use Rattle.dimacs_runs.specs.declared.report.Report.TheVariants.{Fault}
 use Rattle.dimacs_runs.specs.declared.stop.Stop.{Stop}
@@ -17,7 +17,7 @@ use Rattle.dimacs_runs.specs.declared.texts_in_turn.Unread.{Unread}
 use Rattle.dimacs_runs.specs.Certified.{uncertified}
 use Rattle.dimacs_runs.specs.Outputs.{MayWrite, WritesAlike, report_of}
 use Rattle.dimacs_runs.specs.Refusals.{refusal_line}
-use Rattle.dimacs_runs.specs.Runs.{ReportsAlone, TextSays, text_word}
+use Rattle.dimacs_runs.specs.Runs.{ReportsAlone, TextSpells, text_word}
 use Rattle.dimacs_runs.specs.Solved.{report_alone}
 use Rattle.dimacs_runs.specs.inside.Judgings.{ReadsIn, StopsAt}
 use Rattle.dimacs_runs.specs.inside.Outcomes.{IfEnds, outcome_texts, reporting, outcome_of, unclaimed_texts, unread_stop}
@@ -80,7 +80,7 @@ module _ {O : Type 0} (way : Way O) where
   abbrev pub Ends : (Status → O → Type 0) → Result Outcome RunError → Type 0
   Ends a outcome = IfEnds way.texts (way.writes a) outcome
 
-  module _ {V : Type 0} (text : TextSays V) where
+  module _ {V : Type 0} (text : TextSpells V) where
     -- the report is the line of the text's fault
     abbrev pub FaultLine : Status → O → Type 0
     FaultLine s o = (l : ℕ) × (f : ℕ) × (r : Reason) × text.fault l f r × (s ≡ Refused) × (o ≡ way.alone (refusal_line text.name l f r))
@@ -122,7 +122,7 @@ module _ {O : Type 0} (way : Way O) where
       pub stop_ends : (unread : Unread) (result : Result Outcome Stop) → Stopped unread result → StopsAt text unread → Ends FaultThen (outcome_of result)
       stop_ends unread result stopped stop = unread_ends FaultThen (λ l f r fault. inl (l, f, r, fault, refl, refl)) (λ s o h. elim h [ inl it ↦ inl it | inr it ↦ inr (it.0, it.1) ]) unread result stopped stop
 
-  module _ {V W : Type 0} (x : TextSays V) (y : TextSays W) (next : V → W → Status → O → Type 0) where
+  module _ {V W : Type 0} (x : TextSpells V) (y : TextSpells W) (next : V → W → Status → O → Type 0) where
     abbrev after_first : V → Status → O → Type 0
     after_first v = FaultThen y (next v)
 
@@ -135,7 +135,7 @@ module _ {O : Type 0} (way : Way O) where
     two_stop unread result stopped (inl first) = stop_ends x after_first unread result stopped first
     two_stop unread result stopped (inr (v, read, second)) = value_ends x after_first v (outcome_of result) read (stop_ends y (next v) unread result stopped second)
 
-  module _ {V W X : Type 0} (x : TextSays V) (y : TextSays W) (z : TextSays X) (next : V → W → X → Status → O → Type 0) where
+  module _ {V W X : Type 0} (x : TextSpells V) (y : TextSpells W) (z : TextSpells X) (next : V → W → X → Status → O → Type 0) where
     abbrev after_second : V → W → Status → O → Type 0
     after_second v w = FaultThen z (next v w)
 

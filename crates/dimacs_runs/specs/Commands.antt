@@ -16,8 +16,8 @@ use Rattle.dimacs_runs.specs.declared.jobs.JudgeKind.TheVariants as judges
 use Rattle.dimacs_runs.specs.declared.jobs.SolveJob.{SolveJob}
 use Rattle.dimacs_runs.specs.declared.jobs.SolveJob.TheVariants as solves
 use Rattle.dimacs_runs.specs.declared.jobs.SpreadKind.{SpreadKind}
-use Rattle.dimacs_runs.specs.declared.outcome.RunError.{RunError}
-use Rattle.dimacs_runs.specs.declared.outcome.Status.{Status}
+use Rattle.dimacs_runs.specs.declared.status.RunError.{RunError}
+use Rattle.dimacs_runs.specs.declared.status.Status.{Status}
 use Rattle.dimacs_runs.specs.Certified.{Certified}
 use Rattle.dimacs_runs.specs.Files.{Created, FileEvent, FilesSeen, NotCreated, NotOpened, Opened, Read, ReadFile, Sees, WrittenFile, Wrote, closed_written, failures}
 use Rattle.dimacs_runs.specs.Jobs.{Asks, certify_reads}

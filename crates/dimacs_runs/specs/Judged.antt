@@ -19,7 +19,7 @@ use Rattle.dimacs_optimality.specs.MinJudge.{ShowsLeast, min_rows}
 use Rattle.dimacs_optimality.specs.PathsJudge.{ShowsDistances, paths_rows}
 use Rattle.dimacs_runs.specs.declared.jobs.JudgeKind.{JudgeKind}
 use Rattle.dimacs_runs.specs.declared.jobs.JudgeKind.TheVariants.{Max, Min, Infeasible, Paths}
-use Rattle.dimacs_runs.specs.declared.outcome.Status.{Status}
+use Rattle.dimacs_runs.specs.declared.status.Status.{Status}
 use Rattle.dimacs_runs.specs.Judgings.{FaultOr, VerdictOr}
 use Rattle.dimacs_runs.specs.Runs.{says}
 use Rattle.dimacs_runs.specs.Verdicts.{max_line, min_line, infeasible_line, sources_line, answer_line}

@@ -4,16 +4,16 @@ use Rattle.dimacs_lines.specs.Devices.{one_more}
 use Rattle.dimacs_records.specs.declared.reasons.Reason.{Reason}
 use Rattle.dimacs_optimality.specs.declared.verdict.Where.{Where}
 use Rattle.dimacs_optimality.specs.Tests.{Row, First}
-use Rattle.dimacs_runs.specs.declared.outcome.Status.{Status}
-use Rattle.dimacs_runs.specs.declared.outcome.Status.TheVariants.{Done, Refused, GaveUp}
-use Rattle.dimacs_runs.specs.declared.outcome.RunError.{RunError}
-use Rattle.dimacs_runs.specs.declared.outcome.RunError.TheVariants.{Device, Memory}
+use Rattle.dimacs_runs.specs.declared.status.Status.{Status}
+use Rattle.dimacs_runs.specs.declared.status.Status.TheVariants.{Done, Refused, GaveUp}
+use Rattle.dimacs_runs.specs.declared.status.RunError.{RunError}
+use Rattle.dimacs_runs.specs.declared.status.RunError.TheVariants.{Device, Memory}
 use Rattle.dimacs_runs.specs.Refusals.{refusal_line}
-use Rattle.dimacs_runs.specs.Runs.{TextSays}
+use Rattle.dimacs_runs.specs.Runs.{TextSpells}
 use Rattle.dimacs_runs.specs.Verdicts.{failure_line}
 
 -- the text has a fault, and the report is its line; or it spells a value, and the report follows from that
-abbrev pub FaultOr : {V : Type 0} → TextSays V → (V → Status → List ℕ → Type 0) → Status → List ℕ → Type 0
+abbrev pub FaultOr : {V : Type 0} → TextSpells V → (V → Status → List ℕ → Type 0) → Status → List ℕ → Type 0
 FaultOr text next status out =
     ((l : ℕ) × (f : ℕ) × (r : Reason) × text.fault l f r × (status ≡ Refused) × (out ≡ refusal_line text.name l f r))
     ⊎ ((v : _) × text.spells v × next v status out)

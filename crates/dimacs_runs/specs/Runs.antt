@@ -18,8 +18,8 @@ use Rattle.dimacs_instance.specs.Graph.{GivesGraph, canonical_graph, shown_graph
 use Rattle.dimacs_instance.specs.MaxTexts.{GivesMax, canonical_max, shown_max}
 use Rattle.dimacs_instance.specs.MinTexts.{GivesMin, canonical_min, shown_min}
 use Rattle.dimacs_instance.specs.QueryTexts.{GivesQueries, canonical_queries, shown_queries}
-use Rattle.dimacs_runs.specs.declared.outcome.Status.{Status}
-use Rattle.dimacs_runs.specs.declared.outcome.Status.TheVariants.{Done, Refused, GaveUp}
+use Rattle.dimacs_runs.specs.declared.status.Status.{Status}
+use Rattle.dimacs_runs.specs.declared.status.Status.TheVariants.{Done, Refused, GaveUp}
 use Rattle.dimacs_runs.specs.declared.text.TextForm.{TextForm}
 use Rattle.dimacs_runs.specs.declared.text.TextForm.TheVariants.{Canonical, Summary}
 use Rattle.dimacs_runs.specs.Refusals.{refusal_line}
@@ -35,17 +35,17 @@ text_word Distances = codes "distances"
 text_word instance = codes "instance"
 
 -- a text: its word in refusals, the value that it spells, and its fault
-pub record TextSays (V : Type 0) : Type 1 where
+pub record TextSpells (V : Type 0) : Type 1 where
   pub name : List ℕ
   pub spells : V → Type 0
   pub fault : ℕ → ℕ → Reason → Type 0
 
 -- these bytes as a text of this kind; `gives` relates its records to its value
-abbrev pub says : {V : Type 0} → TextKind → (List LineRecord → V → Type 0) → List ℕ → TextSays V
+abbrev pub says : {V : Type 0} → TextKind → (List LineRecord → V → Type 0) → List ℕ → TextSpells V
 says kind gives bytes = record { name = text_word kind; spells = SpellsValue kind gives (lines bytes); fault = Fault kind (lines bytes) }
 
 -- prints `printed v` if the text spells a value v, otherwise the line of its fault
-abbrev pub PrintsText : {V : Type 0} → TextSays V → (V → List ℕ) → Status → List ℕ → Type 0
+abbrev pub PrintsText : {V : Type 0} → TextSpells V → (V → List ℕ) → Status → List ℕ → Type 0
 PrintsText text printed Done out = (v : _) × text.spells v × (out ≡ printed v)
 PrintsText text printed Refused out = (l : ℕ) × (f : ℕ) × (r : Reason) × text.fault l f r × (out ≡ refusal_line text.name l f r)
 PrintsText text printed GaveUp out = ⊥

@@ -29,11 +29,11 @@ use Rattle.dimacs_solve.specs.SolveMax.{IsOptimal}
 use Rattle.dimacs_solve.specs.SolveMin.{IsLeastAnswer}
 use Rattle.dimacs_runs.specs.declared.jobs.SolveJob.{SolveJob}
 use Rattle.dimacs_runs.specs.declared.jobs.SolveJob.TheVariants.{Max, Min, Paths}
-use Rattle.dimacs_runs.specs.declared.outcome.Status.{Status}
-use Rattle.dimacs_runs.specs.declared.outcome.Status.TheVariants.{Done, Refused, GaveUp}
+use Rattle.dimacs_runs.specs.declared.status.Status.{Status}
+use Rattle.dimacs_runs.specs.declared.status.Status.TheVariants.{Done, Refused, GaveUp}
 use Rattle.dimacs_runs.specs.Judged.{paths_lines}
 use Rattle.dimacs_runs.specs.Refusals.{refusal_line}
-use Rattle.dimacs_runs.specs.Runs.{TextSays, says}
+use Rattle.dimacs_runs.specs.Runs.{TextSpells, says}
 use Rattle.dimacs_runs.specs.Verdicts.{failure_line, gave_up_line, infeasible_line, max_line, min_line}
 
 -- only a report
@@ -41,7 +41,7 @@ abbrev pub report_alone : List ℕ → List (List ℕ)
 report_alone line = [] ∷ [] ∷ line ∷ []
 
 -- the text has a fault, and only its line is written; or it spells a value, and the outcome follows from that
-abbrev pub FaultAloneOr : {V : Type 0} → (List ℕ → List (List ℕ)) → TextSays V → (V → Status → List (List ℕ) → Type 0) → Status → List (List ℕ) → Type 0
+abbrev pub FaultAloneOr : {V : Type 0} → (List ℕ → List (List ℕ)) → TextSpells V → (V → Status → List (List ℕ) → Type 0) → Status → List (List ℕ) → Type 0
 FaultAloneOr alone text next status out =
     ((l : ℕ) × (f : ℕ) × (r : Reason) × text.fault l f r × (status ≡ Refused) × (out ≡ alone (refusal_line text.name l f r)))
     ⊎ ((v : _) × text.spells v × next v status out)

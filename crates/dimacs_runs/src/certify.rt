@@ -12,7 +12,7 @@ ghost use Rattle.dimacs_optimality.specs.Feasible.{FeasibleMax, FeasibleMin};
 ghost use Rattle.dimacs_optimality.specs.Places.{ArePlaced};
 ghost use Rattle.dimacs_decide.specs.CertifiedMax.{IsMaxImproved};
 ghost use Rattle.dimacs_decide.specs.CertifiedMin.{IsMinImproved};
-ghost use Rattle.dimacs_runs.specs.declared.outcome.RunError.TheVariants.{Device, Memory};
+ghost use Rattle.dimacs_runs.specs.declared.status.RunError.TheVariants.{Device, Memory};
 ghost use Rattle.dimacs_runs.specs.declared.jobs.CertifyKind.TheVariants as certifies;
 ghost use Rattle.dimacs_runs.specs.Certified.{Certified, CertifiesLeast, CertifiesMaximum, IsClaimed, certified_kind};
 ghost use Rattle.dimacs_runs.specs.Judgings.{CountsDevices};
@@ -24,10 +24,10 @@ use crate::certify_distances::certify_distances;
 use crate::certify_infeasible::certify_infeasible;
 use crate::discard::Discard;
 use crate::jobs::CertifyKind;
-use crate::outcome::{RunError, Status};
+use crate::outcome::{Outcome, OutputText, write_outcome};
 use crate::report::Report;
-use crate::run_outcome::{Outcome, OutputText, write_outcome};
-use crate::stop::{Stop, settle};
+use crate::status::{RunError, Status};
+use crate::stop::{Stop, outcome_of};
 use crate::texts_in_turn::{place_solution, read};
 use dimacs_claims::Placed;
 use dimacs_decide::{MaxDecision, MinDecision, certify_max_placed, certify_min_placed};
@@ -86,7 +86,7 @@ pub(crate) fn certify_claim<P: Source, Q: Source>(
     ensures stops_at_instance { HasFault (certified_kind kind) (P.coming instance.old) → claim.new ≡ claim.old }
     ensures unclaimed { kind ≡ certifies.Infeasible → claim.new ≡ claim.old }
 {
-    settle(match kind {
+    outcome_of(match kind {
         CertifyKind::Max => certify_maximum(alloc, instance, claim),
         CertifyKind::Min => certify_least(alloc, instance, claim),
         CertifyKind::Infeasible => certify_infeasible(alloc, instance),

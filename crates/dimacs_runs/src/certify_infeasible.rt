@@ -3,13 +3,13 @@
 ghost use Rattle.std.specs.Prelude.{◌≡◌, ◌≢◌, ◌∷◌, [], ℕ, List, Some, Err};
 ghost use Rattle.dimacs_optimality.specs.Feasible.{FeasibleMin};
 ghost use Rattle.dimacs_runs.specs.declared.jobs.CertifyKind.TheVariants as certifies;
-ghost use Rattle.dimacs_runs.specs.declared.outcome.RunError.TheVariants.{Device};
+ghost use Rattle.dimacs_runs.specs.declared.status.RunError.TheVariants.{Device};
 ghost use Rattle.dimacs_runs.specs.Certified.{Certified, CertifiesInfeasible};
 ghost use Rattle.dimacs_runs.specs.Judgings.{CountsDevices};
 ghost use Rattle.dimacs_runs.specs.inside.Outcomes.{MayCertify, outcome_of};
 
+use crate::outcome::{Outcome, OutputText};
 use crate::report::Report;
-use crate::run_outcome::{Outcome, OutputText};
 use crate::stop::Stop;
 use crate::texts_in_turn::read;
 use dimacs_decide::{Feasibility, decide_infeasible};

@@ -4,7 +4,7 @@ ghost use Rattle.std.specs.Prelude.{◌≡◌};
 ghost use Rattle.dimacs_runs.specs.Outcomes.{failed_call, failed_device};
 ghost use Rattle.dimacs_runs.specs.inside.Commands.{named};
 
-use crate::outcome::RunError;
+use crate::status::RunError;
 
 /// An operation on a file.
 #[derive(Clone, Copy, Debug, PartialEq, Eq)]

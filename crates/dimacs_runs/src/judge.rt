@@ -7,7 +7,7 @@ ghost use Rattle.dimacs_records.specs.declared.kinds.TextKind.TheVariants as kin
 ghost use Rattle.dimacs_records.specs.declared.reasons.Reason.{Reason};
 ghost use Rattle.dimacs_records.specs.Faults.{Fault};
 ghost use Rattle.dimacs_runs.specs.declared.jobs.JudgeKind.TheVariants as judges;
-ghost use Rattle.dimacs_runs.specs.declared.outcome.RunError.TheVariants.{Memory};
+ghost use Rattle.dimacs_runs.specs.declared.status.RunError.TheVariants.{Memory};
 ghost use Rattle.dimacs_runs.specs.Judged.{IsClaim, Judged, claim_kind, instance_kind};
 ghost use Rattle.dimacs_runs.specs.Judgings.{CountsDevices};
 ghost use Rattle.dimacs_runs.specs.Runs.{Reports};
@@ -17,10 +17,10 @@ ghost use Rattle.dimacs_runs.specs.inside.Outcomes as outcomes;
 
 use crate::discard::Discard;
 use crate::jobs::JudgeKind;
-use crate::outcome::{RunError, Status};
+use crate::outcome::{Outcome, write_outcome};
 use crate::report::Report;
-use crate::run_outcome::{Outcome, write_outcome};
-use crate::stop::{Stop, settle};
+use crate::status::{RunError, Status};
+use crate::stop::{Stop, outcome_of};
 use crate::texts_in_turn::{read, read_placed, read_three, read_two};
 use dimacs_claims::{Cut, Labels, Potentials};
 use dimacs_instance::{Graph, MaxInstance, MinInstance, Queries};
@@ -66,7 +66,7 @@ pub fn run_judge<P: Source, Q: Source, R: Source, K: Sink>(
         JudgeKind::Infeasible => report_infeasible(alloc, instance, certificate),
         JudgeKind::Paths => report_paths(alloc, instance, claim, certificate),
     };
-    write_outcome(settle(answer), &mut Discard, &mut Discard, sink)
+    write_outcome(outcome_of(answer), &mut Discard, &mut Discard, sink)
 }
 
 /// The outcome of a judge's answer.

@@ -1,75 +1,94 @@
-//! How a run ends.
+//! The outcome of a run: texts and a report.
 
-ghost use Rattle.std.specs.Prelude.{◌≡◌, Some, None, IfSome, IfNone};
-ghost use Rattle.dimacs_runs.specs.Outcomes.{complaint_of, status_number};
+ghost use Rattle.std.specs.Prelude.{◌≡◌, ◌↔◌, ◌∷◌, [], IfOk, IsTrue};
+ghost use Rattle.dimacs_lines.specs.Puts.{Puts};
+ghost use Rattle.dimacs_runs.specs.declared.outcome.OutputText.TheVariants.{Nothing};
+ghost use Rattle.dimacs_runs.specs.inside.Outcomes.{EndsWriting, text_bytes};
+ghost use Rattle.dimacs_runs.specs.inside.Outcomes as outcomes;
 
-use dimacs_lines::{DeviceFault, Memory};
+use crate::report::Report;
+use crate::status::{RunError, Status};
+use dimacs_claims::{
+    Cut, Labels, Potentials, Solution, write_cut, write_labels, write_potentials, write_solution,
+};
+use dimacs_lines::{DeviceFault, Sink};
 
-/// The end of a run that had no error.
-#[derive(Clone, Copy, Debug, PartialEq, Eq)]
-pub enum Status {
-    /// It wrote the answer. A solver that finds that no flow is feasible is done too.
-    Done,
-    /// It wrote a refusal: a text has a fault, or a test fails.
-    Refused,
-    /// It wrote the line `g limit`: the solver gave up.
-    GaveUp,
+/// A text to write.
+#[derive(Drop)]
+pub(crate) enum OutputText {
+    Nothing,
+    Solution(Solution),
+    Cut(Cut),
+    Potentials(Potentials),
+    Labels(Labels),
 }
 
-/// Why a run did not write all of its output.
-#[derive(Clone, Copy, Debug, PartialEq, Eq)]
-pub enum RunError {
-    /// An I/O error: a call of a source, a sink or a file failed.
-    Device,
-    /// Out of memory.
-    Memory,
-}
+impl OutputText {
+    pub(crate) fn is_nothing(&self) -> bool
+        ensures { IsTrue result ↔ (self.now ≡ Nothing) }
+    {
+        matches!(self, OutputText::Nothing)
+    }
 
-impl From<DeviceFault> for RunError {
-    ghost use Rattle.dimacs_runs.specs.declared.outcome.RunError.TheVariants.{Device};
-
-    ghost from_gives = { λ fault error. error ≡ Device };
-
-    fn from(_fault: DeviceFault) -> RunError {
-        RunError::Device
+    fn write<K: Sink>(&self, sink: &mut K) -> Result<(), DeviceFault>
+        ensures puts { Puts result (K.seen sink.old) (text_bytes self.now) (K.seen sink.new) }
+        ensures unmade { self.now ≡ Nothing → sink.new ≡ sink.old }
+    {
+        match self {
+            OutputText::Nothing => Ok(()),
+            OutputText::Solution(solution) => write_solution(solution, sink),
+            OutputText::Cut(cut) => write_cut(cut, sink),
+            OutputText::Potentials(potentials) => write_potentials(potentials, sink),
+            OutputText::Labels(labels) => write_labels(labels, sink),
+        }
     }
 }
 
-impl From<Memory> for RunError {
-    ghost use Rattle.dimacs_runs.specs.declared.outcome.RunError.TheVariants as errors;
+/// The outcome of a run that had no error.
+#[derive(Drop)]
+pub(crate) struct Outcome {
+    /// The solution of a solver. Labels aren't here: they are claim and certificate in one.
+    pub(crate) claim: OutputText,
+    /// A certificate, or a solution in its place: a better flow than the claimed one, any feasible flow, or the claimed
+    /// flow dealt out to parallel arcs.
+    pub(crate) certificate: OutputText,
+    pub(crate) report: Report,
+}
 
-    ghost from_gives = { λ memory error. error ≡ errors.Memory };
+impl Outcome {
+    /// A report without texts.
+    pub(crate) fn reporting(report: Report) -> Outcome
+        ensures { result ≡ outcomes.reporting report }
+    {
+        Outcome::with_text(OutputText::Nothing, report)
+    }
 
-    fn from(_memory: Memory) -> RunError {
-        RunError::Memory
+    /// A report with a certificate, or with a solution in its place.
+    pub(crate) fn with_text(certificate: OutputText, report: Report) -> Outcome
+        ensures { result ≡ outcomes.with_text certificate report }
+    {
+        Outcome {
+            claim: OutputText::Nothing,
+            certificate,
+            report,
+        }
     }
 }
 
-/// The exit status of the command: 0, 1 and 5 for `Done`, `Refused` and `GaveUp`, 3 and 4 for `Device` and `Memory`.
-pub fn exit_status(outcome: &Result<Status, RunError>) -> u8
-    ensures { result ≡ status_number outcome.now }
+/// Writes the claim, the certificate and the report of an outcome, in this order. Returns an error unchanged.
+pub(crate) fn write_outcome<C: Sink, D: Sink, K: Sink>(
+    outcome: Result<Outcome, RunError>,
+    claim: &mut C,
+    certificate: &mut D,
+    report: &mut K,
+) -> Result<Status, RunError>
+    ensures ends { EndsWriting outcome result
+        (C.seen claim.old ∷ D.seen certificate.old ∷ K.seen report.old ∷ []) (C.seen claim.new ∷ D.seen certificate.new ∷ K.seen report.new ∷ []) }
+    ensures unclaimed { IfOk outcome (λ o. o.claim ≡ Nothing) → claim.new ≡ claim.old }
 {
-    match outcome {
-        Ok(Status::Done) => 0,
-        Ok(Status::Refused) => 1,
-        Ok(Status::GaveUp) => 5,
-        Err(RunError::Device) => 3,
-        Err(RunError::Memory) => 4,
-    }
-}
-
-/// The exit status if the arguments ask for no run.
-pub const NO_RUN: u8 = 2;
-
-/// The line on the standard error for an exit status, if it has one.
-pub fn complaint(status: u8) -> Option<&'static str>
-    ensures line { IfSome result (λ line. complaint_of status ≡ Some line.now) }
-    ensures no_line { IfNone result (complaint_of status ≡ None) }
-{
-    match status {
-        NO_RUN => Some("dimacs: usage"),
-        3 => Some("dimacs: device fault"),
-        4 => Some("dimacs: out of memory"),
-        _ => None,
-    }
+    let outcome = outcome?;
+    outcome.claim.write(claim)?;
+    outcome.certificate.write(certificate)?;
+    outcome.report.write(report)?;
+    Ok(outcome.report.status())
 }

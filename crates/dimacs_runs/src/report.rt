@@ -4,8 +4,8 @@ ghost use Rattle.std.specs.Prelude.{◌≡◌};
 ghost use Rattle.dimacs_lines.specs.Puts.{Puts};
 ghost use Rattle.dimacs_runs.specs.inside.Reports.{report_lines, report_status};
 
-use crate::outcome::Status;
 use crate::refusal::{put_refusal, text_name};
+use crate::status::Status;
 use crate::verdict::{put_distances, put_failure, put_gave_up, put_verdict};
 use dimacs_judge::{Verdict, Where};
 use dimacs_lines::{DeviceFault, Sink};

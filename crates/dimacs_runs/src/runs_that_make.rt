@@ -15,11 +15,11 @@ use crate::failure::{CommandError, name_failure};
 use crate::files::Files;
 use crate::jobs::{CertifyKind, SpreadKind, name_at};
 use crate::open_files::{close_read, open};
-use crate::outcome::{RunError, Status};
+use crate::outcome::Outcome;
 use crate::outcome_file::write_outcome_file;
-use crate::run_outcome::Outcome;
 use crate::spread::spread_claim;
-use crate::stop::settle;
+use crate::status::{RunError, Status};
+use crate::stop::outcome_of;
 use dimacs_lines::{Sink, Source};
 use std::alloc::Global;
 
@@ -137,7 +137,7 @@ fn answer_instance<'a, F: Files>(
         (F.seen files.old) (F.seen files.new) }
 {
     let mut instance = open(files, instance)?;
-    let answer = settle(certify_infeasible(alloc, &mut instance.device));
+    let answer = outcome_of(certify_infeasible(alloc, &mut instance.device));
     let failure = close_read(files, instance);
     name_failure(answer, failure)
 }

@@ -12,7 +12,7 @@ use crate::files::Files;
 use crate::jobs::JudgeKind;
 use crate::judge::run_judge;
 use crate::open_files::{close_read, open};
-use crate::outcome::Status;
+use crate::status::Status;
 use crate::text::{TextForm, run_text};
 use dimacs_lines::{MemorySource, Sink};
 use dimacs_records::TextKind;

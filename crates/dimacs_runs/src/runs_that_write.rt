@@ -10,8 +10,8 @@ use crate::failure::{CommandError, name_failure};
 use crate::files::Files;
 use crate::jobs::SolveJob;
 use crate::open_files::{close_read, close_written, create, open};
-use crate::outcome::Status;
 use crate::solve::run_solve;
+use crate::status::Status;
 use dimacs_lines::{MemorySource, Sink};
 use std::alloc::Global;
 

@@ -7,8 +7,8 @@ ghost use Rattle.dimacs_records.specs.declared.reasons.Reason.{Reason};
 ghost use Rattle.dimacs_records.specs.Faults.{Fault};
 ghost use Rattle.dimacs_instance.specs.QueryTexts.{AreLawful, asked};
 ghost use Rattle.dimacs_runs.specs.declared.jobs.SolveJob.TheVariants as jobs;
-ghost use Rattle.dimacs_runs.specs.declared.run_outcome.OutputText.TheVariants.{Nothing};
-ghost use Rattle.dimacs_runs.specs.declared.outcome.RunError.TheVariants.{Device, Memory};
+ghost use Rattle.dimacs_runs.specs.declared.outcome.OutputText.TheVariants.{Nothing};
+ghost use Rattle.dimacs_runs.specs.declared.status.RunError.TheVariants.{Device, Memory};
 ghost use Rattle.dimacs_runs.specs.Judgings.{CountsDevices};
 ghost use Rattle.dimacs_runs.specs.Outputs.{MayWrite, ReportsAll};
 ghost use Rattle.dimacs_runs.specs.inside.Judgings.{HasFault};
@@ -17,10 +17,10 @@ ghost use Rattle.dimacs_runs.specs.inside.Outcomes as outcomes;
 ghost use Rattle.dimacs_runs.specs.Solved.{AreQueries, FindsPaths, Solved, solved_kind};
 
 use crate::jobs::SolveJob;
-use crate::outcome::{RunError, Status};
+use crate::outcome::{Outcome, OutputText, write_outcome};
 use crate::report::Report;
-use crate::run_outcome::{Outcome, OutputText, write_outcome};
-use crate::stop::{Stop, settle};
+use crate::status::{RunError, Status};
+use crate::stop::{Stop, outcome_of};
 use crate::texts_in_turn::{read, read_two};
 use dimacs_instance::{Graph, MaxInstance, MinInstance, Queries};
 use dimacs_judge::{Verdict, answer_queries, index_for};
@@ -68,7 +68,7 @@ pub fn run_solve<P: Source, Q: Source, C: Sink, D: Sink, K: Sink>(
         SolveJob::Min(limit) => solve_least(alloc, limit, instance),
         SolveJob::Paths => solve_labels(alloc, instance, queries),
     };
-    write_outcome(settle(answer), claim_out, certificate_out, report)
+    write_outcome(outcome_of(answer), claim_out, certificate_out, report)
 }
 
 fn solve_maximum<P: Source>(alloc: Global, limit: u64, instance: &mut P) -> Result<Outcome, Stop>

@@ -5,7 +5,7 @@ ghost use Rattle.dimacs_lines.specs.Limits.{most_count};
 ghost use Rattle.dimacs_claims.specs.SolutionTexts.{SolutionValue};
 ghost use Rattle.dimacs_runs.specs.declared.jobs.SpreadKind.{SpreadKind};
 ghost use Rattle.dimacs_runs.specs.declared.jobs.SpreadKind.TheVariants as spreads;
-ghost use Rattle.dimacs_runs.specs.declared.outcome.RunError.TheVariants.{Device, Memory};
+ghost use Rattle.dimacs_runs.specs.declared.status.RunError.TheVariants.{Device, Memory};
 ghost use Rattle.dimacs_runs.specs.Judgings.{CountsDevices};
 ghost use Rattle.dimacs_runs.specs.Outputs.{ReportsAll};
 ghost use Rattle.dimacs_runs.specs.Spread.{Spreads, SpreadsClaim};
@@ -13,10 +13,10 @@ ghost use Rattle.dimacs_runs.specs.inside.Outcomes.{DealsOut, IfEnds, outcome_of
 
 use crate::discard::Discard;
 use crate::jobs::SpreadKind;
-use crate::outcome::{RunError, Status};
+use crate::outcome::{Outcome, OutputText, write_outcome};
 use crate::report::Report;
-use crate::run_outcome::{Outcome, OutputText, write_outcome};
-use crate::stop::{Stop, settle};
+use crate::status::{RunError, Status};
+use crate::stop::{Stop, outcome_of};
 use crate::texts_in_turn::read_two;
 use dimacs_claims::Solution;
 use dimacs_instance::{MaxInstance, MinInstance};
@@ -65,7 +65,7 @@ pub(crate) fn spread_claim<P: Source, Q: Source>(
     ensures spreads { (a b : List ℕ) → P.coming instance.old ≡ Some a → Q.coming claim.old ≡ Some b → IfEnds unclaimed_texts (Spreads kind a b) result }
     ensures faults { CountsDevices result (P.faults instance.old ∷ Q.faults claim.old ∷ []) (P.faults instance.new ∷ Q.faults claim.new ∷ []) }
 {
-    settle(match kind {
+    outcome_of(match kind {
         SpreadKind::Max => spread_maximum(alloc, instance, claim),
         SpreadKind::Min => spread_least(alloc, instance, claim),
     })

@@ -3,9 +3,9 @@
 ghost use Rattle.std.specs.Prelude.{◌≡◌};
 ghost use Rattle.dimacs_runs.specs.inside.Outcomes.{outcome_of};
 
-use crate::outcome::RunError;
+use crate::outcome::Outcome;
 use crate::report::Report;
-use crate::run_outcome::Outcome;
+use crate::status::RunError;
 use crate::texts_in_turn::Unread;
 use dimacs_judge::{JudgeError, Where};
 use dimacs_lines::Memory;
@@ -20,7 +20,7 @@ pub(crate) enum Stop {
 }
 
 impl From<Memory> for Stop {
-    ghost use Rattle.dimacs_runs.specs.declared.outcome.RunError.TheVariants as errors;
+    ghost use Rattle.dimacs_runs.specs.declared.status.RunError.TheVariants as errors;
     ghost use Rattle.dimacs_runs.specs.declared.stop.Stop.TheVariants.{Error};
 
     ghost from_gives = { λ memory stop. stop ≡ Error errors.Memory };
@@ -76,7 +76,7 @@ impl From<SolveError> for Stop {
 }
 
 /// The outcome of a run: a report that ended it early is an outcome too.
-pub(crate) fn settle(answer: Result<Outcome, Stop>) -> Result<Outcome, RunError>
+pub(crate) fn outcome_of(answer: Result<Outcome, Stop>) -> Result<Outcome, RunError>
     ensures { result ≡ outcome_of answer }
 {
     match answer {

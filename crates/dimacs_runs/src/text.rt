@@ -1,16 +1,16 @@
 //! Runs that print one text: its canonical form, or a line that describes it.
 
 ghost use Rattle.std.specs.Prelude.{◌≡◌, ◌≢◌, ◌∷◌, ℕ, List, [], Some, Err};
-ghost use Rattle.dimacs_runs.specs.declared.outcome.RunError.TheVariants.{Memory};
+ghost use Rattle.dimacs_runs.specs.declared.status.RunError.TheVariants.{Memory};
 ghost use Rattle.dimacs_runs.specs.declared.text.TextForm.TheVariants.{Canonical, Summary};
 ghost use Rattle.dimacs_runs.specs.Judgings.{CountsDevices};
 ghost use Rattle.dimacs_runs.specs.Runs.{Reports, PrintsText, Prints};
-ghost use Rattle.dimacs_runs.specs.inside.Judgings.{text_says};
+ghost use Rattle.dimacs_runs.specs.inside.Judgings.{text_spells};
 
 use crate::discard::Discard;
-use crate::outcome::{RunError, Status};
-use crate::run_outcome::write_outcome;
-use crate::stop::{Stop, settle};
+use crate::outcome::write_outcome;
+use crate::status::{RunError, Status};
+use crate::stop::{Stop, outcome_of};
 use crate::texts_in_turn::{read, read_summary};
 use dimacs_claims::{Cut, Distances, Labels, Potentials, Solution};
 use dimacs_instance::{
@@ -107,7 +107,7 @@ fn convert<T: Text, S: Source, K: Sink>(
     sink: &mut K,
 ) -> Result<Status, RunError>
     ensures reports { (bytes : List ℕ) → S.coming text.old ≡ Some bytes
-        → Reports (PrintsText (text_says T.kind T.spells bytes) T.canonical) result (K.seen sink.old).accepted (K.seen sink.new).accepted }
+        → Reports (PrintsText (text_spells T.kind T.spells bytes) T.canonical) result (K.seen sink.old).accepted (K.seen sink.new).accepted }
     ensures faults { CountsDevices result (S.faults text.old ∷ (K.seen sink.old).faults ∷ []) (S.faults text.new ∷ (K.seen sink.new).faults ∷ []) }
     ensures nothing_written { S.faults text.new ≢ S.faults text.old → K.seen sink.new ≡ K.seen sink.old }
     ensures memory { result ≡ Err Memory → K.seen sink.new ≡ K.seen sink.old }
@@ -118,7 +118,7 @@ fn convert<T: Text, S: Source, K: Sink>(
             Ok(Status::Done)
         }
         Err(unread) => {
-            let answer = settle(Err(Stop::from(unread)));
+            let answer = outcome_of(Err(Stop::from(unread)));
             write_outcome(answer, &mut Discard, &mut Discard, sink)
         }
     }
@@ -130,7 +130,7 @@ fn show<T: Text, S: Source, K: Sink>(
     sink: &mut K,
 ) -> Result<Status, RunError>
     ensures reports { (bytes : List ℕ) → S.coming text.old ≡ Some bytes
-        → Reports (PrintsText (text_says T.kind T.spells bytes) T.shown) result (K.seen sink.old).accepted (K.seen sink.new).accepted }
+        → Reports (PrintsText (text_spells T.kind T.spells bytes) T.shown) result (K.seen sink.old).accepted (K.seen sink.new).accepted }
     ensures faults { CountsDevices result (S.faults text.old ∷ (K.seen sink.old).faults ∷ []) (S.faults text.new ∷ (K.seen sink.new).faults ∷ []) }
     ensures nothing_written { S.faults text.new ≢ S.faults text.old → K.seen sink.new ≡ K.seen sink.old }
     ensures memory { result ≡ Err Memory → K.seen sink.new ≡ K.seen sink.old }
@@ -141,7 +141,7 @@ fn show<T: Text, S: Source, K: Sink>(
             Ok(Status::Done)
         }
         Err(unread) => {
-            let answer = settle(Err(Stop::from(unread)));
+            let answer = outcome_of(Err(Stop::from(unread)));
             write_outcome(answer, &mut Discard, &mut Discard, sink)
         }
     }
@@ -154,7 +154,7 @@ fn sum_up<T: Summary, S: Source, K: Sink>(
     sink: &mut K,
 ) -> Result<Status, RunError>
     ensures reports { (bytes : List ℕ) → S.coming text.old ≡ Some bytes
-        → Reports (PrintsText (text_says T.kind T.spells bytes) T.shown) result (K.seen sink.old).accepted (K.seen sink.new).accepted }
+        → Reports (PrintsText (text_spells T.kind T.spells bytes) T.shown) result (K.seen sink.old).accepted (K.seen sink.new).accepted }
     ensures faults { CountsDevices result (S.faults text.old ∷ (K.seen sink.old).faults ∷ []) (S.faults text.new ∷ (K.seen sink.new).faults ∷ []) }
     ensures nothing_written { S.faults text.new ≢ S.faults text.old → K.seen sink.new ≡ K.seen sink.old }
     ensures memory { result ≡ Err Memory → K.seen sink.new ≡ K.seen sink.old }
@@ -165,7 +165,7 @@ fn sum_up<T: Summary, S: Source, K: Sink>(
             Ok(Status::Done)
         }
         Err(unread) => {
-            let answer = settle(Err(Stop::from(unread)));
+            let answer = outcome_of(Err(Stop::from(unread)));
             write_outcome(answer, &mut Discard, &mut Discard, sink)
         }
     }

@@ -5,7 +5,7 @@ ghost use Rattle.dimacs_records.specs.declared.kinds.TextKind.TheVariants as kin
 ghost use Rattle.dimacs_claims.specs.SolutionReading.{IsPlaced, IsPlacedLawful};
 ghost use Rattle.dimacs_claims.specs.SolutionTexts.{GivesSolution};
 ghost use Rattle.dimacs_runs.specs.Runs.{says};
-ghost use Rattle.dimacs_runs.specs.inside.Judgings.{CountsUnread, HasFault, PlacesOne, ReadsOne, ReadsPlaced, ReadsTwo, ReadsThree, text_says};
+ghost use Rattle.dimacs_runs.specs.inside.Judgings.{CountsUnread, HasFault, PlacesOne, ReadsOne, ReadsPlaced, ReadsTwo, ReadsThree, text_spells};
 
 use dimacs_claims::{Place, Placed, read_solution_into};
 use dimacs_instance::Summary;
@@ -22,7 +22,7 @@ pub(crate) struct Unread {
 
 /// Reads one text.
 pub(crate) fn read<V: Text, P: Source>(alloc: Global, source: &mut P) -> Result<V, Unread>
-    ensures reads { (a : List ℕ) → P.coming source.old ≡ Some a → ReadsOne V.content (text_says V.kind V.spells a) result }
+    ensures reads { (a : List ℕ) → P.coming source.old ≡ Some a → ReadsOne V.content (text_spells V.kind V.spells a) result }
     ensures faults { CountsUnread result (P.faults source.old ∷ []) (P.faults source.new ∷ []) }
     ensures faultless { IfOk result (λ value. ¬ HasFault V.kind (P.coming source.old)) }
     ensures lawful { IfOk result (λ value. V.lawful (V.content value)) }
@@ -41,7 +41,7 @@ pub(crate) fn read_summary<V: Summary, P: Source>(
     alloc: Global,
     source: &mut P,
 ) -> Result<V, Unread>
-    ensures reads { (a : List ℕ) → P.coming source.old ≡ Some a → PlacesOne (λ value summary. V.sums_up summary value) (text_says V.kind V.spells a) result }
+    ensures reads { (a : List ℕ) → P.coming source.old ≡ Some a → PlacesOne (λ value summary. V.sums_up summary value) (text_spells V.kind V.spells a) result }
     ensures enough { IfOk result (λ summary. (value : V.Content) → V.sums_up summary value → V.line summary ≡ V.shown value) }
     ensures faults { CountsUnread result (P.faults source.old ∷ []) (P.faults source.new ∷ []) }
 {
@@ -59,7 +59,7 @@ pub(crate) fn read_two<V: Text, W: Text, P: Source, Q: Source>(
     second: &mut Q,
 ) -> Result<(V, W), Unread>
     ensures reads { (a b : List ℕ) → P.coming first.old ≡ Some a → Q.coming second.old ≡ Some b
-        → ReadsTwo V.content W.content (text_says V.kind V.spells a) (text_says W.kind W.spells b) result }
+        → ReadsTwo V.content W.content (text_spells V.kind V.spells a) (text_spells W.kind W.spells b) result }
     ensures faults { CountsUnread result (P.faults first.old ∷ Q.faults second.old ∷ []) (P.faults first.new ∷ Q.faults second.new ∷ []) }
     ensures stops_at_first { HasFault V.kind (P.coming first.old) → second.new ≡ second.old }
     ensures lawful { IfOk result (λ values. V.lawful (V.content values.0) × W.lawful (W.content values.1)) }
@@ -78,8 +78,8 @@ pub(crate) fn read_three<V: Text, W: Text, X: Text, P: Source, Q: Source, R: Sou
 ) -> Result<(V, W, X), Unread>
     ensures reads { (a b c : List ℕ) → P.coming first.old ≡ Some a → Q.coming second.old ≡ Some b
         → R.coming third.old ≡ Some c
-        → ReadsThree V.content W.content X.content (text_says V.kind V.spells a) (text_says W.kind W.spells b)
-        (text_says X.kind X.spells c) result }
+        → ReadsThree V.content W.content X.content (text_spells V.kind V.spells a) (text_spells W.kind W.spells b)
+        (text_spells X.kind X.spells c) result }
     ensures faults { CountsUnread result (P.faults first.old ∷ Q.faults second.old ∷ R.faults third.old ∷ [])
         (P.faults first.new ∷ Q.faults second.new ∷ R.faults third.new ∷ []) }
     ensures stops_at_first { HasFault V.kind (P.coming first.old) → (second.new ≡ second.old) × (third.new ≡ third.old) }
@@ -102,7 +102,7 @@ pub(crate) fn read_placed<E: Place, W: Text, P: Source, Q: Source>(
     requires empty { E.stands_for place [] }
     ensures reads { (a b : List ℕ) → P.coming first.old ≡ Some a → Q.coming second.old ≡ Some b
         → ReadsPlaced (λ solution placed. IsPlaced placed.value placed.value_line (E.stands_for placed.place) solution)
-        W.content (says kinds.Solution GivesSolution a) (text_says W.kind W.spells b) result }
+        W.content (says kinds.Solution GivesSolution a) (text_spells W.kind W.spells b) result }
     ensures fixed { IfOk result (λ values. E.fixed values.0.place ≡ E.fixed place) }
     ensures faults { CountsUnread result (P.faults first.old ∷ Q.faults second.old ∷ []) (P.faults first.new ∷ Q.faults second.new ∷ []) }
     ensures stops_at_first { HasFault kinds.Solution (P.coming first.old) → second.new ≡ second.old }

@@ -74,7 +74,7 @@ fn reply_to<N: Network>(
     match decision {
         FeasibilityDecision::Balanced => ask_cost(alloc, instance, flow, potentials),
         FeasibilityDecision::Infeasible(set) => Ok(Reply::Infeasible(set)),
-        FeasibilityDecision::Nearer(nearer) => Ok(Reply::Better(nearer)),
+        FeasibilityDecision::LessExcess(nearer) => Ok(Reply::Better(nearer)),
     }
 }
 

@@ -2,8 +2,8 @@
 use Rattle.std.specs.Prelude.{ℕ, Bool, true, false, List, [], ◌∷◌, Option, None, Some, if◌then◌else◌, nat_eq}
 use Rattle.std.specs.Cmp.Lexicographic.{pointwise}
 use Rattle.std.specs.String.{string_bytes}
-use Rattle.dimacs_runs.specs.declared.outcome.RunError.{RunError}
-use Rattle.dimacs_runs.specs.declared.outcome.RunError.TheVariants.{Device, Memory}
+use Rattle.dimacs_runs.specs.declared.status.RunError.{RunError}
+use Rattle.dimacs_runs.specs.declared.status.RunError.TheVariants.{Device, Memory}
 use Rattle.dimacs_runs.specs.Files.{Created, FileEvent, NotCreated, NotOpened, Opened, closed_read, closed_written}
 use Rattle.dimacs_tests.specs.declared.memory_files.Done.{Done}
 use Rattle.dimacs_tests.specs.declared.memory_files.Done.TheVariants as done

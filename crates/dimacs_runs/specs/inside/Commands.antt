@@ -7,8 +7,8 @@ use Rattle.dimacs_runs.specs.declared.failure.Failure.TheVariants.{File, Output}
 use Rattle.dimacs_runs.specs.declared.failure.FileCall.{FileCall}
 use Rattle.dimacs_runs.specs.declared.jobs.Job.{Job}
 use Rattle.dimacs_runs.specs.declared.jobs.Job.TheVariants.{Judge, Certify, Spread, Solve}
-use Rattle.dimacs_runs.specs.declared.outcome.RunError.{RunError}
-use Rattle.dimacs_runs.specs.declared.outcome.RunError.TheVariants as run_errors
+use Rattle.dimacs_runs.specs.declared.status.RunError.{RunError}
+use Rattle.dimacs_runs.specs.declared.status.RunError.TheVariants as run_errors
 use Rattle.dimacs_runs.specs.Commands.{faults_by_error, file_failures}
 use Rattle.dimacs_runs.specs.Files.{FileEvent, FilesSeen, Sees, failures}
 use Rattle.dimacs_runs.specs.Jobs.{AreCertifyFiles, file_count}

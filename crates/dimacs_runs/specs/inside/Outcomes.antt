@@ -23,12 +23,12 @@ use Rattle.dimacs_solve.specs.declared.least.MinAnswer.{MinAnswer}
 use Rattle.dimacs_solve.specs.declared.least.MinAnswer.TheVariants as min_answers
 use Rattle.dimacs_spread.specs.Spread.{IsRefusal}
 use Rattle.dimacs_runs.specs.declared.jobs.SpreadKind.{SpreadKind}
-use Rattle.dimacs_runs.specs.declared.outcome.Status.{Status}
-use Rattle.dimacs_runs.specs.declared.outcome.RunError.{RunError}
-use Rattle.dimacs_runs.specs.declared.outcome.RunError.TheVariants.{Device, Memory}
-use Rattle.dimacs_runs.specs.declared.run_outcome.OutputText.{OutputText}
-use Rattle.dimacs_runs.specs.declared.run_outcome.OutputText.TheVariants.{Nothing, Solution, Cut, Potentials, Labels}
-use Rattle.dimacs_runs.specs.declared.run_outcome.Outcome.{Outcome}
+use Rattle.dimacs_runs.specs.declared.status.Status.{Status}
+use Rattle.dimacs_runs.specs.declared.status.RunError.{RunError}
+use Rattle.dimacs_runs.specs.declared.status.RunError.TheVariants.{Device, Memory}
+use Rattle.dimacs_runs.specs.declared.outcome.OutputText.{OutputText}
+use Rattle.dimacs_runs.specs.declared.outcome.OutputText.TheVariants.{Nothing, Solution, Cut, Potentials, Labels}
+use Rattle.dimacs_runs.specs.declared.outcome.Outcome.{Outcome}
 use Rattle.dimacs_runs.specs.declared.report.Report.{Report}
 use Rattle.dimacs_runs.specs.declared.report.Report.TheVariants as reports
 use Rattle.dimacs_runs.specs.declared.stop.Stop.{Stop}

@@ -1,7 +1,7 @@
 -- Inside: the reports of runs, as lines and a status.
 use Rattle.std.specs.Prelude.{ℕ, List, []}
-use Rattle.dimacs_runs.specs.declared.outcome.Status.{Status}
-use Rattle.dimacs_runs.specs.declared.outcome.Status.TheVariants as statuses
+use Rattle.dimacs_runs.specs.declared.status.Status.{Status}
+use Rattle.dimacs_runs.specs.declared.status.Status.TheVariants as statuses
 use Rattle.dimacs_runs.specs.declared.report.Report.{Report}
 use Rattle.dimacs_runs.specs.declared.report.Report.TheVariants.{Yes, Distances, No, Fault, GaveUp, Nothing}
 use Rattle.dimacs_runs.specs.Refusals.{refusal_line}

@@ -32,11 +32,11 @@ returns-in_err-tree-clause-labels c =
 pub returns-clause-order : goal.returns-clause-order
 returns-clause-order c =
     let tree = c.in_ok-tree.tree in
-    let made = rw (c.new-labels.ensures.made, c.into_block.ensures, ← c.requires.distances) at c.in_ok-push.ensures.pushed in
+    let made = rw (c.new-labels.ensures.empty, c.into_block.ensures, ← c.requires.distances) at c.in_ok-push.ensures.pushed in
     rw made (in_order (length c.args.distances.now) c.args.source (claimed_by_node c.args.distances.now) (pred_by_node c.args.predecessors.now) tree.block (value_of tree.labelled) c.in_ok-tree.ensures.tree.0)
 
 pub returns-clause-labels : goal.returns-clause-labels
 returns-clause-labels c =
     let tree = c.in_ok-tree.tree in
-    let made = rw (c.new-labels.ensures.made, c.into_block.ensures, ← c.requires.distances) at c.in_ok-push.ensures.pushed in
+    let made = rw (c.new-labels.ensures.empty, c.into_block.ensures, ← c.requires.distances) at c.in_ok-push.ensures.pushed in
     rw made (spelled (length c.args.distances.now) c.args.source (claimed_by_node c.args.distances.now) (pred_by_node c.args.predecessors.now) tree.block (value_of tree.labelled) c.in_ok-predecessors_hold.ensures c.in_ok-tree.ensures.tree.0 c.in_ok-tree.ensures.tree.1)

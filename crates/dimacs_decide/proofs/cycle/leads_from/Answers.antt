@@ -49,8 +49,8 @@ residual_capacity_from-requires-clause-high g c =
     let bounds = pair_at _ arcs x k no_arc (pos 0) c.requires.within within in
     rw (to_z-of_z w64 c.amount.result fits) (omega (arith, ints, bounds.1, carries, cap))
 
-pub returns-then-near-from : goal.returns-then-near-from
-returns-then-near-from g c =
+pub returns-then-end_of-from : goal.returns-then-end_of-from
+returns-then-end_of-from g c =
     let arcs = g.N.Network.list c.args.network.now in
     let x = c.args.flow.now in
     let r = c.args.residual in
@@ -63,6 +63,6 @@ returns-then-near-from g c =
     let residual_capacity : c.residual_capacity_from.result ≡ residual_capacity_on arcs x r.side r.arc = rw (is, carries) outcome in
     rw (to_z-of_z w64 c.residual_capacity_from.result fits_residual_capacity) (λ some. record {
       within = within;
-      begins = ap (end_of r.side) is ∙ sym c.near.ensures ∙ c.if-near-from.true;
+      begins = ap (end_of r.side) is ∙ sym c.end_of.ensures ∙ c.if-end_of-from.true;
       residual_capacity = let more : pos 0 <ℤ c.residual_capacity_from.result = search rules in omega (arith, ints, more, residual_capacity);
     })

@@ -6,5 +6,5 @@ returns-in_err-block g c = refused_alone c.args.graph.now c.args.source (g.C.Dis
 
 pub returns : goal.returns
 returns g c =
-    let made = rw (c.new-labels.ensures.made, c.nodes.ensures, c.network.ensures.nodes) at c.in_ok-push.ensures.pushed in
+    let made = rw (c.new-labels.ensures.empty, c.nodes.ensures, c.network.ensures.nodes) at c.in_ok-push.ensures.pushed in
     (c.in_ok-block.ensures.0, rw made (labelled c.args.graph.now c.args.source (g.C.DistanceClaim.claimed c.args.claim.now) c.in_ok-block.block c.requires.source c.in_ok-block.ensures.1))

@@ -62,18 +62,18 @@ overflow_add-height g c =
     let arcs = g.N.Network.list c.args.network.now in
     let is : arc_at arcs c.args.parent_arc ≡ c.arc-arc.result = get_or_from_slice_get arcs c.args.parent_arc c.arc-arc.result no_arc c.arc-arc.ensures in
     let has : HasBounds c.arc-arc.result = subst HasBounds is (arc_bounds arcs c.args.parent_arc c.requires.bounds c.requires.parent_arc) in
-    let height : c.get.result.height ≡ height_of (value_of c.args.labels.now) c.near.result = ap (λ (l : HeightLabel). l.height) c.get.ensures.value in
+    let height : c.get.result.height ≡ height_of (value_of c.args.labels.now) c.end_of.result = ap (λ (l : HeightLabel). l.height) c.get.ensures.value in
     let fits_height : SFits w128 c.get.result.height = search rules in
     let fits_gain : SFits w128 c.gain.result = search rules in
-    rw (to_z-of_z w128 c.get.result.height fits_height, to_z-of_z w128 c.gain.result fits_gain) (omega (arith, ints, height, c.gain.ensures, c.requires.not_negative c.near.result, c.requires.bounded c.near.result, gain_most c.args.side c.arc-arc.result has, gain_least c.args.side c.arc-arc.result has))
+    rw (to_z-of_z w128 c.get.result.height fits_height, to_z-of_z w128 c.gain.result fits_gain) (omega (arith, ints, height, c.gain.ensures, c.requires.not_negative c.end_of.result, c.requires.bounded c.end_of.result, gain_most c.args.side c.arc-arc.result has, gain_least c.args.side c.arc-arc.result has))
 
 pub returns-then-height-get : goal.returns-then-height-get
 returns-then-height-get g c =
     let arcs = g.N.Network.list c.args.network.now in
     let labels = value_of c.args.labels.now in
     let is : arc_at arcs c.args.parent_arc ≡ c.arc-arc.result = get_or_from_slice_get arcs c.args.parent_arc c.arc-arc.result no_arc c.arc-arc.ensures in
-    let near : c.near.result ≡ end_of c.args.side (arc_at arcs c.args.parent_arc) = c.near.ensures ∙ ap (end_of c.args.side) (sym is) in
-    let far : c.far-to.result ≡ other_end c.args.side (arc_at arcs c.args.parent_arc) = c.far-to.ensures ∙ ap (other_end c.args.side) (sym is) in
+    let near : c.end_of.result ≡ end_of c.args.side (arc_at arcs c.args.parent_arc) = c.end_of.ensures ∙ ap (end_of c.args.side) (sym is) in
+    let far : c.other_end-to.result ≡ other_end c.args.side (arc_at arcs c.args.parent_arc) = c.other_end-to.ensures ∙ ap (other_end c.args.side) (sym is) in
     let has : HasBounds c.arc-arc.result = subst HasBounds is (arc_bounds arcs c.args.parent_arc c.requires.bounds c.requires.parent_arc) in
     let gain : c.gain.result ≡ gain_at c.args.side (arc_at arcs c.args.parent_arc) = c.gain.ensures ∙ ap (gain_at c.args.side) (sym is) in
     let from : c.get.result.height ≡ height_of labels (end_of c.args.side (arc_at arcs c.args.parent_arc)) = ap (λ (l : HeightLabel). l.height) c.get.ensures.value ∙ ap (height_of labels) near in
@@ -96,8 +96,8 @@ returns g c =
     let outcome : c.residual_capacity_from.result ≡ residual_capacity_at c.args.side c.arc-arc.result c.amount.result = rw (to_z-of_z w64 c.amount.result fits) at c.residual_capacity_from.ensures in
     let residual_capacity_is : c.residual_capacity_from.result ≡ residual_capacity_at c.args.side (arc_at arcs k) (amount_at c.args.flow.now k) = rw (is, carries) outcome in
     let some = c.if-residual_capacity_from-le0.false in
-    let near : c.near.result ≡ end_of c.args.side (arc_at arcs k) = c.near.ensures ∙ ap (end_of c.args.side) (sym is) in
-    let far : c.far-to.result ≡ other_end c.args.side (arc_at arcs k) = c.far-to.ensures ∙ ap (other_end c.args.side) (sym is) in
+    let near : c.end_of.result ≡ end_of c.args.side (arc_at arcs k) = c.end_of.ensures ∙ ap (end_of c.args.side) (sym is) in
+    let far : c.other_end-to.result ≡ other_end c.args.side (arc_at arcs k) = c.other_end-to.ensures ∙ ap (other_end c.args.side) (sym is) in
     let gain : c.gain.result ≡ gain_at c.args.side (arc_at arcs k) = c.gain.ensures ∙ ap (gain_at c.args.side) (sym is) in
     let from : c.get.result.height ≡ height_of labels (end_of c.args.side (arc_at arcs k)) = ap (λ (l : HeightLabel). l.height) c.get.ensures.value ∙ ap (height_of labels) near in
     let to : c.get-2.result.height ≡ height_of labels (other_end c.args.side (arc_at arcs k)) = ap (λ (l : HeightLabel). l.height) c.get-2.ensures.value ∙ ap (height_of labels) far in

@@ -9,6 +9,6 @@ pub asking-smaller : goal.asking-smaller
 asking-smaller g c =
     let i = c.args.instance.now in
     let x = c.asking.flow in
-    let y = c.in-Nearer.nearer in
-    let outcome : (¬ FeasibleMin i x) × KeepsBounds i.arcs y × (total_excess i y <ℤ total_excess i x) = rw c.in-Nearer.is at c.in_ok-decide_feasible.ensures in
-    falls i x y c.in_ok-flow-in-Nearer.flow outcome.2 c.in_ok-flow-in-Nearer.ensures.excess
+    let y = c.in-LessExcess.nearer in
+    let outcome : (¬ FeasibleMin i x) × KeepsBounds i.arcs y × (total_excess i y <ℤ total_excess i x) = rw c.in-LessExcess.is at c.in_ok-decide_feasible.ensures in
+    falls i x y c.in_ok-flow-in-LessExcess.flow outcome.2 c.in_ok-flow-in-LessExcess.ensures.excess

@@ -6,7 +6,7 @@ use Rattle.dimacs_records.specs.Ranges.{IsWide}
 use Rattle.dimacs_network.specs.declared.network.ArcView.{ArcView}
 use Rattle.dimacs_network.specs.declared.adjacency_lists.Side.TheVariants.{Tail}
 use Rattle.dimacs_network.specs.AdjacencyLists.{IsLast}
-use Rattle.dimacs_claims.specs.Labels.{IsNear}
+use Rattle.dimacs_claims.specs.Labels.{IsWithinRadius}
 use Rattle.dimacs_judge.specs.inside.Leaving.{IsRelaxedBy}
 use Rattle.dimacs_optimality.specs.LightestArcs.{WeightsFall, arcs_in}
 use Rattle.dimacs_judge.specs.inside.NodeLabels.{entries}
@@ -49,9 +49,9 @@ returns-then-leads_past-clause-relaxed g c = λ yes.
     let same : arc_at (arcs_in arcs order) place ≡ a = at_place arcs order place inside ∙ (ap (arc_at arcs) (sym c.arc_at.ensures) ∙ get_or_from_slice_get arcs c.arc_at.result a no_arc c.arc-arc.ensures) in
     let fall : WeightsFall (arcs_in arcs order) = c.requires.lightest.fall (sym c.by_weight.ensures ∙ c.if-by_weight.true) in
     let cost : SFits w64 a.cost = search rules in
-    let far : ¬ IsNear c.radius-radius.result (c.args.from +ℤ a.cost) = rw (to_z-of_z w128 c.args.from c.ranges.from, to_z-of_z w64 a.cost cost) at (c.leads_past.ensures c.if-leads_past.true) in
-    let beyond : ¬ IsNear b.radius (c.args.from +ℤ (arc_at (arcs_in arcs order) place).cost) =
-    subst (λ (z : ℤ). ¬ IsNear b.radius (c.args.from +ℤ z)) (ap (λ (c : ArcView). c.cost) (sym same)) (subst (λ (radius : Option ℤ). ¬ IsNear radius (c.args.from +ℤ a.cost)) c.radius-radius.ensures far) in
+    let far : ¬ IsWithinRadius c.radius-radius.result (c.args.from +ℤ a.cost) = rw (to_z-of_z w128 c.args.from c.ranges.from, to_z-of_z w64 a.cost cost) at (c.leads_past.ensures c.if-leads_past.true) in
+    let beyond : ¬ IsWithinRadius b.radius (c.args.from +ℤ (arc_at (arcs_in arcs order) place).cost) =
+    subst (λ (z : ℤ). ¬ IsWithinRadius b.radius (c.args.from +ℤ z)) (ap (λ (c : ArcView). c.cost) (sym same)) (subst (λ (radius : Option ℤ). ¬ IsWithinRadius radius (c.args.from +ℤ a.cost)) c.radius-radius.ensures far) in
     let on : AreRelaxedOn arcs order b at node (place + 1) = subst (AreRelaxedOn arcs order b at node) next_is is.relaxed in
     node_done arcs order b at node is.labelled.entries c.requires.lightest.covering (node_beyond arcs order b at node c.requires.lawful.0 c.args.from place c.requires.lawful.1 is.labelled.entries c.requires.label fall inside beyond on)
 

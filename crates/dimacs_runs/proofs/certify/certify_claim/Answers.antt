@@ -6,9 +6,9 @@ use Rattle.dimacs_runs.proofs.certify.certify_claim.Goals.{in-Max, in-Min, in-In
 
 pub returns-clause-certifies : goal.returns-clause-certifies
 returns-clause-certifies g c = λ a b first second.
-    rw c.settle.ensures (elim c.match-kind.branch [
-      | in-Max w ↦ let claim = subst (λ (k : CertifyKind). IsClaimed k (g.Q.Source.coming c.args.claim.now) b) w.in-Max.is second in rw (w.in-Max.is, w.settle-is) (w.certify_maximum.ensures.certifies a b first (claim refl))
-      | in-Min w ↦ let claim = subst (λ (k : CertifyKind). IsClaimed k (g.Q.Source.coming c.args.claim.now) b) w.in-Min.is second in rw (w.in-Min.is, w.settle-is) (w.certify_least.ensures.certifies a b first (claim refl))
-      | in-Infeasible w ↦ rw (w.in-Infeasible.is, w.settle-is) (w.certify_infeasible.ensures.certifies a first)
-      | in-Paths w ↦ let claim = subst (λ (k : CertifyKind). IsClaimed k (g.Q.Source.coming c.args.claim.now) b) w.in-Paths.is second in rw (w.in-Paths.is, w.settle-is) (w.certify_distances.ensures.certifies a b first (claim refl))
+    rw c.outcome_of.ensures (elim c.match-kind.branch [
+      | in-Max w ↦ let claim = subst (λ (k : CertifyKind). IsClaimed k (g.Q.Source.coming c.args.claim.now) b) w.in-Max.is second in rw (w.in-Max.is, w.outcome_of-is) (w.certify_maximum.ensures.certifies a b first (claim refl))
+      | in-Min w ↦ let claim = subst (λ (k : CertifyKind). IsClaimed k (g.Q.Source.coming c.args.claim.now) b) w.in-Min.is second in rw (w.in-Min.is, w.outcome_of-is) (w.certify_least.ensures.certifies a b first (claim refl))
+      | in-Infeasible w ↦ rw (w.in-Infeasible.is, w.outcome_of-is) (w.certify_infeasible.ensures.certifies a first)
+      | in-Paths w ↦ let claim = subst (λ (k : CertifyKind). IsClaimed k (g.Q.Source.coming c.args.claim.now) b) w.in-Paths.is second in rw (w.in-Paths.is, w.outcome_of-is) (w.certify_distances.ensures.certifies a b first (claim refl))
     ])

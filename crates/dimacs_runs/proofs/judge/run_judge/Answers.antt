@@ -12,8 +12,8 @@ use Rattle.dimacs_runs.proofs.judge.run_judge.Goals.{in-Max, in-Min, in-Infeasib
 
 pub returns-clause-reports : goal.returns-clause-reports
 returns-clause-reports g c = λ a b d first second third.
-    report_written (Judged c.args.kind a b d) c.settle.result c.write_outcome.result (g.K.Sink.seen c.args.sink.now) (g.K.Sink.seen c.write_outcome.new.report)
-    (rw c.settle.ensures (elim c.match-kind.branch [
+    report_written (Judged c.args.kind a b d) c.outcome_of.result c.write_outcome.result (g.K.Sink.seen c.args.sink.now) (g.K.Sink.seen c.write_outcome.new.report)
+    (rw c.outcome_of.ensures (elim c.match-kind.branch [
       | in-Max w ↦ let claim = subst (λ (k : JudgeKind). IsClaim k (g.Q.Source.coming c.args.claim.now) b) w.in-Max.is second in rw (w.in-Max.is, w.answer-is) (w.report_max-answer.ensures.reports a b d first (claim refl) third)
       | in-Min w ↦ let claim = subst (λ (k : JudgeKind). IsClaim k (g.Q.Source.coming c.args.claim.now) b) w.in-Min.is second in rw (w.in-Min.is, w.answer-is) (w.report_min-answer.ensures.reports a b d first (claim refl) third)
       | in-Infeasible w ↦ rw (w.in-Infeasible.is, w.answer-is) (w.report_infeasible-answer.ensures.reports a d first third)

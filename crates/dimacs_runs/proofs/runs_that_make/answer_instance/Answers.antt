@@ -19,7 +19,7 @@ returns g c =
     record {
       answers = answers_files (instance ∷ []) answer c.close_read-failure.result
           (rw c.in_ok-instance.ensures.named refl)
-          c.in_ok-instance.ensures.opened c.close_read-failure.ensures.seen (rw c.settle-answer.ensures at c.name_failure.ensures)
+          c.in_ok-instance.ensures.opened c.close_read-failure.ensures.seen (rw c.outcome_of-answer.ensures at c.name_failure.ensures)
           (one_first c.close_read-failure.result (Read instance) c.close_read-failure.ensures.failure)
           (rw c.in_ok-instance.ensures.faultless at c.certify_infeasible.ensures.faults)
           (each_text (_ ∷ []) (λ (texts : List (List ℕ)). IfEnds unclaimed_texts (MakesCertificate certifies.Infeasible texts) answer) (λ a first. c.certify_infeasible.ensures.certifies a (c.in_ok-instance.ensures.coming ∙ first)));

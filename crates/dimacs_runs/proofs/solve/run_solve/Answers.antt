@@ -10,10 +10,10 @@ use Rattle.dimacs_runs.proofs.solve.run_solve.Goals.{in-Max, in-Min, in-Paths}
 
 pub returns-clause-reports : goal.returns-clause-reports
 returns-clause-reports g c = λ a b first second.
-    all_written (MayWrite (Solved c.args.job a b)) c.settle.result c.write_outcome.result
+    all_written (MayWrite (Solved c.args.job a b)) c.outcome_of.result c.write_outcome.result
     (g.C.Sink.seen c.args.claim_out.now ∷ g.D.Sink.seen c.args.certificate_out.now ∷ g.K.Sink.seen c.args.report.now ∷ [])
     (g.C.Sink.seen c.write_outcome.new.claim ∷ g.D.Sink.seen c.write_outcome.new.certificate ∷ g.K.Sink.seen c.write_outcome.new.report ∷ [])
-    (rw c.settle.ensures (elim c.match-job.branch [
+    (rw c.outcome_of.ensures (elim c.match-job.branch [
       | in-Max w ↦ rw (w.in-Max.is, w.answer-is) (w.solve_maximum-answer.ensures.solves a first)
       | in-Min w ↦ rw (w.in-Min.is, w.answer-is) (w.solve_least-answer.ensures.solves a first)
       | in-Paths w ↦ let queries = subst (λ (k : SolveJob). AreQueries k (g.Q.Source.coming c.args.queries.now) b) w.in-Paths.is second in rw (w.in-Paths.is, w.answer-is) (w.solve_labels-answer.ensures.solves a b first queries)
@@ -32,5 +32,5 @@ returns-clause-unclaimed g c = λ is.
     elim c.match-job.branch [
       | in-Max w ↦ let other = w.in-Max.is in absurd cc
       | in-Min w ↦ let other = w.in-Min.is in absurd cc
-      | in-Paths w ↦ c.write_outcome.ensures.unclaimed (rw (c.settle.ensures, w.answer-is) w.solve_labels-answer.ensures.unclaimed)
+      | in-Paths w ↦ c.write_outcome.ensures.unclaimed (rw (c.outcome_of.ensures, w.answer-is) w.solve_labels-answer.ensures.unclaimed)
     ]

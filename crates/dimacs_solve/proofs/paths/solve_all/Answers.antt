@@ -30,7 +30,7 @@ solve_one-requires-clause-new g c =
 
 pub loop-i-init : goal.loop-i-init
 loop-i-init g c =
-    let made = c.new-labels.ensures.made in
+    let made = c.new-labels.ensures.empty in
     let blocks : c.new-labels.result.blocks ≡ [] = ap (λ (l : LabelsValue). l.blocks) made in
     record {
       solved = solved_none c.args.adjacency.now c.new-labels.result (rw c.nodes.ensures at made) c.new-labels.ensures.lawful;

@@ -23,7 +23,7 @@ loop-walk-init g c =
     let started = known value c.settle.new.self in
     let node_states' = known value c.relax.new.node_states in
     let sets : Sets node_states source (settled 0) started = rw c.zero.ensures at c.in_ok-settle.ensures.settled in
-    let made = c.new-block.ensures.made in
+    let made = c.new-block.ensures.empty in
     let lawful : IsBlock a.nodes (record { source = source; radius = None; labels = [] }) = rw made at (c.new-block.ensures.lawful a.nodes c.requires.source) in
     let relaxes : Relaxes a source 0 started [] node_states' c.relax.new.frontier = rw (c.zero-2.ensures, c.requires.empty) at c.in_ok-relax.ensures.relaxes in
     record {

@@ -2,7 +2,7 @@ use Rattle.std.proofs.Common.{◌≡◌, ◌<◌, ◌^◌, true, SFits, ap, sym,
 use Rattle.std.specs.Prelude.{is_some}
 use Rattle.std.specs.Int.{w128}
 use Rattle.std.proofs.lemmas.Int.{to_z-of_z}
-use Rattle.dimacs_claims.specs.Labels.{IsBlock, IsNear, with_label}
+use Rattle.dimacs_claims.specs.Labels.{IsBlock, IsWithinRadius, with_label}
 use Rattle.dimacs_solve.specs.Frontiers.{walk_of}
 use Rattle.dimacs_solve.specs.inside.NodeStates.{IsSettled, known}
 use Rattle.dimacs_solve.proofs.SearchLemmas.{AddsLabel, added, added_few, added_label, added_pred, has_none, marked_ready, popped_again, popped_small, visited, visited_less}
@@ -69,7 +69,7 @@ returns-clause-search g c =
     let whole = to_z-of_z w128 c.to_i128.result fits in
     let adds : AddsLabel b l = rw (c.in_ok-add.ensures.added, whole, c.to_i128.ensures) at c.in_ok-add.ensures.labels in
     let keeps = rw (c.in_ok-add.ensures.added, whole, c.to_i128.ensures) at c.in_ok-add.ensures.lawful in
-    let near : IsNear b.radius l.dist = subst (λ radius. IsNear radius l.dist) (sym c.requires.popped.search.unbounded) tt in
+    let near : IsWithinRadius b.radius l.dist = subst (λ radius. IsWithinRadius radius l.dist) (sym c.requires.popped.search.unbounded) tt in
     let lawful : IsBlock a.nodes (with_label b l) = keeps a.nodes c.requires.popped.search.lawful (added_label a b node_states e front c.requires.popped not_before marked sets) (added_few a b node_states e front c.requires.popped not_before marked sets) (ap is_some (added_pred a b node_states e front c.requires.popped not_before marked sets)) near in
     rw (c.in_ok-add.ensures.added, whole, c.to_i128.ensures) (visited a b node_states e front c.requires.popped not_before marked sets adds lawful (known value c.relax.new.node_states) c.relax.new.frontier c.in_ok-relax.ensures.relaxes)
 

@@ -8,6 +8,6 @@ use Rattle.dimacs_arrays.proofs.label_tree.LabelTree.new.Goals as goal
 pub returns : goal.returns
 returns c =
     let nodes = length c.args.distances.now in
-    let lawful = rw c.new-block.ensures.made at (c.new-block.ensures.lawful nodes c.requires.source) in
-    rw c.new-block.ensures.made (begun nodes (claimed_by_node c.args.distances.now) (pred_by_node c.args.predecessors.now) c.args.source (value_of c.set.new.self) c.requires.source c.requires.distance lawful
+    let lawful = rw c.new-block.ensures.empty at (c.new-block.ensures.lawful nodes c.requires.source) in
+    rw c.new-block.ensures.empty (begun nodes (claimed_by_node c.args.distances.now) (pred_by_node c.args.predecessors.now) c.args.source (value_of c.set.new.self) c.requires.source c.requires.distance lawful
     c.in_ok-set.ensures.set (λ v apart. c.in_ok-set.ensures.others v apart ∙ c.new-labelled.ensures.values v))

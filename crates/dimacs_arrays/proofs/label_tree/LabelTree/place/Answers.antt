@@ -2,7 +2,7 @@ use Rattle.std.proofs.Common.{rules, ◌≡◌, ◌∙◌, false, length, SFits,
 use Rattle.std.specs.Int.{w128}
 use Rattle.std.proofs.lemmas.Int.{to_z-of_z}
 use Rattle.dimacs_lines.specs.Limits.{IsNode}
-use Rattle.dimacs_claims.specs.Labels.{IsBlock, IsLabel, IsNear, with_label}
+use Rattle.dimacs_claims.specs.Labels.{IsBlock, IsLabel, IsWithinRadius, with_label}
 use Rattle.dimacs_decide.specs.Claims.{claimed_by_node}
 use Rattle.dimacs_nodes.specs.Tables.{value_of}
 use Rattle.dimacs_arrays.specs.Paths.{pred_by_node}
@@ -27,7 +27,7 @@ returns-clause-tree c =
     let exact = to_z-of_z w128 d fits in
     let adds = rw (c.in_ok-add.ensures.added, exact, c.predecessor_of.ensures) at c.in_ok-add.ensures.labels in
     let keeps = rw (c.in_ok-add.ensures.added, exact, c.predecessor_of.ensures) at c.in_ok-add.ensures.lawful in
-    let near : IsNear b.radius d = subst (λ radius. IsNear radius d) (sym c.requires.tree.whole) tt in
+    let near : IsWithinRadius b.radius d = subst (λ radius. IsWithinRadius radius d) (sym c.requires.tree.whole) tt in
     let label : IsLabel nodes (record { dist = d; id = u; pred = pred u }) = record { id = node; dist = c.in-Some.ensures.wide; pred = c.requires.tree.inside (pred u) c.requires.labelled } in
     let lawful : IsBlock nodes (with_label b (record { dist = d; id = u; pred = pred u })) =
     keeps nodes c.requires.tree.lawful label (few nodes s claim pred b labelled u c.requires.tree new c.requires.node_limit node) (pred_labelled nodes s claim pred b labelled u c.requires.tree new c.requires.labelled) near in

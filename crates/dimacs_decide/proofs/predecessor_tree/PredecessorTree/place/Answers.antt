@@ -1,7 +1,7 @@
 use Rattle.std.proofs.Common.{rules, ◌≡◌, ◌∙◌, true, SFits, is_some, sym, subst, arith}
 use Rattle.std.specs.Int.{w128}
 use Rattle.std.proofs.lemmas.Int.{to_z-of_z}
-use Rattle.dimacs_claims.specs.Labels.{IsBlock, IsLabel, IsNear, label, with_label}
+use Rattle.dimacs_claims.specs.Labels.{IsBlock, IsLabel, IsWithinRadius, label, with_label}
 use Rattle.dimacs_decide.specs.inside.DenseTables.{value_at}
 use Rattle.dimacs_decide.proofs.PredecessorTreeLemmas.{few_before, node_within, placed, pred_within}
 use Rattle.dimacs_decide.proofs.predecessor_tree.PredecessorTree.place.Goals as goal
@@ -33,7 +33,7 @@ returns-clause-tree g c =
     let exact = to_z-of_z w128 d fits in
     let adds = rw (c.in_ok-add.ensures.added, exact) at c.in_ok-add.ensures.labels in
     let keeps = rw (c.in_ok-add.ensures.added, exact) at c.in_ok-add.ensures.lawful in
-    let near : IsNear b.radius d = subst (λ radius. IsNear radius d) (sym is.tree.whole) tt in
+    let near : IsWithinRadius b.radius d = subst (λ radius. IsWithinRadius radius d) (sym is.tree.whole) tt in
     let own : IsLabel nodes (record { dist = d; id = node; pred = pred }) = record {
       id = node_within nodes arcs claim b tails is c.requires.joined node pred from some waits;
       dist = c.in-Some.ensures.wide;

@@ -8,7 +8,7 @@ pub invariant_of-self-2 : goal.invariant_of-self-2
 invariant_of-self-2 g c =
     let ends = c.self.inside.ends.items in
     let numbers = c.self.inside.numbers in
-    let long = kept_long g.A.KeptArc.arc_of ends numbers c.self.invariant.1 in
+    let long = kept_long g.A.StoredArc.arc_of ends numbers c.self.invariant.1 in
     let few = rw (← c.self.view_is) at c.requires in
     let room : length ends < most_count = omega (arith, few, long) in
     let longer : length c.push.new.self ≡ length numbers + 1 = ap length c.in_ok-push.ensures.pushed ∙ length_push numbers _ in
@@ -19,4 +19,4 @@ pub returns-clause-pushed : goal.returns-clause-pushed
 returns-clause-pushed g c =
     let ends = c.self.inside.ends.items in
     let numbers = c.self.inside.numbers in
-    rw (← c.self.view_is, c.in_ok-push.ensures.pushed, c.push_reserved.ensures.items, c.in_ok-reserve.ensures.items, kept_push g.A.KeptArc.arc_of ends numbers c.self.invariant.1 _ _, c.into_parts-numbers.ensures) refl
+    rw (← c.self.view_is, c.in_ok-push.ensures.pushed, c.push_reserved.ensures.items, c.in_ok-reserve.ensures.items, kept_push g.A.StoredArc.arc_of ends numbers c.self.invariant.1 _ _, c.into_parts-numbers.ensures) refl
