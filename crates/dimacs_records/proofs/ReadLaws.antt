@@ -72,7 +72,7 @@ no_condition : (kind : TextKind) (earlier : List Record) (number : ℕ) (line : 
 no_condition kind earlier number line None p spells within_limits allowed c = elim c [
   | of_limit h ↦ within_limits p.field p.reason h
   | of_shape solid h ↦ true≢false (sym spells.0 ∙ solid)
-  | of_record r solid spells h ↦ true≢false (sym spells.0 ∙ solid)
+  | of_record r solid other h ↦ true≢false (sym spells.0 ∙ solid)
 ]
 no_condition kind earlier number line (Some r) p spells within_limits allowed c = elim c [
   | of_limit h ↦ within_limits p.field p.reason h
