@@ -12,7 +12,7 @@ loop-i-init g c =
     let here = rw c.source.ensures at e.set in
     let labelled = c.requires.1 in
     record {
-      defaults = defaults_still value c.args.node_labels.now c.set.new.self e.blank labelled.defaults;
+      defaults = defaults_still value c.args.node_labels.now c.set.new.self e.same_blank labelled.defaults;
       others = unlabelled_source c.requires.0 c.args.block.now (entries value c.args.node_labels.now) (entries value c.set.new.self) labelled.entries (λ v off. ap (entry_of value) (rw c.source.ensures at e.others v off)) (ap (λ m. value m.dist) here ∙ c.none.ensures);
     }
 
@@ -24,7 +24,7 @@ loop-i-preserved g c =
     let id : c.at.result.id ≡ (get_or b.labels c.loop-i.i no_label).id = ap (λ (l : Label). l.id) (rw c.labels-labels.ensures at c.at.ensures) in
     let here = rw id at e.set in
     record {
-      defaults = defaults_still value c.loop-i.node_labels c.set-in-loop-i.new.self e.blank c.loop-i.invariant.defaults;
+      defaults = defaults_still value c.loop-i.node_labels c.set-in-loop-i.new.self e.same_blank c.loop-i.invariant.defaults;
       others = unlabelled_more b c.loop-i.i (entries value c.loop-i.node_labels) (entries value c.set-in-loop-i.new.self) c.loop-i.invariant.others (λ v off. ap (entry_of value) (rw id at e.others v off)) (ap (λ m. value m.dist) here ∙ c.none-in-loop-i.ensures);
     }
 

@@ -12,7 +12,7 @@ loop-i-init g c =
     let b = c.args.block.now in
     let here = rw c.source.ensures at e.set in
     record {
-      defaults = defaults_still value c.args.node_labels.now c.set.new.self e.blank c.requires.unlabelled.defaults;
+      defaults = defaults_still value c.args.node_labels.now c.set.new.self e.same_blank c.requires.unlabelled.defaults;
       first = labelled_source b (entries value c.args.node_labels.now) (entries value c.set.new.self) c.requires.unlabelled.all (λ v off. ap (entry_of value) (rw c.source.ensures at e.others v off)) (ap (λ m. value m.dist) here ∙ c.of_source.ensures.dist) (ap (λ m. is_supported (entry_of value m)) here ∙ c.of_source.ensures.supported);
     }
 
@@ -38,7 +38,7 @@ loop-i-preserved g c =
     let pred = ap (λ m. m.pred) here ∙ (c.of.ensures.pred ∙ ap (λ (x : Label). x.pred) is) in
     let within : IsLabel lawful.0 (get_or b.labels c.loop-i.i no_label) = lawful.2.within c.loop-i.i no_label inside in
     record {
-      defaults = defaults_still value c.loop-i.node_labels c.set-in-loop-i.new.self e.blank c.loop-i.invariant.defaults;
+      defaults = defaults_still value c.loop-i.node_labels c.set-in-loop-i.new.self e.same_blank c.loop-i.invariant.defaults;
       first = labelled_more lawful.0 b c.loop-i.i (entries value c.loop-i.node_labels) (entries value c.set-in-loop-i.new.self) lawful.2 inside c.loop-i.invariant.first (λ v off. ap (entry_of value) (rw is at e.others v off)) dist pred (unsupported_below (entries value c.set-in-loop-i.new.self (get_or b.labels c.loop-i.i no_label).id) (omega (arith, pred, within.pred.1, lawful.1)));
     }
 
