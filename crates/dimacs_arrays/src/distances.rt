@@ -17,9 +17,8 @@ use dimacs_network::Network;
 use std::alloc::Global;
 
 /// Judges by predecessors that these are the distances from the source. `i64::MAX` stands for no distance; the source
-/// and nodes without a distance have the predecessor 0. The answer is that of `judge_paths` for the query for all
-/// distances from the source and for labels with these numbers, each after that of its predecessor, and otherwise by
-/// ID.
+/// and nodes without a distance have the predecessor 0. The answer is that of `judge_paths` to the query for all
+/// distances from the source, by labels of these numbers, each after its predecessor's, otherwise in the order of IDs.
 ///
 /// The tests, in order: `NotShortest` at the source if its distance isn't 0; for each node, by ID, `NodeRange` if its
 /// predecessor isn't a node, or isn't 0 although it has to be; for each node with a distance, by ID, `PredUnknown` if

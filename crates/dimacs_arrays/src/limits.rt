@@ -55,7 +55,7 @@ pub(crate) fn arcs_hold<N: Network>(network: &N) -> Result<(), PastLimit>
     Ok(())
 }
 
-/// The reason to refuse an arc among this many nodes, if there is one.
+/// The reason to refuse an arc of a network with `nodes` nodes, if there is one.
 #[inline(always)]
 fn arc_fault(nodes: u32, arc: ArcView) -> Option<Reason>
     ensures reason { NamesReason (ArcFails nodes arc) result }

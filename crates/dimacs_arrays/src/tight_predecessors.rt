@@ -50,8 +50,8 @@ pub(crate) fn tight_predecessors<N: Network>(
     }
 }
 
-/// Whether each node with a distance but the source has such an arc from its predecessor, and other predecessors are 0.
-/// False doesn't mean that the distances are wrong.
+/// Whether the predecessor of each node with a distance, except the source, is the tail of such an arc, and the other
+/// predecessors are 0. False doesn't mean that the distances are wrong.
 pub(crate) fn are_tight_predecessors<N: Network>(
     alloc: Global,
     network: &N,
@@ -116,7 +116,7 @@ fn tight_tails<N: Network>(
     Ok(Some(tails))
 }
 
-/// The result for an arc; `Passes` instead of `Tight` if its tail isn't wanted.
+/// As `test_arc`, but `Passes` instead of `Tight` if `wanted` names another predecessor.
 #[inline(always)]
 fn test_wanted(distances: &[i64], wanted: Option<&[u32]>, arc: ArcView) -> ArcTest
     ensures { IsArcTest (claimed_by_node distances.now) arc result }

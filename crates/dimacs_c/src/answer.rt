@@ -34,8 +34,8 @@ pub(crate) fn end(
     }
 }
 
-/// Copies items of a call over arrays, and returns its status. Its line, written to memory, fails only if memory runs
-/// out.
+/// Copies items of a call over arrays, and returns its status. The call wrote its line to memory, which fails only if
+/// memory runs out.
 pub(crate) fn hand_printed<T: Copy>(
     status: Result<u32, DeviceFault>,
     items: &[T],

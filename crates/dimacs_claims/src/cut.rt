@@ -44,7 +44,7 @@ impl Model for Cut {
 }
 
 impl Cut {
-    /// The empty set in an instance with so many nodes. Allocates nothing.
+    /// The empty set in an instance with `nodes` nodes. Allocates nothing.
     pub fn new(alloc: Global, nodes: u32) -> Cut
         requires { nodes ≤ most_nodes }
         ensures { result ≡ empty_cut nodes }

@@ -40,7 +40,7 @@ impl Model for Distances {
 }
 
 impl Distances {
-    /// Distances in a graph with so many nodes, without blocks. Allocates nothing.
+    /// No distances yet, in a graph with `nodes` nodes. Allocates nothing.
     pub fn new(alloc: Global, nodes: u32) -> Distances
         requires { nodes ≤ most_nodes }
         ensures { result ≡ record { nodes = nodes; blocks = [] } }

@@ -57,7 +57,7 @@ impl Model for Labels {
 }
 
 impl Labels {
-    /// Labels in a graph with so many nodes, without blocks. Allocates nothing.
+    /// No labels yet, in a graph with `nodes` nodes. Allocates nothing.
     pub fn new(alloc: Global, nodes: u32) -> Labels
         requires { nodes ≤ most_nodes }
         ensures empty { result ≡ record { nodes = nodes; blocks = [] } }

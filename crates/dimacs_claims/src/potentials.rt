@@ -45,7 +45,7 @@ impl Model for Potentials {
 }
 
 impl Potentials {
-    /// The potential 0 at each of so many nodes. Allocates nothing.
+    /// The potential 0 at each of `nodes` nodes. Allocates nothing.
     pub fn new(alloc: Global, nodes: u32) -> Potentials
         requires { nodes ≤ most_nodes }
         ensures { result ≡ zero_potentials nodes }

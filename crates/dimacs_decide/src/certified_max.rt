@@ -16,8 +16,8 @@ use dimacs_optimality::{FlowPlaces, JudgeError, max_claim_tests, placed};
 use std::alloc::Global;
 
 /// Decides whether the solution's flow is maximum. `Optimal` has a cut with which `judge_max` accepts the solution,
-/// `Better` a feasible flow of greater value. `Refused` has the first test that fails of those that `judge_max` makes
-/// before the cut's.
+/// `Better` a feasible flow of greater value. `Refused` names the first test that fails: the tests are those of
+/// `judge_max` before the cut's.
 pub fn certify_max<N: Network>(
     alloc: Global,
     instance: &MaxInstance<N>,

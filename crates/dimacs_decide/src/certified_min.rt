@@ -16,8 +16,8 @@ use dimacs_optimality::{FlowPlaces, JudgeError, min_claim_tests, placed};
 use std::alloc::Global;
 
 /// Decides whether the solution's flow costs least. `Optimal` has potentials with which `judge_min` accepts the
-/// solution, `Better` a feasible flow that costs less; its cost may be out of the range of solutions. `Refused` has the
-/// first test that fails of those that `judge_min` makes before the potentials'.
+/// solution, `Better` a feasible flow that costs less; its cost may be out of the range of solutions. `Refused` names
+/// the first test that fails: the tests are those of `judge_min` before the potentials'.
 pub fn certify_min<N: Network>(
     alloc: Global,
     instance: &MinInstance<N>,

@@ -13,7 +13,7 @@ ghost use Rattle.dimacs_decide.specs.inside.FewLabels.{AreFree};
 use crate::block_claim::{BlockClaim, BlockClaim32};
 use crate::claim::DistanceClaim;
 use crate::distances::decide_block;
-use crate::few_labels::{Tables, few_block, labels_few};
+use crate::few_labels::{Tables, few_block, has_few_labels};
 use crate::predecessor_tree::block_by_predecessors;
 use dimacs_claims::{Block, Distances, Labels};
 use dimacs_instance::Graph;
@@ -63,7 +63,7 @@ fn certify_one<N: Network>(
     ensures lists { OnOk result (IfSome lists.new (AreAdjacencyLists Tail graph.now.arcs)) }
     ensures free { OnOk result (IfSome tables.new (AreFree graph.now)) }
 {
-    if labels_few(claimed, graph.network()) {
+    if has_few_labels(claimed, graph.network()) {
         if let Some(block) = certify_few(alloc, graph, tables, claimed)? {
             return Ok(block);
         }

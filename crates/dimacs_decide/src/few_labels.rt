@@ -51,7 +51,7 @@ impl Tables {
         ensures { IfOk result (λ found. IfSome found (AreFree graph.now)) }
     {
         let network = graph.network();
-        if !any_labels_few(blocks, network) {
+        if !any_has_few_labels(blocks, network) {
             return Ok(None);
         }
         let lightest = lightest_network(alloc, network, blocks)?;
@@ -65,17 +65,17 @@ impl Tables {
     }
 }
 
-/// Whether a block has few labels for so many nodes, or fewer pairs of labelled nodes than there are arcs. The arcs
-/// that leave its nodes then take less time than all arcs.
-pub(crate) fn labels_few<N: Network>(block: &Block, network: &N) -> bool {
+/// Whether a block labels less than one of `NODES_A_LABEL` nodes, or has fewer pairs of labelled nodes than there are
+/// arcs. The arcs that leave its nodes then take less time than all arcs.
+pub(crate) fn has_few_labels<N: Network>(block: &Block, network: &N) -> bool {
     let labels = block.labels().len();
     labels < network.nodes() as usize / NODES_A_LABEL
         || labels.saturating_mul(labels) < network.arcs() as usize
 }
 
-fn any_labels_few<N: Network>(blocks: &[Block], network: &N) -> bool {
+fn any_has_few_labels<N: Network>(blocks: &[Block], network: &N) -> bool {
     for block in blocks {
-        if labels_few(block, network) {
+        if has_few_labels(block, network) {
             return true;
         }
     }

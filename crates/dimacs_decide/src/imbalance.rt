@@ -14,8 +14,8 @@ use dimacs_nodes::NodeTable;
 use dimacs_optimality::{Balances, Flow};
 use std::alloc::Global;
 
-/// The imbalance of each node: its supply less its balance. Takes memory for the ends of arcs and the nodes where it
-/// isn't 0.
+/// The imbalance of each node: its supply minus its net outflow. Takes memory for the ends of arcs, and the nodes where
+/// it isn't 0.
 pub(crate) fn imbalances<N: Network>(
     alloc: Global,
     instance: &MinInstance<N>,

@@ -2,7 +2,7 @@
 
 use std::alloc::{AllocError, Global};
 
-/// Numbers of so many digits fit all fields but IDs and counts.
+/// Numbers of up to this many digits fit all fields but IDs and counts.
 const MOST_DIGITS: usize = 18;
 
 /// The whole number that a word spells in another way, as `3.0` and `1e6` do.

@@ -144,7 +144,7 @@ impl OutputBuffer {
         }
     }
 
-    /// Empties the buffer if so many bytes more don't fit.
+    /// Empties the buffer if `bytes` more bytes don't fit.
     #[inline(always)]
     fn make_room<S: Sink>(&mut self, sink: &mut S, bytes: usize)
         requires { bytes ≤ 16384 }

@@ -116,7 +116,7 @@ impl Augmenting {
         Ok(false)
     }
 
-    /// Whether the searches scan many half-arcs for what they move.
+    /// Whether the searches scan too many half-arcs for the excess that they move.
     fn lags(&self) -> bool {
         let allowed = FIRST_SCANS
             .wrapping_mul(self.total_excess)

@@ -210,7 +210,7 @@ impl Preflow {
         let height = self.height(node);
         for place in member(&self.cursor, node, 0)..self.residual.starts.end(node) {
             let half = self.residual.half(place);
-            if self.is_admissible(half, height) && self.leads_on(half.to) {
+            if self.is_admissible(half, height) && self.look_ahead(half.to) {
                 self.push(node, place, half);
                 self.push_on(half.to);
                 if self.imbalance(node) <= 0 {
@@ -229,7 +229,7 @@ impl Preflow {
 
     /// Whether a node has a deficit or an admissible half-arc; its cursor then points to that. Otherwise relabels it.
     #[inline(always)]
-    fn leads_on(&mut self, node: u32) -> bool {
+    fn look_ahead(&mut self, node: u32) -> bool {
         if self.imbalance(node) < 0 {
             return true;
         }

@@ -134,7 +134,7 @@ impl NodeBalances for Sums {
     }
 }
 
-/// Whether the sums are sure to hold one more such arc.
+/// Whether the sums surely don't overflow if this arc is added.
 #[inline(always)]
 fn is_small(arc: ArcView, amount: i64) -> bool
     ensures { IsTrue result → IsSmall arc.cost amount }

@@ -138,7 +138,7 @@ fn take_plain<R: Reading>(
     Ok(PlainLines { bytes, lines })
 }
 
-/// Reads the next line. Returns its number; none at the end.
+/// Reads the next line, and hands its record to the reading. Returns the line's number; none at the end.
 #[inline(never)]
 fn read_line<R: Reading, S: Source>(
     kind: TextKind,

@@ -51,7 +51,7 @@ pub struct Earlier {
 }
 
 impl Earlier {
-    /// After this problem line, if any, and so many lines that it counts. All flags are false.
+    /// After this problem line, if any, and `counted` of the lines that it counts. All flags are false.
     #[inline(always)]
     pub fn of(problem: Option<Declared>, counted: u32) -> Earlier
         ensures { result ≡ earlier_of problem counted }

@@ -75,7 +75,8 @@ impl Outcome {
     }
 }
 
-/// Writes the claim, the certificate and the report of an outcome, in this order. Returns an error unchanged.
+/// Writes the claim, the certificate and the report of an outcome, in this order. If it is an error, returns that and
+/// writes nothing.
 pub(crate) fn write_outcome<C: Sink, D: Sink, K: Sink>(
     outcome: Result<Outcome, RunError>,
     claim: &mut C,

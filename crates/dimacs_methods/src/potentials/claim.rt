@@ -17,7 +17,7 @@ pub struct ResidualArc {
 
 /// Whether an arc can carry more, and less.
 #[derive(Clone, Copy)]
-pub(crate) struct ResidualCapacity {
+pub(crate) struct ResidualDirections {
     pub more: bool,
     pub less: bool,
 }
@@ -51,13 +51,13 @@ impl<'a, N: Network> Claim<'a, N> {
 
     /// Whether arc `i` can carry more, and less; neither if it has no amount.
     #[inline(always)]
-    pub(crate) fn residual_capacity(&self, i: u32, arc: ArcView) -> ResidualCapacity {
+    pub(crate) fn directions(&self, i: u32, arc: ArcView) -> ResidualDirections {
         match self.amounts.get(i as usize) {
-            Some(&amount) => ResidualCapacity {
+            Some(&amount) => ResidualDirections {
                 more: amount < arc.cap,
                 less: arc.low < amount,
             },
-            None => ResidualCapacity {
+            None => ResidualDirections {
                 more: false,
                 less: false,
             },

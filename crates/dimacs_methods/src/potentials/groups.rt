@@ -116,7 +116,7 @@ impl<V: Number> Groups<V> {
         let network = claim.network();
         for i in 0..network.arcs() {
             let arc = network.arc(i);
-            let residual_capacity = claim.residual_capacity(i, arc);
+            let residual_capacity = claim.directions(i, arc);
             if residual_capacity.more && residual_capacity.less {
                 let tail = claim.numbers.of(arc.tail);
                 let head = claim.numbers.of(arc.head);

@@ -40,7 +40,7 @@ impl<V: Number> Link<V> {
         i: u32,
         arc: ArcView,
     ) -> Option<Link<V>> {
-        let residual_capacity = claim.residual_capacity(i, arc);
+        let residual_capacity = claim.directions(i, arc);
         if residual_capacity.more == residual_capacity.less {
             return None;
         }
@@ -70,19 +70,19 @@ impl<V: Number> Link<V> {
     }
 
     #[inline(always)]
-    pub(crate) fn is_loop(&self) -> bool {
+    pub(crate) fn is_within_group(&self) -> bool {
         self.from == self.to
     }
 
     /// Whether it is a loop that costs the difference of its ends' shifts.
     pub(crate) fn is_tight(&self) -> bool {
-        self.is_loop() && self.cost.is_zero()
+        self.is_within_group() && self.cost.is_zero()
     }
 
     /// Whether it closes a cycle of negative cost within a group.
     #[inline(always)]
     pub(crate) fn is_negative_loop(&self) -> bool {
-        self.is_loop() && self.cost.is_negative()
+        self.is_within_group() && self.cost.is_negative()
     }
 
     /// Returns whether that lowered the distance of `to`.
@@ -112,7 +112,7 @@ pub(crate) fn all_links<N: Network, V: Number>(
         if link.is_negative_loop() {
             return Ok(None);
         }
-        if !link.is_loop() {
+        if !link.is_within_group() {
             links.push(link)?;
         }
     }
@@ -129,7 +129,7 @@ pub(crate) fn joined_links<V: Number>(
     links.retain_mut(|link| {
         *link = link.joined(joints);
         has_negative_loop = has_negative_loop || link.is_negative_loop();
-        !link.is_loop()
+        !link.is_within_group()
     });
     if has_negative_loop {
         return None;

@@ -42,7 +42,7 @@ impl<V: Number> Step<V> {
         let mut steps = Vec::new(alloc);
         for i in 0..network.arcs() {
             let arc = network.arc(i);
-            let capacity = claim.residual_capacity(i, arc);
+            let capacity = claim.directions(i, arc);
             let forth = Step {
                 cost: V::of(arc.cost),
                 from: claim.numbers.of(arc.tail),

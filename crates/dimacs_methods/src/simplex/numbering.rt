@@ -12,10 +12,10 @@ impl<V: Number> Tree<V> {
         let order = self.preorder(alloc)?;
         let mut numbers = vec![in alloc; self.root(); self.nodes.len()]?;
         number_in_order(&mut numbers, &order);
-        arrange(alloc, &mut self.nodes, &order)?;
-        arrange(alloc, &mut self.places, &order)?;
-        arrange(alloc, &mut self.potentials, &order)?;
-        arrange(alloc, &mut self.names, &order)?;
+        permute(alloc, &mut self.nodes, &order)?;
+        permute(alloc, &mut self.places, &order)?;
+        permute(alloc, &mut self.potentials, &order)?;
+        permute(alloc, &mut self.names, &order)?;
         self.rename(&numbers);
         Ok(numbers)
     }
@@ -50,13 +50,14 @@ fn number_in_order(numbers: &mut [u32], order: &[u32]) {
     }
 }
 
-fn arrange<T: Copy>(alloc: Global, table: &mut Vec<T>, order: &[u32]) -> Result<(), Memory> {
-    let mut arranged = Vec::with_capacity(alloc, table.len())?;
+/// Item k becomes the old item `order[k]`.
+fn permute<T: Copy>(alloc: Global, table: &mut Vec<T>, order: &[u32]) -> Result<(), Memory> {
+    let mut permuted = Vec::with_capacity(alloc, table.len())?;
     for place in order {
         if let Some(member) = table.get(*place as usize) {
-            arranged.push(*member)?;
+            permuted.push(*member)?;
         }
     }
-    *table = arranged;
+    *table = permuted;
     Ok(())
 }

@@ -157,8 +157,8 @@ impl<V: Number> Tree<V> {
     /// Cuts off the subtree of `out`, makes `top` its root, joins it by the hook, and raises its potentials. Returns
     /// how many nodes moved.
     ///
-    /// The stem is the path from `top` to `out`. Each of its nodes brings the rest of its subtree, without that of the
-    /// node before it, and its arc goes to its old parent.
+    /// The stem is the path from `top` to `out`. Each of its nodes keeps its other subtrees, and its old parent becomes
+    /// its child.
     pub(crate) fn rehang(&mut self, top: u32, out: u32, hook: Hook<V>, raise: V) -> u64 {
         let mut hook = hook;
         let mut stem = top;
