@@ -116,8 +116,8 @@ impl<V: Number> Groups<V> {
         let network = claim.network();
         for i in 0..network.arcs() {
             let arc = network.arc(i);
-            let residual_capacity = claim.directions(i, arc);
-            if residual_capacity.more && residual_capacity.less {
+            let directions = claim.directions(i, arc);
+            if directions.more && directions.less {
                 let tail = claim.numbers.of(arc.tail);
                 let head = claim.numbers.of(arc.head);
                 if !self.tie(tail, head, V::of(arc.cost)) {

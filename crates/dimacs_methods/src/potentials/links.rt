@@ -40,14 +40,14 @@ impl<V: Number> Link<V> {
         i: u32,
         arc: ArcView,
     ) -> Option<Link<V>> {
-        let residual_capacity = claim.directions(i, arc);
-        if residual_capacity.more == residual_capacity.less {
+        let directions = claim.directions(i, arc);
+        if directions.more == directions.less {
             return None;
         }
         let tail = places.of(claim.numbers.of(arc.tail));
         let head = places.of(claim.numbers.of(arc.head));
         let cost = V::of(arc.cost);
-        if residual_capacity.more {
+        if directions.more {
             Some(Link::between(tail, cost, head))
         } else {
             Some(Link::between(head, cost.negated(), tail))

@@ -42,7 +42,7 @@ impl<V: Number> Step<V> {
         let mut steps = Vec::new(alloc);
         for i in 0..network.arcs() {
             let arc = network.arc(i);
-            let capacity = claim.directions(i, arc);
+            let directions = claim.directions(i, arc);
             let forth = Step {
                 cost: V::of(arc.cost),
                 from: claim.numbers.of(arc.tail),
@@ -52,10 +52,10 @@ impl<V: Number> Step<V> {
                     side: Side::Tail,
                 },
             };
-            if capacity.more {
+            if directions.more {
                 steps.push(forth)?;
             }
-            if capacity.less {
+            if directions.less {
                 steps.push(forth.reversed())?;
             }
         }
