@@ -32,13 +32,14 @@ const MOVES_PER_NUMBERING: u64 = 32;
 /// The fewest arcs that a search compares at once.
 const LEAST_BLOCK: u32 = 10;
 
-/// The method lags if its work is above `EARLY_WORK`, and if in the last `PIVOTS` pivots for each node it walked over
-/// more than `WALKS` nodes for each arc scanned: then subtrees are large, and many more pivots follow.
-const EARLY_WORK: u64 = 134217728;
+/// The method lags if its work is above `EARLY_WORK`, and if since the last test it walked over more than `WALKS` nodes
+/// for each arc scanned: then subtrees are large, and many more pivots follow. `TESTS` tests are made in as many pivots
+/// as there are nodes.
+const EARLY_WORK: u64 = 268435456;
 
-const PIVOTS: u64 = 2;
+const TESTS: u64 = 4;
 
-const WALKS: u64 = 4;
+const WALKS: u64 = 8;
 
 #[derive(Drop)]
 pub(crate) struct Simplex<V: Number> {
@@ -82,7 +83,7 @@ impl<V: Number> Simplex<V> {
 
     /// Pivots until no arc should change its state. False if that takes more than `work`, or seems to.
     pub(crate) fn run(&mut self, alloc: Global, work: u64) -> Result<bool, Memory> {
-        let pivots = u64::from(self.tree.root()).wrapping_mul(PIVOTS);
+        let pivots = u64::from(self.tree.root()) / TESTS;
         let mut left = pivots;
         for _ in 0..u64::MAX {
             let Some(entering) = self.entering() else {
