@@ -19,9 +19,9 @@ use Rattle.dimacs_optimality.proofs.Duality.{across_is, violated_has_no_flow}
 use Rattle.dimacs_optimality.proofs.Sums.{sum_nodes-zero}
 use Rattle.dimacs_decide.specs.Bounds.{KeepsBounds}
 use Rattle.dimacs_decide.specs.FeasibilityDecision.{imbalance_at, total_excess}
-use Rattle.dimacs_decide.specs.inside.Sending.{IsSent, IsStuck}
-use Rattle.dimacs_decide.specs.declared.imbalance.Standing.{Standing}
-use Rattle.dimacs_decide.specs.declared.imbalance.Standing.TheVariants.{Even, Excess, Deficit}
+use Rattle.dimacs_decide.specs.inside.Augmentation.{IsSent, IsStuck}
+use Rattle.dimacs_decide.specs.declared.imbalance.ImbalanceSigns.{ImbalanceSigns}
+use Rattle.dimacs_decide.specs.declared.imbalance.ImbalanceSigns.TheVariants.{Even, Excess, Deficit}
 use Rattle.dimacs_decide.specs.inside.Imbalances.{AreImbalances, Stands}
 use Rattle.dimacs_decide.proofs.SumLemmas.{across_of, sum_nodes-less, sum_nodes-split}
 
@@ -200,7 +200,7 @@ all_more nodes id set is =
     }
 
 -- ---- the excesses of the nodes below this one, summed up
-pub record StandsLow (nodes id : ℕ) (imbalance : ℕ → ℤ) (standing : Standing) : Type 0 where
+pub record StandsLow (nodes id : ℕ) (imbalance : ℕ → ℤ) (standing : ImbalanceSigns) : Type 0 where
   pub low : (v : ℕ) → 1 ≤ v → v < id → imbalance v ≤ℤ pos 0
   pub stands : Stands nodes id imbalance standing
 
@@ -216,18 +216,18 @@ one_more_node P id before here v some less = elim (cases_order v id) [
   | inr apart ↦ elim apart [ inl low ↦ before v some low | inr high ↦ absurd (omega (arith, high, less)) ]
 ]
 
-still_stands : (nodes id : ℕ) (imbalance : ℕ → ℤ) (standing : Standing) → Stands nodes id imbalance standing → imbalance id ≡ pos 0 → Stands nodes (id + 1) imbalance standing
+still_stands : (nodes id : ℕ) (imbalance : ℕ → ℤ) (standing : ImbalanceSigns) → Stands nodes id imbalance standing → imbalance id ≡ pos 0 → Stands nodes (id + 1) imbalance standing
 still_stands nodes id imbalance Even is none = one_more_node (λ v. imbalance v ≡ pos 0) id is none
 still_stands nodes id imbalance Deficit is none = (one_more_node (λ v. imbalance v ≤ℤ pos 0) id is.0 (omega (arith, ints, none)), is.1)
 still_stands nodes id imbalance Excess is none = is
 
-pub stands_even : (nodes id : ℕ) (imbalance : ℕ → ℤ) (standing : Standing) → StandsLow nodes id imbalance standing → imbalance id ≡ pos 0 → StandsLow nodes (id + 1) imbalance standing
+pub stands_even : (nodes id : ℕ) (imbalance : ℕ → ℤ) (standing : ImbalanceSigns) → StandsLow nodes id imbalance standing → imbalance id ≡ pos 0 → StandsLow nodes (id + 1) imbalance standing
 stands_even nodes id imbalance standing is none = record {
   low = one_more_node (λ v. imbalance v ≤ℤ pos 0) id is.low (omega (arith, ints, none));
   stands = still_stands nodes id imbalance standing is.stands none;
 }
 
-pub stands_short : (nodes id : ℕ) (imbalance : ℕ → ℤ) (standing : Standing) → StandsLow nodes id imbalance standing → IsNode nodes id → imbalance id <ℤ pos 0 → StandsLow nodes (id + 1) imbalance Deficit
+pub stands_short : (nodes id : ℕ) (imbalance : ℕ → ℤ) (standing : ImbalanceSigns) → StandsLow nodes id imbalance standing → IsNode nodes id → imbalance id <ℤ pos 0 → StandsLow nodes (id + 1) imbalance Deficit
 stands_short nodes id imbalance standing is node less =
     let low : (v : ℕ) → 1 ≤ v → v < id + 1 → imbalance v ≤ℤ pos 0 = one_more_node (λ v. imbalance v ≤ℤ pos 0) id is.low (omega (arith, ints, less)) in
     record { low = low; stands = (low, (id, node, less)) }

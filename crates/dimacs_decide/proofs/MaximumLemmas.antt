@@ -12,7 +12,7 @@ use Rattle.dimacs_optimality.specs.Feasible.{FeasibleMax, value}
 use Rattle.dimacs_optimality.specs.Optimum.{Maximum}
 use Rattle.dimacs_optimality.proofs.Duality.{tight_is_maximum}
 use Rattle.dimacs_decide.specs.Bounds.{KeepsBounds}
-use Rattle.dimacs_decide.specs.inside.Sending.{IsSent, IsShut, IsShutAt}
+use Rattle.dimacs_decide.specs.inside.Augmentation.{IsSent, IsShut, IsShutAt}
 use Rattle.dimacs_decide.specs.inside.Imbalances.{AreEnds}
 
 -- ---- the lower bounds are 0

@@ -1,4 +1,4 @@
--- Sending flow along a path whose ranks fall from its end to its root.
+-- Augmentation flow along a path whose ranks fall from its end to its root.
 use Rattle.std.proofs.Common.{◌≡◌, ◌≢◌, ℕ, suc, zero, ◌==◌, ◌<◌, ℤ, pos, ◌+ℤ◌, ◌-ℤ◌, ◌≤ℤ◌, ◌<ℤ◌, Bool, true, false, neg_ℤ, List, [], ◌∷◌, length, get_or, set, refl, sym, ap, subst, ◌∙◌, arith, w64, SFits}
 use Rattle.std.proofs.lemmas.Int.{ints}
 use Rattle.std.proofs.lemmas.List.{get_or-set_other, get_or-set_same}

@@ -19,7 +19,7 @@ use Rattle.dimacs_decide.specs.Bounds.{KeepsBounds}
 use Rattle.dimacs_decide.specs.declared.search.Visit.{Visit}
 use Rattle.dimacs_decide.specs.inside.Raising.{Shifts}
 use Rattle.dimacs_decide.specs.inside.Residual.{HaveImbalance, IsDone, IsExplored, IsResidualTree, is_in, rank_of, residual_capacity_of}
-use Rattle.dimacs_decide.specs.inside.Sending.{IsSent, IsShut, IsShutAt}
+use Rattle.dimacs_decide.specs.inside.Augmentation.{IsSent, IsShut, IsShutAt}
 use Rattle.dimacs_decide.proofs.SideLemmas.{far_within, near_within}
 
 -- ---- a set that no residual arc leaves

@@ -1,3 +1,4 @@
+pub mod Augmentation
 pub mod Cancelling
 pub mod Counting
 pub mod Cycles
@@ -9,7 +10,6 @@ pub mod Raising
 pub mod Residual
 pub mod ResidualCapacities
 pub mod PredecessorTrees
-pub mod Sending
 pub mod Imbalances
 pub mod TightTrees
 pub mod Traces

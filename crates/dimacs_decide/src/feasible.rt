@@ -7,12 +7,12 @@ ghost use Rattle.dimacs_nodes.specs.Tables.{value_of};
 ghost use Rattle.dimacs_decide.specs.Bounds.{KeepsBounds};
 ghost use Rattle.dimacs_decide.specs.FeasibilityDecision.{DecidesFeasible};
 ghost use Rattle.dimacs_decide.specs.Incidence.{IsIncidenceOf};
-ghost use Rattle.dimacs_decide.specs.inside.Imbalances.{AreImbalances, IsLook};
+ghost use Rattle.dimacs_decide.specs.inside.Imbalances.{AreImbalances, IsNodeTest};
 
-use crate::imbalance::{Standing, assess, imbalances};
+use crate::imbalance::{ImbalanceSigns, assess, imbalances};
 use crate::incidence::Incidence;
 use crate::search::Search;
-use crate::send::{Sending, send};
+use crate::send::{Augmentation, send};
 use dimacs_claims::Cut;
 use dimacs_instance::MinInstance;
 use dimacs_lines::Memory;
@@ -44,8 +44,8 @@ pub fn decide_feasible<N: Network>(
     ensures { IfOk result (DecidesFeasible instance.now flow.now) }
 {
     match first_look(alloc, instance, flow)? {
-        Look::Decided(decision) => Ok(decision),
-        Look::Excess(imbalance) => {
+        NodeTest::Decided(decision) => Ok(decision),
+        NodeTest::Excess(imbalance) => {
             let incidence = Incidence::new(alloc, instance.network())?;
             nearer_or_stuck(alloc, instance, &incidence, flow, imbalance)
         }
@@ -64,14 +64,14 @@ pub fn decide_feasible_over<N: Network>(
     ensures { IfOk result (DecidesFeasible instance.now flow.now) }
 {
     match first_look(alloc, instance, flow)? {
-        Look::Decided(decision) => Ok(decision),
-        Look::Excess(imbalance) => nearer_or_stuck(alloc, instance, incidence, flow, imbalance),
+        NodeTest::Decided(decision) => Ok(decision),
+        NodeTest::Excess(imbalance) => nearer_or_stuck(alloc, instance, incidence, flow, imbalance),
     }
 }
 
 /// What the imbalances alone show.
 #[derive(Drop)]
-enum Look {
+enum NodeTest {
     /// The answer, if no node has excess.
     Decided(FeasibilityDecision),
     /// The imbalance of each node, if some has excess.
@@ -83,18 +83,18 @@ fn first_look<N: Network>(
     alloc: Global,
     instance: &MinInstance<N>,
     flow: &Flow,
-) -> Result<Look, Memory>
+) -> Result<NodeTest, Memory>
     requires { KeepsBounds instance.now.arcs flow.now }
-    ensures { IfOk result (IsLook instance.now flow.now) }
+    ensures { IfOk result (IsNodeTest instance.now flow.now) }
 {
     let imbalance = imbalances(alloc, instance, flow)?;
     let nodes = instance.network().nodes();
     match assess(nodes, &imbalance) {
-        Standing::Even => Ok(Look::Decided(FeasibilityDecision::Balanced)),
-        Standing::Deficit => Ok(Look::Decided(FeasibilityDecision::Infeasible(every_node(
+        ImbalanceSigns::Even => Ok(NodeTest::Decided(FeasibilityDecision::Balanced)),
+        ImbalanceSigns::Deficit => Ok(NodeTest::Decided(FeasibilityDecision::Infeasible(every_node(
             alloc, nodes,
         )?))),
-        Standing::Excess => Ok(Look::Excess(imbalance)),
+        ImbalanceSigns::Excess => Ok(NodeTest::Excess(imbalance)),
     }
 }
 
@@ -116,8 +116,8 @@ fn nearer_or_stuck<N: Network>(
     let mut search = Search::new(alloc, imbalance);
     search.begin_all(network.nodes())?;
     match send(alloc, network, incidence, flow, search)? {
-        Sending::Sent(nearer) => Ok(FeasibilityDecision::LessExcess(nearer)),
-        Sending::Stuck(set) => Ok(FeasibilityDecision::Infeasible(set)),
+        Augmentation::Sent(nearer) => Ok(FeasibilityDecision::LessExcess(nearer)),
+        Augmentation::Stuck(set) => Ok(FeasibilityDecision::Infeasible(set)),
     }
 }
 

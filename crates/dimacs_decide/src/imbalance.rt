@@ -45,7 +45,7 @@ fn is_unbalanced(imbalance: i128) -> bool
 
 /// Which imbalances the nodes have.
 #[derive(Clone, Copy)]
-pub(crate) enum Standing {
+pub(crate) enum ImbalanceSigns {
     /// No node has an excess or a deficit.
     Even,
     /// Some node has a deficit, and none an excess.
@@ -54,18 +54,18 @@ pub(crate) enum Standing {
     Excess,
 }
 
-pub(crate) fn assess(nodes: u32, imbalance: &NodeTable<i128>) -> Standing
+pub(crate) fn assess(nodes: u32, imbalance: &NodeTable<i128>) -> ImbalanceSigns
     requires { nodes ≤ most_nodes }
     ensures { Stands nodes (nodes + 1) (value_of imbalance.now) result }
 {
-    let mut standing = Standing::Even;
+    let mut standing = ImbalanceSigns::Even;
     for id in 1..nodes + 1 {
         let amount = imbalance.get(id);
         if amount > 0 {
-            return Standing::Excess;
+            return ImbalanceSigns::Excess;
         }
         if amount < 0 {
-            standing = Standing::Deficit;
+            standing = ImbalanceSigns::Deficit;
         }
     }
     standing

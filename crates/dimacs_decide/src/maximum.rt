@@ -12,7 +12,7 @@ ghost use Rattle.dimacs_decide.specs.inside.Imbalances.{AreEnds};
 
 use crate::incidence::Incidence;
 use crate::search::{MOST, Search};
-use crate::send::{Sending, send};
+use crate::send::{Augmentation, send};
 use dimacs_claims::Cut;
 use dimacs_instance::MaxInstance;
 use dimacs_lines::Memory;
@@ -58,8 +58,8 @@ pub fn decide_max_over<N: Network>(
     let network = instance.network();
     let search = source_search(alloc, instance.source(), instance.sink())?;
     match send(alloc, network, incidence, flow, search)? {
-        Sending::Sent(better) => Ok(MaxDecision::Better(better)),
-        Sending::Stuck(cut) => Ok(MaxDecision::Optimal(cut)),
+        Augmentation::Sent(better) => Ok(MaxDecision::Better(better)),
+        Augmentation::Stuck(cut) => Ok(MaxDecision::Optimal(cut)),
     }
 }
 

@@ -11,7 +11,7 @@ use crate::faults::{Fault, cannot_read, explain_fault};
 use crate::first_line::FirstLine;
 use crate::flow_tests::{explain_arc, explain_balance, explain_solution};
 use crate::path_tests::{explain_label, explain_query};
-use crate::refusal::{Place, Refusal};
+use crate::refusal::{Refusal, RefusalPlace};
 use crate::texts::{TextFile, Texts};
 use crate::whole_tests::{explain_end, explain_whole};
 use dimacs_lines::{Memory, Sink, put_all};
@@ -55,7 +55,7 @@ fn explanation<A: Files>(
     let texts = Texts::of(job);
     let reason = refusal.reason;
     match refusal.place {
-        Place::Text { name, line, field } => {
+        RefusalPlace::Text { name, line, field } => {
             let fault = Fault {
                 line,
                 field,
@@ -63,12 +63,12 @@ fn explanation<A: Files>(
             };
             explain_text(alloc, again, texts, name, fault, &mut out)?;
         }
-        Place::Arc(number) => {
+        RefusalPlace::Arc(number) => {
             if are_readable(again, texts, &mut out)? {
                 explain_arc(alloc, again, texts, number, reason, &mut out)?;
             }
         }
-        Place::Node(node) => {
+        RefusalPlace::Node(node) => {
             if are_readable(again, texts, &mut out)? {
                 explain_node(alloc, again, texts, node, reason, &mut out)?;
             }

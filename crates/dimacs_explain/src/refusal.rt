@@ -4,7 +4,7 @@ use std::str;
 
 /// The place of a refusal.
 #[derive(Clone, Copy)]
-pub(crate) enum Place<'a> {
+pub(crate) enum RefusalPlace<'a> {
     /// A text, by its name in refusals, with a line and a field; 0 if the whole text or line is refused.
     Text {
         name: &'a str,
@@ -19,7 +19,7 @@ pub(crate) enum Place<'a> {
 
 #[derive(Clone, Copy)]
 pub(crate) struct Refusal<'a> {
-    pub(crate) place: Place<'a>,
+    pub(crate) place: RefusalPlace<'a>,
     pub(crate) reason: &'a str,
 }
 
@@ -31,18 +31,18 @@ impl<'a> Refusal<'a> {
         match what {
             "arc" => {
                 let (number, reason) = rest.split_once(' ')?;
-                let place = Place::Arc(number.parse().ok()?);
+                let place = RefusalPlace::Arc(number.parse().ok()?);
                 Some(Refusal { place, reason })
             }
             "node" => {
                 let (number, reason) = rest.split_once(' ')?;
-                let place = Place::Node(number.parse().ok()?);
+                let place = RefusalPlace::Node(number.parse().ok()?);
                 Some(Refusal { place, reason })
             }
             name => {
                 let (line, rest) = rest.split_once(' ')?;
                 let (field, reason) = rest.split_once(' ')?;
-                let place = Place::Text {
+                let place = RefusalPlace::Text {
                     name,
                     line: line.parse().ok()?,
                     field: field.parse().ok()?,

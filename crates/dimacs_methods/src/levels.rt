@@ -9,12 +9,12 @@ pub(crate) const NONE: u32 = u32::MAX;
 
 /// A node's neighbours on its level.
 #[derive(Clone, Copy)]
-struct Link {
+struct Siblings {
     before: u32,
     after: u32,
 }
 
-const ALONE: Link = Link {
+const ALONE: Siblings = Siblings {
     before: NONE,
     after: NONE,
 };
@@ -23,7 +23,7 @@ const ALONE: Link = Link {
 #[derive(Drop)]
 pub(crate) struct Levels {
     first: Vec<u32>,
-    links: Vec<Link>,
+    links: Vec<Siblings>,
     highest: u32,
 }
 
@@ -64,7 +64,7 @@ impl Levels {
 
     pub(crate) fn insert(&mut self, node: u32, level: u32) {
         let after = self.first(level);
-        let link = Link {
+        let link = Siblings {
             before: NONE,
             after,
         };

@@ -28,7 +28,7 @@ mod tree;
 use crate::number::Number;
 use crate::potentials::claim::Claim;
 use crate::potentials::cycle::{cycle_over, cycle_within};
-use crate::potentials::groups::{Groups, Places};
+use crate::potentials::groups::{GroupPlaces, Groups};
 use crate::potentials::join::joints;
 use crate::potentials::links::{Link, all_links, joined_links};
 use crate::potentials::listing::Listing;
@@ -103,7 +103,7 @@ fn tie_and_link<N: Network, V: Number>(
 fn join_and_correct<N: Network, V: Number>(
     alloc: Global,
     claim: &Claim<'_, N>,
-    places: Places<V>,
+    places: GroupPlaces<V>,
     links: Vec<Link<V>>,
 ) -> Result<Guess, Memory> {
     let Some(joints) = joints(alloc, &links, places.groups)? else {
@@ -121,7 +121,7 @@ fn join_and_correct<N: Network, V: Number>(
 fn correct_labels<N: Network, V: Number>(
     alloc: Global,
     claim: &Claim<'_, N>,
-    places: &Places<V>,
+    places: &GroupPlaces<V>,
     links: Vec<Link<V>>,
 ) -> Result<Guess, Memory> {
     let listing = Listing::new(alloc, &links, places.groups)?;
@@ -147,7 +147,7 @@ fn correct_labels<N: Network, V: Number>(
 fn potentials<N: Network, V: Number>(
     alloc: Global,
     claim: &Claim<'_, N>,
-    places: &Places<V>,
+    places: &GroupPlaces<V>,
     distances: &[V],
 ) -> Result<Potentials, Memory> {
     let mut potentials = Potentials::new(alloc, claim.instance.network().nodes());

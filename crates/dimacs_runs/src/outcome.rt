@@ -32,7 +32,7 @@ impl OutputText {
 
     fn write<K: Sink>(&self, sink: &mut K) -> Result<(), DeviceFault>
         ensures puts { Puts result (K.seen sink.old) (text_bytes self.now) (K.seen sink.new) }
-        ensures unmade { self.now ≡ Nothing → sink.new ≡ sink.old }
+        ensures nothing_written { self.now ≡ Nothing → sink.new ≡ sink.old }
     {
         match self {
             OutputText::Nothing => Ok(()),

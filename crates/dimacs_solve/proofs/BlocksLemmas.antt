@@ -20,7 +20,7 @@ use Rattle.dimacs_optimality.specs.PathsJudge.{PassesPaths}
 use Rattle.dimacs_optimality.proofs.BlockNumbers.{block_found}
 use Rattle.dimacs_optimality.specs.QueryTests.{HasBlock, HasFullBlock, IsServed, ends_of, nodes_asked, sources_asked}
 use Rattle.dimacs_solve.specs.declared.adjacency.Adjacency.{Adjacency}
-use Rattle.dimacs_solve.specs.declared.adjacency.OutArc.{OutArc}
+use Rattle.dimacs_solve.specs.declared.adjacency.WeightedArc.{WeightedArc}
 use Rattle.dimacs_solve.specs.Adjacency.{out}
 use Rattle.dimacs_solve.specs.inside.Adjacency.{out_arc_to, IsOutArcOf, IsAdjacencyOf}
 use Rattle.dimacs_solve.specs.inside.Blocks.{AddsBlock, AreSolved}
@@ -40,7 +40,7 @@ module _ (g : NetworkValue) (a : Adjacency) (by : IsAdjacencyOf g.nodes g.arcs a
       let arc = arc_at g.arcs k in
       let at = tree.positive arc.tail d h in
       let among = (by.leaving arc.tail).complete k inside refl in
-      let next = All-contains (λ (out_arc : OutArc). (e : ℕ) × (label b out_arc.head ≡ Some (pos e)) × (e ≤ at.0 + out_arc.weight)) (out a arc.tail) (out_arc_to arc.head among.0) (tree.closed arc.tail at.0 (h ∙ ap (λ (z : ℤ). Some z) at.1)) among.2 in
+      let next = All-contains (λ (out_arc : WeightedArc). (e : ℕ) × (label b out_arc.head ≡ Some (pos e)) × (e ≤ at.0 + out_arc.weight)) (out a arc.tail) (out_arc_to arc.head among.0) (tree.closed arc.tail at.0 (h ∙ ap (λ (z : ℤ). Some z) at.1)) among.2 in
       inl (pos next.0, next.1, omega (arith, ints, next.2, at.1, among.1))
 
   tree_passes : LabelsOk g.arcs b

@@ -13,7 +13,7 @@ use Rattle.dimacs_lines.specs.Limits.{most_count, most_nodes, IsNode}
 use Rattle.dimacs_claims.specs.declared.block.Label.{Label}
 use Rattle.dimacs_claims.specs.Labels.{BlockValue, IsBlock, IsLabel, label, with_label}
 use Rattle.dimacs_solve.specs.declared.adjacency.Adjacency.{Adjacency}
-use Rattle.dimacs_solve.specs.declared.adjacency.OutArc.{OutArc}
+use Rattle.dimacs_solve.specs.declared.adjacency.WeightedArc.{WeightedArc}
 use Rattle.dimacs_solve.specs.declared.frontier.Walk.{Walk}
 use Rattle.dimacs_solve.specs.Adjacency.{AreByNode, IsOutArc, out}
 use Rattle.dimacs_solve.specs.inside.Adjacency.{out_arc_to}
@@ -234,20 +234,20 @@ out_few : (a : Adjacency) (v : ℕ) → length (out a v) ≤ length a.out_arcs.i
 unfolding out
 out_few a v = simp (length-take, length-drop) (omega arith)
 
-pub out_arc_at : (a : Adjacency) (node : ℕ) (out_arcs : List OutArc) (i : ℕ) (d : OutArc) → AreByNode a → out_arcs ≡ out a node → i < length out_arcs → IsOutArc a.nodes a.greatest (get_or out_arcs i d)
+pub out_arc_at : (a : Adjacency) (node : ℕ) (out_arcs : List WeightedArc) (i : ℕ) (d : WeightedArc) → AreByNode a → out_arcs ≡ out a node → i < length out_arcs → IsOutArc a.nodes a.greatest (get_or out_arcs i d)
 out_arc_at a node out_arcs i d is from inside = All-get_or (IsOutArc a.nodes a.greatest) out_arcs i d inside (rw from (out_lawful a node is))
 
 -- ---- one step of relaxing a node
-pub record IsRelaxing (a : Adjacency) (dist : ℕ) (old : ℕ → Known) (walks : List (Walk ℕ)) (out_arcs : List OutArc) (i : ℕ) (node_states : ℕ → Known) (front : List (Walk ℕ)) : Type 0 where
+pub record IsRelaxing (a : Adjacency) (dist : ℕ) (old : ℕ → Known) (walks : List (Walk ℕ)) (out_arcs : List WeightedArc) (i : ℕ) (node_states : ℕ → Known) (front : List (Walk ℕ)) : Type 0 where
   pub waits : IsFront a dist node_states front
   pub lowers : Lowers old node_states
   pub relaxed : All (IsArcRelaxed node_states dist) (take i out_arcs)
   pub queue_bounded : length front ≤ length walks + i
 
-pub relaxing_none : (a : Adjacency) (node dist : ℕ) (old : ℕ → Known) (walks : List (Walk ℕ)) (out_arcs : List OutArc) → IsReady a node dist old walks → IsRelaxing a dist old walks out_arcs 0 old walks
+pub relaxing_none : (a : Adjacency) (node dist : ℕ) (old : ℕ → Known) (walks : List (Walk ℕ)) (out_arcs : List WeightedArc) → IsReady a node dist old walks → IsRelaxing a dist old walks out_arcs 0 old walks
 relaxing_none a node dist old walks out_arcs ready = record { waits = ready.waits; lowers = lowers_none old; relaxed = All-nil (IsArcRelaxed old dist); queue_bounded = omega arith }
 
-pub relaxing_more : (a : Adjacency) (dist node : ℕ) (old : ℕ → Known) (walks : List (Walk ℕ)) (out_arcs : List OutArc) (i : ℕ) (d : OutArc) (node_states : ℕ → Known) (front : List (Walk ℕ)) (node_states' : ℕ → Known) (front' : List (Walk ℕ))
+pub relaxing_more : (a : Adjacency) (dist node : ℕ) (old : ℕ → Known) (walks : List (Walk ℕ)) (out_arcs : List WeightedArc) (i : ℕ) (d : WeightedArc) (node_states : ℕ → Known) (front : List (Walk ℕ)) (node_states' : ℕ → Known) (front' : List (Walk ℕ))
     → IsReady a node dist old walks → out_arcs ≡ out a node → i < length out_arcs → IsRelaxing a dist old walks out_arcs i node_states front
     → Offers (record { dist = dist + (get_or out_arcs i d).weight; node = (get_or out_arcs i d).head; pred = node }) node_states front node_states' front' → IsRelaxing a dist old walks out_arcs (i + 1) node_states' front'
 relaxing_more a dist node old walks out_arcs i d node_states front node_states' front' ready from inside so_far offers =
@@ -271,7 +271,7 @@ relaxing_more a dist node old walks out_arcs i d node_states front node_states' 
       queue_bounded = omega (arith, new.queue_bounded, so_far.queue_bounded);
     }
 
-pub relaxing_all : (a : Adjacency) (dist node : ℕ) (old : ℕ → Known) (walks : List (Walk ℕ)) (out_arcs : List OutArc) (i : ℕ) (node_states : ℕ → Known) (front : List (Walk ℕ)) → out_arcs ≡ out a node → length out_arcs ≡ i → IsRelaxing a dist old walks out_arcs i node_states front → Relaxes a node dist old walks node_states front
+pub relaxing_all : (a : Adjacency) (dist node : ℕ) (old : ℕ → Known) (walks : List (Walk ℕ)) (out_arcs : List WeightedArc) (i : ℕ) (node_states : ℕ → Known) (front : List (Walk ℕ)) → out_arcs ≡ out a node → length out_arcs ≡ i → IsRelaxing a dist old walks out_arcs i node_states front → Relaxes a node dist old walks node_states front
 relaxing_all a dist node old walks out_arcs i node_states front from all is = record {
   waits = is.waits;
   lowers = is.lowers;
@@ -280,7 +280,7 @@ relaxing_all a dist node old walks out_arcs i node_states front from all is = re
 }
 
 -- the distance after one more arc from a settled node stays below the limit
-pub out_arc_within : (a : Adjacency) (node dist limit : ℕ) (node_states : ℕ → Known) (front : List (Walk ℕ)) (out_arc : OutArc) → IsReady a node dist node_states front → a.nodes * a.greatest < limit → IsOutArc a.nodes a.greatest out_arc → dist + out_arc.weight < limit
+pub out_arc_within : (a : Adjacency) (node dist limit : ℕ) (node_states : ℕ → Known) (front : List (Walk ℕ)) (out_arc : WeightedArc) → IsReady a node dist node_states front → a.nodes * a.greatest < limit → IsOutArc a.nodes a.greatest out_arc → dist + out_arc.weight < limit
 out_arc_within a node dist limit node_states front out_arc ready bounded lawful =
     let most : a.greatest * settled_count node_states a.nodes ≤ a.greatest * a.nodes = mul-le-mul_left a.greatest (settled_count-le node_states a.nodes) in
     omega (arith, bounded, ready.bound, lawful.weight, most)

@@ -4,24 +4,24 @@ use Rattle.dimacs_instance.specs.MinFlows.{MinValue}
 use Rattle.dimacs_lines.specs.Limits.{IsNode}
 use Rattle.dimacs_nodes.specs.Tables.{value_of}
 use Rattle.dimacs_decide.specs.FeasibilityDecision.{DecidesFeasible, imbalance_at}
-use Rattle.dimacs_decide.specs.declared.feasible.Look.{Look}
-use Rattle.dimacs_decide.specs.declared.feasible.Look.TheVariants as looks
-use Rattle.dimacs_decide.specs.declared.imbalance.Standing.{Standing}
-use Rattle.dimacs_decide.specs.declared.imbalance.Standing.TheVariants.{Even, Excess, Deficit}
+use Rattle.dimacs_decide.specs.declared.feasible.NodeTest.{NodeTest}
+use Rattle.dimacs_decide.specs.declared.feasible.NodeTest.TheVariants as looks
+use Rattle.dimacs_decide.specs.declared.imbalance.ImbalanceSigns.{ImbalanceSigns}
+use Rattle.dimacs_decide.specs.declared.imbalance.ImbalanceSigns.TheVariants.{Even, Excess, Deficit}
 
 abbrev pub AreImbalances : MinValue → List ℤ → (ℕ → ℤ) → Type 0
 AreImbalances i x imbalance = (v : ℕ) → IsNode i.nodes v → imbalance v ≡ imbalance_at i x v
 
 -- no node below this one has excess: none has a deficit, or some do; or some node has excess
-abbrev pub Stands : ℕ → ℕ → (ℕ → ℤ) → Standing → Type 0
+abbrev pub Stands : ℕ → ℕ → (ℕ → ℤ) → ImbalanceSigns → Type 0
 Stands nodes id imbalance Even = (v : ℕ) → 1 ≤ v → v < id → imbalance v ≡ pos 0
 Stands nodes id imbalance Deficit = ((v : ℕ) → 1 ≤ v → v < id → imbalance v ≤ℤ pos 0) × ((v : ℕ) × IsNode nodes v × (imbalance v <ℤ pos 0))
 Stands nodes id imbalance Excess = (v : ℕ) × IsNode nodes v × (pos 0 <ℤ imbalance v)
 
 -- the result of a look at the nodes: a decision; or all imbalances, if some node has excess
-abbrev pub IsLook : MinValue → List ℤ → Look → Type 0
-IsLook i x (looks.Decided decision) = DecidesFeasible i x decision
-IsLook i x (looks.Excess imbalance) = AreImbalances i x (value_of imbalance) × ((v : ℕ) × IsNode i.nodes v × (pos 0 <ℤ value_of imbalance v))
+abbrev pub IsNodeTest : MinValue → List ℤ → NodeTest → Type 0
+IsNodeTest i x (looks.Decided decision) = DecidesFeasible i x decision
+IsNodeTest i x (looks.Excess imbalance) = AreImbalances i x (value_of imbalance) × ((v : ℕ) × IsNode i.nodes v × (pos 0 <ℤ value_of imbalance v))
 
 -- the source has excess, the sink a deficit, and no other node either
 pub record AreEnds (from to : ℕ) (imbalance : ℕ → ℤ) : Type 0 where

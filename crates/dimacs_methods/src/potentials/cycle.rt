@@ -3,7 +3,7 @@
 use crate::number::Number;
 use crate::potentials::Guess;
 use crate::potentials::claim::Claim;
-use crate::potentials::groups::Places;
+use crate::potentials::groups::GroupPlaces;
 use crate::potentials::step::Step;
 use crate::potentials::tight::Tight;
 use crate::tables::{member, set_member};
@@ -30,7 +30,7 @@ impl<V: Copy> Copy for Cheapest<V> {}
 pub(crate) fn cycle_over<N: Network, V: Number>(
     alloc: Global,
     claim: &Claim<'_, N>,
-    places: &Places<V>,
+    places: &GroupPlaces<V>,
     groups: &[u32],
 ) -> Result<Guess, Memory> {
     let none = Cheapest {
@@ -56,7 +56,7 @@ pub(crate) fn cycle_over<N: Network, V: Number>(
 pub(crate) fn cycle_within<N: Network, V: Number>(
     alloc: Global,
     claim: &Claim<'_, N>,
-    places: &Places<V>,
+    places: &GroupPlaces<V>,
 ) -> Result<Guess, Memory> {
     let steps = Step::all(alloc, claim)?;
     let mut chosen = Vec::new(alloc);
@@ -81,7 +81,11 @@ fn set_next<V: Number>(cheapest: &mut [Cheapest<V>], groups: &[u32], none: Cheap
     }
 }
 
-fn keep_cheapest<V: Number>(cheapest: &mut [Cheapest<V>], steps: &[Step<V>], places: &Places<V>) {
+fn keep_cheapest<V: Number>(
+    cheapest: &mut [Cheapest<V>],
+    steps: &[Step<V>],
+    places: &GroupPlaces<V>,
+) {
     for step in steps {
         let link = step.link(places);
         if let Some(best) = cheapest.get_mut(link.from as usize)
@@ -98,7 +102,7 @@ fn keep_cheapest<V: Number>(cheapest: &mut [Cheapest<V>], steps: &[Step<V>], pla
 fn close<V: Number>(
     alloc: Global,
     steps: Vec<Step<V>>,
-    places: &Places<V>,
+    places: &GroupPlaces<V>,
     chosen: &[Step<V>],
 ) -> Result<Guess, Memory> {
     let mut cycle = Vec::new(alloc);

@@ -8,7 +8,7 @@ use dimacs_network::Network;
 use std::alloc::Global;
 
 #[derive(Clone, Copy)]
-pub(crate) struct Place<V> {
+pub(crate) struct GroupPlace<V> {
     /// The node's distance minus the group's.
     pub shift: V,
     pub group: u32,
@@ -16,8 +16,8 @@ pub(crate) struct Place<V> {
 
 /// The places of all nodes. Groups are numbered from 0.
 #[derive(Drop)]
-pub(crate) struct Places<V> {
-    places: Vec<Place<V>>,
+pub(crate) struct GroupPlaces<V> {
+    places: Vec<GroupPlace<V>>,
     /// The number of groups.
     pub groups: u32,
 }
@@ -25,12 +25,12 @@ pub(crate) struct Places<V> {
 /// Groups while they are joined, as trees. Each node has its parent and the shift from it; a root is its own parent.
 #[derive(Drop)]
 pub(crate) struct Groups<V> {
-    parents: Vec<Place<V>>,
+    parents: Vec<GroupPlace<V>>,
 }
 
-impl<V: Number> Places<V> {
+impl<V: Number> GroupPlaces<V> {
     #[inline(always)]
-    pub(crate) fn of(&self, node: u32) -> Place<V> {
+    pub(crate) fn of(&self, node: u32) -> GroupPlace<V> {
         place_of(&self.places, node)
     }
 
@@ -39,10 +39,10 @@ impl<V: Number> Places<V> {
     }
 
     /// Replaces each group by the one that it was joined to.
-    pub(crate) fn join(&mut self, joints: &Places<V>) {
+    pub(crate) fn join(&mut self, joints: &GroupPlaces<V>) {
         for place in self.places.iter_mut() {
             let joint = joints.of(place.group);
-            *place = Place {
+            *place = GroupPlace {
                 shift: place.shift.plus(joint.shift),
                 group: joint.group,
             };
@@ -64,19 +64,19 @@ impl<V: Number> Groups<V> {
     /// The root of a node's group, and the node's shift from it. Halves the path: every second node is attached to its
     /// grandparent.
     #[inline(always)]
-    pub(crate) fn find(&mut self, node: u32) -> Place<V> {
+    pub(crate) fn find(&mut self, node: u32) -> GroupPlace<V> {
         let mut at = node;
         let mut sum = V::of(0);
         for _ in 0..u32::MAX {
             let first = place_of(&self.parents, at);
             let second = place_of(&self.parents, first.group);
             if second.group == first.group {
-                return Place {
+                return GroupPlace {
                     shift: sum.plus(first.shift),
                     group: first.group,
                 };
             }
-            let both = Place {
+            let both = GroupPlace {
                 shift: first.shift.plus(second.shift),
                 group: second.group,
             };
@@ -84,7 +84,7 @@ impl<V: Number> Groups<V> {
             at = both.group;
             sum = sum.plus(both.shift);
         }
-        Place {
+        GroupPlace {
             shift: sum,
             group: at,
         }
@@ -103,7 +103,7 @@ impl<V: Number> Groups<V> {
         if here.group == there.group {
             return shift.is_zero();
         }
-        let below = Place {
+        let below = GroupPlace {
             shift,
             group: here.group,
         };
@@ -128,23 +128,23 @@ impl<V: Number> Groups<V> {
         true
     }
 
-    pub(crate) fn places(mut self, alloc: Global) -> Result<Places<V>, Memory> {
+    pub(crate) fn places(mut self, alloc: Global) -> Result<GroupPlaces<V>, Memory> {
         let nodes = count_of(&self.parents);
         let mut places = vec![in alloc; place_at(0); nodes as usize]?;
         let groups = self.number_roots(&mut places);
         for node in 0..nodes {
             let root = self.find(node);
-            let own = Place {
+            let own = GroupPlace {
                 shift: root.shift,
                 group: place_of(&places, root.group).group,
             };
             set_member(&mut places, node, own);
         }
-        Ok(Places { places, groups })
+        Ok(GroupPlaces { places, groups })
     }
 
     /// Numbers the groups at their roots. Returns how many there are.
-    fn number_roots(&self, places: &mut [Place<V>]) -> u32 {
+    fn number_roots(&self, places: &mut [GroupPlace<V>]) -> u32 {
         let mut groups: u32 = 0;
         for node in 0..count_of(&self.parents) {
             if self.is_root(node) {
@@ -158,14 +158,14 @@ impl<V: Number> Groups<V> {
 
 /// Beyond the end, a node is a group of its own.
 #[inline(always)]
-fn place_of<V: Number>(places: &[Place<V>], node: u32) -> Place<V> {
+fn place_of<V: Number>(places: &[GroupPlace<V>], node: u32) -> GroupPlace<V> {
     member(places, node, place_at(node))
 }
 
 /// The place of a group's root: shift 0.
 #[inline(always)]
-fn place_at<V: Number>(group: u32) -> Place<V> {
-    Place {
+fn place_at<V: Number>(group: u32) -> GroupPlace<V> {
+    GroupPlace {
         shift: V::of(0),
         group,
     }

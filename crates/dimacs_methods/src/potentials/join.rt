@@ -1,7 +1,7 @@
 //! Joining groups with only one link in, or only one link out.
 
 use crate::number::Number;
-use crate::potentials::groups::{Groups, Places};
+use crate::potentials::groups::{GroupPlaces, Groups};
 use crate::potentials::links::Link;
 use crate::tables::{member, set_member};
 use dimacs_lines::Memory;
@@ -36,7 +36,7 @@ pub(crate) fn joints<V: Number>(
     alloc: Global,
     links: &[Link<V>],
     groups: u32,
-) -> Result<Option<Places<V>>, Memory> {
+) -> Result<Option<GroupPlaces<V>>, Memory> {
     let mut joining = Joining::new(alloc, links, groups)?;
     joining.count_links();
     for _ in 0..u64::MAX {

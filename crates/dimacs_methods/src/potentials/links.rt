@@ -2,7 +2,7 @@
 
 use crate::number::Number;
 use crate::potentials::claim::Claim;
-use crate::potentials::groups::{Place, Places};
+use crate::potentials::groups::{GroupPlace, GroupPlaces};
 use crate::potentials::listing::HasKey;
 use crate::tables::{member, set_member};
 use dimacs_lines::Memory;
@@ -36,7 +36,7 @@ impl<V: Number> Link<V> {
     #[inline(always)]
     pub(crate) fn of<N: Network>(
         claim: &Claim<'_, N>,
-        places: &Places<V>,
+        places: &GroupPlaces<V>,
         i: u32,
         arc: ArcView,
     ) -> Option<Link<V>> {
@@ -55,7 +55,7 @@ impl<V: Number> Link<V> {
     }
 
     #[inline(always)]
-    pub(crate) fn between(near: Place<V>, cost: V, far: Place<V>) -> Link<V> {
+    pub(crate) fn between(near: GroupPlace<V>, cost: V, far: GroupPlace<V>) -> Link<V> {
         Link {
             cost: near.shift.plus(cost).minus(far.shift),
             from: near.group,
@@ -65,7 +65,7 @@ impl<V: Number> Link<V> {
 
     /// The same link after groups were joined.
     #[inline(always)]
-    pub(crate) fn joined(self, joints: &Places<V>) -> Link<V> {
+    pub(crate) fn joined(self, joints: &GroupPlaces<V>) -> Link<V> {
         Link::between(joints.of(self.from), self.cost, joints.of(self.to))
     }
 
@@ -101,7 +101,7 @@ impl<V: Number> Link<V> {
 pub(crate) fn all_links<N: Network, V: Number>(
     alloc: Global,
     claim: &Claim<'_, N>,
-    places: &Places<V>,
+    places: &GroupPlaces<V>,
 ) -> Result<Option<Vec<Link<V>>>, Memory> {
     let network = claim.network();
     let mut links = Vec::with_capacity(alloc, network.arcs() as usize)?;
@@ -122,7 +122,7 @@ pub(crate) fn all_links<N: Network, V: Number>(
 /// The same after groups were joined.
 pub(crate) fn joined_links<V: Number>(
     links: Vec<Link<V>>,
-    joints: &Places<V>,
+    joints: &GroupPlaces<V>,
 ) -> Option<Vec<Link<V>>> {
     let mut links = links;
     let mut has_negative_loop = false;

@@ -2,7 +2,7 @@
 
 use crate::number::Number;
 use crate::potentials::claim::{Claim, ResidualArc};
-use crate::potentials::groups::Places;
+use crate::potentials::groups::GroupPlaces;
 use crate::potentials::links::Link;
 use crate::potentials::listing::HasKey;
 use dimacs_lines::Memory;
@@ -75,7 +75,7 @@ impl<V: Number> Step<V> {
     }
 
     /// The same as a link between groups.
-    pub(crate) fn link(&self, places: &Places<V>) -> Link<V> {
+    pub(crate) fn link(&self, places: &GroupPlaces<V>) -> Link<V> {
         Link::between(places.of(self.from), self.cost, places.of(self.to))
     }
 }

@@ -71,7 +71,7 @@ impl<V: Number> Climb<V> {
     fn start(tree: &Tree<V>, at: u32, residual_capacity: V) -> Climb<V> {
         Climb {
             at,
-            depth: tree.place(at).depth,
+            depth: tree.thread(at).depth,
             residual_capacity,
             narrow: None,
         }

@@ -13,7 +13,7 @@ impl<V: Number> Tree<V> {
         let mut numbers = vec![in alloc; self.root(); self.nodes.len()]?;
         number_in_order(&mut numbers, &order);
         permute(alloc, &mut self.nodes, &order)?;
-        permute(alloc, &mut self.places, &order)?;
+        permute(alloc, &mut self.threads, &order)?;
         permute(alloc, &mut self.potentials, &order)?;
         permute(alloc, &mut self.names, &order)?;
         self.rename(&numbers);
@@ -25,7 +25,7 @@ impl<V: Number> Tree<V> {
         let mut order = Vec::with_capacity(alloc, self.nodes.len())?;
         let mut node = self.root();
         for _ in 0..self.nodes.len() {
-            node = self.place(node).after;
+            node = self.thread(node).after;
             order.push(node)?;
         }
         Ok(order)
@@ -36,8 +36,8 @@ impl<V: Number> Tree<V> {
             node.parent = member(numbers, node.parent, 0);
             node.before = member(numbers, node.before, 0);
         }
-        for place in &mut self.places {
-            place.after = member(numbers, place.after, 0);
+        for thread in &mut self.threads {
+            thread.after = member(numbers, thread.after, 0);
         }
     }
 }

@@ -29,9 +29,9 @@ impl<V: Copy> Clone for Node<V> {
 
 impl<V: Copy> Copy for Node<V> {}
 
-/// What changes in every node of a moved subtree, apart from its potential.
+/// A node's successor in preorder, and its depth: what changes in each node of a moved subtree, beside its potential.
 #[derive(Clone, Copy)]
-pub(crate) struct Place {
+pub(crate) struct Thread {
     /// The node after this one in preorder; the root after the last.
     pub after: u32,
     pub depth: u32,
@@ -50,7 +50,7 @@ pub(crate) struct Hook<V> {
 #[derive(Drop)]
 pub(crate) struct Tree<V: Number> {
     pub nodes: Vec<Node<V>>,
-    pub places: Vec<Place>,
+    pub threads: Vec<Thread>,
     pub potentials: Vec<V>,
     /// The first number of each node.
     pub names: Vec<u32>,
@@ -64,7 +64,7 @@ impl<V: Number> Tree<V> {
         let size = excess.len().saturating_add(1);
         let mut tree = Tree {
             nodes: Vec::with_capacity(alloc, size)?,
-            places: Vec::with_capacity(alloc, size)?,
+            threads: Vec::with_capacity(alloc, size)?,
             potentials: Vec::with_capacity(alloc, size)?,
             names: (0..root).collect(alloc)?,
         };
@@ -78,7 +78,7 @@ impl<V: Number> Tree<V> {
             arc: ARTIFICIAL,
             before: root.saturating_sub(1),
         })?;
-        tree.places.push(Place { after: 0, depth: 0 })?;
+        tree.threads.push(Thread { after: 0, depth: 0 })?;
         tree.potentials.push(V::of(0))?;
         Ok(tree)
     }
@@ -100,7 +100,7 @@ impl<V: Number> Tree<V> {
             arc: ARTIFICIAL,
             before: number.checked_sub(1).unwrap_or(root),
         })?;
-        self.places.push(Place {
+        self.threads.push(Thread {
             after: number.wrapping_add(1),
             depth: 1,
         })?;
@@ -126,8 +126,8 @@ impl<V: Number> Tree<V> {
     }
 
     #[inline(always)]
-    pub(crate) fn place(&self, node: u32) -> Place {
-        member(&self.places, node, Place { after: 0, depth: 0 })
+    pub(crate) fn thread(&self, node: u32) -> Thread {
+        member(&self.threads, node, Thread { after: 0, depth: 0 })
     }
 
     /// Moves flow along the tree arcs of a cycle.
@@ -163,7 +163,7 @@ impl<V: Number> Tree<V> {
         let mut hook = hook;
         let mut stem = top;
         let mut last = hook.parent;
-        let mut depth = self.place(hook.parent).depth;
+        let mut depth = self.thread(hook.parent).depth;
         let mut moved: u64 = 0;
         for _ in 0..self.nodes.len() {
             depth = depth.wrapping_add(1);
@@ -197,10 +197,10 @@ impl<V: Number> Tree<V> {
 
     /// Moves the rest of the subtree of `top` after the node `to` in preorder.
     fn move_part(&mut self, top: u32, to: u32, depth: u32, raise: V) -> Part {
-        let old = self.place(top).depth;
+        let old = self.thread(top).depth;
         let part = self.shift_part(top, old, depth.wrapping_sub(old), raise);
         self.link(self.node(top).before, part.after);
-        let after = self.place(to).after;
+        let after = self.thread(to).after;
         self.link(to, top);
         self.link(part.last, after);
         part
@@ -213,17 +213,17 @@ impl<V: Number> Tree<V> {
             after: top,
             count: 0,
         };
-        for _ in 0..self.places.len() {
+        for _ in 0..self.threads.len() {
             let at = part.after as usize;
-            let Some(place) = self.places.get_mut(at) else {
+            let Some(thread) = self.threads.get_mut(at) else {
                 break;
             };
-            if place.depth <= old && part.count > 0 {
+            if thread.depth <= old && part.count > 0 {
                 break;
             }
-            place.depth = place.depth.wrapping_add(deeper);
+            thread.depth = thread.depth.wrapping_add(deeper);
             part.last = part.after;
-            part.after = place.after;
+            part.after = thread.after;
             part.count = part.count.wrapping_add(1);
             if let Some(potential) = self.potentials.get_mut(at) {
                 *potential = potential.plus(raise);
@@ -234,8 +234,8 @@ impl<V: Number> Tree<V> {
 
     #[inline(always)]
     fn link(&mut self, before: u32, after: u32) {
-        if let Some(place) = self.places.get_mut(before as usize) {
-            place.after = after;
+        if let Some(thread) = self.threads.get_mut(before as usize) {
+            thread.after = after;
         }
         if let Some(node) = self.nodes.get_mut(after as usize) {
             node.before = before;

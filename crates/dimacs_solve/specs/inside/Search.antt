@@ -4,7 +4,7 @@ use Rattle.dimacs_lines.specs.Limits.{IsNode}
 use Rattle.dimacs_claims.specs.declared.block.Label.{Label}
 use Rattle.dimacs_claims.specs.Labels.{BlockValue, IsBlock, label}
 use Rattle.dimacs_solve.specs.declared.adjacency.Adjacency.{Adjacency}
-use Rattle.dimacs_solve.specs.declared.adjacency.OutArc.{OutArc}
+use Rattle.dimacs_solve.specs.declared.adjacency.WeightedArc.{WeightedArc}
 use Rattle.dimacs_solve.specs.declared.frontier.Walk.{Walk}
 use Rattle.dimacs_solve.specs.Adjacency.{AreByNode, out}
 use Rattle.dimacs_solve.specs.inside.Adjacency.{out_arc_to}
@@ -63,7 +63,7 @@ Offers e node_states front node_states' front' =
     ⊎ ((¬ IsReachedWithin (node_states e.node) e.dist) × Sets node_states e.node (reached e.dist) node_states' × IsPermutation (e ∷ front) front')
 
 -- at most d plus the weight is noted for the head of the arc
-abbrev pub IsArcRelaxed : (ℕ → Known) → ℕ → OutArc → Type 0
+abbrev pub IsArcRelaxed : (ℕ → Known) → ℕ → WeightedArc → Type 0
 IsArcRelaxed node_states d out_arc = IsReachedWithin (node_states out_arc.head) (d + out_arc.weight)
 
 -- the node was settled at this distance, no settled node is farther, and one more arc stays below the limit

@@ -1,10 +1,10 @@
 use Rattle.std.proofs.Common.{◌≡◌, ◌∙◌, length, arith, refl}
-use Rattle.dimacs_solve.specs.declared.adjacency.OutArc.{OutArc}
+use Rattle.dimacs_solve.specs.declared.adjacency.WeightedArc.{WeightedArc}
 use Rattle.dimacs_solve.specs.inside.NodeStates.{known}
 use Rattle.dimacs_solve.proofs.SearchLemmas.{out_arc_at, out_arc_within, relaxing_all, relaxing_more, relaxing_none}
 use Rattle.dimacs_solve.proofs.search.relax.Goals as goal
 
-abbrev none : OutArc
+abbrev none : WeightedArc
 none = record { weight = 0; head = 0 }
 
 pub plus-requires : goal.plus-requires

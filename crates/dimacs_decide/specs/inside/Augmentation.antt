@@ -6,8 +6,8 @@ use Rattle.dimacs_network.specs.declared.network.ArcView.{ArcView}
 use Rattle.dimacs_optimality.specs.Cuts.{enters, leaves, members}
 use Rattle.dimacs_lines.specs.Limits.{IsNode}
 use Rattle.dimacs_decide.specs.Bounds.{KeepsBounds}
-use Rattle.dimacs_decide.specs.declared.send.Sending.{Sending}
-use Rattle.dimacs_decide.specs.declared.send.Sending.TheVariants.{Sent, Stuck}
+use Rattle.dimacs_decide.specs.declared.send.Augmentation.{Augmentation}
+use Rattle.dimacs_decide.specs.declared.send.Augmentation.TheVariants.{Sent, Stuck}
 use Rattle.dimacs_decide.specs.inside.Raising.{Shifts}
 
 -- y is x with an amount sent from a node with that much excess to one with that much deficit
@@ -38,6 +38,6 @@ pub record IsStuck (nodes : ℕ) (arcs : List ArcView) (x : List ℤ) (imbalance
   pub has : (v : ℕ) → IsNode nodes v → reached v → members set v ≡ true
   pub shut : IsShut nodes arcs x imbalance (members set)
 
-abbrev pub IsRightSending : ℕ → List ArcView → List ℤ → (ℕ → ℤ) → (ℕ → Type 0) → Sending → Type 0
-IsRightSending nodes arcs x imbalance reached (Sent y) = IsSent nodes arcs x y imbalance
-IsRightSending nodes arcs x imbalance reached (Stuck set) = IsStuck nodes arcs x imbalance reached set
+abbrev pub IsRightAugmentation : ℕ → List ArcView → List ℤ → (ℕ → ℤ) → (ℕ → Type 0) → Augmentation → Type 0
+IsRightAugmentation nodes arcs x imbalance reached (Sent y) = IsSent nodes arcs x y imbalance
+IsRightAugmentation nodes arcs x imbalance reached (Stuck set) = IsStuck nodes arcs x imbalance reached set
