@@ -29,7 +29,7 @@ help:
 ## make quick: builds them unproved in build/quick, in two minutes of processor time each
 quick: build/quick/dimacs $(LIBRARY:%=build/quick/%)
 
-## make check: runs all tests over build/quick, unproved
+## make check: tests build/quick, unproved
 check: quick
 	@tools/kit.py >/dev/null
 	@tests/check.py build/quick
