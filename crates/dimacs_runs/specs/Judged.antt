@@ -21,7 +21,7 @@ use Rattle.dimacs_runs.specs.declared.jobs.JudgeKind.{JudgeKind}
 use Rattle.dimacs_runs.specs.declared.jobs.JudgeKind.TheVariants.{Max, Min, Infeasible, Paths}
 use Rattle.dimacs_runs.specs.declared.status.Status.{Status}
 use Rattle.dimacs_runs.specs.Judgings.{FaultOr, VerdictOr}
-use Rattle.dimacs_runs.specs.Runs.{says}
+use Rattle.dimacs_runs.specs.Runs.{text_of}
 use Rattle.dimacs_runs.specs.Verdicts.{max_line, min_line, infeasible_line, sources_line, answer_line}
 
 -- the number of sources, or a line for each pair
@@ -32,23 +32,23 @@ paths_lines blocks (Pairs pairs) = flat_map answer_line (map (answer_to blocks) 
 -- the report on the texts: a flow with a cut or with potentials, a set of nodes without a claim, or queries with labels
 abbrev pub Judged : JudgeKind → List ℕ → List ℕ → List ℕ → Status → List ℕ → Type 0
 Judged Max instance claim certificate =
-    FaultOr (says kinds.Max GivesMax instance) (λ i.
-    FaultOr (says kinds.Solution GivesSolution claim) (λ s.
-    FaultOr (says kinds.Cut GivesCut certificate) (λ c.
+    FaultOr (text_of kinds.Max GivesMax instance) (λ i.
+    FaultOr (text_of kinds.Solution GivesSolution claim) (λ s.
+    FaultOr (text_of kinds.Cut GivesCut certificate) (λ c.
     VerdictOr (ShowsMaximum i s c) (max_rows i s c) (max_line s.value))))
 Judged Min instance claim certificate =
-    FaultOr (says kinds.Min GivesMin instance) (λ i.
-    FaultOr (says kinds.Solution GivesSolution claim) (λ s.
-    FaultOr (says kinds.Potentials GivesPotentials certificate) (λ p.
+    FaultOr (text_of kinds.Min GivesMin instance) (λ i.
+    FaultOr (text_of kinds.Solution GivesSolution claim) (λ s.
+    FaultOr (text_of kinds.Potentials GivesPotentials certificate) (λ p.
     VerdictOr (ShowsLeast i s p) (min_rows i s p) (min_line s.value))))
 Judged Infeasible instance claim certificate =
-    FaultOr (says kinds.Min GivesMin instance) (λ i.
-    FaultOr (says kinds.Cut GivesCut certificate) (λ c.
+    FaultOr (text_of kinds.Min GivesMin instance) (λ i.
+    FaultOr (text_of kinds.Cut GivesCut certificate) (λ c.
     VerdictOr (ShowsNoFlow i c) (infeasible_rows i c) infeasible_line))
 Judged Paths instance claim certificate =
-    FaultOr (says kinds.Graph GivesGraph instance) (λ g.
-    FaultOr (says kinds.Queries GivesQueries claim) (λ q.
-    FaultOr (says kinds.Labels GivesLabels certificate) (λ l.
+    FaultOr (text_of kinds.Graph GivesGraph instance) (λ g.
+    FaultOr (text_of kinds.Queries GivesQueries claim) (λ q.
+    FaultOr (text_of kinds.Labels GivesLabels certificate) (λ l.
     VerdictOr (ShowsDistances g q l) (paths_rows g q l) (paths_lines l.blocks q))))
 
 abbrev pub instance_kind : JudgeKind → TextKind

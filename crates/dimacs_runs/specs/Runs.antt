@@ -41,8 +41,8 @@ pub record TextSpells (V : Type 0) : Type 1 where
   pub fault : ℕ → ℕ → Reason → Type 0
 
 -- these bytes as a text of this kind; `gives` relates its records to its value
-abbrev pub says : {V : Type 0} → TextKind → (List LineRecord → V → Type 0) → List ℕ → TextSpells V
-says kind gives bytes = record { name = text_word kind; spells = SpellsValue kind gives (lines bytes); fault = Fault kind (lines bytes) }
+abbrev pub text_of : {V : Type 0} → TextKind → (List LineRecord → V → Type 0) → List ℕ → TextSpells V
+text_of kind gives bytes = record { name = text_word kind; spells = SpellsValue kind gives (lines bytes); fault = Fault kind (lines bytes) }
 
 -- prints `printed v` if the text spells a value v, otherwise the line of its fault
 abbrev pub PrintsText : {V : Type 0} → TextSpells V → (V → List ℕ) → Status → List ℕ → Type 0
@@ -57,15 +57,15 @@ in_form Summary canonical shown = shown
 
 -- what is printed for a text in this form
 abbrev pub Prints : TextForm → TextKind → List ℕ → Status → List ℕ → Type 0
-Prints form Max bytes = PrintsText (says Max GivesMax bytes) (in_form form canonical_max shown_max)
-Prints form Min bytes = PrintsText (says Min GivesMin bytes) (in_form form canonical_min shown_min)
-Prints form Graph bytes = PrintsText (says Graph GivesGraph bytes) (in_form form canonical_graph shown_graph)
-Prints form Queries bytes = PrintsText (says Queries GivesQueries bytes) (in_form form canonical_queries shown_queries)
-Prints form Solution bytes = PrintsText (says Solution GivesSolution bytes) (in_form form canonical_solution shown_solution)
-Prints form Cut bytes = PrintsText (says Cut GivesCut bytes) (in_form form canonical_cut shown_cut)
-Prints form Potentials bytes = PrintsText (says Potentials GivesPotentials bytes) (in_form form canonical_potentials shown_potentials)
-Prints form Labels bytes = PrintsText (says Labels GivesLabels bytes) (in_form form canonical_labels shown_labels)
-Prints form Distances bytes = PrintsText (says Distances GivesDistances bytes) (in_form form canonical_distances shown_distances)
+Prints form Max bytes = PrintsText (text_of Max GivesMax bytes) (in_form form canonical_max shown_max)
+Prints form Min bytes = PrintsText (text_of Min GivesMin bytes) (in_form form canonical_min shown_min)
+Prints form Graph bytes = PrintsText (text_of Graph GivesGraph bytes) (in_form form canonical_graph shown_graph)
+Prints form Queries bytes = PrintsText (text_of Queries GivesQueries bytes) (in_form form canonical_queries shown_queries)
+Prints form Solution bytes = PrintsText (text_of Solution GivesSolution bytes) (in_form form canonical_solution shown_solution)
+Prints form Cut bytes = PrintsText (text_of Cut GivesCut bytes) (in_form form canonical_cut shown_cut)
+Prints form Potentials bytes = PrintsText (text_of Potentials GivesPotentials bytes) (in_form form canonical_potentials shown_potentials)
+Prints form Labels bytes = PrintsText (text_of Labels GivesLabels bytes) (in_form form canonical_labels shown_labels)
+Prints form Distances bytes = PrintsText (text_of Distances GivesDistances bytes) (in_form form canonical_distances shown_distances)
 
 -- this is the only possible outcome
 abbrev pub ReportsAlone : (Status → List ℕ → Type 0) → Status → List ℕ → Type 0

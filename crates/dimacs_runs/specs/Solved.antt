@@ -33,7 +33,7 @@ use Rattle.dimacs_runs.specs.declared.status.Status.{Status}
 use Rattle.dimacs_runs.specs.declared.status.Status.TheVariants.{Done, Refused, GaveUp}
 use Rattle.dimacs_runs.specs.Judged.{paths_lines}
 use Rattle.dimacs_runs.specs.Refusals.{refusal_line}
-use Rattle.dimacs_runs.specs.Runs.{TextSpells, says}
+use Rattle.dimacs_runs.specs.Runs.{TextSpells, text_of}
 use Rattle.dimacs_runs.specs.Verdicts.{failure_line, gave_up_line, infeasible_line, max_line, min_line}
 
 -- only a report
@@ -77,11 +77,11 @@ FindsPaths g q GaveUp out = ⊥
 
 -- what is written for an instance, and for queries if there are any
 abbrev pub Solved : SolveJob → List ℕ → List ℕ → Status → List (List ℕ) → Type 0
-Solved (Max limit) instance queries = FaultAloneOr report_alone (says kinds.Max GivesMax instance) (λ i. FindsMaximum i limit)
-Solved (Min limit) instance queries = FaultAloneOr report_alone (says kinds.Min GivesMin instance) (λ i. FindsLeast i limit)
+Solved (Max limit) instance queries = FaultAloneOr report_alone (text_of kinds.Max GivesMax instance) (λ i. FindsMaximum i limit)
+Solved (Min limit) instance queries = FaultAloneOr report_alone (text_of kinds.Min GivesMin instance) (λ i. FindsLeast i limit)
 Solved Paths instance queries =
-    FaultAloneOr report_alone (says kinds.Graph GivesGraph instance) (λ g.
-    FaultAloneOr report_alone (says kinds.Queries GivesQueries queries) (λ q.
+    FaultAloneOr report_alone (text_of kinds.Graph GivesGraph instance) (λ g.
+    FaultAloneOr report_alone (text_of kinds.Queries GivesQueries queries) (λ q.
     FindsPaths g q))
 
 -- the bytes of the queries, if there are any

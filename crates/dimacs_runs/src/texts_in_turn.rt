@@ -4,7 +4,7 @@ ghost use Rattle.std.specs.Prelude.{◌≡◌, ℕ, List, [], ◌∷◌, Some, I
 ghost use Rattle.dimacs_records.specs.declared.kinds.TextKind.TheVariants as kinds;
 ghost use Rattle.dimacs_claims.specs.SolutionReading.{IsPlaced, IsPlacedLawful};
 ghost use Rattle.dimacs_claims.specs.SolutionTexts.{GivesSolution};
-ghost use Rattle.dimacs_runs.specs.Runs.{says};
+ghost use Rattle.dimacs_runs.specs.Runs.{text_of};
 ghost use Rattle.dimacs_runs.specs.inside.Judgings.{CountsUnread, HasFault, PlacesOne, ReadsOne, ReadsPlaced, ReadsTwo, ReadsThree, text_spells};
 
 use dimacs_claims::{Place, Placed, read_solution_into};
@@ -102,7 +102,7 @@ pub(crate) fn read_placed<E: Place, W: Text, P: Source, Q: Source>(
     requires empty { E.stands_for place [] }
     ensures reads { (a b : List ℕ) → P.coming first.old ≡ Some a → Q.coming second.old ≡ Some b
         → ReadsPlaced (λ solution placed. IsPlaced placed.value placed.value_line (E.stands_for placed.place) solution)
-        W.content (says kinds.Solution GivesSolution a) (text_spells W.kind W.spells b) result }
+        W.content (text_of kinds.Solution GivesSolution a) (text_spells W.kind W.spells b) result }
     ensures fixed { IfOk result (λ values. E.fixed values.0.place ≡ E.fixed place) }
     ensures faults { CountsUnread result (P.faults first.old ∷ Q.faults second.old ∷ []) (P.faults first.new ∷ Q.faults second.new ∷ []) }
     ensures stops_at_first { HasFault kinds.Solution (P.coming first.old) → second.new ≡ second.old }
@@ -122,7 +122,7 @@ pub(crate) fn place_solution<E: Place, P: Source>(
     requires empty { E.stands_for place [] }
     ensures reads { (a : List ℕ) → P.coming source.old ≡ Some a
         → PlacesOne (λ solution placed. IsPlaced placed.value placed.value_line (E.stands_for placed.place) solution)
-        (says kinds.Solution GivesSolution a) result }
+        (text_of kinds.Solution GivesSolution a) result }
     ensures lawful { IfOk result (λ placed. IsPlacedLawful placed.value placed.value_line (E.stands_for placed.place)) }
     ensures fixed { IfOk result (λ placed. E.fixed placed.place ≡ E.fixed place) }
     ensures faults { CountsUnread result (P.faults source.old ∷ []) (P.faults source.new ∷ []) }

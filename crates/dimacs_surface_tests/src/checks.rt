@@ -4,8 +4,8 @@ use std::fmt::Debug;
 use std::process::Abort;
 
 /// Asserts that two values are equal.
-pub fn same<T: PartialEq + Debug + Drop>(rt: &impl Abort, name: &str, said: T, wanted: T) {
-    assert_eq!(rt; said, wanted, "{name}");
+pub fn same<T: PartialEq + Debug + Drop>(rt: &impl Abort, name: &str, actual: T, wanted: T) {
+    assert_eq!(rt; actual, wanted, "{name}");
 }
 
 /// Asserts it of the case with this number.
@@ -13,10 +13,10 @@ pub fn same_at<T: PartialEq + Debug + Drop>(
     rt: &impl Abort,
     name: &str,
     number: u64,
-    said: T,
+    actual: T,
     wanted: T,
 ) {
-    assert_eq!(rt; said, wanted, "{name} {number}");
+    assert_eq!(rt; actual, wanted, "{name} {number}");
 }
 
 /// Asserts a condition.

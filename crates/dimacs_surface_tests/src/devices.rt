@@ -83,8 +83,8 @@ fn takes(rt: &impl Abort, alloc: Global, line: &str) -> Result<(), Fail> {
     let sizes = sizes(rt, alloc, pieces)?;
     let fails = numbers(rt, alloc, fails)?;
     let mut sink = FlakySink::new(alloc, &sizes, &fails);
-    let said = format!(in alloc; "{:?}", put_all(&mut sink, b"abcdefg"))?;
-    same(rt, name, said.as_str(), answer);
+    let actual = format!(in alloc; "{:?}", put_all(&mut sink, b"abcdefg"))?;
+    same(rt, name, actual.as_str(), answer);
     same(rt, name, sink.bytes(), wanted.as_bytes());
     Ok(())
 }

@@ -91,8 +91,8 @@ fn spells(rt: &impl Abort, alloc: Global, line: &str, noughts: &str) -> Result<(
     let (text, wanted) = cell(rt, rest);
     let text = text.replace(alloc, "~", noughts)?;
     let field = text.as_bytes();
-    let said = format!(in alloc; "{:?} | {:?}", number(field), wide(field))?;
-    same(rt, name, said.as_str(), wanted);
+    let actual = format!(in alloc; "{:?} | {:?}", number(field), wide(field))?;
+    same(rt, name, actual.as_str(), wanted);
     Ok(())
 }
 

@@ -28,7 +28,7 @@ graph | 1 | ArcView { tail: 2, head: 1, low: 0, cap: 0, cost: -6 }
 graph | 3 | no arc";
 
 /// The description of an arc.
-fn told<N: Network>(alloc: Global, network: &N, i: u32) -> Result<String, Fail> {
+fn describe<N: Network>(alloc: Global, network: &N, i: u32) -> Result<String, Fail> {
     if i < network.arcs() {
         let arc: ArcView = network.arc(i);
         return Ok(format!(in alloc; "{arc:?}")?);
@@ -38,17 +38,17 @@ fn told<N: Network>(alloc: Global, network: &N, i: u32) -> Result<String, Fail> 
 
 fn max_arc(alloc: Global, i: u32) -> Result<String, Fail> {
     let max = read_max(alloc, &mut MemorySource::new(MAX))?;
-    told(alloc, max.network(), i)
+    describe(alloc, max.network(), i)
 }
 
 fn min_arc(alloc: Global, i: u32) -> Result<String, Fail> {
     let min = read_min(alloc, &mut MemorySource::new(MIN))?;
-    told(alloc, min.network(), i)
+    describe(alloc, min.network(), i)
 }
 
 fn graph_arc(alloc: Global, i: u32) -> Result<String, Fail> {
     let graph = read_graph(alloc, &mut MemorySource::new(GRAPH))?;
-    told(alloc, graph.network(), i)
+    describe(alloc, graph.network(), i)
 }
 
 /// Tests a row of `ARCS`.
@@ -56,12 +56,12 @@ fn has_arc(rt: &impl Abort, alloc: Global, line: &str) -> Result<(), Fail> {
     let (which, rest) = cell(rt, line);
     let (i, wanted) = cell(rt, rest);
     let i = i.parse::<u32>().expect(rt, line);
-    let said = match which {
+    let actual = match which {
         "max" => max_arc(alloc, i)?,
         "min" => min_arc(alloc, i)?,
         _ => graph_arc(alloc, i)?,
     };
-    same(rt, line, said.as_str(), wanted);
+    same(rt, line, actual.as_str(), wanted);
     Ok(())
 }
 
@@ -139,10 +139,10 @@ fn asked(alloc: Global, text: &[u8]) -> Result<String, Fail> {
 #[test]
 fn queries_keep_their_order_and_open_lists_are_written(rt: HostRuntime) -> Result<(), Fail> {
     let alloc = rt.alloc();
-    let said = asked(alloc, b"p aux sp ss 3\ns 5\ns 1\ns 5\n")?;
-    same(&rt, "sources", said.as_str(), "[5, 1, 5]");
-    let said = asked(alloc, b"p aux sp p2p 2\nq 2 1\nq 1 4\n")?;
-    same(&rt, "pairs", said.as_str(), "[(2, 1), (1, 4)]");
+    let actual = asked(alloc, b"p aux sp ss 3\ns 5\ns 1\ns 5\n")?;
+    same(&rt, "sources", actual.as_str(), "[5, 1, 5]");
+    let actual = asked(alloc, b"p aux sp p2p 2\nq 2 1\nq 1 4\n")?;
+    same(&rt, "pairs", actual.as_str(), "[(2, 1), (1, 4)]");
     let open = Queries::Sources([0, u32::MAX].to_vec(alloc)?);
     let mut sink = MemorySink::new(alloc);
     write_queries(&open, &mut sink)?;

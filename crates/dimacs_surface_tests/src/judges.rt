@@ -128,20 +128,20 @@ fn decided(alloc: Global, claim: &[u8]) -> Result<Decision, Fail> {
 fn spelled(alloc: Global, decision: &Decision) -> Result<String, Fail> {
     match decision {
         Decision::Optimal(cut) => {
-            let mut said = String::from_str(alloc, "cut")?;
+            let mut text = String::from_str(alloc, "cut")?;
             for id in 1..4 {
                 if cut.contains(id) {
-                    write!(said, " {id}")?;
+                    write!(text, " {id}")?;
                 }
             }
-            Ok(said)
+            Ok(text)
         }
         Decision::Better(flow) => {
-            let mut said = String::from_str(alloc, "flow")?;
+            let mut text = String::from_str(alloc, "flow")?;
             for amount in flow.amounts() {
-                write!(said, " {amount}")?;
+                write!(text, " {amount}")?;
             }
-            Ok(said)
+            Ok(text)
         }
     }
 }
@@ -232,8 +232,8 @@ fn judged_set(alloc: Global, text: &[u8]) -> Result<Result<Verdict, JudgeError>,
 fn a_set_is_judged(rt: HostRuntime) -> Result<(), Fail> {
     let refusal = JudgeError::Refused(Where::Certificate, Reason::NotViolated);
     same(&rt, "a set", judged_set(rt.alloc(), MIN)?, Err(refusal));
-    let said = judged_set(rt.alloc(), b"p min 2 1\nn 1 1\nn 2 -1\na 1 2 2 5 0\n")?;
-    same(&rt, "a violated one", said, Ok(Verdict::Infeasible));
+    let actual = judged_set(rt.alloc(), b"p min 2 1\nn 1 1\nn 2 -1\na 1 2 2 5 0\n")?;
+    same(&rt, "a violated one", actual, Ok(Verdict::Infeasible));
     Ok(())
 }
 
@@ -254,11 +254,11 @@ fn judged_labels(alloc: Global, labels: &[u8]) -> Result<Result<Verdict, JudgeEr
 
 #[test]
 fn labels_answer_queries(rt: HostRuntime) -> Result<(), Fail> {
-    let said = judged_labels(rt.alloc(), b"p dist 3 1\nt 1 1\nd 2 4 1\n")?;
+    let actual = judged_labels(rt.alloc(), b"p dist 3 1\nt 1 1\nd 2 4 1\n")?;
     let refusal = JudgeError::Refused(Where::Node(2), Reason::NoTightArc);
-    same(&rt, "a label that no arc makes", said, Err(refusal));
-    let said = judged_labels(rt.alloc(), b"p dist 3 1\nt 1 1\nd 2 5 1\n")?;
-    let Ok(Verdict::Pairs(answers)) = said else {
+    same(&rt, "a label that no arc makes", actual, Err(refusal));
+    let actual = judged_labels(rt.alloc(), b"p dist 3 1\nt 1 1\nd 2 5 1\n")?;
+    let Ok(Verdict::Pairs(answers)) = actual else {
         return Err(Fail::from("the labels are distances"));
     };
     let (from, beyond) = (1, None);

@@ -1,4 +1,4 @@
-//! Tests of the calls that a Rust program makes, by their paths, with nothing else of the crates. The answers were
+//! Tests of the calls that a program in Rattle makes, by their paths, with nothing else of the crates. The answers were
 //! worked out by hand.
 #![tactic(auto)]
 

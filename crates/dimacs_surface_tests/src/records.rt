@@ -87,24 +87,24 @@ weight past 64 bits that ends like a small one | a 1 2 18446744073709551617 | 4 
 many digits and a letter | a 1 2 99999999999999999999999999999999999999999999x | 4 BadNumber";
 
 /// What a line spells.
-fn told(alloc: Global, line: &[u8]) -> Result<String, Fail> {
+fn describe(alloc: Global, line: &[u8]) -> Result<String, Fail> {
     match record(TextKind::Graph, line) {
-        Ok(Some(said)) => Ok(format!(in alloc; "{said:?}")?),
+        Ok(Some(rec)) => Ok(format!(in alloc; "{rec:?}")?),
         Ok(None) => Ok(String::from_str(alloc, "nothing")?),
         Err(fault) => Ok(format!(in alloc; "{} {}", fault.field, fault.reason.name())?),
     }
 }
 
 #[test]
-fn lines_say_records_or_nothing_or_are_refused(rt: HostRuntime) -> Result<(), Fail> {
+fn lines_spell_records_or_nothing_or_are_refused(rt: HostRuntime) -> Result<(), Fail> {
     for row in rows(&rt, LINES, 73) {
         let (name, rest) = cell(&rt, row);
         let (line, wanted) = cell(&rt, rest);
-        let said = told(rt.alloc(), line.as_bytes())?;
-        same(&rt, name, said.as_str(), wanted);
+        let actual = describe(rt.alloc(), line.as_bytes())?;
+        same(&rt, name, actual.as_str(), wanted);
     }
-    let said = told(rt.alloc(), b"c\xff\x00\xfe \x80")?;
-    same(&rt, "a comment of any bytes", said.as_str(), "nothing");
+    let actual = describe(rt.alloc(), b"c\xff\x00\xfe \x80")?;
+    same(&rt, "a comment of any bytes", actual.as_str(), "nothing");
     Ok(())
 }
 
@@ -136,11 +136,11 @@ static CANONICAL: [(TextKind, &str); 18] = [
 #[test]
 fn records_have_one_canonical_line(rt: HostRuntime) -> Result<(), Fail> {
     for &(kind, line) in &CANONICAL {
-        let Ok(Some(said)) = record(kind, line.trim_end().as_bytes()) else {
+        let Ok(Some(rec)) = record(kind, line.trim_end().as_bytes()) else {
             return Err(Fail::from(line));
         };
         let mut sink = MemorySink::new(rt.alloc());
-        put_record(&mut sink, &said)?;
+        put_record(&mut sink, &rec)?;
         holds(&rt, line, sink.bytes() == line.as_bytes());
     }
     Ok(())
@@ -149,7 +149,7 @@ fn records_have_one_canonical_line(rt: HostRuntime) -> Result<(), Fail> {
 /// Gives a reading the record of a line.
 fn take(reading: &mut GraphReading, number: u64, line: &str) -> Result<(), TakeError> {
     match record(TextKind::Graph, line.as_bytes()) {
-        Ok(Some(said)) => reading.take(number, said),
+        Ok(Some(rec)) => reading.take(number, rec),
         Ok(None) => Ok(()),
         Err(fault) => Err(TakeError::Refused(fault)),
     }

@@ -159,7 +159,7 @@ a cycle that costs nothing | min | p min 2 2;a 1 2 0 3 2;a 2 1 0 3 -2; | s 0;f 1
 no arcs and costs | min | p min 2 0; | s 0; | v min 0; | v min 0;
 the least cost of 64 bits | min | p min 1 1;a 1 1 0 1 -9223372036854775808; | s 0; | x solution 1 2 NotLeast; | v min -9223372036854775808;
 the greatest cost of 64 bits | min | p min 1 1;a 1 1 0 9223372036854775807 9223372036854775807; | s 9223372036854775807;f 1 1 1; | x solution 1 2 NotLeast; | v min 0;
-a better cost that no solution can say | min | p min 1 1;a 1 1 0 9223372036854775807 -9223372036854775808; | s 0; | x solution 1 2 NotLeast; | nothing
+a better cost out of the range of solutions | min | p min 1 1;a 1 1 0 9223372036854775807 -9223372036854775808; | s 0; | x solution 1 2 NotLeast; | nothing
 a cost out of range | min | p min 1 1;a 1 1 0 9223372036854775807 -9223372036854775808; | s 0;f 1 1 9223372036854775807; | x arc 1 CostRange; | nothing
 a faulty instance of costs | min | p min 2 1;a 1 2 3 2 0; | s; | x instance 2 5 BoundOrder; | nothing
 three more | min | p min 4 5;n 1 4;n 4 -4;a 1 2 0 4 2;a 1 3 0 2 2;a 2 3 0 2 1;a 2 4 0 3 3;a 3 4 0 5 1; | s 17;f 1 2 3;f 1 3 1;f 2 3 1;f 2 4 2;f 3 4 2; | x solution 1 2 NotLeast; | v min 14;
@@ -180,7 +180,7 @@ a cycle that takes as many rounds as there are nodes | min | p min 5 5;a 5 1 0 1
 a least and a greatest cost of 64 bits | min | p min 2 2;n 1 1;n 2 -1;a 1 2 0 9223372036854775807 9223372036854775807;a 1 2 0 9223372036854775807 -9223372036854775808; | s 9223372036854775807;f 1 2 1; | x solution 1 2 NotLeast; | v min -9223372036854775808;
 the cheaper of those two | min | p min 2 2;n 1 1;n 2 -1;a 1 2 0 9223372036854775807 9223372036854775807;a 1 2 0 9223372036854775807 -9223372036854775808; | s -9223372036854775808;f 1 2 0;f 1 2 1; | v min -9223372036854775808; | v min -9223372036854775808;
 potentials past 64 bits | min | p min 4 3;n 1 1;n 4 -1;a 1 2 0 1 9223372036854775807;a 2 3 0 1 9223372036854775807;a 3 4 0 1 9223372036854775807; | s 27670116110564327421;f 1 2 1;f 2 3 1;f 3 4 1; | v min 27670116110564327421; | v min 27670116110564327421;
-a better flow that costs less than can be said | min | p min 1 1;a 1 1 0 9000000000000000000 -9000000000000000000; | s 0; | x solution 1 2 NotLeast; | nothing
+a better flow whose cost is below the range | min | p min 1 1;a 1 1 0 9000000000000000000 -9000000000000000000; | s 0; | x solution 1 2 NotLeast; | nothing
 costs that leave their range and come back | min | p min 1 2;a 1 1 0 9000000000000000000 9000000000000000000;a 1 1 0 9000000000000000000 -9000000000000000000; | s 0;f 1 1 9000000000000000000;f 1 1 9000000000000000000; | x arc 1 CostRange; | nothing
 another cost | min | p min 2 1;n 1 1;n 2 -1;a 1 2 0 1 3; | f 1 2 1;s 2; | x solution 2 2 ValueDiffers; | nothing
 a supply that isn't met, of a claim with another cost | min | p min 2 1;n 1 2;n 2 -2;a 1 2 0 2 3; | s 0;f 1 2 1; | x node 1 Balance; | nothing
@@ -247,7 +247,7 @@ static OTHERS: &str = "\
 a supply that nobody asks for | infeasible | p min 2 1;n 1 1;a 1 2 0 5 1; |  | Done | p cut 2 2;u 1;u 2; | v infeasible;
 a demand that nobody meets | infeasible | p min 2 1;n 1 -1;a 1 2 0 5 1; |  | Done | p cut 2 2;u 1;u 2; | v infeasible;
 the one feasible flow | infeasible | p min 2 1;n 1 1;n 2 -1;a 1 2 0 1 3; |  | Refused | s 3;f 1 2 1; | x instance 0 0 Feasible;
-a cost that no solution can say | infeasible | p min 1 1;a 1 1 9000000000000000000 9000000000000000000 -9000000000000000000; |  | Refused |  | x instance 0 0 Feasible;
+a cost out of the range of solutions | infeasible | p min 1 1;a 1 1 9000000000000000000 9000000000000000000 -9000000000000000000; |  | Refused |  | x instance 0 0 Feasible;
 a faulty instance | infeasible | p min 2 1;n 1 1; |  | Refused |  | x instance 3 0 TooFew;
 two blocks | paths | p sp 3 2;a 1 3 1;a 3 2 1; | p distances 3 2;t 1 2;d 2 2;d 3 1;t 2 0; | Done | p dist 3 2;t 1 2;d 3 1 1;d 2 2 3;t 2 0; | v sp distances 2;
 no block | paths | p sp 3 2;a 1 3 1;a 3 2 1; | p distances 3 0; | Done | p dist 3 0; | v sp distances 0;

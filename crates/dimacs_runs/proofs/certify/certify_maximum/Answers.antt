@@ -3,7 +3,7 @@ use Rattle.dimacs_records.specs.declared.kinds.TextKind.TheVariants as kinds
 use Rattle.dimacs_claims.specs.SolutionTexts.{GivesSolution}
 use Rattle.dimacs_instance.specs.MaxTexts.{GivesMax}
 use Rattle.dimacs_runs.specs.Certified.{CertifiesMaximum}
-use Rattle.dimacs_runs.specs.Runs.{says}
+use Rattle.dimacs_runs.specs.Runs.{text_of}
 use Rattle.dimacs_runs.specs.inside.Outcomes.{outcome_of}
 use Rattle.dimacs_runs.proofs.TextLemmas.{certifying, two_end, two_stop}
 use Rattle.dimacs_runs.proofs.certify.certify_maximum.Goals as goal
@@ -12,14 +12,14 @@ use Rattle.dimacs_runs.proofs.certify.certify_maximum.Goals as goal
 pub returns-clause-certifies : goal.returns-clause-certifies
 returns-clause-certifies g c = λ a b first second.
     let (s, placed, solution) = c.in_ok-placed.ensures.reads b second in
-    two_end certifying (says kinds.Max GivesMax a) (says kinds.Solution GivesSolution b) (λ i s. CertifiesMaximum i s) c.in_ok-instance.instance s (outcome_of c.answer_maximum.result) (c.in_ok-instance.ensures.reads a first) solution (c.answer_maximum.ensures.certifies s placed)
+    two_end certifying (text_of kinds.Max GivesMax a) (text_of kinds.Solution GivesSolution b) (λ i s. CertifiesMaximum i s) c.in_ok-instance.instance s (outcome_of c.answer_maximum.result) (c.in_ok-instance.ensures.reads a first) solution (c.answer_maximum.ensures.certifies s placed)
 
 -- the instance could not be read
 pub returns-in_err-instance-clause-certifies : goal.returns-in_err-instance-clause-certifies
 returns-in_err-instance-clause-certifies g c = λ a b first second.
-    two_stop certifying (says kinds.Max GivesMax a) (says kinds.Solution GivesSolution b) (λ i s. CertifiesMaximum i s) _ c.from_residual.result c.from_residual.ensures.1 (inl (c.in_err-instance.ensures.reads a first))
+    two_stop certifying (text_of kinds.Max GivesMax a) (text_of kinds.Solution GivesSolution b) (λ i s. CertifiesMaximum i s) _ c.from_residual.result c.from_residual.ensures.1 (inl (c.in_err-instance.ensures.reads a first))
 
 -- the solution could not be read
 pub returns-in_err-placed-clause-certifies : goal.returns-in_err-placed-clause-certifies
 returns-in_err-placed-clause-certifies g c = λ a b first second.
-    two_stop certifying (says kinds.Max GivesMax a) (says kinds.Solution GivesSolution b) (λ i s. CertifiesMaximum i s) _ c.from_residual-in_err-placed.result c.from_residual-in_err-placed.ensures.1 (inr (c.in_ok-instance.instance, c.in_ok-instance.ensures.reads a first, c.in_err-placed.ensures.reads b second))
+    two_stop certifying (text_of kinds.Max GivesMax a) (text_of kinds.Solution GivesSolution b) (λ i s. CertifiesMaximum i s) _ c.from_residual-in_err-placed.result c.from_residual-in_err-placed.ensures.1 (inr (c.in_ok-instance.instance, c.in_ok-instance.ensures.reads a first, c.in_err-placed.ensures.reads b second))

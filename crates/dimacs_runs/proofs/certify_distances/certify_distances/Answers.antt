@@ -2,7 +2,7 @@ use Rattle.dimacs_records.specs.declared.kinds.TextKind.TheVariants as kinds
 use Rattle.dimacs_claims.specs.DistanceTexts.{GivesDistances}
 use Rattle.dimacs_instance.specs.Graph.{GivesGraph}
 use Rattle.dimacs_runs.specs.Certified.{CertifiesDistances}
-use Rattle.dimacs_runs.specs.Runs.{says}
+use Rattle.dimacs_runs.specs.Runs.{text_of}
 use Rattle.dimacs_runs.specs.inside.Outcomes.{outcome_of}
 use Rattle.dimacs_runs.proofs.SolvingLemmas.{counts_none}
 use Rattle.dimacs_runs.proofs.TextLemmas.{certifying, two_end, two_stop}
@@ -12,7 +12,7 @@ use Rattle.dimacs_runs.proofs.certify_distances.certify_distances.Goals as goal
 pub returns-clause-certifies : goal.returns-clause-certifies
 returns-clause-certifies g c = λ a b first second.
     let read = c.in_ok-graph.ensures.reads a b first second in
-    two_end certifying (says kinds.Graph GivesGraph a) (says kinds.Distances GivesDistances b) (λ g d. CertifiesDistances g d) c.in_ok-graph.graph c.in_ok-graph.distances (outcome_of c.answer_distances.result) read.0 read.1 c.answer_distances.ensures.certifies
+    two_end certifying (text_of kinds.Graph GivesGraph a) (text_of kinds.Distances GivesDistances b) (λ g d. CertifiesDistances g d) c.in_ok-graph.graph c.in_ok-graph.distances (outcome_of c.answer_distances.result) read.0 read.1 c.answer_distances.ensures.certifies
 
 pub returns-clause-faults : goal.returns-clause-faults
 returns-clause-faults g c = counts_none (outcome_of c.answer_distances.result) _ _ c.answer_distances.ensures.no_device c.in_ok-graph.ensures.faults
@@ -20,4 +20,4 @@ returns-clause-faults g c = counts_none (outcome_of c.answer_distances.result) _
 -- a text could not be read
 pub returns-in_err-graph-clause-certifies : goal.returns-in_err-graph-clause-certifies
 returns-in_err-graph-clause-certifies g c = λ a b first second.
-    two_stop certifying (says kinds.Graph GivesGraph a) (says kinds.Distances GivesDistances b) (λ g d. CertifiesDistances g d) _ c.from_residual.result c.from_residual.ensures.1 (c.in_err-graph.ensures.reads a b first second)
+    two_stop certifying (text_of kinds.Graph GivesGraph a) (text_of kinds.Distances GivesDistances b) (λ g d. CertifiesDistances g d) _ c.from_residual.result c.from_residual.ensures.1 (c.in_err-graph.ensures.reads a b first second)

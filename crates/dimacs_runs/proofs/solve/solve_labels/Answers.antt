@@ -1,7 +1,7 @@
 use Rattle.dimacs_records.specs.declared.kinds.TextKind.TheVariants as kinds
 use Rattle.dimacs_instance.specs.Graph.{GivesGraph}
 use Rattle.dimacs_instance.specs.QueryTexts.{GivesQueries, asked}
-use Rattle.dimacs_runs.specs.Runs.{says}
+use Rattle.dimacs_runs.specs.Runs.{text_of}
 use Rattle.dimacs_runs.specs.Solved.{FindsPaths}
 use Rattle.dimacs_runs.specs.inside.Outcomes.{outcome_of}
 use Rattle.dimacs_runs.proofs.SolvingLemmas.{counts_none}
@@ -12,7 +12,7 @@ use Rattle.dimacs_runs.proofs.solve.solve_labels.Goals as goal
 pub returns-clause-solves : goal.returns-clause-solves
 returns-clause-solves g c = λ a b first second.
     let read = c.in_ok-graph.ensures.reads a b first second in
-    two_end solving (says kinds.Graph GivesGraph a) (says kinds.Queries GivesQueries b) (λ g q. FindsPaths g q) c.in_ok-graph.graph (asked c.in_ok-graph.queries) (outcome_of c.label.result) read.0 read.1 c.label.ensures.solves
+    two_end solving (text_of kinds.Graph GivesGraph a) (text_of kinds.Queries GivesQueries b) (λ g q. FindsPaths g q) c.in_ok-graph.graph (asked c.in_ok-graph.queries) (outcome_of c.label.result) read.0 read.1 c.label.ensures.solves
 
 pub returns-clause-faults : goal.returns-clause-faults
 returns-clause-faults g c = counts_none (outcome_of c.label.result) _ _ c.label.ensures.no_device c.in_ok-graph.ensures.faults
@@ -20,4 +20,4 @@ returns-clause-faults g c = counts_none (outcome_of c.label.result) _ _ c.label.
 -- a text could not be read
 pub returns-in_err-graph-clause-solves : goal.returns-in_err-graph-clause-solves
 returns-in_err-graph-clause-solves g c = λ a b first second.
-    two_stop solving (says kinds.Graph GivesGraph a) (says kinds.Queries GivesQueries b) (λ g q. FindsPaths g q) _ c.from_residual.result c.from_residual.ensures.1 (c.in_err-graph.ensures.reads a b first second)
+    two_stop solving (text_of kinds.Graph GivesGraph a) (text_of kinds.Queries GivesQueries b) (λ g q. FindsPaths g q) _ c.from_residual.result c.from_residual.ensures.1 (c.in_err-graph.ensures.reads a b first second)

@@ -1,6 +1,6 @@
 use Rattle.dimacs_records.specs.declared.kinds.TextKind.TheVariants as kinds
 use Rattle.dimacs_instance.specs.MinTexts.{GivesMin}
-use Rattle.dimacs_runs.specs.Runs.{says}
+use Rattle.dimacs_runs.specs.Runs.{text_of}
 use Rattle.dimacs_runs.specs.Solved.{FindsLeast}
 use Rattle.dimacs_runs.proofs.SolvingLemmas.{least_ends}
 use Rattle.dimacs_runs.proofs.TextLemmas.{solving, stop_ends, value_ends}
@@ -10,9 +10,9 @@ use Rattle.dimacs_runs.proofs.solve.solve_least.Goals as goal
 pub returns-clause-solves : goal.returns-clause-solves
 returns-clause-solves g c = λ a coming.
     let i = c.in_ok-instance.instance in
-    rw c.least_outcome.ensures (value_ends solving (says kinds.Min GivesMin a) (λ i. FindsLeast i c.args.limit) i _ (c.in_ok-instance.ensures.reads a coming) (least_ends i c.args.limit c.solve_min.result c.solve_min.ensures))
+    rw c.least_outcome.ensures (value_ends solving (text_of kinds.Min GivesMin a) (λ i. FindsLeast i c.args.limit) i _ (c.in_ok-instance.ensures.reads a coming) (least_ends i c.args.limit c.solve_min.result c.solve_min.ensures))
 
 -- the instance could not be read
 pub returns-in_err-instance-clause-solves : goal.returns-in_err-instance-clause-solves
 returns-in_err-instance-clause-solves g c = λ a coming.
-    stop_ends solving (says kinds.Min GivesMin a) (λ i. FindsLeast i c.args.limit) _ c.from_residual.result c.from_residual.ensures.1 (c.in_err-instance.ensures.reads a coming)
+    stop_ends solving (text_of kinds.Min GivesMin a) (λ i. FindsLeast i c.args.limit) _ c.from_residual.result c.from_residual.ensures.1 (c.in_err-instance.ensures.reads a coming)
