@@ -4,7 +4,8 @@ ghost use Rattle.std.specs.Prelude.{◌≡◌, ◌≢◌, ◌∷◌, ℕ, List, 
 ghost use Rattle.dimacs_runs.specs.declared.status.RunError.TheVariants.{Memory};
 ghost use Rattle.dimacs_runs.specs.declared.text.TextForm.TheVariants.{Canonical, Summary};
 ghost use Rattle.dimacs_runs.specs.Judgings.{CountsDevices};
-ghost use Rattle.dimacs_runs.specs.Runs.{Reports, PrintsText, Prints};
+ghost use Rattle.dimacs_lines.specs.Puts.{Puts};
+ghost use Rattle.dimacs_runs.specs.Runs.{Reports, PrintsText, Prints, in_form};
 ghost use Rattle.dimacs_runs.specs.inside.Judgings.{text_spells};
 
 use crate::discard::Discard;
@@ -16,7 +17,7 @@ use dimacs_claims::{Cut, Distances, Labels, Potentials, Solution};
 use dimacs_instance::{
     Graph, GraphSummary, MaxInstance, MaxSummary, MinInstance, MinSummary, Queries, Summary,
 };
-use dimacs_lines::{Sink, Source};
+use dimacs_lines::{DeviceFault, Sink, Source};
 use dimacs_network::{ArcView, CapacityArc, PlainArcs, WeightArc};
 use dimacs_records::{Text, TextKind};
 use std::alloc::Global;
@@ -43,17 +44,7 @@ pub fn run_convert<S: Source, K: Sink>(
     ensures nothing_written { S.faults text.new ≢ S.faults text.old → K.seen sink.new ≡ K.seen sink.old }
     ensures memory { result ≡ Err Memory → K.seen sink.new ≡ K.seen sink.old }
 {
-    match kind {
-        TextKind::Max => convert::<MaxInstance<PlainArcs<CapacityArc>>, S, K>(alloc, text, sink),
-        TextKind::Min => convert::<MinInstance<PlainArcs<ArcView>>, S, K>(alloc, text, sink),
-        TextKind::Graph => convert::<Graph<PlainArcs<WeightArc>>, S, K>(alloc, text, sink),
-        TextKind::Queries => convert::<Queries, S, K>(alloc, text, sink),
-        TextKind::Solution => convert::<Solution, S, K>(alloc, text, sink),
-        TextKind::Cut => convert::<Cut, S, K>(alloc, text, sink),
-        TextKind::Potentials => convert::<Potentials, S, K>(alloc, text, sink),
-        TextKind::Labels => convert::<Labels, S, K>(alloc, text, sink),
-        TextKind::Distances => convert::<Distances, S, K>(alloc, text, sink),
-    }
+    run_text(alloc, TextForm::Canonical, kind, text, sink)
 }
 
 /// Reads a text of this kind, and prints a line that describes it, or the line of its fault. It keeps no arc in memory.
@@ -69,19 +60,10 @@ pub fn run_show<S: Source, K: Sink>(
     ensures nothing_written { S.faults text.new ≢ S.faults text.old → K.seen sink.new ≡ K.seen sink.old }
     ensures memory { result ≡ Err Memory → K.seen sink.new ≡ K.seen sink.old }
 {
-    match kind {
-        TextKind::Max => sum_up::<MaxSummary, S, K>(alloc, text, sink),
-        TextKind::Min => sum_up::<MinSummary, S, K>(alloc, text, sink),
-        TextKind::Graph => sum_up::<GraphSummary, S, K>(alloc, text, sink),
-        TextKind::Queries => show::<Queries, S, K>(alloc, text, sink),
-        TextKind::Solution => show::<Solution, S, K>(alloc, text, sink),
-        TextKind::Cut => show::<Cut, S, K>(alloc, text, sink),
-        TextKind::Potentials => show::<Potentials, S, K>(alloc, text, sink),
-        TextKind::Labels => show::<Labels, S, K>(alloc, text, sink),
-        TextKind::Distances => show::<Distances, S, K>(alloc, text, sink),
-    }
+    run_text(alloc, TextForm::Summary, kind, text, sink)
 }
 
+/// Reads a text of this kind, and prints it in this form, or the line of its fault.
 pub(crate) fn run_text<S: Source, K: Sink>(
     alloc: Global,
     form: TextForm,
@@ -95,59 +77,64 @@ pub(crate) fn run_text<S: Source, K: Sink>(
     ensures nothing_written { S.faults text.new ≢ S.faults text.old → K.seen sink.new ≡ K.seen sink.old }
     ensures memory { result ≡ Err Memory → K.seen sink.new ≡ K.seen sink.old }
 {
+    match (form, kind) {
+        (TextForm::Summary, TextKind::Max) => sum_up::<MaxSummary, S, K>(alloc, text, sink),
+        (TextForm::Summary, TextKind::Min) => sum_up::<MinSummary, S, K>(alloc, text, sink),
+        (TextForm::Summary, TextKind::Graph) => sum_up::<GraphSummary, S, K>(alloc, text, sink),
+        (_, TextKind::Max) => {
+            print::<MaxInstance<PlainArcs<CapacityArc>>, S, K>(alloc, form, text, sink)
+        }
+        (_, TextKind::Min) => {
+            print::<MinInstance<PlainArcs<ArcView>>, S, K>(alloc, form, text, sink)
+        }
+        (_, TextKind::Graph) => print::<Graph<PlainArcs<WeightArc>>, S, K>(alloc, form, text, sink),
+        (_, TextKind::Queries) => print::<Queries, S, K>(alloc, form, text, sink),
+        (_, TextKind::Solution) => print::<Solution, S, K>(alloc, form, text, sink),
+        (_, TextKind::Cut) => print::<Cut, S, K>(alloc, form, text, sink),
+        (_, TextKind::Potentials) => print::<Potentials, S, K>(alloc, form, text, sink),
+        (_, TextKind::Labels) => print::<Labels, S, K>(alloc, form, text, sink),
+        (_, TextKind::Distances) => print::<Distances, S, K>(alloc, form, text, sink),
+    }
+}
+
+fn print<T: Text, S: Source, K: Sink>(
+    alloc: Global,
+    form: TextForm,
+    text: &mut S,
+    sink: &mut K,
+) -> Result<Status, RunError>
+    ensures reports { (bytes : List ℕ) → S.coming text.old ≡ Some bytes
+        → Reports (PrintsText (text_spells T.kind T.spells bytes) (in_form form T.canonical T.shown)) result (K.seen sink.old).accepted (K.seen sink.new).accepted }
+    ensures faults { CountsDevices result (S.faults text.old ∷ (K.seen sink.old).faults ∷ []) (S.faults text.new ∷ (K.seen sink.new).faults ∷ []) }
+    ensures nothing_written { S.faults text.new ≢ S.faults text.old → K.seen sink.new ≡ K.seen sink.old }
+    ensures memory { result ≡ Err Memory → K.seen sink.new ≡ K.seen sink.old }
+{
+    match read::<T, S>(alloc, text) {
+        Ok(value) => {
+            write_in_form(&value, form, sink)?;
+            Ok(Status::Done)
+        }
+        Err(unread) => {
+            let answer = outcome_of(Err(Stop::from(unread)));
+            write_outcome(answer, &mut Discard, &mut Discard, sink)
+        }
+    }
+}
+
+fn write_in_form<T: Text, K: Sink>(
+    value: &T,
+    form: TextForm,
+    sink: &mut K,
+) -> Result<(), DeviceFault>
+    ensures puts { Puts result (K.seen sink.old) (in_form form T.canonical T.shown (T.content value.now)) (K.seen sink.new) }
+{
     match form {
-        TextForm::Canonical => run_convert(alloc, kind, text, sink),
-        TextForm::Summary => run_show(alloc, kind, text, sink),
+        TextForm::Canonical => value.write(sink),
+        TextForm::Summary => value.show(sink),
     }
 }
 
-fn convert<T: Text, S: Source, K: Sink>(
-    alloc: Global,
-    text: &mut S,
-    sink: &mut K,
-) -> Result<Status, RunError>
-    ensures reports { (bytes : List ℕ) → S.coming text.old ≡ Some bytes
-        → Reports (PrintsText (text_spells T.kind T.spells bytes) T.canonical) result (K.seen sink.old).accepted (K.seen sink.new).accepted }
-    ensures faults { CountsDevices result (S.faults text.old ∷ (K.seen sink.old).faults ∷ []) (S.faults text.new ∷ (K.seen sink.new).faults ∷ []) }
-    ensures nothing_written { S.faults text.new ≢ S.faults text.old → K.seen sink.new ≡ K.seen sink.old }
-    ensures memory { result ≡ Err Memory → K.seen sink.new ≡ K.seen sink.old }
-{
-    match read::<T, S>(alloc, text) {
-        Ok(value) => {
-            value.write(sink)?;
-            Ok(Status::Done)
-        }
-        Err(unread) => {
-            let answer = outcome_of(Err(Stop::from(unread)));
-            write_outcome(answer, &mut Discard, &mut Discard, sink)
-        }
-    }
-}
-
-fn show<T: Text, S: Source, K: Sink>(
-    alloc: Global,
-    text: &mut S,
-    sink: &mut K,
-) -> Result<Status, RunError>
-    ensures reports { (bytes : List ℕ) → S.coming text.old ≡ Some bytes
-        → Reports (PrintsText (text_spells T.kind T.spells bytes) T.shown) result (K.seen sink.old).accepted (K.seen sink.new).accepted }
-    ensures faults { CountsDevices result (S.faults text.old ∷ (K.seen sink.old).faults ∷ []) (S.faults text.new ∷ (K.seen sink.new).faults ∷ []) }
-    ensures nothing_written { S.faults text.new ≢ S.faults text.old → K.seen sink.new ≡ K.seen sink.old }
-    ensures memory { result ≡ Err Memory → K.seen sink.new ≡ K.seen sink.old }
-{
-    match read::<T, S>(alloc, text) {
-        Ok(value) => {
-            value.show(sink)?;
-            Ok(Status::Done)
-        }
-        Err(unread) => {
-            let answer = outcome_of(Err(Stop::from(unread)));
-            write_outcome(answer, &mut Discard, &mut Discard, sink)
-        }
-    }
-}
-
-/// Does the same as `show`, and keeps only a summary in memory.
+/// As `print` with the form `Summary`, but keeps only a summary in memory.
 fn sum_up<T: Summary, S: Source, K: Sink>(
     alloc: Global,
     text: &mut S,
