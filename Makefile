@@ -69,7 +69,7 @@ proved-by-ci:
 %/libdimacs.so: %/libdimacs.so.0
 	ln -sf libdimacs.so.0 $@
 
-## make install: installs what is proved; PREFIX=/usr/local and DESTDIR= say where, and UNPROVED=1 takes what isn't proved
+## make install: installs what is proved, into PREFIX=/usr/local below DESTDIR=; UNPROVED=1 takes what isn't proved
 install: $(if $(UNPROVED),quick,all) $(MAN)
 	install -d $(IN)/bin $(IN)/include $(IN)/lib/pkgconfig $(IN)/lib/cmake/dimacs
 	install -m 755 $(FROM)/dimacs $(wildcard tools/dimacs-batch) $(IN)/bin

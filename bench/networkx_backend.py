@@ -77,8 +77,8 @@ CALLS = [
 ]
 
 
-def measure(number, backend, told):
-    """Makes a call, and tells how many arcs the graph has, the value of the answer and the least seconds."""
+def measure(number, backend, pipe):
+    """Makes a call, and sends the counts of nodes and arcs, the value of the answer and the least seconds."""
     function, made, value = CALLS[number]
     words = made(random.Random(number))
     arcs = sum(len(heads) for _, heads in words[0].adjacency())
@@ -87,11 +87,11 @@ def measure(number, backend, told):
         begin = time.perf_counter()
         answer = function(*words, backend=backend)
         seconds.append(time.perf_counter() - begin)
-    told.send((len(words[0]), arcs, value(answer), min(seconds)))
+    pipe.send((len(words[0]), arcs, value(answer), min(seconds)))
 
 
 def measured(number, backend, stop):
-    """What a process tells, or None where it is stopped."""
+    """What a process sends, or None if it is stopped."""
     here, there = multiprocessing.Pipe(duplex=False)
     process = multiprocessing.Process(target=measure, args=(number, backend, there))
     process.start()

@@ -249,7 +249,7 @@ def misused(place):
 
 
 def classes(_):
-    """Each reason at a place of a text that the pages name is of the class that its page says."""
+    """Each reason at a place of a text that the pages name is of the class that its page names."""
     source = open(BATCH, encoding="utf-8").read()
     of_the_claim = set(re.findall(r'"(\w+)"', re.search(r"OF_THE_CLAIM = \{(.*?)\}", source, re.DOTALL)[1]))
     texts, judging = (open(f"{TOP}/docs/{name}.md", encoding="utf-8").read() for name in ("TEXTS", "JUDGING"))
@@ -260,7 +260,7 @@ def classes(_):
 
 
 def examples(place, binary):
-    """The examples are judged as their page says."""
+    """The examples are judged as their page shows."""
     wanted = [[cell.strip() for cell in line.split("|")] for line in EXAMPLES.strip().splitlines()]
     status, table, _ = place.run(os.path.join(TOP, "examples"), program=binary)
     assert status == 1, status

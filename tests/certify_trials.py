@@ -3,11 +3,11 @@
 
 Makes COUNT instances of each kind at random (1000 if it isn't given), with loops, arcs with the same ends, lower bounds
 and costs of both signs, and finds all feasible flows of each. Some of these are claimed, with entries in any order. The
-program has to say yes if no feasible flow is better, and then its judge has to say yes by the certificate that was
-written; else it has to refuse the value, and what was written is claimed in its turn, until that is the best. Of instances
-with any supplies it has to say that no flow is feasible if none is, and else to write one that is. Of graphs distances
-are claimed, some of them wrong, and what is said is what Bellman and Ford's algorithm says. BINARY is the built program;
-crates/dimacs/out/dimacs by default.
+program has to answer yes if no feasible flow is better, and then its judge has to answer yes by the written
+certificate; else it has to refuse the value, and what was written is claimed in its turn, until that is the best. Of
+instances with any supplies it has to report that no flow is feasible if none is, and else to write one that is. Of
+graphs distances are claimed, some of them wrong, and the verdict has to be that of Bellman and Ford's algorithm. BINARY
+is the built program; crates/dimacs/out/dimacs by default.
 """
 import random
 import sys
@@ -81,15 +81,15 @@ class Trials(Program):
         """What is wrong with the answers about the claim in its file."""
         self.claims += 1
         kind = instance.kind
-        said = self.run(f"certify-{kind}", "instance", "claim", "written")
-        if said != self.run(f"certify-{kind}", "instance", "claim"):
-            yield "it says something else without a certificate"
+        output = self.run(f"certify-{kind}", "instance", "claim", "written")
+        if output != self.run(f"certify-{kind}", "instance", "claim"):
+            yield "it prints something else without a certificate"
         if value == best:
             judged = self.run(f"judge-{kind}", "instance", "claim", "written")
-            if (said, judged) != (f"{instance.yes} {value}",) * 2:
-                yield f"of the best, {value}, it prints {said!r}, and the judge {judged!r}"
-        elif said != f"x solution 1 2 {instance.refused}":
-            yield f"of {value} it prints {said!r}, but {best} is best"
+            if (output, judged) != (f"{instance.yes} {value}",) * 2:
+                yield f"of the best, {value}, it prints {output!r}, and the judge {judged!r}"
+        elif output != f"x solution 1 2 {instance.refused}":
+            yield f"of {value} it prints {output!r}, but {best} is best"
         else:
             yield from self.better_faults(instance, value, best)
 
@@ -106,10 +106,10 @@ class Trials(Program):
     def wrong_value(self, instance, value):
         """What is wrong with the answers about the claim with another value."""
         self.write("written", "")
-        said = self.run(f"certify-{instance.kind}", "instance", "claim", "written")
+        output = self.run(f"certify-{instance.kind}", "instance", "claim", "written")
         written = self.read("written")
-        if said != "x solution 1 2 ValueDiffers" or written:
-            yield f"of another value than {value} it prints {said!r} and writes {written!r}"
+        if output != "x solution 1 2 ValueDiffers" or written:
+            yield f"of another value than {value} it prints {output!r} and writes {written!r}"
 
     def try_instance(self, rng, instance):
         """What is wrong with the answers about some flows of an instance."""
@@ -134,21 +134,22 @@ class Trials(Program):
         supplies[rng.randint(1, nodes)] += rng.choice([0, 0, 0, 0, 1])
         self.claims += 1
         self.write("instance", min_text(nodes, supplies, arcs))
-        said = self.run("certify-infeasible", "instance", "written")
-        if said != self.run("certify-infeasible", "instance"):
-            yield "it says something else without a certificate"
+        output = self.run("certify-infeasible", "instance", "written")
+        if output != self.run("certify-infeasible", "instance"):
+            yield "it prints something else without a certificate"
         feasible = [flow for flow in flows(arcs) if nets(nodes, arcs, flow) == supplies]
         if not feasible:
             judged = self.run("judge-infeasible", "instance", "written")
-            if (said, judged) != ("v infeasible",) * 2:
-                yield f"no flow is feasible, it prints {said!r}, and the judge {judged!r}"
+            if (output, judged) != ("v infeasible",) * 2:
+                yield f"no flow is feasible, it prints {output!r}, and the judge {judged!r}"
             return
         words = [line.split() for line in self.read("written").splitlines()]
         carried = [(int(word[1]), int(word[2])) for word in words[1:]]
         flow = tuple(int(word[3]) for word in words[1:])
         ends = [arc[:2] for arc in arcs]
-        if said != "x instance 0 0 Feasible" or carried != ends or flow not in feasible or int(words[0][1]) != cost(arcs, flow):
-            yield f"a flow is feasible, it prints {said!r} and writes {words}"
+        is_flow = carried == ends and flow in feasible and int(words[0][1]) == cost(arcs, flow)
+        if output != "x instance 0 0 Feasible" or not is_flow:
+            yield f"a flow is feasible, it prints {output!r} and writes {words}"
 
     def try_distances(self, rng):
         """What is wrong with the answers about claimed distances."""
@@ -162,10 +163,10 @@ class Trials(Program):
         self.write("claim", distances_text(rng, declared, blocks))
         self.write("written", "untouched\n")
         wanted = next(filter(None, (first_fault(nodes, arcs, *block) for block in blocks)), f"v sp distances {len(blocks)}")
-        said = self.run("certify-paths", "instance", "claim", "written")
-        if said != wanted or said != self.run("certify-paths", "instance", "claim"):
-            yield f"of {blocks} it prints {said!r}, not {wanted!r}"
-        elif said.startswith("x"):
+        output = self.run("certify-paths", "instance", "claim", "written")
+        if output != wanted or output != self.run("certify-paths", "instance", "claim"):
+            yield f"of {blocks} it prints {output!r}, not {wanted!r}"
+        elif output.startswith("x"):
             if self.read("written") != "untouched\n":
                 yield f"of {blocks} it writes {self.read('written')!r}"
         else:
@@ -196,9 +197,9 @@ def distances_text(rng, nodes, blocks):
     """The text of such claims, with the nodes of each in any order."""
     lines = []
     for source, dist in blocks:
-        said = [f"d {node} {at}" for node, at in dist.items() if node != source]
-        rng.shuffle(said)
-        lines += [f"t {source} {len(said)}", *said]
+        labels = [f"d {node} {at}" for node, at in dist.items() if node != source]
+        rng.shuffle(labels)
+        lines += [f"t {source} {len(labels)}", *labels]
     return text(f"p distances {nodes} {len(blocks)}", *lines)
 
 

@@ -4,7 +4,7 @@
 BUILD is the folder of the program and the library that are tested; build/quick if none is given. The test crates run
 by `rt try --test`, which compiles them unproved, with tests of indices, sums and addresses of its own. A test that
 doesn't end there in a minute, as those of the greatest number of nodes, runs without these, in its crate built as the
-program is. The scripts run over BUILD. A line is printed for each crate and script as it ends, with what it said if
+program is. The scripts run over BUILD. A line is printed for each crate and script as it ends, with its output if
 something failed; the last line counts what passed and what failed in all of them.
 """
 import concurrent.futures
@@ -38,8 +38,8 @@ SCRIPTS = {
 }
 
 
-def say(words, folder=TOP):
-    """Runs a command; what it says, what passed and what failed. One that doesn't count, or ends badly, has failed."""
+def run_command(words, folder=TOP):
+    """Runs a command; its output, what passed and what failed. One that doesn't count, or ends badly, has failed."""
     how = {"stdin": subprocess.DEVNULL, "stdout": subprocess.PIPE, "stderr": subprocess.STDOUT}
     ran = subprocess.run(words, cwd=folder, text=True, errors="replace", check=False, **how)
     found = [it for counts in COUNTED for it in re.findall(counts, ran.stdout, re.MULTILINE)]
@@ -49,30 +49,30 @@ def say(words, folder=TOP):
 
 def run_script(name, build):
     """Runs a script."""
-    return say([f"tests/{name}.py", *(it.format(build=build) for it in SCRIPTS[name])])
+    return run_command([f"tests/{name}.py", *(it.format(build=build) for it in SCRIPTS[name])])
 
 
 def run_crate(name, build):
     """Runs the tests of a crate, and those again that are too slow under the tests of rt try."""
-    said, passed, failed = say(["rt", "try", "--test"], f"{TOP}/crates/{name}")
-    slow = re.findall(SLOW, said, re.MULTILINE)
+    output, passed, failed = run_command(["rt", "try", "--test"], f"{TOP}/crates/{name}")
+    slow = re.findall(SLOW, output, re.MULTILINE)
     if not slow:
-        return said, passed, failed
+        return output, passed, failed
     kit = subprocess.run(["tools/kit.py"], cwd=TOP, capture_output=True, text=True, check=True).stdout.strip()
-    said += say(["tools/quick_build.py", name, f"{build}/{name}"])[0]
+    output += run_command(["tools/quick_build.py", name, f"{build}/{name}"])[0]
     for it in slow:
-        again, *counts = say([f"{kit}/bin/rattle-test", "--seconds", "300", "--filter", it, f"{build}/{name}"])
-        said, passed, failed = said + again, passed + counts[0], failed - 1 + counts[1]
-    return said, passed, failed
+        again, *counts = run_command([f"{kit}/bin/rattle-test", "--seconds", "300", "--filter", it, f"{build}/{name}"])
+        output, passed, failed = output + again, passed + counts[0], failed - 1 + counts[1]
+    return output, passed, failed
 
 
 def shown(run, name, build):
     """What passed and failed of a crate or a script, and what is to be printed of it."""
     begun = time.monotonic()
-    said, passed, failed = run(name, build)
+    output, passed, failed = run(name, build)
     line = f"{name}: {passed} passed, {failed} failed, in {time.monotonic() - begun:.0f} s"
-    left_out = "".join(f"\n  {it}" for it in re.findall(r"^left out: .*", said, re.MULTILINE))
-    return passed, failed, line + (f"\n{said}" if failed else left_out)
+    left_out = "".join(f"\n  {it}" for it in re.findall(r"^left out: .*", output, re.MULTILINE))
+    return passed, failed, line + (f"\n{output}" if failed else left_out)
 
 
 def jobs():

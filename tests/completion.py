@@ -80,22 +80,22 @@ def checks(shell, folder):
     command, _ = SHELLS[shell]
     ran = subprocess.run([command[0], "-n", f"{TOP}/completion/{CHECKS[shell]}"], capture_output=True, check=False)
     yield "syntax", ran.returncode == 0 and not ran.stderr
-    found, said = offered(shell, ["dimacs"], folder)
-    yield f"commands: {found}{said}", sorted(found) == sorted(commands) and not said
+    found, complaint = offered(shell, ["dimacs"], folder)
+    yield f"commands: {found}{complaint}", sorted(found) == sorted(commands) and not complaint
     explained = sorted(set(commands) - {"explain"})
-    found, said = offered(shell, ["dimacs", "explain"], folder)
-    yield f"explain: {found}{said}", sorted(found) == explained and not said
+    found, complaint = offered(shell, ["dimacs", "explain"], folder)
+    yield f"explain: {found}{complaint}", sorted(found) == explained and not complaint
     for word, places in commands.items():
         if word == "explain":
             continue
         typed = ["dimacs", word]
         for place in [*places, None]:
-            found, said = offered(shell, typed, folder)
-            yield f"{' '.join(typed)}: {found}{said}", is_right(found, place, kinds, files) and not said
+            found, complaint = offered(shell, typed, folder)
+            yield f"{' '.join(typed)}: {found}{complaint}", is_right(found, place, kinds, files) and not complaint
             typed.append({"KIND": "max", "--limit": "--limit", "N": "5"}.get(place, "a"))
     for typed in ["dimacs", "judge-max"], ["dimacs", "explain", "judge-max"]:
-        found, said = offered(shell, typed, folder)
-        yield f"files of the kind: {found}{said}", "a.max" in found and not said
+        found, complaint = offered(shell, typed, folder)
+        yield f"files of the kind: {found}{complaint}", "a.max" in found and not complaint
 
 
 def main():

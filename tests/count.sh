@@ -40,7 +40,7 @@ count() {
     fi
 }
 
-# Tells the counts, and ends with their status.
+# Prints the counts, and ends with their status.
 finish() {
     echo "$passed passed, $failed failed"
     [ "$failed" -eq 0 ]

@@ -2,7 +2,7 @@
 """Has refusals explained, one for each reason: tests/explain.py [BINARY]
 
 `dimacs explain WORDS ..` has to print first what `dimacs WORDS ..` prints, and to end with its status. After a refusal
-lines follow, of which the case names parts. No clause says what these lines say. BINARY is the built program;
+lines follow, of which the case names parts. No clause fixes the text of these lines. BINARY is the built program;
 crates/dimacs/out/dimacs by default.
 """
 import os
@@ -127,12 +127,12 @@ def fault_of(binary, case):
         return f"prints {plain.stdout} without explain"
     if explained.returncode != plain.returncode or not explained.stdout.startswith(plain.stdout):
         return f"status {explained.returncode}, prints {explained.stdout}"
-    said = explained.stdout[len(plain.stdout) :].decode()
+    printed = explained.stdout[len(plain.stdout) :].decode()
     place = 0
     for part in parts:
-        found = said.find(part, place)
+        found = printed.find(part, place)
         if found < 0:
-            return f"lacks {part!r}:\n{said}"
+            return f"lacks {part!r}:\n{printed}"
         place = found + len(part)
     return None
 

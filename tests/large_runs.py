@@ -1,7 +1,7 @@
 #!/usr/bin/env python3
 """Runs the program on texts of 1,000,000 items: tests/large_runs.py [BINARY]
 
-A call that gives up for want of memory above some size keeps its contract: no clause says when it may, and nothing else
+A call that gives up for want of memory above some size keeps its contract: no clause rules it out, and nothing else
 catches it. So each kind of text is read and written here with a million items, and each command is run in each of its
 outcomes: a yes, a flow that is feasible and not best, a run that gives up, and refusals early and late. What commands
 write is judged in its turn. lib/test/large_arrays.c does the same with the calls over arrays.
@@ -341,8 +341,8 @@ class Place:
             )
         if (ran.returncode, ran.stderr) == (run.status, b"") and self.prints(run.prints):
             return None
-        said = ran.stderr.decode(errors="replace")
-        return f"dimacs {run.words}: status {ran.returncode}: {self.begin('printed')}{said}"
+        complaint = ran.stderr.decode(errors="replace")
+        return f"dimacs {run.words}: status {ran.returncode}: {self.begin('printed')}{complaint}"
 
 
 def runs(place):

@@ -59,13 +59,13 @@ def by_count(name, ran):
 
 
 def by_unittest(name, ran):
-    """The same by what unittest says, and what it left out."""
+    """The same by the output of unittest, and what it left out."""
     tests = re.findall(r"^Ran (\d+) tests? in ", ran.stderr, re.M)
     result = " ".join(re.findall(r"^(?:OK|FAILED) .*", ran.stderr, re.M)[-1:])
     failed = sum(map(int, re.findall(r"(?<!expected )(?:failures|errors|unexpected successes)=(\d+)", result)))
     skipped = sum(map(int, re.findall(r"skipped=(\d+)", result)))
     reasons = collections.Counter(re.findall(r"\.\.\. skipped [\"'](.*)[\"']$", ran.stderr, re.M))
-    reasons["nothing is said of it"] += max(0, skipped - sum(reasons.values()))
+    reasons["no reason is printed"] += max(0, skipped - sum(reasons.values()))
     left_out = [f"{count} tests of {name}: {reason}" for reason, count in reasons.items() if count]
     passed = int(tests[-1]) - failed - skipped if tests else 0
     return max(0, passed), failed, left_out
@@ -90,7 +90,7 @@ class Counts:
         self.left_out = []
 
     def add(self, name, ran, read):
-        """Counts a run by what it says, as `read` reads it. One that says nothing there has failed."""
+        """Counts a run by its output, as `read` reads it. One without a count there has failed."""
         passed, failed, left_out = read(name, ran)
         if not failed and (ran.returncode or not passed):
             failed = 1
@@ -98,15 +98,15 @@ class Counts:
         self.passed += passed
         self.failed += failed
         if failed:
-            said = (ran.stdout + ran.stderr).strip()
-            print(f"== {name}: status {ran.returncode}\n{said[-3000:]}", flush=True)
+            output = (ran.stdout + ran.stderr).strip()
+            print(f"== {name}: status {ran.returncode}\n{output[-3000:]}", flush=True)
 
     def leave_out(self, name, need):
         self.left_out.append(f"{name}: no {need}")
 
 
 def run(*words, **how):
-    """Runs a command and keeps what it says."""
+    """Runs a command and keeps its output."""
     return subprocess.run(words, capture_output=True, text=True, errors="replace", check=False, **how)
 
 
@@ -176,7 +176,7 @@ def cargo_environment(build, place):
 
 
 def test_cargo(counts, build, place):
-    """The crate for Cargo, without the network: its tests, those in its documentation too, its form, and what clippy says."""
+    """The crate for Cargo, without the network: its tests, those in its documentation too, its form, and clippy."""
     if not shutil.which("cargo"):
         counts.leave_out("the crate for Cargo", "cargo")
         return
@@ -199,8 +199,8 @@ def test_exports(counts, build):
     symbols = [line.split()[-2:] for line in listed.stdout.splitlines()]
     exported = {name for kind, name in symbols if kind != "A"}  # names of versions are absolute
     is_same = declared == exported and len(declared) > 0
-    said = "" if is_same else f"declared {sorted(declared)}, exported {sorted(exported)}"
-    counts.add("exports", subprocess.CompletedProcess([], 0 if is_same else 1, said, ""), by_status)
+    message = "" if is_same else f"declared {sorted(declared)}, exported {sorted(exported)}"
+    counts.add("exports", subprocess.CompletedProcess([], 0 if is_same else 1, message, ""), by_status)
 
 
 def pythons():
@@ -310,8 +310,8 @@ def test_page(counts, build, place):
             counts.leave_out(f"$ {command}", module[1])
             continue
         is_as_shown = ran.stdout == lines and ran.returncode == wanted_status(lines)
-        said = f"{ran.stdout}{ran.stderr}"
-        counts.add(f"$ {command}", subprocess.CompletedProcess([], 1 - is_as_shown, said, ""), by_status)
+        output = f"{ran.stdout}{ran.stderr}"
+        counts.add(f"$ {command}", subprocess.CompletedProcess([], 1 - is_as_shown, output, ""), by_status)
 
 
 def wanted_status(lines):

@@ -9,7 +9,7 @@ fails if a text takes more than LIMIT times what the kind one takes; more is all
 itself.
 
 BINARY is the built program; crates/dimacs/out/dimacs by default. With WORD only the cases run that have it in
-their name. refusals.c, which tells the most memory, is compiled with cc.
+their name. refusals.c, which reports the most memory, is compiled with cc.
 """
 import os
 import random
@@ -28,7 +28,7 @@ LIMIT = (5, 5)
 # The same if each ID that it names has a page of 64 to itself.
 PAGES_LIMIT = (10, 50)
 
-# What is added to both times before they are compared, in seconds: shorter times aren't told apart.
+# What is added to both times before they are compared, in seconds: shorter times aren't distinguished.
 COARSE = 0.05
 
 # What the tables may hold beside that, in MB, for the greatest ID: the numbers of all pages.

@@ -53,7 +53,7 @@ def wanted():
 
 
 def warnings(file):
-    """What man and mandoc say of a page."""
+    """The warnings of man and mandoc about a page."""
     commands = {
         "man": ["man", "--warnings", "-E", "UTF-8", "-l", "-Tutf8", "-Z", file],
         "mandoc": ["mandoc", "-T", "lint", "-W", "warning", file],
@@ -77,7 +77,8 @@ def main():
         checks += [(f"{page}: a link or a definition is left", ".antt" not in pages[page] and "](" not in pages[page])
                    for page in PAGES]
         for page in PAGES:
-            checks += [(f"{page}: {name}: {said}", not said) for name, said in warnings(os.path.join(out, page))]
+            found = warnings(os.path.join(out, page))
+            checks += [(f"{page}: {name}: {message}", not message) for name, message in found]
     for complaint, is_right in checks:
         passed += is_right
         failed += not is_right

@@ -85,7 +85,7 @@ class Packages:
         ran = subprocess.run(
             words, cwd=self.place, env=self.environment, capture_output=True, text=True, check=False, **more
         )
-        self.said = f"$ {' '.join(words)}: status {ran.returncode}\n{ran.stdout}{ran.stderr}"
+        self.message = f"$ {' '.join(words)}: status {ran.returncode}\n{ran.stdout}{ran.stderr}"
         return ran.stdout + ran.stderr
 
     def expect(self, name, is_so):
@@ -93,7 +93,7 @@ class Packages:
         self.passed += is_so
         self.failed += not is_so
         if not is_so:
-            print(f"{name} failed\n{self.said}", flush=True)
+            print(f"{name} failed\n{self.message}", flush=True)
 
     def has(self, name, *tools):
         """Whether these tools are there. What needs them is left out else."""
@@ -105,7 +105,7 @@ class Packages:
     def only(self, pattern):
         """The one package whose name has this pattern."""
         found = glob.glob(f"{self.dist}/{pattern}")
-        self.said = f"{pattern}: {found}"
+        self.message = f"{pattern}: {found}"
         return found[0] if len(found) == 1 else None
 
 
@@ -121,7 +121,7 @@ def test_sums(its):
     for name in sorted(os.listdir(its.dist)):
         if name != "SHA256SUMS":
             with open(f"{its.dist}/{name}", "rb") as it:
-                its.said = f"{name} has another sum than {sums.get(name)}"
+                its.message = f"{name} has another sum than {sums.get(name)}"
                 its.expect(name, sums.get(name) == hashlib.sha256(it.read()).hexdigest())
 
 
@@ -137,10 +137,10 @@ def test_debian(its, is_root):
 
 def test_program(its, program):
     """A verdict, and the version."""
-    said = its.run(program, "certify-max", f"{its.place}/instance", f"{its.place}/flow")
-    its.expect("a verdict", said == "v max 3\n")
-    said = its.run(program)
-    its.expect("the version of the program", f"dimacs {its.version}\n" in said)
+    output = its.run(program, "certify-max", f"{its.place}/instance", f"{its.place}/flow")
+    its.expect("a verdict", output == "v max 3\n")
+    output = its.run(program)
+    its.expect("the version of the program", f"dimacs {its.version}\n" in output)
 
 
 def test_batch(its):
@@ -162,7 +162,7 @@ def test_tarball(its):
 
 
 def test_pkg_config(its):
-    """A program in C that is built by what pkg-config says."""
+    """A program in C that is built with the flags that pkg-config prints."""
     if not its.has("C by pkg-config", "cc", "pkg-config"):
         return
     its.run("sh", "-c", "cc -o shown shown.c $(pkg-config --cflags --libs dimacs)")
@@ -176,11 +176,11 @@ def test_cmake(its):
         return
     put(f"{its.place}/CMakeLists.txt", BY_CMAKE.format(series=re.match(r"\d+\.\d+", its.version)[0]))
     its.run("sh", "-c", "cmake -S . -B made && cmake --build made")
-    needed = its.said
+    needed = its.message
     for made in ("shown", "alone"):
         is_built = os.path.exists(f"{its.place}/made/{made}")
         is_so = is_built and its.run(f"made/{made}") == f"i cut 4 1\n{its.version} both\n"
-        its.said = its.said if is_built else needed
+        its.message = its.message if is_built else needed
         its.expect(f"C by CMake, {made}", is_so)
 
 
@@ -208,8 +208,8 @@ def test_man(its):
         print("left out: man pages")
         return
     for name, section in (("dimacs", "1"), ("dimacs", "5"), ("dimacs-batch", "1")):
-        said = its.run("man", "-P", "cat", section, name)
-        its.expect(f"man {section} {name}", "NAME" in said and name in said)
+        output = its.run("man", "-P", "cat", section, name)
+        its.expect(f"man {section} {name}", "NAME" in output and name in output)
 
 
 def test_completion(its):

@@ -1,10 +1,11 @@
 #!/usr/bin/env python3
 """Finds what docs/PROMISES.md names: tests/promises.py [PAGE]
 
-Each file that the page names has to be there, each definition in the file that the page names with it, each function, each
-clause at one of the functions that it is said of, and each other name somewhere in the code or the definitions. The lines of
-definitions that the page counts have to be those that tools/believed.py counts. And each name is changed in turn, in a copy
-of its row or paragraph, which has to be found. What the names mean isn't seen. PAGE is another page than docs/PROMISES.md.
+Each file that the page names has to be there, each definition in the file that the page names with it, each function,
+each clause at one of the functions that the page names with it, and each other name somewhere in the code or the
+definitions. The lines of definitions that the page counts have to be those that tools/believed.py counts. And each name
+is changed in turn, in a copy of its row or paragraph, which has to be found. What the names mean isn't seen. PAGE is
+another page than docs/PROMISES.md.
 """
 import collections
 import glob
@@ -36,8 +37,8 @@ WORDS = {"Vec", "u64", "ReadConsumes", "WriteAppends", "wrapping_add", "specs"}
 # A function: its crate, the type or trait that it is a method of, its name and its clauses.
 Function = collections.namedtuple("Function", "crate type name clauses")
 
-# A row of a table with the heads of its columns, or a paragraph as its only cell; the line where it begins, and what its
-# section says before it.
+# A row of a table with the heads of its columns, or a paragraph as its only cell; the line where it begins, and the
+# text of its section before it.
 Piece = collections.namedtuple("Piece", "line cells heads before")
 
 
@@ -108,9 +109,9 @@ class Repository:
 
     def crates_of(self, text):
         """The crates that a text names, or else those of the functions that it names."""
-        said = [it.partition(":")[0].partition("/")[0] for it in CODE.findall(text)]
-        crates = {it for it in said if it in self.crates}
-        return crates or {it.crate for name in said if NAME.fullmatch(name) for it in self.named(name)}
+        names = [it.partition(":")[0].partition("/")[0] for it in CODE.findall(text)]
+        crates = {it for it in names if it in self.crates}
+        return crates or {it.crate for name in names if NAME.fullmatch(name) for it in self.named(name)}
 
 
 def pieces(page):
@@ -167,7 +168,7 @@ def wrong_definitions(repository, piece):
 
 
 def wrong_clauses(repository, piece):
-    """Yields each clause that none of the functions has of which it is said."""
+    """Yields each clause that no function named with it has."""
     for head, cell in zip(piece.heads, piece.cells):
         if head.startswith("Clause"):
             names = CODE.findall(head) or CODE.findall(piece.before)

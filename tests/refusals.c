@@ -7,8 +7,8 @@
  *   INTERRUPT   where it is set, a read or write that fails was interrupted by a signal
  *   AT_MOST     the most bytes that one read or write moves
  *   COUNTS      the file that is written at the end: a line of the four counts, the most memory that was held at once, in
- *               kB, and how many bytes the growths asked for; and where a call failed, a line that says which one, and
- *               the name of its file, as "read road.gr"
+ *               kB, and how many bytes the growths asked for; and where a call failed, a line that names it and
+ *               its file, as "read road.gr"
  *
  * A read fails by EIO, a write by ENOSPC, an opening by EACCES and a growth by ENOMEM.
  *
@@ -39,7 +39,7 @@ static size_t bytes;
 static size_t at_most = (size_t)-1;
 static int is_interrupt, counting;
 
-/* The names of the open files, and what is said of the call that failed. */
+/* The names of the open files, and the line about the call that failed. */
 static char names[MOST_FILES][MOST_NAME] = {"standard input", "standard output"};
 static char failed[2 * MOST_NAME];
 

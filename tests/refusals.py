@@ -117,7 +117,7 @@ RUNS = [
     ("convert foo odd", 2, ""),
 ]
 
-# Runs that write one file twice, of which a line on the standard error tells; no write is refused, since the later text
+# Runs that write one file twice, which a line on the standard error reports; no write is refused, since the later text
 # stands over the earlier.
 TWICE = [
     ("solve-max max CLAIM CLAIM", 0, "v max 6\n"),
@@ -563,19 +563,19 @@ def wanted_calls(runs, kind, words, whole):
 
 def unmet(runs, kind, words, whole, met, unchanged):
     """Yields what a run of this kind should have met and didn't, and what it met that it has no use for."""
-    said = f"dimacs {words}: of {kind.name}"
+    begin = f"dimacs {words}: of {kind.name}"
     if kind.call == "growth":
         least = len(words.split()) + 1 + (len(files_of(words)) if whole.status != 2 else 0)
         if met.total() - unchanged < least:
-            yield f"{said} {met.total()} are met, and {unchanged} change nothing, but {least} have to be told at least"
+            yield f"{begin} {met.total()} are met, {unchanged} change nothing, and at least {least} have to be reported"
         return
     wanted = wanted_calls(runs, kind, words, whole)
     for call, least in wanted.items():
         if met[call] < least:
-            yield f"{said} {met[call]} are met of {call.name!r}, and {least} have to be at least"
+            yield f"{begin} {met[call]} are met of {call.name!r}, and {least} have to be at least"
     others = {call: count for call, count in met.items() if call not in wanted}
     if sum(others.values()) > (OTHER_OPENINGS if kind.call == "opening" else 0):
-        yield f"{said} these are met: {others}"
+        yield f"{begin} these are met: {others}"
 
 
 def refuse_all(runs, words, status, printed, kinds):
@@ -586,12 +586,12 @@ def refuse_all(runs, words, status, printed, kinds):
     if faults:
         return
     yield from judge_made(runs, words, whole)
-    told = []
+    counts = []
     for kind in kinds:
         met, unchanged = yield from refuse_each(runs, words, whole, kind)
         yield from unmet(runs, kind, words, whole, met, unchanged)
-        told.append(f"{kind.name} {met.total()}" + (f" ({unchanged} without a change)" if unchanged else ""))
-    print(f"{words}: {', '.join(told)}", flush=True)
+        counts.append(f"{kind.name} {met.total()}" + (f" ({unchanged} without a change)" if unchanged else ""))
+    print(f"{words}: {', '.join(counts)}", flush=True)
 
 
 def judge_made(runs, words, whole):
@@ -667,8 +667,8 @@ def judge_far(runs, words, texts, printed):
 
 def tests_of(tests):
     """The names of the tests that go on after a refused growth."""
-    told = subprocess.run([tests, "--list"], capture_output=True, text=True, check=True).stdout
-    names = (line.split(":  ")[0].rsplit(": ", 1)[0] for line in told.splitlines())
+    output = subprocess.run([tests, "--list"], capture_output=True, text=True, check=True).stdout
+    names = (line.split(":  ")[0].rsplit(": ", 1)[0] for line in output.splitlines())
     return [name for name in names if name.startswith("refused_growths::")]
 
 

@@ -69,8 +69,8 @@ def main():
                     [binary, *words], capture_output=True, text=True, check=False, cwd=place
                 )
                 printed = ran.stdout.rstrip("\n").split("\n")
-                said = (ran.returncode, ran.stderr)
-                if is_shown(printed, lines) and said == (status(lines), ""):
+                result = (ran.returncode, ran.stderr)
+                if is_shown(printed, lines) and result == (status(lines), ""):
                     passed += 1
                 else:
                     failed += 1

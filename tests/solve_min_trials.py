@@ -3,12 +3,11 @@
 
 Makes COUNT instances of small numbers at random (1000 if it isn't given), with lower bounds, costs of both signs,
 loops and supplies at any nodes, and as many with numbers up to the ends of 64 bits. Each is solved by the program and by
-a slow search, and both have to say the same: the least cost, or that there is no feasible flow. The search goes through
-all feasible flows if numbers are small, and by shortest paths if they aren't. What the program writes is judged by
-the program, and it may take a second of processor time at most. It has to give up if the least cost is out of range,
-and may do so if the cost on some of the arcs is, and with the limit 0, with which every tenth instance is solved
-again. BINARY is the built program; crates/dimacs/out/dimacs
-where none is given.
+a slow search, and both have to give the same answer: the least cost, or that there is no feasible flow. The search
+goes through all feasible flows if numbers are small, and by shortest paths if they aren't. What the program writes is
+judged by the program, and it may take a second of processor time at most. It has to give up if the least cost is out of
+range, and may do so if the cost on some of the arcs is, and with the limit 0, with which every tenth instance is solved
+again. BINARY is the built program; crates/dimacs/out/dimacs by default.
 """
 import random
 import resource
@@ -136,7 +135,7 @@ class Trials(Program):
         return self.run("solve-min", "instance", "solution", "certificate", *limit)
 
     def judge(self, verdict):
-        """What the judge says of the files that were written."""
+        """What the judge prints of the files that were written."""
         if verdict == "v infeasible":
             return self.run("judge-infeasible", "instance", "certificate")
         return self.run("judge-min", "instance", "solution", "certificate")
@@ -145,15 +144,15 @@ class Trials(Program):
         """What is wrong with the answers to one instance."""
         self.write("instance", lines)
         before = seconds_of_runs()
-        said = self.solve()
+        output = self.solve()
         took = seconds_of_runs() - before
         if took > 1:
             yield f"it takes {took:.1f} s"
-        gave_up = said == "g limit" and (may_give_up or wanted == "g limit")
-        if said != wanted and not gave_up:
-            yield f"solve-min prints {said!r}, wanted {wanted!r}"
-        elif not gave_up and self.judge(said) != said:
-            yield f"the judge prints {self.judge(said)!r} of {said!r}"
+        gave_up = output == "g limit" and (may_give_up or wanted == "g limit")
+        if output != wanted and not gave_up:
+            yield f"solve-min prints {output!r}, wanted {wanted!r}"
+        elif not gave_up and self.judge(output) != output:
+            yield f"the judge prints {self.judge(output)!r} of {output!r}"
         if again and self.solve("--limit", "0") not in (wanted, "g limit"):
             yield f"with the limit 0 it prints {self.solve('--limit', '0')!r}"
 

@@ -51,13 +51,13 @@ class Trials(Program):
 
     def faults(self, kind, arcs, total):
         """What is wrong with what is written of a claim of these sums."""
-        said = self.run(f"spread-{kind}", "instance", "claim", "written")
+        output = self.run(f"spread-{kind}", "instance", "claim", "written")
         words = [line.split() for line in self.read("written").splitlines()]
         flow = tuple(int(word[3]) for word in words[1:])
         ends = [(int(word[1]), int(word[2])) for word in words[1:]]
         dealt = +sums(arcs, flow) == +total and -sums(arcs, flow) == -total
-        if said or words[0] != ["s", "77"] or ends != [arc[:2] for arc in arcs] or not dealt:
-            yield f"prints {said!r}, and writes {words}"
+        if output or words[0] != ["s", "77"] or ends != [arc[:2] for arc in arcs] or not dealt:
+            yield f"prints {output!r}, and writes {words}"
             return
         within = [other for other in flows(arcs) if sums(arcs, other) == sums(arcs, flow)]
         if (flow in within) != bool(within):
@@ -73,9 +73,9 @@ class Trials(Program):
         place = rng.randint(0, len(lines))
         self.write("claim", text("s 77", *lines[:place], f"f {ends[0]} {ends[1]} 1", *lines[place:]))
         self.write("written", "untouched\n")
-        said = self.run(f"spread-{kind}", "instance", "claim", "written")
-        if said != f"x solution {place + 2} 0 UnknownArc" or self.read("written") != "untouched\n":
-            yield f"prints {said!r} of an entry on line {place + 2} that no arc has"
+        output = self.run(f"spread-{kind}", "instance", "claim", "written")
+        if output != f"x solution {place + 2} 0 UnknownArc" or self.read("written") != "untouched\n":
+            yield f"prints {output!r} of an entry on line {place + 2} that no arc has"
 
     def try_instance(self, rng, kind):
         """What is wrong with the answers about an instance."""

@@ -25,7 +25,7 @@ def number(version):
 
 
 def found(build, wanted):
-    """What each place says, and what it has to say."""
+    """Yields each place, the version that it names, and the one that it has to name."""
     used = subprocess.run([f"{build}/dimacs"], capture_output=True, text=True, check=False).stderr
     yield "the usage text", re.findall(r"^dimacs [\d.]+$", used, re.MULTILINE), [f"dimacs {wanted}"]
     library = ctypes.CDLL(os.path.abspath(f"{build}/libdimacs.so"))
@@ -44,11 +44,11 @@ def found(build, wanted):
 def main():
     build = sys.argv[1] if len(sys.argv) > 1 else f"{TOP}/build"
     passed = failed = 0
-    for place, said, wanted in found(build, read("VERSION").strip()):
-        passed += said == wanted
-        failed += said != wanted
-        if said != wanted:
-            print(f"{place} has {said}, and not {wanted}")
+    for place, named, wanted in found(build, read("VERSION").strip()):
+        passed += named == wanted
+        failed += named != wanted
+        if named != wanted:
+            print(f"{place} has {named}, and not {wanted}")
     print(f"{passed} passed, {failed} failed")
     return 1 if failed or not passed else 0
 

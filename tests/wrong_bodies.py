@@ -93,10 +93,10 @@ def fault_of(edit, is_quick):
             print(f"{edit.name}: not proved", flush=True)
             return None
         ran = run(edit, top, made)
-    said = [line for line in ran.stdout.splitlines() if edit.fails + ":" in line]
-    if ran.returncode == 0 or not said:
-        return f"{edit.run} ends with {ran.returncode}, and doesn't say that {edit.fails!r} fails"
-    print(f"{edit.name}: refused: {said[0]}", flush=True)
+    complaints = [line for line in ran.stdout.splitlines() if edit.fails + ":" in line]
+    if ran.returncode == 0 or not complaints:
+        return f"{edit.run} ends with {ran.returncode}, and doesn't report that {edit.fails!r} fails"
+    print(f"{edit.name}: refused: {complaints[0]}", flush=True)
     return None
 
 

@@ -6,13 +6,14 @@ usage: tools/believed.py [--others]
 
 What one has to believe of the judge is what the clauses of `run_judge` rest on, of the command what those of
 `run_command` do, of the library what those of all that is public do. To the clauses of a function belong the laws of the
-traits that it is generic over, as a source's, since they say what its sources do. --print gives the definitions of the judge, or of
-the command, as one text, each file of them after those that it cites.
+traits that it is generic over, as a source's, since they define what its sources do. --print gives the definitions of
+the judge, or of the command, as one text, each file of them after those that it cites.
 
 A definition counts if a clause of a public function or trait, or what a public type stands for, names it, or if
 another that counts does. Blank lines and lines of imports don't. The others describe inner states: nobody has to believe
 them, and they stand in specs/inside. --others names them, by their files. Where one of them stands elsewhere, or one
-that counts stands there, the script says so and ends with 1. It reads the texts by their words alone, so it is no proof.
+that counts stands there, the script names it and ends with 1. It reads the texts by their words alone, so it is no
+proof.
 """
 
 import glob
@@ -49,16 +50,16 @@ def parts(name):
 
 def named_in(text, named, own):
     """The definitions that a text names, of those that its file imports or has."""
-    said = words(text)
+    its_words = words(text)
     found = set()
     for name, (module, inner) in named.items():
         if inner is None:
             for member in re.findall(rf"(?<![\w.]){re.escape(name)}\.([^\s(){{}}\[\],.;:]+)", text):
                 found.add((module, member))
-        elif all(it in said for it in parts(name)):
+        elif all(it in its_words for it in parts(name)):
             found.add((module, inner))
     for module, name in own:
-        if all(it in said for it in parts(name)):
+        if all(it in its_words for it in parts(name)):
             found.add((module, name))
     return found
 

@@ -31,9 +31,9 @@ Depends: libc6 (>= 2.{glibc})
 Recommends: python3
 Installed-Size: {size}
 Description: reads, writes and judges DIMACS texts of flows and shortest paths
- The command dimacs says whether a claimed maximum flow, flow of least cost or
- tree of shortest paths is right, and names the first fault. The library does the
- same for C, C++ and Rust. Every function of both is proved to meet its
+ The command dimacs reports whether a claimed maximum flow, flow of least cost
+ or tree of shortest paths is right, and names the first fault. The library does
+ the same for C, C++ and Rust. Every function of both is proved to meet its
  contract, but not the header for C++ and the crate for Rust over the library.
 """
 
@@ -58,7 +58,7 @@ def install(into, prefix):
 
 
 def plain(entry):
-    """An entry of the tarball that doesn't say who made it, and when."""
+    """An entry of the tarball that names neither its maker nor its time."""
     entry.uid = entry.gid = entry.mtime = 0
     entry.uname = entry.gname = "root"
     return entry

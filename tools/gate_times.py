@@ -108,8 +108,8 @@ def crates():
 def functions_of(log):
     """How many functions of each crate were proved: the first verdict after the crate's head, that of its own proof."""
     found = {}
-    for crate, said in re.findall(r"^== (\w+)\n(.*?)(?=^== |\Z)", log, re.MULTILINE | re.DOTALL):
-        count = re.search(r"^logic=proved functions=(\d+)", said, re.MULTILINE)
+    for crate, output in re.findall(r"^== (\w+)\n(.*?)(?=^== |\Z)", log, re.MULTILINE | re.DOTALL):
+        count = re.search(r"^logic=proved functions=(\d+)", output, re.MULTILINE)
         if count:
             found.setdefault(crate, int(count[1]))
     return found

@@ -1,7 +1,7 @@
 #!/usr/bin/env python3
 """Where the Rattle kit is, and what stands on what: for the scripts beside it. Run as tools/kit.py it prints the folder.
 
-Without a kit, or with one that lacks a tool, it says so, and ends with the status 2.
+Without a kit, or with one that lacks a tool, it prints a message, and ends with the status 2.
 """
 import os
 import re
@@ -12,7 +12,7 @@ import sys
 TOP = os.path.dirname(os.path.dirname(os.path.abspath(__file__)))
 
 MISSING = """{}: this needs the Rattle kit, and {}.
-The kit is the compiler and prover of Rattle. It isn't published yet. README.md says which one is needed.
+The kit is the compiler and prover of Rattle. It isn't published yet. README.md names the one that is needed.
 A packaged dimacs needs none of it."""
 
 
@@ -36,7 +36,7 @@ def folder(*needed):
 
 
 def note_other_logic():
-    """Says so if README.md names another logic than the kit's."""
+    """Prints a note if README.md names another logic than the kit's."""
     version = subprocess.run(["rt", "version"], capture_output=True, text=True, check=False).stdout
     with open(f"{TOP}/README.md", encoding="utf-8") as it:
         named = re.findall(r"logic ([0-9a-f]{16})", it.read())

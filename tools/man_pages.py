@@ -7,7 +7,7 @@ The sources are man/*.md, in the Markdown that the other pages use, with three k
     @usage                      the commands of the usage text
     @version                    the version
 
-So what a page says already stands in one place. OUT gets dimacs.1, dimacs.5 and dimacs-batch.1.
+So no text has to stand in two places. OUT gets dimacs.1, dimacs.5 and dimacs-batch.1.
 """
 import os
 import re

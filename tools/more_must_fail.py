@@ -4,16 +4,16 @@
 They stand in crates/CRATE/more-must-fail, and all must be refused. Without a crate's name all of them are tried.
 
 Most edits are tried on a twin: the function stays as it is, and after it, under another name, comes one with its
-contract, its proof files and the edited body. So one check of a copy of the crate tries many edits, and says of each
-twin whether it is proved. A method of a trait can have no twin: it is edited in place, each method once in a check. An
-edit of which such a check doesn't tell is tried alone, as is one that doesn't lie in the body of one function.
+contract, its proof files and the edited body. So one check of a copy of the crate tries many edits, and reports for
+each twin if it is proved. A method of a trait can have no twin: it is edited in place, each method once in a check.
+An edit that such a check doesn't report is tried alone, as is one that doesn't lie in the body of one function.
 
 An edit is refused if the proof of the function that it changes fails. It fails this script if it is proved, and
 where it is bad: it can't be applied or compiled, or the proof fails only since a proof file names what the edit took
 away.
 
 The checks go over what rt check keeps of a crate, which is run first; with --kept they go over what is there. What they
-say is kept in crates/CRATE/out/more-must-fail.
+print is kept in crates/CRATE/out/more-must-fail.
 
 With --apply nothing is tried. These edits, and those in must-fail, are applied: each old text has to stand once in its
 file.
@@ -47,8 +47,8 @@ LOST = re.compile(r"has\s+no field|is not in scope|has\s+no `|was not admitted")
 # A function with its body: the lines of its head, its body's brackets, and the impl or trait around it.
 Function = collections.namedtuple("Function", "head first last name block")
 
-# What a check said, with its status, and the processor minutes that it took, by its crate.
-Said = collections.namedtuple("Said", "status text minutes")
+# What a check printed, with its status, and the processor minutes that it took, by its crate.
+Report = collections.namedtuple("Report", "status text minutes")
 
 
 def text_of(path):
@@ -126,7 +126,7 @@ class Edit:
         self.result, self.why = result, why
 
     def log(self):
-        """A new file for what a check says."""
+        """A new file for the output of a check."""
         return f"{TOP}/crates/{self.crate}/out/more-must-fail/{self.name}.{os.urandom(2).hex()}.txt"
 
     def lines_of(self, file):
@@ -219,7 +219,7 @@ class Trial:
             _, status, used = os.wait4(started.pid, 0)
         started.returncode = status
         minutes = collections.Counter({self.crate: (used.ru_utime + used.ru_stime) / 60})
-        return Said(status, text_of(log), minutes)
+        return Report(status, text_of(log), minutes)
 
 
 def link(one, other):
@@ -263,18 +263,18 @@ def check_words(crate):
     return words + ["--antt-project", f"{kit}/rattle/logic/antt-project.json", "--logic-built", f"{kit}/logic_built"]
 
 
-def judge(edit, name, said):
-    """Settles an edit by what a check said of the function that it changed, under the name that this has there."""
+def judge(edit, name, report):
+    """Settles an edit by what a check reports of the function that it changed, under the name that this has there."""
     *above, _ = edit.path_of(name)
     ends = r"\w*" if edit.is_trait() else ""
-    told = re.findall(rf"^fn {'::'.join([edit.crate, *above])}{ends}::{name}: (.*)", said.text, re.M)
-    if told == ["proved"]:
+    verdicts = re.findall(rf"^fn {'::'.join([edit.crate, *above])}{ends}::{name}: (.*)", report.text, re.M)
+    if verdicts == ["proved"]:
         edit.settle(PROVED)
-    elif len(told) == 1 and told[0].startswith("no proof: expected answers in"):
-        edit.settle(REFUSED, told[0])
-    elif len(told) == 1 and told[0].startswith("not proved"):
+    elif len(verdicts) == 1 and verdicts[0].startswith("no proof: expected answers in"):
+        edit.settle(REFUSED, verdicts[0])
+    elif len(verdicts) == 1 and verdicts[0].startswith("not proved"):
         folder = f"proofs/{'/'.join(above)}{ends}/{name}/"
-        judge_errors(edit, [why for file, why in PROOF_ERROR.findall(said.text) if re.match(folder, file)])
+        judge_errors(edit, [why for file, why in PROOF_ERROR.findall(report.text) if re.match(folder, file)])
 
 
 def judge_errors(edit, errors):
@@ -295,17 +295,17 @@ def try_together(edits, are_twins):
             trial.put_twins(edits)
         for edit in [] if are_twins else edits:
             trial.put_in_place(edit)
-        said = trial.check(edits[0].log())
-    for file, line, why in CODE_ERROR.findall(said.text):
+        report = trial.check(edits[0].log())
+    for file, line, why in CODE_ERROR.findall(report.text):
         for edit in (it for it in edits if trial.is_at(it, file, int(line))):
             edit.settle(BAD, f"error{why}")
     rest = [it for it in edits if it.result is None]
     if len(rest) == len(edits):
         for edit in edits:
-            judge(edit, trial.names[edit], said)
+            judge(edit, trial.names[edit], report)
     elif rest:
-        return said.minutes + try_together(rest, are_twins)
-    return said.minutes
+        return report.minutes + try_together(rest, are_twins)
+    return report.minutes
 
 
 def try_alone(edit):
@@ -313,17 +313,17 @@ def try_alone(edit):
     with tempfile.TemporaryDirectory() as room:
         trial = Trial(edit.crate, room)
         trial.put_whole(edit)
-        said = trial.check(edit.log())
-    without = NO_PROOF.findall(said.text)
-    if said.status == 0:
+        report = trial.check(edit.log())
+    without = NO_PROOF.findall(report.text)
+    if report.status == 0:
         edit.settle(PROVED)
     elif without:
         edit.settle(REFUSED, f"no proof of {without[0]}")
     else:
-        judge_errors(edit, [why for _, why in PROOF_ERROR.findall(said.text)])
+        judge_errors(edit, [why for _, why in PROOF_ERROR.findall(report.text)])
     if edit.result is None:
-        edit.settle(BAD, said.text[:300])
-    return said.minutes
+        edit.settle(BAD, report.text[:300])
+    return report.minutes
 
 
 def groups_of(edits):
@@ -353,7 +353,7 @@ def try_all(edits):
     return minutes + run(functools.partial(try_alone, it) for it in edits if not it.result)
 
 
-def tell(edits, minutes):
+def print_results(edits, minutes):
     """Prints what became of the edits, and answers how many weren't refused."""
     for it in edits:
         if it.result != REFUSED:
@@ -387,7 +387,7 @@ def attempt(crates, is_kept):
     edits = edits_in(crates, "more-must-fail")
     for crate in [] if is_kept else sorted({it.crate for it in edits}):
         subprocess.run(["rt", "check"], cwd=f"{TOP}/crates/{crate}", check=True)
-    return tell(edits, try_all(edits))
+    return print_results(edits, try_all(edits))
 
 
 def main():

@@ -1,7 +1,7 @@
 #!/usr/bin/env python3
 """Proves and builds the program and the calls of the library: tools/proved_build.py [--by-ci] FOLDER
 
-Proves the crates one by one, lowest first, if they aren't proved yet, with a line each minute that says which is at
+Proves the crates one by one, lowest first, if they aren't proved yet, with a line each minute that names the one at
 work and how many are left; and puts the program `dimacs` and the archive `dimacs_c.a`, which the Makefile links, into
 the folder. With --by-ci it takes what rt ci proved: its program, and for the library the crates below, over which
 dimacs_c is proved again. rt lib takes none of these, since they hold statements alone, and would prove them all again.
@@ -29,8 +29,9 @@ def order(listed):
 def prove(name, words, left):
     """Runs rt in a crate's folder, and prints a line each minute."""
     begun = time.monotonic()
-    with tempfile.TemporaryFile("w+", errors="replace") as said:
-        ran = subprocess.Popen(["rt", *words], cwd=f"{CRATES}/{name}", stdout=said, stderr=said, stdin=subprocess.DEVNULL)
+    with tempfile.TemporaryFile("w+", errors="replace") as output:
+        how = {"stdin": subprocess.DEVNULL, "stdout": output, "stderr": output}
+        ran = subprocess.Popen(["rt", *words], cwd=f"{CRATES}/{name}", **how)
         while True:
             minutes = (time.monotonic() - begun) / 60
             print(f"{name}: at work for {minutes:.0f} minutes, and {left} crates are left after it", flush=True)
@@ -40,8 +41,8 @@ def prove(name, words, left):
             except subprocess.TimeoutExpired:
                 continue
         if status:
-            said.seek(0)
-            sys.exit(f"{said.read()}{name} isn't proved: rt {' '.join(words)} ended with status {status}")
+            output.seek(0)
+            sys.exit(f"{output.read()}{name} isn't proved: rt {' '.join(words)} ended with status {status}")
 
 
 def prove_all(listed):

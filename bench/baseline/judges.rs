@@ -351,7 +351,7 @@ fn test_block<D: Distance>(
             has_arc: false,
         };
     }
-    let mut failed = None; // told only where every label has its arc
+    let mut failed = None; // reported only if every label has its arc
     for (arc, &(tail, head)) in graph.ends.iter().enumerate() {
         let from = nodes[tail as usize].distance;
         if from == D::NONE {

@@ -56,7 +56,7 @@ class Instance:
         return self
 
     def write(self, path):
-        """Writes a text of the kind that the ending says: .min, .max (from what has a supply to what has a demand), or
+        """Writes a text of the kind that the ending names: .min, .max (from what has a supply to what has a demand), or
         .gr (the costs are the weights)."""
         kind = path.rsplit(".", 1)[1]
         fields = {"min": (0, 1, 2, 3, 4), "max": (0, 1, 3), "gr": (0, 1, 4)}[kind]

@@ -41,12 +41,12 @@ def claims(binary, megabytes):
 
 
 def commands(binary, file, solution, potentials, claim):
-    """The commands that judge a least claim and certify a claim, once both say what they should."""
+    """The commands that judge a least claim and certify a claim, once both print what they should."""
     judging = [binary, "judge-min", file, solution, potentials]
     certifying = [binary, "certify-min", file, claim]
-    yes, said = printed(judging), printed(certifying)
-    if claim == solution and said != yes or claim != solution and not said.endswith("NotLeast\n"):
-        sys.exit(f"{file}: judge-min says {yes!r}, certify-min of {claim} says {said!r}")
+    yes, output = printed(judging), printed(certifying)
+    if claim == solution and output != yes or claim != solution and not output.endswith("NotLeast\n"):
+        sys.exit(f"{file}: judge-min prints {yes!r}, certify-min of {claim} prints {output!r}")
     return {"judge-min": judging, "certify-min": certifying}
 
 

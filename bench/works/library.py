@@ -1,7 +1,7 @@
 """what calls of the library over arrays take, next to those over texts in memory, to plain Rust, and small from Python
 
 The two calls of a pair are made in this process, in turn, by the package for Python, which takes arrays as they lie in
-memory. All of them have to say yes, and to the same value.
+memory. All of them have to answer yes, and to the same value.
 """
 
 import ctypes

@@ -87,11 +87,11 @@ def first_runs(kind, file, commands):
     solving = OURS[kind][0]
     if solving not in ended and solving not in late:
         sys.exit(f"no answer to {file}")
-    said = {name: it.printed for name, it in ended.items()}
+    outputs = {name: it.printed for name, it in ended.items()}
     if kind == "gr" and solving in ended:
-        said[solving] = distances("labels")
-    if len(set(said.values())) > 1:
-        sys.exit(f"different answers to {file}: {said}")
+        outputs[solving] = distances("labels")
+    if len(set(outputs.values())) > 1:
+        sys.exit(f"different answers to {file}: {outputs}")
     return ended, late
 
 
