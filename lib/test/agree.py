@@ -9,12 +9,12 @@ Not compared, since arrays and texts differ there by design:
   - wrong lengths, and numbers past the limits of instances, which are misuse of arrays and faults of texts;
   - a claimed value, which a text has and arrays haven't: the right one is printed;
   - where NotMaximum and NotLeast are needed, which is at the text's VALUE, and of arrays `solution 0 0`;
-  - potentials past 64 bits, which a text can say: then certify_min_arrays and solve_min_arrays give up, and the text has to
+  - potentials past 64 bits, which a text can hold: then certify_min_arrays and solve_min_arrays give up, and the text has to
     get a yes;
   - predecessors that don't lead back to the source: no text has an order of labels for them, so each is refused by
     PredUnknown at a line, and the arrays at a node; and predecessors that are no nodes, or of nodes without a distance,
-    which no label says.
-  - a distance of 2^63 - 1 or more, which a text can say: then solve_paths_arrays gives up.
+    which no label can hold.
+  - a distance of 2^63 - 1 or more, which a text can hold: then solve_paths_arrays gives up.
 certify_paths_arrays has no command of its own. Its yes is judged as a text with the labels of its predecessors, and its
 no is compared with the tests that dimacs.h names, which are made here.
 """
@@ -241,7 +241,7 @@ class PathsCase(Arcs):
         return (graph, text("p aux sp ss 1", f"s {self.source}"), block), is_whole
 
     def first_fault(self):
-        """What certify_paths_arrays has to say: its line."""
+        """The line that certify_paths_arrays has to hand out."""
         far = dict(enumerate(self.distances, 1))
         if far[self.source] != 0:
             return f"x node {self.source} NotShortest"
@@ -265,8 +265,8 @@ class PathsCase(Arcs):
 # ---- lines
 
 
-def said(call, *words):
-    """The line of a call, and what it answered or raised."""
+def line_of(call, *words):
+    """The line of a call, by what it returned or raised."""
     try:
         it = call(*words)
         kind = "sp ss" if it.kind == "sp" else it.kind
@@ -278,7 +278,7 @@ def said(call, *words):
 
 
 class Texts:
-    """Says what the texts get: by the library, or every so many times by the program."""
+    """Finds the lines that the texts get: by the library, or every so many times by the program."""
 
     CALLS = {
         "judge-max": dimacs.judge_max,
@@ -298,7 +298,7 @@ class Texts:
     def line(self, command, *texts):
         self.asked += 1
         if not self.program or self.asked % self.every:
-            return said(self.CALLS[command], *texts)
+            return line_of(self.CALLS[command], *texts)
         self.ran += 1
         files = [f"{k}" for k in range(len(texts))]
         for file, it in zip(files, texts):
@@ -312,26 +312,26 @@ class Texts:
 def judged_max(chance, texts):
     it = MaxCase(chance)
     inside = it.some_set(chance)
-    line = said(dimacs.judge_max_arrays, *it.arrays, inside)
+    line = line_of(dimacs.judge_max_arrays, *it.arrays, inside)
     yield "judge max", line, texts.line("judge-max", *it.texts(), it.cut(inside))
 
 
 def judged_min(chance, texts):
     it = MinCase(chance)
     numbers = it.some_potentials(chance)
-    line = said(dimacs.judge_min_arrays, *it.arrays, numbers)
+    line = line_of(dimacs.judge_min_arrays, *it.arrays, numbers)
     yield "judge min", line, texts.line("judge-min", *it.texts(), it.potentials(numbers))
 
 
 def judged_infeasible(chance, texts):
     it = InfeasibleCase(chance)
-    line = said(dimacs.judge_infeasible_arrays, *it.instance(), it.inside)
+    line = line_of(dimacs.judge_infeasible_arrays, *it.instance(), it.inside)
     yield "judge infeasible", line, texts.line("judge-infeasible", it.texts()[0], it.cut(it.inside))
 
 
 def judged_paths(chance, texts):
     it = PathsCase(chance)
-    line = said(dimacs.judge_paths_arrays, *it.graph, it.distances, it.predecessors)
+    line = line_of(dimacs.judge_paths_arrays, *it.graph, it.distances, it.predecessors)
     if it.distances[it.source - 1] != 0:
         return
     printed, is_whole = it.texts()
@@ -458,7 +458,7 @@ COMPARED += [solved_max, solved_min, solved_paths]
 
 
 def main():
-    words = argparse.ArgumentParser(description="Compares the calls over arrays with the texts that say the same.")
+    words = argparse.ArgumentParser(description="Compares the calls over arrays with the same as texts.")
     words.add_argument("--instances", type=int, default=20_000)
     words.add_argument("--program", help="the built dimacs; without it only the calls over texts are asked")
     words.add_argument("--runs", type=int, default=300, help="how many texts go through the program")

@@ -84,7 +84,7 @@ static const struct {
     dimacs_numbers flows;
     Marks inside;
     uint32_t status;
-    const char *said;
+    const char *line;
 } judged_max[] = {
     {"maximum", NETWORK, FLOW, CUT, 0, "v max 6\n"},
     {"any byte but 0 is inside", NETWORK, FLOW, MARKS(255, 0, 0, 0), 0, "v max 6\n"},
@@ -126,7 +126,7 @@ static void judges_max(void) {
         Marks inside = exact_marks(judged_max[k].inside);
         needed = 99;
         uint32_t status = dimacs_judge_max_arrays(&instance, flows.at, flows.length, inside.at, inside.length, out, 100, &needed);
-        check(judged_max[k].name, status, out, needed, judged_max[k].status, judged_max[k].said);
+        check(judged_max[k].name, status, out, needed, judged_max[k].status, judged_max[k].line);
         let_go();
     }
 }
@@ -148,7 +148,7 @@ static const struct {
     dimacs_min instance;
     dimacs_numbers flows, potentials;
     uint32_t status;
-    const char *said;
+    const char *line;
 } judged_min[] = {
     {"least", SHIPPING, LEAST, POTENTIALS, 0, "v min 14\n"},
     {"no nodes at all", {0, EMPTY, EMPTY, EMPTY, EMPTY, EMPTY, EMPTY}, EMPTY, EMPTY, 0, "v min 0\n"},
@@ -182,7 +182,7 @@ static void judges_min(void) {
         needed = 99;
         uint32_t status = dimacs_judge_min_arrays(&instance, flows.at, flows.length, potentials.at, potentials.length, out,
                                                   100, &needed);
-        check(judged_min[k].name, status, out, needed, judged_min[k].status, judged_min[k].said);
+        check(judged_min[k].name, status, out, needed, judged_min[k].status, judged_min[k].line);
         let_go();
     }
 }
@@ -192,7 +192,7 @@ static const struct {
     dimacs_min instance;
     Marks inside;
     uint32_t status;
-    const char *said;
+    const char *line;
 } judged_infeasible[] = {
     {"supplies of 1 in all", {2, IDS(1), IDS(2), NUMBERS(0), NUMBERS(5), NUMBERS(0), NUMBERS(1, 0)}, MARKS(1, 1), 0,
      "v infeasible\n"},
@@ -213,7 +213,7 @@ static void judges_infeasible(void) {
         Marks inside = exact_marks(judged_infeasible[k].inside);
         needed = 99;
         uint32_t status = dimacs_judge_infeasible_arrays(&instance, inside.at, inside.length, out, 100, &needed);
-        check(judged_infeasible[k].name, status, out, needed, judged_infeasible[k].status, judged_infeasible[k].said);
+        check(judged_infeasible[k].name, status, out, needed, judged_infeasible[k].status, judged_infeasible[k].line);
         let_go();
     }
 }
@@ -231,7 +231,7 @@ static const struct {
     dimacs_numbers distances;
     dimacs_nodes predecessors;
     uint32_t status;
-    const char *said;
+    const char *line;
 } judged_paths[] = {
     {"distances", ROAD, 1, NUMBERS(0, 5, NONE, NONE), IDS(0, 1, 0, 0), 0, "v sp ss 1\n"},
     {"from a node in the circle", ROAD, 4, NUMBERS(NONE, NONE, 0, 0), IDS(0, 0, 4, 0), 0, "v sp ss 1\n"},
@@ -266,7 +266,7 @@ static void judges_paths(void) {
         needed = 99;
         uint32_t status = dimacs_judge_paths_arrays(&graph, judged_paths[k].source, distances.at, distances.length,
                                                     predecessors.at, predecessors.length, out, 100, &needed);
-        check(judged_paths[k].name, status, out, needed, judged_paths[k].status, judged_paths[k].said);
+        check(judged_paths[k].name, status, out, needed, judged_paths[k].status, judged_paths[k].line);
         let_go();
     }
 }
@@ -283,7 +283,7 @@ static const struct {
     dimacs_max instance;
     dimacs_numbers flows;
     uint32_t status;
-    const char *said;
+    const char *line;
     size_t inside, better;
 } certified_max[] = {
     {"certified maximum", NETWORK, FLOW, 0, "v max 6\n", 4, 0},
@@ -308,12 +308,12 @@ static void certifies_max(void) {
         const char *name = certified_max[k].name;
         memset(inside, '#', 9);
         uint32_t status = certify_max(&instance, flows);
-        check(name, status, out, needed, certified_max[k].status, certified_max[k].said);
+        check(name, status, out, needed, certified_max[k].status, certified_max[k].line);
         check_that(name, shown_needed == certified_max[k].inside && better_needed == certified_max[k].better);
         check_that(name, inside[shown_needed] == '#');
         if (status == DIMACS_DONE) {
             status = dimacs_judge_max_arrays(&instance, flows.at, flows.length, inside, shown_needed, out, 100, &needed);
-            check(name, status, out, needed, 0, certified_max[k].said);
+            check(name, status, out, needed, 0, certified_max[k].line);
         }
         for (int turn = 0; better_needed > 0 && turn < 9; turn++) {
             dimacs_numbers again = exact_numbers((dimacs_numbers){better, better_needed});
@@ -329,7 +329,7 @@ static const struct {
     dimacs_min instance;
     dimacs_numbers flows;
     uint32_t status;
-    const char *said;
+    const char *line;
     size_t potentials, better;
 } certified_min[] = {
     {"certified least", SHIPPING, LEAST, 0, "v min 14\n", 4, 0},
@@ -356,11 +356,11 @@ static void certifies_min(void) {
         dimacs_numbers flows = exact_numbers(certified_min[k].flows);
         const char *name = certified_min[k].name;
         uint32_t status = certify_min(&instance, flows);
-        check(name, status, out, needed, certified_min[k].status, certified_min[k].said);
+        check(name, status, out, needed, certified_min[k].status, certified_min[k].line);
         check_that(name, shown_needed == certified_min[k].potentials && better_needed == certified_min[k].better);
         if (status == DIMACS_DONE) {
             status = dimacs_judge_min_arrays(&instance, flows.at, flows.length, potentials, shown_needed, out, 100, &needed);
-            check(name, status, out, needed, 0, certified_min[k].said);
+            check(name, status, out, needed, 0, certified_min[k].line);
         }
         for (int turn = 0; better_needed > 0 && turn < 9; turn++) {
             dimacs_numbers again = exact_numbers((dimacs_numbers){better, better_needed});
@@ -375,7 +375,7 @@ static const struct {
     const char *name;
     dimacs_min instance;
     uint32_t status;
-    const char *said;
+    const char *line;
     size_t inside, flows;
 } certified_infeasible[] = {
     {"a unit too many", {2, IDS(1), IDS(2), NUMBERS(0), NUMBERS(5), NUMBERS(0), NUMBERS(1, 0)}, 0, "v infeasible\n", 2, 0},
@@ -403,7 +403,7 @@ static void certifies_infeasible(void) {
         needed = shown_needed = better_needed = 99;
         uint32_t status = dimacs_certify_infeasible_arrays(&instance, out, 100, &needed, inside, 9, &shown_needed, better, 9,
                                                            &better_needed);
-        check(name, status, out, needed, certified_infeasible[k].status, certified_infeasible[k].said);
+        check(name, status, out, needed, certified_infeasible[k].status, certified_infeasible[k].line);
         check_that(name, shown_needed == certified_infeasible[k].inside && better_needed == certified_infeasible[k].flows);
         if (status == DIMACS_DONE) {
             status = dimacs_judge_infeasible_arrays(&instance, inside, shown_needed, out, 100, &needed);
@@ -424,7 +424,7 @@ static const struct {
     uint32_t source;
     dimacs_numbers distances;
     uint32_t status;
-    const char *said;
+    const char *line;
     dimacs_nodes predecessors;
 } certified_paths[] = {
     {"certified distances", ROAD, 1, NUMBERS(0, 5, NONE, NONE), 0, "v sp ss 1\n", IDS(0, 1, 0, 0)},
@@ -449,7 +449,7 @@ static void certifies_paths(void) {
         needed = shown_needed = 99;
         uint32_t status = dimacs_certify_paths_arrays(&graph, source, distances.at, distances.length, out, 100, &needed,
                                                       predecessors, 9, &shown_needed);
-        check(name, status, out, needed, certified_paths[k].status, certified_paths[k].said);
+        check(name, status, out, needed, certified_paths[k].status, certified_paths[k].line);
         check_that(name, shown_needed == wanted.length && (shown_needed == 0 || !memcmp(predecessors, wanted.at, 4 * shown_needed)));
         if (status == DIMACS_DONE) {
             status = dimacs_judge_paths_arrays(&graph, source, distances.at, distances.length, predecessors, shown_needed, out,
@@ -470,7 +470,7 @@ static const struct {
     dimacs_max instance;
     uint64_t limit;
     uint32_t status;
-    const char *said;
+    const char *line;
     size_t amounts, inside;
 } solved_max[] = {
     {"a maximum flow", NETWORK, DIMACS_LIMIT, 0, "v max 6\n", 5, 4},
@@ -491,11 +491,11 @@ static void solves_max(void) {
         needed = amounts_needed = inside_needed = 99;
         uint32_t status = dimacs_solve_max_arrays(&instance, solved_max[k].limit, out, 100, &needed, amounts, 9, &amounts_needed,
                                                   inside, 9, &inside_needed);
-        check(name, status, out, needed, solved_max[k].status, solved_max[k].said);
+        check(name, status, out, needed, solved_max[k].status, solved_max[k].line);
         check_that(name, amounts_needed == solved_max[k].amounts && inside_needed == solved_max[k].inside);
         if (status == DIMACS_DONE) {
             status = dimacs_judge_max_arrays(&instance, amounts, amounts_needed, inside, inside_needed, out, 100, &needed);
-            check(name, status, out, needed, 0, solved_max[k].said);
+            check(name, status, out, needed, 0, solved_max[k].line);
         }
         let_go();
     }
@@ -506,7 +506,7 @@ static const struct {
     dimacs_min instance;
     uint64_t limit;
     uint32_t status;
-    const char *said;
+    const char *line;
     size_t amounts, potentials, inside;
 } solved_min[] = {
     {"a flow of least cost", SHIPPING, DIMACS_LIMIT, 0, "v min 14\n", 5, 4, 0},
@@ -530,14 +530,14 @@ static void solves_min(void) {
         needed = amounts_needed = shown_needed = inside_needed = 99;
         uint32_t status = dimacs_solve_min_arrays(&instance, solved_min[k].limit, out, 100, &needed, amounts, 9, &amounts_needed,
                                                   potentials, 9, &shown_needed, inside, 9, &inside_needed);
-        check(name, status, out, needed, solved_min[k].status, solved_min[k].said);
+        check(name, status, out, needed, solved_min[k].status, solved_min[k].line);
         check_that(name, amounts_needed == solved_min[k].amounts && shown_needed == solved_min[k].potentials);
         check_that(name, inside_needed == solved_min[k].inside);
         if (status == DIMACS_DONE) {
             status = inside_needed
                          ? dimacs_judge_infeasible_arrays(&instance, inside, inside_needed, out, 100, &needed)
                          : dimacs_judge_min_arrays(&instance, amounts, amounts_needed, potentials, shown_needed, out, 100, &needed);
-            check(name, status, out, needed, 0, solved_min[k].said);
+            check(name, status, out, needed, 0, solved_min[k].line);
         }
         let_go();
     }
@@ -548,7 +548,7 @@ static const struct {
     dimacs_graph graph;
     uint32_t source;
     uint32_t status;
-    const char *said;
+    const char *line;
     dimacs_numbers distances;
     dimacs_nodes predecessors;
 } solved_paths[] = {
@@ -574,7 +574,7 @@ static void solves_paths(void) {
         needed = amounts_needed = shown_needed = 99;
         uint32_t status = dimacs_solve_paths_arrays(&graph, source, out, 100, &needed, amounts, 9, &amounts_needed, predecessors, 9,
                                                     &shown_needed);
-        check(name, status, out, needed, solved_paths[k].status, solved_paths[k].said);
+        check(name, status, out, needed, solved_paths[k].status, solved_paths[k].line);
         check_that(name, amounts_needed == far.length && (far.length == 0 || !memcmp(amounts, far.at, 8 * far.length)));
         check_that(name, shown_needed == before.length && (shown_needed == 0 || !memcmp(predecessors, before.at, 4 * shown_needed)));
         if (status == DIMACS_DONE) {

@@ -36,7 +36,7 @@ static void check_that(const char *name, int holds) {
     }
 }
 
-/* Says how many, and answers the exit status. */
+/* Prints how many, and returns the exit status. */
 static int count(void) {
     printf("%d passed, %d failed\n", passed, failed);
     return failed != 0;

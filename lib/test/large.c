@@ -79,7 +79,7 @@ int main(void) {
     sprintf(wanted, "x arc %d AboveCap\n", ARCS);
     check("refused at the last arc", status, out, needed, 1, wanted);
 
-    /* the last chain carries one less, as its value says */
+    /* the last chain carries one less, and the value is one less */
     uint8_t *entry = flow.bytes + flow.length;
     for (int step = 0; step < CHAIN; step++) {
         memcpy(entry - 8, "0999999", 7);

@@ -195,8 +195,8 @@ static int is_nothing(const Handed *it) {
     return !memcmp(it, &nothing, sizeof nothing);
 }
 
-/* Calls with nothing refused, and then with each growth refused in turn until a call meets no refusal. Spreading says
-   nothing if it has a solution to show. */
+/* Calls with nothing refused, and then with each growth refused in turn until a call meets no refusal. Spreading
+   hands out no line if it has a solution to show. */
 static void refuse_each(const char *name, uint32_t (*call)(void), uint32_t wanted) {
     refused = 0;
     clear(&to);

@@ -183,7 +183,7 @@ class Certifies(unittest.TestCase):
 
 
 def answering(status, line, *counts):
-    """A call of a library that hands out this line, and says that it has so many items for each room."""
+    """A call of a library that hands out this line, and reports that it has so many items for each room."""
 
     def call(*words):
         out, _, needed, *rooms = words[-9:]
@@ -237,10 +237,10 @@ class Misuse(unittest.TestCase):
             (dimacs.certify_paths_arrays, (*GRAPH, 1, [0] * 5), "distances has 5 items, and there are 4 nodes"),
             (dimacs.certify_infeasible_arrays, (*MIN[:-1], [0] * 3), "supplies has 3 items, and there are 4 nodes"),
         ]
-        for call, words, said in cases:
-            with self.subTest(said), self.assertRaises(ValueError) as caught:
+        for call, words, message in cases:
+            with self.subTest(message), self.assertRaises(ValueError) as caught:
                 call(*words)
-            self.assertEqual(str(caught.exception), said)
+            self.assertEqual(str(caught.exception), message)
 
     def test_limits(self):
         cases = [
@@ -256,10 +256,10 @@ class Misuse(unittest.TestCase):
             (dimacs.judge_paths_arrays, (*GRAPH, 5, DISTANCES, PREDECESSORS), "node 5 NodeRange"),
             (dimacs.certify_max_arrays, (2**32 - 1, *MAX[1:], FLOW), "node 134217729 NumberRange"),
         ]
-        for call, words, said in cases:
-            with self.subTest(said), self.assertRaises(dimacs.PastLimit) as caught:
+        for call, words, message in cases:
+            with self.subTest(message), self.assertRaises(dimacs.PastLimit) as caught:
                 call(*words)
-            self.assertEqual(str(caught.exception), said)
+            self.assertEqual(str(caught.exception), message)
             self.assertIsInstance(caught.exception, ValueError)
 
     def test_numbers_that_do_not_fit(self):
@@ -280,14 +280,14 @@ class Misuse(unittest.TestCase):
             dimacs.judge_max_arrays(*MAX, None, CUT)
 
     def test_the_number_is_named(self):
-        for flows, said in [
+        for flows, message in [
             ([4, 2, 1, 3, 2**63], "flows has 9223372036854775808, which isn't a whole number in its range"),
             ([4, 2, 1, 3.0, -(2**63) - 1], "flows has -9223372036854775809, which isn't a whole number in its range"),
             ([4, 2, 1, 3, 2.5], "flows has 2.5, which isn't a whole number in its range"),
         ]:
-            with self.subTest(said), self.assertRaises(ValueError) as caught:
+            with self.subTest(message), self.assertRaises(ValueError) as caught:
                 dimacs.judge_max_arrays(*MAX, flows, CUT)
-            self.assertEqual(str(caught.exception), said)
+            self.assertEqual(str(caught.exception), message)
 
     def test_numbers_are_not_cut_off(self):
         for kind in (decimal.Decimal, fractions.Fraction):

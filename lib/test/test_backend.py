@@ -91,7 +91,7 @@ class Backend(unittest.TestCase):
             self.assertEqual(both[1], both[0])
 
     def refused(self, name, *words, **more):
-        """Why can_run says no."""
+        """The reason that can_run returns."""
         from dimacs import backend
 
         reason = backend.can_run(name, words, more)

@@ -122,18 +122,18 @@ class MaximumFlow(Networkx):
         ends = "spring", "town"
         value, flow = networkx.maximum_flow(graph, *ends)
         _, (side, others) = networkx.minimum_cut(graph, *ends)
-        says = {node: node in side for node in graph}
-        for form in (side, sorted(side), iter(side), says, dict.fromkeys(side, True)):
+        inside = {node: node in side for node in graph}
+        for form in (side, sorted(side), iter(side), inside, dict.fromkeys(side, True)):
             self.assertEqual(dimacs.judge_networkx_max(graph, *ends, flow, form), dimacs.Verdict("max", value))
         if numpy is not None:
-            marked = {node: numpy.bool_(is_inside) for node, is_inside in says.items()}
+            marked = {node: numpy.bool_(is_inside) for node, is_inside in inside.items()}
             self.assertEqual(dimacs.judge_networkx_max(graph, *ends, flow, marked).value, value)
         it = self.refused(dimacs.Refused, dimacs.judge_networkx_max, graph, *ends, flow, dict.fromkeys(graph, False))
         self.assertEqual((it.node, it.reason), ("spring", "SourceOutside"))
-        for form in (dict.fromkeys(side, 1), {**says, "town": None}, {node: graph[node] for node in side}, flow):
+        for form in (dict.fromkeys(side, 1), {**inside, "town": None}, {node: graph[node] for node in side}, flow):
             it = self.refused(TypeError, dimacs.judge_networkx_max, graph, *ends, flow, form)
             self.assertIn("side", str(it))
-        for form in ({**says, "moat": False}, {*side, "moat"}):
+        for form in ({**inside, "moat": False}, {*side, "moat"}):
             self.refused(ValueError, dimacs.judge_networkx_max, graph, *ends, flow, form)
         class Table(list):
             """Is gone through by the names of its columns, as a DataFrame is."""
@@ -380,7 +380,7 @@ class Misuse(Networkx):
             return made
 
         half, none = {"a": {"b": 0.5}}, {}
-        for call, words, said in [
+        for call, words, message in [
             (dimacs.certify_networkx_max, (graph(capacity=2**63), "a", "b", none), f"capacity has {2**63},"),
             (dimacs.certify_networkx_max, (graph(capacity=1.5), "a", "b", none), "capacity has 1.5,"),
             (dimacs.certify_networkx_max, (graph(), "a", "b", half), "flow has 0.5,"),
@@ -390,7 +390,7 @@ class Misuse(Networkx):
             (dimacs.certify_networkx_paths, (graph(), "a", {"a": 0, "b": 0.5}), "distances has 0.5,"),
         ]:
             it = self.refused(ValueError, call, *words)
-            self.assertIn(said, str(it))
+            self.assertIn(message, str(it))
 
     def test_limits(self):
         graph = pipes()

@@ -33,8 +33,8 @@ def stored(values, columns, rows):
 
 @unittest.skipUnless(csgraph, "no SciPy")
 class Scipy(unittest.TestCase):
-    def raises(self, kind, said, call, *words, **more):
-        with self.assertRaisesRegex(kind, said) as it:
+    def raises(self, kind, message, call, *words, **more):
+        with self.assertRaisesRegex(kind, message) as it:
             call(*words, **more)
         return it.exception
 

@@ -74,7 +74,7 @@ class Texts(unittest.TestCase):
         self.assertEqual(dimacs.judge_paths(graph, queries, labels).value, nodes)
 
     def test_refusals(self):
-        for call, said in (
+        for call, message in (
             (lambda: dimacs.solve_max(MIN), "instance 1 2 BadWord"),
             (lambda: dimacs.solve_paths(GRAPH, ""), "query 1 0 ProblemMissing"),
             (lambda: dimacs.solve_paths(GRAPH, "p aux sp ss 1\ns 5\n"), "node 5 QueryNode"),
@@ -83,7 +83,7 @@ class Texts(unittest.TestCase):
         ):
             with self.assertRaises(dimacs.Refused) as no:
                 call()
-            self.assertEqual(str(no.exception), said)
+            self.assertEqual(str(no.exception), message)
 
 
 class Arrays(unittest.TestCase):
@@ -111,7 +111,7 @@ class Arrays(unittest.TestCase):
         self.assertEqual(predecessors, [0, 1, 0, 0])
         self.assertEqual(dimacs.judge_paths_arrays(*graph, distances, predecessors).value, 1)
 
-    def test_limits_and_what_no_array_says(self):
+    def test_limits_and_what_no_array_holds(self):
         with self.assertRaises(dimacs.GaveUp):
             dimacs.solve_max_arrays(*NETWORK, limit=1)
         with self.assertRaises(dimacs.GaveUp):

@@ -36,7 +36,7 @@ static const struct {
     uint32_t kind;
     const char *instance, *claim, *certificate;
     uint32_t status;
-    const char *said;
+    const char *output;
 } judged[] = {
     {"maximum", DIMACS_MAX, max, flow, cut, 0, "v max 6\n"},
     {"not at the cut", DIMACS_MAX, max, slow, cut, 1, "x arc 1 NotSaturated\n"},
@@ -60,7 +60,7 @@ static void judges(void) {
         needed = 99;
         uint32_t status = dimacs_judge(judged[k].kind, TEXT(judged[k].instance), TEXT(judged[k].claim),
                                        TEXT(judged[k].certificate), out, sizeof out, &needed);
-        check(judged[k].name, status, out, needed, judged[k].status, judged[k].said);
+        check(judged[k].name, status, out, needed, judged[k].status, judged[k].output);
     }
 }
 
@@ -69,7 +69,7 @@ static const struct {
     uint32_t kind;
     const char *instance, *solution;
     uint32_t status;
-    const char *said, *shown;
+    const char *output, *shown;
 } certified[] = {
     {"certified maximum", DIMACS_MAX, max, flow, 0, "v max 6\n", "p cut 4 1\nu 1\n"},
     {"not maximum", DIMACS_MAX, max, slow, 1, "x solution 1 2 NotMaximum\n", "s 6\n"},
@@ -90,7 +90,7 @@ static void certifies(void) {
         needed = shown_needed = 99;
         uint32_t status = dimacs_certify(certified[k].kind, TEXT(certified[k].instance), TEXT(certified[k].solution), out,
                                          sizeof out, &needed, shown, sizeof shown, &shown_needed);
-        check(certified[k].name, status, out, needed, certified[k].status, certified[k].said);
+        check(certified[k].name, status, out, needed, certified[k].status, certified[k].output);
         size_t length = strlen(certified[k].shown);
         check_that(certified[k].name, length == 0 ? shown_needed == 0 : shown_needed >= length && !memcmp(shown, certified[k].shown, length));
     }
@@ -115,7 +115,7 @@ static const struct {
     const char *instance, *queries;
     uint64_t limit;
     uint32_t status;
-    const char *said, *solution, *certificate;
+    const char *output, *solution, *certificate;
 } solves[] = {
     {"a maximum flow", DIMACS_MAX, max, "?", DIMACS_LIMIT, 0, "v max 6\n", "s 6\n", "p cut 4 1\nu 1\n"},
     {"no arcs", DIMACS_MAX, "p max 2 0\nn 1 s\nn 2 t\n", "", 1, 0, "v max 0\n", "s 0\n", "p cut 2 1\nu 1\n"},
@@ -149,7 +149,7 @@ static void solves_all(void) {
         uint32_t kind = solves[k].kind;
         uint32_t status = dimacs_solve(kind, TEXT(solves[k].instance), TEXT(solves[k].queries), solves[k].limit, out,
                                        sizeof out, &needed, solved, sizeof solved, &solved_needed, shown, sizeof shown, &shown_needed);
-        check(name, status, out, needed, solves[k].status, solves[k].said);
+        check(name, status, out, needed, solves[k].status, solves[k].output);
         check_that(name, begins(solved, solved_needed, solves[k].solution) && begins(shown, shown_needed, solves[k].certificate));
         if (status == DIMACS_DONE) {
             int is_set = kind == DIMACS_MIN && solved_needed == 0;
@@ -157,7 +157,7 @@ static void solves_all(void) {
             size_t length = kind == DIMACS_PATHS ? strlen(solves[k].queries) : solved_needed;
             status = dimacs_judge(is_set ? DIMACS_INFEASIBLE : kind, TEXT(solves[k].instance), claim, length, shown, shown_needed,
                                   out, sizeof out, &needed);
-            check(name, status, out, needed, 0, solves[k].said);
+            check(name, status, out, needed, 0, solves[k].output);
         }
     }
 }
@@ -223,7 +223,7 @@ static void reads_any_bytes(void) {
     static const struct {
         const char *name, *text;
         size_t length;
-        const char *said;
+        const char *line;
     } texts[] = {
         {"null", NULL, 0, "x instance 1 0 ProblemMissing\n"},
         {"no UTF-8", "p max 3 3\xff\xfe\n", 12, "x instance 1 4 BadNumber\n"},
@@ -236,7 +236,7 @@ static void reads_any_bytes(void) {
             memcpy(exact, texts[k].text, texts[k].length);
         }
         uint32_t status = dimacs_show(DIMACS_TEXT_MAX, exact, texts[k].length, out, sizeof out, &needed);
-        check(texts[k].name, status, out, needed, 1, texts[k].said);
+        check(texts[k].name, status, out, needed, 1, texts[k].line);
         free(exact);
     }
 }

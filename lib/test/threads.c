@@ -57,14 +57,14 @@ static void write_texts(void) {
 typedef struct {
     size_t length;
     uint8_t bytes[70000];
-} Said;
+} Output;
 
 /* The room that is left, after a byte for the status. */
-#define ROOM said->bytes + said->length + 1, sizeof said->bytes - said->length - 1
+#define ROOM output->bytes + output->length + 1, sizeof output->bytes - output->length - 1
 
-static void add(Said *said, uint32_t status, size_t needed) {
-    said->bytes[said->length] = (uint8_t)status;
-    said->length += 1 + needed;
+static void add(Output *output, uint32_t status, size_t needed) {
+    output->bytes[output->length] = (uint8_t)status;
+    output->length += 1 + needed;
 }
 
 /* A claim of a thread's own, and what is handed out for it. They would take too much of its stack. */
@@ -75,99 +75,101 @@ typedef struct {
 } Claim;
 
 /* Solves the instances that all share. */
-static void solve_arrays(Said *said, Claim *claim, size_t arcs) {
+static void solve_arrays(Output *output, Claim *claim, size_t arcs) {
     size_t needed = 0, flows = 0, shown = 0, marked = 0;
     uint32_t status = dimacs_solve_max_arrays(&max_arrays, 9, ROOM, &needed, claim->better, arcs, &flows, claim->inside, NODES,
                                               &marked);
     int are_those = !memcmp(claim->better, ones, sizeof ones) && flows == arcs && marked == NODES;
-    add(said, status + 10 * are_those, needed);
+    add(output, status + 10 * are_those, needed);
     status = dimacs_solve_min_arrays(&min_arrays, 9, ROOM, &needed, claim->better, arcs, &flows, claim->potentials, NODES, &shown,
                                      claim->inside, NODES, &marked);
     are_those = !memcmp(claim->better, ones, sizeof ones) && flows == arcs && shown == NODES && marked == 0;
-    add(said, status + 10 * are_those, needed);
+    add(output, status + 10 * are_those, needed);
     status = dimacs_solve_paths_arrays(&graph, 1, ROOM, &needed, claim->potentials, NODES, &flows, claim->predecessors, NODES,
                                        &shown);
     are_those = !memcmp(claim->potentials, distances, sizeof distances) && flows == NODES && shown == NODES;
-    add(said, status + 10 * are_those, needed);
+    add(output, status + 10 * are_those, needed);
 }
 
 /* Calls with a flow that carries `first` on its first arc, and with distances that make this arc as long. */
-static void call_over_arrays(Said *said, int64_t first) {
+static void call_over_arrays(Output *output, int64_t first) {
     Claim *claim = malloc(sizeof *claim);
     size_t needed = 0, shown = 0, better = 0, arcs = NODES - 1;
     memcpy(claim->flows, ones, sizeof ones);
     memcpy(claim->far, distances, sizeof distances);
     claim->flows[0] = claim->far[1] = first;
     uint32_t status = dimacs_judge_max_arrays(&max_arrays, claim->flows, arcs, inside, NODES, ROOM, &needed);
-    add(said, status, needed);
+    add(output, status, needed);
     status = dimacs_judge_min_arrays(&min_arrays, claim->flows, arcs, potentials, NODES, ROOM, &needed);
-    add(said, status, needed);
+    add(output, status, needed);
     status = dimacs_judge_infeasible_arrays(&min_arrays, inside, NODES, ROOM, &needed);
-    add(said, status, needed);
+    add(output, status, needed);
     status = dimacs_judge_paths_arrays(&graph, 1, claim->far, NODES, predecessors, NODES, ROOM, &needed);
-    add(said, status, needed);
+    add(output, status, needed);
     uint8_t line[100];
     status = dimacs_certify_max_arrays(&max_arrays, claim->flows, arcs, line, sizeof line, &needed, ROOM, &shown,
                                        claim->better, arcs, &better);
-    add(said, status, shown);
+    add(output, status, shown);
     status = dimacs_certify_min_arrays(&min_arrays, claim->flows, arcs, ROOM, &needed, claim->potentials, NODES, &shown,
                                        claim->better, arcs, &better);
-    add(said, status + 10 * (shown == NODES), needed);
+    add(output, status + 10 * (shown == NODES), needed);
     status = dimacs_certify_paths_arrays(&graph, 1, claim->far, NODES, ROOM, &needed, claim->predecessors, NODES, &shown);
     int are_those = shown == NODES && !memcmp(claim->predecessors, predecessors, sizeof predecessors);
-    add(said, status + 10 * are_those, needed);
-    solve_arrays(said, claim, arcs);
+    add(output, status + 10 * are_those, needed);
+    solve_arrays(output, claim, arcs);
     free(claim);
 }
 
-static void solve_texts(Said *said) {
+static void solve_texts(Output *output) {
     size_t needed = 0, solved = 0, shown = 0;
     uint8_t line[100], *solution = malloc(sizeof flow);
     uint32_t status = dimacs_solve(DIMACS_MAX, TEXT(max), NULL, 0, 9, line, sizeof line, &needed, solution, sizeof flow, &solved,
                                    ROOM, &shown);
-    add(said, status + 10 * (solved == strlen(flow) && !memcmp(solution, flow, solved)), shown);
+    add(output, status + 10 * (solved == strlen(flow) && !memcmp(solution, flow, solved)), shown);
     status = dimacs_solve(DIMACS_MIN, TEXT(min), NULL, 0, 9, line, sizeof line, &needed, solution, sizeof flow, &solved, ROOM,
                           &shown);
-    add(said, status + 10 * (solved == strlen(least) && !memcmp(solution, least, solved)), shown);
+    add(output, status + 10 * (solved == strlen(least) && !memcmp(solution, least, solved)), shown);
     free(solution);
 }
 
-static void call_all(Said *said, const char *claim, int64_t first) {
+static void call_all(Output *output, const char *claim, int64_t first) {
     size_t needed = 0, shown = 0;
     uint8_t line[100];
-    said->length = 0;
+    output->length = 0;
     uint32_t status = dimacs_judge(DIMACS_MAX, TEXT(max), TEXT(claim), TEXT(cut), ROOM, &needed);
-    add(said, status, needed);
+    add(output, status, needed);
     status = dimacs_judge(DIMACS_MIN, TEXT(min), TEXT(least), TEXT(pot), ROOM, &needed);
-    add(said, status, needed);
+    add(output, status, needed);
     status = dimacs_convert(DIMACS_TEXT_SOLUTION, TEXT(claim), ROOM, &needed);
-    add(said, status, needed);
+    add(output, status, needed);
     status = dimacs_show(DIMACS_TEXT_MAX, TEXT(max), ROOM, &needed);
-    add(said, status, needed);
+    add(output, status, needed);
     status = dimacs_certify(DIMACS_MAX, TEXT(max), TEXT(claim), line, sizeof line, &needed, ROOM, &shown);
-    add(said, status, shown);
+    add(output, status, shown);
     status = dimacs_certify(DIMACS_MIN, TEXT(min), TEXT(least), line, sizeof line, &needed, ROOM, &shown);
-    add(said, status, shown);
-    solve_texts(said);
-    call_over_arrays(said, first);
+    add(output, status, shown);
+    solve_texts(output);
+    call_over_arrays(output, first);
 }
 
-static Said good_alone, bad_alone;
+static Output good_alone, bad_alone;
 
-static int is_same(const Said *a, const Said *b) { return a->length == b->length && !memcmp(a->bytes, b->bytes, a->length); }
+static int is_same(const Output *a, const Output *b) {
+    return a->length == b->length && !memcmp(a->bytes, b->bytes, a->length);
+}
 
 static void *run(void *number) {
-    Said *said = malloc(sizeof *said);
+    Output *output = malloc(sizeof *output);
     char *mine = malloc(sizeof flow);
     long wrong = 0;
     for (long k = 0; k < ROUNDS; k++) {
         int is_bad = (k + (long)number) % 2;
         memcpy(mine, is_bad ? bad : flow, sizeof flow);
-        call_all(said, mine, is_bad ? 2 : 1);
-        wrong += !is_same(said, is_bad ? &bad_alone : &good_alone);
+        call_all(output, mine, is_bad ? 2 : 1);
+        wrong += !is_same(output, is_bad ? &bad_alone : &good_alone);
     }
     free(mine);
-    free(said);
+    free(output);
     return (void *)wrong;
 }
 

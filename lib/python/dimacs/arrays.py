@@ -98,22 +98,22 @@ class _Given:
 
 def _judge(function: Callable[..., int], given: _Given) -> Verdict:
     given.test_lengths()
-    status, said = library.call(function, *given.words)
+    status, line = library.call(function, *given.words)
     if status == library.REFUSED:
-        raise library.refusal(said)
-    return library.verdict(said)
+        raise library.refusal(line)
+    return library.verdict(line)
 
 
 def _certify(function: Callable[..., int], given: _Given, came: Any, *handed: _Array) -> Certified:
     """Makes a call that certifies. It hands out the certificate, then a better flow."""
     given.test_lengths()
     rooms = [given.room(form) for form in handed]
-    status, said = library.call_with_rooms(function, given.words, rooms)
+    status, line = library.call_with_rooms(function, given.words, rooms)
     if status == library.DONE:
-        return Certified(library.verdict(said).value, rooms[0].in_form_of(came))
-    if said.rstrip().endswith(library.BETTER):
-        raise library.refusal(said, better=rooms[1].in_form_of(came))
-    raise library.refusal(said)
+        return Certified(library.verdict(line).value, rooms[0].in_form_of(came))
+    if line.rstrip().endswith(library.BETTER):
+        raise library.refusal(line, better=rooms[1].in_form_of(came))
+    raise library.refusal(line)
 
 
 def judge_max_arrays(
@@ -225,10 +225,10 @@ def certify_paths_arrays(
 def _solve(function: Callable[..., int], given: _Given, *handed: _Array) -> tuple[Verdict, list[Room]]:
     given.test_lengths()
     rooms = [given.room(form) for form in handed]
-    status, said = library.call_with_rooms(function, given.words, rooms)
+    status, line = library.call_with_rooms(function, given.words, rooms)
     if status == library.REFUSED:
-        raise library.refusal(said)
-    return library.verdict(said), rooms
+        raise library.refusal(line)
+    return library.verdict(line), rooms
 
 
 def solve_max_arrays(

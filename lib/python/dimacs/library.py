@@ -71,17 +71,17 @@ solve_paths_arrays = _export("dimacs_solve_paths_arrays", _address, _number, roo
 _Line = ctypes.c_char * LINE
 
 
-def _raise_for(status: int, said: bytes) -> None:
+def _raise_for(status: int, line: bytes) -> None:
     """Raises the exception of a status that leaves the claim undecided, or whose certificate doesn't fit."""
     if status == NO_MEMORY:
         raise MemoryError("there was not enough memory to judge")
-    if status == MISUSED and said:
-        _, place, number, reason = said.decode("ascii").split()
+    if status == MISUSED and line:
+        _, place, number, reason = line.decode("ascii").split()
         raise PastLimit(reason, **{place: int(number)})
     if status == MISUSED:
         raise ValueError("the library doesn't take these words")
     if status == GAVE_UP:
-        raise GaveUp("a limit was reached, or numbers that were found are out of the range that can say them")
+        raise GaveUp("a limit was reached, or numbers that were found are out of range")
 
 
 def call(function: Callable[..., int], *words: Any) -> tuple[int, bytes]:
@@ -94,10 +94,10 @@ def call(function: Callable[..., int], *words: Any) -> tuple[int, bytes]:
             break
         room = needed.value
         line = ctypes.create_string_buffer(room)
-    said = line[: needed.value]
+    output = line[: needed.value]
     if status != DONE and status != REFUSED:
-        _raise_for(status, said)
-    return status, said
+        _raise_for(status, output)
+    return status, output
 
 
 def call_for_texts(function: Callable[..., int], *words: Any, rooms: Sequence[int]) -> tuple[int, list[bytes]]:
@@ -111,9 +111,9 @@ def call_for_texts(function: Callable[..., int], *words: Any, rooms: Sequence[in
         if all(length <= room for length, room in zip(lengths, rooms)):
             break
         rooms = [max(it) for it in zip(lengths, rooms)]
-    said = [ctypes.string_at(*it) for it in zip(texts, lengths)]
-    _raise_for(status, said[0])
-    return status, said
+    outputs = [ctypes.string_at(*it) for it in zip(texts, lengths)]
+    _raise_for(status, outputs[0])
+    return status, outputs
 
 
 def call_with_rooms(function: Callable[..., int], words: list[Any], rooms: list[Room]) -> tuple[int, bytes]:
@@ -121,9 +121,9 @@ def call_with_rooms(function: Callable[..., int], words: list[Any], rooms: list[
     line, needed = _Line(), _size()
     handed = [word for room in rooms for word in room.words()]
     status = function(*words, line, LINE, ctypes.byref(needed), *handed)
-    said = line[: needed.value]
-    _raise_for(status, said)
-    return status, said
+    output = line[: needed.value]
+    _raise_for(status, output)
+    return status, output
 
 
 def refusal(line: bytes, **more: Any) -> Refused:
@@ -143,9 +143,9 @@ def _distance(words: list[str]) -> int | Beyond | None:
     return int(words[0])
 
 
-def verdict(said: bytes) -> Verdict:
+def verdict(output: bytes) -> Verdict:
     """The fields of the lines of a verdict."""
-    words = said.decode("ascii").split("\n", 1)[0].split()
+    words = output.decode("ascii").split("\n", 1)[0].split()
     kind = words[1] if words else "pairs"
     if kind in ("max", "min"):
         return Verdict(kind, int(words[2]))
@@ -153,6 +153,6 @@ def verdict(said: bytes) -> Verdict:
         return Verdict(kind)
     if kind == "sp":
         return Verdict(kind, int(words[3]))
-    lines = (line.split() for line in said.decode("ascii").splitlines())
+    lines = (line.split() for line in output.decode("ascii").splitlines())
     pairs = tuple(Pair(int(line[1]), int(line[2]), _distance(line[3:])) for line in lines)
     return Verdict("pairs", None, pairs)

@@ -17,10 +17,10 @@ _TEXTS = {"max": 0, "min": 1, "gr": 2, "query": 3, "solution": 4, "cut": 5, "pot
 def _judge(kind: str, instance: Text, claim: Text, certificate: Text) -> Verdict:
     texts = bytes_of(instance), bytes_of(claim), bytes_of(certificate)
     words = texts[0].words() + texts[1].words() + texts[2].words()
-    status, said = library.call(library.judge, _KINDS[kind], *words)
+    status, output = library.call(library.judge, _KINDS[kind], *words)
     if status == library.REFUSED:
-        raise library.refusal(said)
-    return library.verdict(said)
+        raise library.refusal(output)
+    return library.verdict(output)
 
 
 def judge_max(instance: Text, solution: Text, cut: Text) -> Verdict:
@@ -52,17 +52,17 @@ def _certify(kind: str, instance: Text, claim: Text) -> tuple[int, bytes, bytes]
     texts = bytes_of(instance), bytes_of(claim)
     words = texts[0].words() + texts[1].words()
     rooms = [library.LINE, library.LINE + texts[0].length + texts[1].length]
-    status, (said, shown) = library.call_for_texts(library.certify, _KINDS[kind], *words, rooms=rooms)
-    return status, said, shown
+    status, (line, shown) = library.call_for_texts(library.certify, _KINDS[kind], *words, rooms=rooms)
+    return status, line, shown
 
 
 def _certify_flow(kind: str, instance: Text, solution: Text) -> Certified:
-    status, said, shown = _certify(kind, instance, solution)
-    if status == library.REFUSED and said.rstrip().endswith(library.BETTER):
-        raise library.refusal(said, better=_in_form_of(solution, shown) if shown else None)
+    status, line, shown = _certify(kind, instance, solution)
+    if status == library.REFUSED and line.rstrip().endswith(library.BETTER):
+        raise library.refusal(line, better=_in_form_of(solution, shown) if shown else None)
     if status == library.REFUSED:
-        raise library.refusal(said)
-    return Certified(library.verdict(said).value, _in_form_of(instance, shown))
+        raise library.refusal(line)
+    return Certified(library.verdict(line).value, _in_form_of(instance, shown))
 
 
 def certify_max(instance: Text, solution: Text) -> Certified:
@@ -89,11 +89,11 @@ def certify_infeasible(instance: Text) -> Certified:
     Raises Feasible with the text of a feasible flow if there is one; Refused if the text has a fault. The certificate and the
     flow are str if the instance is.
     """
-    status, said, shown = _certify("infeasible", instance, b"")
-    if status == library.REFUSED and said.rstrip().endswith(library.FEASIBLE):
+    status, line, shown = _certify("infeasible", instance, b"")
+    if status == library.REFUSED and line.rstrip().endswith(library.FEASIBLE):
         raise Feasible(_in_form_of(instance, shown) if shown else None)
     if status == library.REFUSED:
-        raise library.refusal(said)
+        raise library.refusal(line)
     return Certified(None, _in_form_of(instance, shown))
 
 
@@ -103,9 +103,9 @@ def certify_paths(graph: Text, distances: Text) -> Certified:
 
     Raises Refused if a text has a fault, or a test fails. The certificate is str if the graph is.
     """
-    status, said, shown = _certify("paths", graph, distances)
+    status, line, shown = _certify("paths", graph, distances)
     if status == library.REFUSED:
-        raise library.refusal(said)
+        raise library.refusal(line)
     return Certified(None, _in_form_of(graph, shown))
 
 
@@ -113,9 +113,9 @@ def _spread(kind: str, instance: Text, solution: Text) -> Any:
     texts = bytes_of(instance), bytes_of(solution)
     words = texts[0].words() + texts[1].words()
     rooms = [library.LINE, library.LINE + texts[0].length + texts[1].length]
-    status, (said, spread) = library.call_for_texts(library.spread, _KINDS[kind], *words, rooms=rooms)
+    status, (line, spread) = library.call_for_texts(library.spread, _KINDS[kind], *words, rooms=rooms)
     if status == library.REFUSED:
-        raise library.refusal(said)
+        raise library.refusal(line)
     return _in_form_of(solution, spread)
 
 
@@ -138,11 +138,11 @@ def _solve(kind: str, instance: Text, queries: Text, limit: int) -> Solved:
     words = [*texts[0].words(), *texts[1].words(), number_of(limit, LIMITS, "limit")]
     # An answer to a query is a longer line than the query, and a potential or label may be one than an arc.
     rooms = [library.LINE + 4 * texts[1].length, library.LINE + texts[0].length, library.LINE + 2 * texts[0].length]
-    status, (said, solution, certificate) = library.call_for_texts(library.solve, _KINDS[kind], *words, rooms=rooms)
+    status, (output, solution, certificate) = library.call_for_texts(library.solve, _KINDS[kind], *words, rooms=rooms)
     if status == library.REFUSED:
-        raise library.refusal(said)
+        raise library.refusal(output)
     shown = _in_form_of(instance, certificate)
-    found = library.verdict(said)
+    found = library.verdict(output)
     if found.kind == "infeasible":
         raise Infeasible(shown)
     if kind == "paths":
@@ -180,10 +180,10 @@ def _printed(function: Any, kind: str, text: Text) -> Any:
         raise ValueError(f"{kind!r} is no kind of text: these are {', '.join(_TEXTS)}")
     given = bytes_of(text)
     rooms = [library.LINE + given.length]
-    status, (said,) = library.call_for_texts(function, _TEXTS[kind], *given.words(), rooms=rooms)
+    status, (printed,) = library.call_for_texts(function, _TEXTS[kind], *given.words(), rooms=rooms)
     if status == library.REFUSED:
-        raise library.refusal(said)
-    return _in_form_of(text, said)
+        raise library.refusal(printed)
+    return _in_form_of(text, printed)
 
 
 def convert(kind: str, text: Text) -> Any:

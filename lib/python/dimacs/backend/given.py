@@ -122,11 +122,11 @@ def of_nodes(graph: Any, attribute: Any, missing: int, name: str) -> Numbers:
     return whole_ones(numbers, lambda: graph, f"the {name} of node", True)
 
 
-def whole_ones(numbers: list[Any], names: Callable[[], Iterable[Any]], said: str, infinite: bool = False) -> Numbers:
+def whole_ones(numbers: list[Any], names: Callable[[], Iterable[Any]], what: str, infinite: bool = False) -> Numbers:
     """Numbers as ints of 64 bits; the names of what they belong to are asked for only if they aren't ints already."""
     if not numbers or set(map(type, numbers)) == {int} and _fits(min(numbers)) and _fits(max(numbers)):
         return Numbers(numbers, False)
-    values = [_whole(number, f"{said} {name!r}", infinite) for number, name in zip(numbers, names())]
+    values = [_whole(number, f"{what} {name!r}", infinite) for number, name in zip(numbers, names())]
     return Numbers(values, any(isinstance(it, float) and math.isfinite(it) for it in numbers))
 
 
@@ -134,19 +134,19 @@ def _fits(number: int) -> bool:
     return NUMBERS.least <= number <= NUMBERS.greatest
 
 
-def _whole(number: Any, said: str, infinite: bool) -> Any:
+def _whole(number: Any, what: str, infinite: bool) -> Any:
     if isinstance(number, float):
         if infinite and math.isinf(number):
             return number
         if not number.is_integer() or abs(number) > MOST_FLOAT:
-            raise Unable(f"{said} is {number!r}, which isn't a whole number up to 2^53")
+            raise Unable(f"{what} is {number!r}, which isn't a whole number up to 2^53")
         return int(number)
     try:
         found = operator.index(number)
     except TypeError:
-        raise Unable(f"{said} is {number!r}, which isn't a whole number") from None
+        raise Unable(f"{what} is {number!r}, which isn't a whole number") from None
     if not _fits(found):
-        raise Unable(f"{said} is {found}, which has more than 64 bits")
+        raise Unable(f"{what} is {found}, which has more than 64 bits")
     return found
 
 

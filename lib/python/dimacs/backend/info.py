@@ -39,5 +39,5 @@ def get_info() -> dict[str, Any]:
         "project": "dimacs",
         "package": "dimacs",
         "short_summary": "Flows and distances that were judged by functions that are proved.",
-        "functions": {name: {"additional_docs": said} for name, said in FUNCTIONS.items()},
+        "functions": {name: {"additional_docs": text} for name, text in FUNCTIONS.items()},
     }

@@ -85,9 +85,9 @@ class _Tree:
         return path[::-1]
 
 
-def _test_source(graph: Any, source: Any, said: str) -> None:
+def _test_source(graph: Any, source: Any, message: str) -> None:
     if source not in graph_of(graph):
-        raise nx.NodeNotFound(said)
+        raise nx.NodeNotFound(message)
 
 
 def _nearest(graph: Any, source: Any, weight: Any) -> _Tree:
