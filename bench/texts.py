@@ -16,6 +16,13 @@ FAMILIES = {
         "layers": {1: (most.layers, 100, 200, 10000), 20: (most.layers, 500, 650, 10000)},
         "matching": {1: (most.matching, 7500, 6), 20: (most.matching, 131000, 6)},
         "planted": {1: ("max", 10000, 60000), 20: ("max", 175000, 1050000)},
+        "power law": {1: (most.power_law, 13, 66000, 100, 1000), 20: (most.power_law, 17, 1200000, 1500, 1000)},
+        "rlg long": {1: (most.layers, 64, 310, 10000), 20: (most.layers, 64, 5000, 10000)},
+        "rlg wide": {1: (most.layers, 310, 64, 10000), 20: (most.layers, 5000, 64, 10000)},
+        "rmf long": {1: (most.frames, 10, 115, 1000), 20: (most.frames, 21, 460, 1000)},
+        "rmf wide": {1: (most.frames, 40, 7, 1000), 20: (most.frames, 126, 11, 1000)},
+        "road": {1: (most.road, 23500, 500), 20: (most.road, 430000, 5000)},
+        "vision": {1: (most.vision, 20, 200), 20: (most.vision, 53, 200)},
     },
     "min": {
         "assign": {1: (least.assign, 6000, 8, 10000), 20: (least.assign, 110000, 8, 10000)},

@@ -72,10 +72,8 @@ def goto(nodes, degree, most_cap, most_cost):
     return it.without_parallel()
 
 
-def road(nodes, pairs, units):
-    """Planar, arcs both ways, supplies and demands at random nodes."""
-    random, width = Random(), isqrt(nodes)
-    it = Instance(nodes // width * width)
+def add_streets(it, random, width, length):
+    """Joins the nodes of a grid by a planar graph, by arcs both ways."""
 
     def build(a, b):
         cost = 30 + int(1800 * -log(1 - random.unit()))
@@ -84,13 +82,20 @@ def road(nodes, pairs, units):
         it.add(a, b, cap, cost)
         it.add(b, a, cap, cost)
 
-    for v in range(1, it.nodes + 1):
+    for v in range(1, width * length + 1):
         has_upper, has_left = v > width, (v - 1) % width > 0
         tree_up = has_upper and (not has_left or random.next() & 1)
         if has_upper and (tree_up or random.below(100) < 25):
             build(v, v - width)
         if has_left and (not tree_up or random.below(100) < 25):
             build(v, v - 1)
+
+
+def road(nodes, pairs, units):
+    """Planar, arcs both ways, supplies and demands at random nodes."""
+    random, width = Random(), isqrt(nodes)
+    it = Instance(nodes // width * width)
+    add_streets(it, random, width, nodes // width)
     for _ in range(pairs):
         source = random.between(1, it.nodes)
         it.move(source, random.between(1, it.nodes), units)

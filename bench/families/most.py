@@ -1,10 +1,14 @@
 """Families of maximum flow."""
 
+from collections import Counter
+from math import isqrt, sin
+
+from families import least
 from families.instance import Instance, Random
 
 
 def frames(side, count, most_cap):
-    """Square grids of much room, each joined to the next at random."""
+    """Square grids of much room, each joined to the next at random, as Goldfarb and Grigoriadis' genrmf makes them."""
     random, size = Random(), side * side
     it = Instance(size * count)
     mates = list(range(1, size + 1))
@@ -42,7 +46,7 @@ def image(width, height, most_cap):
 
 
 def layers(width, length, most_cap):
-    """Three arcs from each node to nodes of the next layer."""
+    """Three arcs from each node to nodes of the next layer: a random level graph."""
     random = Random()
     it = Instance(width * length + 2)
     source, sink = it.nodes - 1, it.nodes
@@ -70,3 +74,66 @@ def matching(count, degree):
         it.add(count + i, sink, 1, 0)
     it.move(source, sink, 1)
     return it.without_parallel()
+
+
+def power_law(levels, arcs, ends, most_cap):
+    """An R-MAT graph; of the nodes with most arcs, half are joined to the source and half to the sink."""
+    random, count = Random(), 1 << levels
+    it = Instance(count + 2)
+    source, sink = it.nodes - 1, it.nodes
+    order = list(range(1, count + 1))
+    random.shuffle(order)
+    for _ in range(arcs):
+        tail = head = 0
+        for _ in range(levels):
+            hundredth = random.below(100)
+            tail = 2 * tail + (hundredth >= 76)
+            head = 2 * head + (57 <= hundredth < 76 or hundredth >= 95)
+        if tail != head:
+            it.add(order[tail], order[head], random.between(1, most_cap), 0)
+    degrees = Counter(end for arc in it.without_parallel().arcs for end in arc[:2])
+    hubs = [node for node, _ in degrees.most_common(2 * ends)]
+    for one, other in zip(hubs[::2], hubs[1::2]):
+        it.add(source, one, most_cap * count, 0)
+        it.add(other, sink, most_cap * count, 0)
+    it.move(source, sink, 1)
+    return it
+
+
+def road(nodes, ends):
+    """Planar, arcs both ways, source and sink joined to random nodes of two towns far apart."""
+    random, width = Random(), isqrt(nodes)
+    length = nodes // width
+    it = Instance(width * length + 2)
+    source, sink = it.nodes - 1, it.nodes
+    least.add_streets(it, random, width, length)
+
+    def near(quarter):
+        x, y = (quarter * side // 4 + random.between(-side // 8, side // 8) for side in (width, length))
+        return y * width + x + 1
+
+    for _ in range(ends):
+        it.add(source, near(1), 1000, 0)
+        it.add(near(3), sink, 1000, 0)
+    it.move(source, sink, 1)
+    return it.without_parallel()
+
+
+def vision(side, most_cap):
+    """Voxels joined to their six neighbours, by more capacity if alike, and each to the source or the sink."""
+    random, wave = Random(), [sin(i / 4) for i in range(side)]
+    it = Instance(side**3 + 2)
+    source, sink = it.nodes - 1, it.nodes
+    places = [(i // side // side, i // side % side, i % side) for i in range(side**3)]
+    shades = [int(100 * wave[z] * wave[y] * wave[x]) + random.between(-40, 40) for z, y, x in places]
+    for i, (place, shade) in enumerate(zip(places, shades)):
+        for step, at in zip((side * side, side, 1), place):
+            if at + 1 < side:
+                cap = 1 + most_cap * 400 // (400 + (shade - shades[i + step]) ** 2)
+                it.add(i + 1, i + step + 1, cap, 0)
+                it.add(i + step + 1, i + 1, cap, 0)
+        certain = abs(shade) > 100  # has more capacity to its end than to all neighbours
+        ends = (source, i + 1) if shade > 0 else (i + 1, sink)
+        it.add(*ends, 7 * most_cap if certain else 1 + abs(shade) * most_cap // 50, 0)
+    it.move(source, sink, 1)
+    return it
