@@ -10,6 +10,7 @@ from families.instance import SEED
 # The families of instances, by kind, and what makes one of a size in MB: a function and its numbers, or gen's words.
 FAMILIES = {
     "max": {
+        "dense acyclic": {1: (most.dense_acyclic, 340, 1000000), 20: (most.dense_acyclic, 1400, 1000000)},
         "frames": {1: (most.frames, 14, 65, 1000), 20: (most.frames, 30, 240, 1000)},
         "grid": {1: (least.grid, 130, 150, 1000, 1), 20: (least.grid, 560, 620, 1000, 1)},
         "image": {1: (most.image, 110, 110, 200), 20: (most.image, 458, 458, 200)},

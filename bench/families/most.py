@@ -7,6 +7,16 @@ from families import least
 from families.instance import Instance, Random
 
 
+def dense_acyclic(nodes, most_cap):
+    """An arc from each node to each later one."""
+    random, it = Random(), Instance(nodes)
+    for tail in range(1, nodes):
+        for head in range(tail + 1, nodes + 1):
+            it.add(tail, head, random.between(1, most_cap), 0)
+    it.move(1, nodes, 1)
+    return it
+
+
 def frames(side, count, most_cap):
     """Square grids of much room, each joined to the next at random, as Goldfarb and Grigoriadis' genrmf makes them."""
     random, size = Random(), side * side
