@@ -6,7 +6,7 @@ use crate::potentials::set_potential;
 use crate::problem::{MOST_MOVED, Problem};
 use crate::residual::Residual;
 use crate::scaling::Scaling;
-use crate::simplex::Simplex;
+use crate::simplex::{Simplex, block_size};
 use dimacs_claims::Potentials;
 use dimacs_instance::MinInstance;
 use dimacs_lines::Memory;
@@ -23,7 +23,7 @@ pub struct LeastFlow {
 /// Finds a flow of least cost, and potentials that show it. If no flow is feasible, the result leaves the least excess.
 ///
 /// Successive shortest paths come first, if few nodes have an excess and no cost is negative. Then comes the network
-/// simplex, the fastest on most instances. If that takes long, cost scaling follows.
+/// simplex, the fastest on most small instances. If that takes long, cost scaling follows.
 pub fn make_least_flow<N: Network>(
     alloc: Global,
     instance: &MinInstance<N>,
@@ -72,24 +72,28 @@ fn by_paths<N: Network>(
 }
 
 /// Prices fit into 64 bits if the bits of the greatest cost and twice those of the number of nodes sum to at most this.
-/// In the first phase prices fall by a few times the tolerance for each node, later by less.
+/// Of nodes that reach a deficit they then fall by less than 2^62: for each node, by a few tolerances in the first
+/// phase, and by at most 32 such tolerances in the price refinement after it; later by less.
 const PRICE_BITS: u32 = 60;
 
-/// The simplex may scan arcs and walk over nodes this often: for each arc and node, and in addition.
-const WORK_FOR_EACH: u64 = 500;
+/// How many arcs the simplex may scan, and nodes it may walk over, together, for each arc and node.
+const WORK_FOR_EACH: u64 = 320;
 
-const WORK_FOR_ALL: u64 = 1073741824;
+/// The simplex isn't tried if this many pivots for each node are too much work.
+const PIVOTS_FOR_EACH: u64 = 3;
 
-/// The network simplex with numbers of this width. None if it takes too much work.
+/// The network simplex with numbers of this width. None if it takes too much work, or seems to.
 fn by_simplex<N: Network, V: Number>(
     alloc: Global,
     problem: &Problem<'_, N>,
 ) -> Result<Option<LeastFlow>, Memory> {
+    let work = problem.size().wrapping_mul(WORK_FOR_EACH);
+    let arcs = problem.network().arcs();
+    let pivots = u64::from(problem.numbers.count()).wrapping_mul(PIVOTS_FOR_EACH);
+    if pivots.wrapping_mul(u64::from(block_size(arcs))) > work {
+        return Ok(None);
+    }
     let mut simplex: Simplex<V> = Simplex::new(alloc, problem)?;
-    let work = problem
-        .size()
-        .wrapping_mul(WORK_FOR_EACH)
-        .wrapping_add(WORK_FOR_ALL);
     if !simplex.run(alloc, work)? {
         return Ok(None);
     }
@@ -104,7 +108,7 @@ fn by_scaling<N: Network, V: Number>(
     problem: &Problem<'_, N>,
 ) -> Result<LeastFlow, Memory> {
     let mut scaling: Scaling<V> = Scaling::new(alloc, problem)?;
-    scaling.run()?;
+    scaling.run(alloc)?;
     of_residual(alloc, problem, &scaling.residual)
 }
 

@@ -4,6 +4,8 @@
 //! sixteenth: it saturates arcs with negative reduced cost, and moves the excess that this leaves to deficits along
 //! short paths of such arcs. If a path can't be extended from a node, the node's price is lowered until it can.
 //!
+//! Before each phase but the first, price refinement tries to reach the tolerance by lower prices alone.
+//!
 //! From time to time a global update lowers all prices by the nodes' distances to a deficit. If an excess reaches none,
 //! no flow is feasible, and the excess stays where it is.
 //!
@@ -11,6 +13,7 @@
 //! without them, they are taken back for good, and the phase begins again. At the end all arcs are tested.
 
 mod paths;
+mod refinement;
 mod update;
 
 use crate::levels::Levels;
@@ -23,7 +26,7 @@ use dimacs_network::Network;
 use std::alloc::Global;
 use std::collections::VecDeque;
 
-/// The most arcs on a path.
+/// The most arcs on a path of excess.
 const PATH_LENGTH: usize = 4;
 
 /// Each phase halves the tolerance this many times.
@@ -43,7 +46,8 @@ pub(crate) struct Scaling<V: Number> {
     active: VecDeque<u32>,
     /// The half-arcs of the path, by place.
     path: Vec<u32>,
-    /// The nodes by rank, their distance to a deficit in the current update.
+    /// The nodes by rank: in a global update the distance to a deficit, in price refinement how many tolerances the
+    /// price falls.
     ranks: Levels,
     /// The tolerance is 2 to this power.
     level: u32,
@@ -76,12 +80,15 @@ impl<V: Number> Scaling<V> {
     }
 
     /// Runs phases until the flow costs least, or an excess can't be moved.
-    pub(crate) fn run(&mut self) -> Result<(), Memory> {
+    pub(crate) fn run(&mut self, alloc: Global) -> Result<(), Memory> {
+        let mut is_first = true;
         for _ in 0..u32::MAX {
             self.level = self.level.saturating_sub(HALVINGS);
-            if self.refine(V::of(0))? {
+            let is_refined = !is_first && self.refine_prices(alloc)?;
+            if !is_refined && self.refine(V::of(0))? {
                 return Ok(());
             }
+            is_first = false;
             if self.level == 0 {
                 break;
             }

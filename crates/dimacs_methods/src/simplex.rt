@@ -11,7 +11,6 @@
 
 mod arcs;
 mod cycle;
-mod mixing;
 mod numbering;
 mod tree;
 
@@ -19,7 +18,6 @@ use crate::number::Number;
 use crate::problem::Problem;
 use crate::simplex::arcs::{AT_CAP, AT_LOW, Arcs, IN_TREE};
 use crate::simplex::cycle::{Cycle, Leaving};
-use crate::simplex::mixing::Mixing;
 use crate::simplex::tree::{Hook, Tree};
 use crate::tables::{member, set_member};
 use dimacs_lines::Memory;
@@ -32,14 +30,10 @@ const MOVES_PER_NUMBERING: u64 = 32;
 /// The fewest arcs that a search compares at once.
 const LEAST_BLOCK: u32 = 10;
 
-/// The method lags if its work is above `EARLY_WORK`, and if since the last test it walked over more than `WALKS` nodes
-/// for each arc scanned: then subtrees are large, and many more pivots follow. `TESTS` tests are made in as many pivots
-/// as there are nodes.
-const EARLY_WORK: u64 = 268435456;
-
-const TESTS: u64 = 4;
-
-const WALKS: u64 = 8;
+/// How many of this many arcs a search compares at once.
+pub(crate) fn block_size(arcs: u32) -> u32 {
+    arcs.isqrt().max(LEAST_BLOCK)
+}
 
 #[derive(Drop)]
 pub(crate) struct Simplex<V: Number> {
@@ -50,10 +44,8 @@ pub(crate) struct Simplex<V: Number> {
     /// Where the next search begins, and how many arcs it compares at once.
     at: u32,
     block: u32,
-    /// The work before the last test for lagging. Since then: the arcs scanned, and the nodes walked over.
+    /// The arcs scanned and the nodes walked over so far.
     work: u64,
-    looked: u64,
-    walked: u64,
     /// How many nodes may move before the next numbering.
     moves: u64,
 }
@@ -73,46 +65,27 @@ impl<V: Number> Simplex<V> {
             arcs,
             count,
             at: 0,
-            block: count.isqrt().max(LEAST_BLOCK),
+            block: block_size(count),
             work: 0,
-            looked: 0,
-            walked: 0,
             moves: 1,
         })
     }
 
-    /// Pivots until no arc should change its state. False if that takes more than `work`, or seems to.
+    /// Pivots until no arc should change its state. False if that takes more than `work`.
     pub(crate) fn run(&mut self, alloc: Global, work: u64) -> Result<bool, Memory> {
-        let pivots = u64::from(self.tree.root()) / TESTS;
-        let mut left = pivots;
         for _ in 0..u64::MAX {
             let Some(entering) = self.entering() else {
                 return Ok(true);
             };
-            if left == 0 {
-                left = pivots;
-                if self.lags(work) {
-                    return Ok(false);
-                }
+            if self.work > work {
+                break;
             }
-            left = left.saturating_sub(1);
             self.pivot(entering);
             if self.moves == 0 {
                 self.renumber(alloc)?;
             }
         }
         Ok(false)
-    }
-
-    fn lags(&mut self, work: u64) -> bool {
-        let walks = self.walked > self.looked.wrapping_mul(WALKS);
-        self.work = self
-            .work
-            .wrapping_add(self.looked)
-            .wrapping_add(self.walked);
-        self.looked = 0;
-        self.walked = 0;
-        self.work > work || walks && self.work > EARLY_WORK
     }
 
     /// Block search: the best arc that should change its state, in the first block that has one, after the last block.
@@ -127,7 +100,7 @@ impl<V: Number> Simplex<V> {
             let looked_at = end.wrapping_sub(start);
             left = left.saturating_sub(looked_at);
             self.at = end;
-            self.looked = self.looked.wrapping_add(u64::from(looked_at));
+            self.work = self.work.wrapping_add(u64::from(looked_at));
             let best = self.arcs.best(&self.tree.potentials, start, end);
             if best.is_some() {
                 return best;
@@ -146,7 +119,7 @@ impl<V: Number> Simplex<V> {
         } else {
             Cycle::find(&self.tree, price.head, price.tail, residual_capacity)
         };
-        self.walked = self.walked.wrapping_add(cycle.steps);
+        self.work = self.work.wrapping_add(cycle.steps);
         self.tree.augment(&cycle);
         match cycle.leaving {
             Leaving::Itself => self.arcs.set_state(entering, state.wrapping_neg()),
@@ -183,7 +156,7 @@ impl<V: Number> Simplex<V> {
         self.leave(out);
         self.arcs.set_state(hook.arc, IN_TREE);
         let moved = self.tree.rehang(top, out, hook, raise);
-        self.walked = self.walked.wrapping_add(moved);
+        self.work = self.work.wrapping_add(moved);
         self.moves = self.moves.saturating_sub(moved);
     }
 
@@ -222,10 +195,9 @@ impl<V: Number> Simplex<V> {
         network: &N,
     ) -> Result<Vec<i64>, Memory> {
         self.settle();
-        let mut mixing = Mixing::new(network.arcs());
         let mut amounts = Vec::with_capacity(alloc, network.arcs() as usize)?;
         for i in 0..network.arcs() {
-            let above = self.arcs.above_low(mixing.next());
+            let above = self.arcs.above_low(i);
             amounts.push(network.arc(i).low.wrapping_add(above))?;
         }
         Ok(amounts)

@@ -1,8 +1,7 @@
-//! The arcs, by position.
+//! The arcs, in the order of the network.
 
 use crate::number::Number;
 use crate::problem::Problem;
-use crate::simplex::mixing::Mixing;
 use crate::simplex::tree::Node;
 use crate::tables::{member, set_member};
 use dimacs_lines::Memory;
@@ -54,58 +53,49 @@ impl<V: Number> Arcs<V> {
         alloc: Global,
         problem: &Problem<'_, N>,
     ) -> Result<Arcs<V>, Memory> {
-        let count = problem.network().arcs() as usize;
-        let prices = vec![in alloc; nowhere(); count]?;
-        let states = vec![in alloc; AT_LOW; count]?;
-        let residual_capacities = vec![in alloc; 0i64; count]?;
-        let mut arcs = Arcs {
-            prices,
-            states,
-            residual_capacities,
-        };
-        arcs.fill(problem);
-        Ok(arcs)
-    }
-
-    fn fill<N: Network>(&mut self, problem: &Problem<'_, N>) {
         let network = problem.network();
-        let mut mixing = Mixing::new(network.arcs());
+        let count = network.arcs() as usize;
+        let mut arcs = Arcs {
+            prices: Vec::with_capacity(alloc, count)?,
+            states: vec![in alloc; AT_LOW; count]?,
+            residual_capacities: Vec::with_capacity(alloc, count)?,
+        };
         for i in 0..network.arcs() {
             let arc = network.arc(i);
-            let price = Price {
+            arcs.prices.push(Price {
                 cost: V::of(arc.cost),
                 tail: problem.numbers.of(arc.tail),
                 head: problem.numbers.of(arc.head),
-            };
-            let position = mixing.next();
-            set_member(&mut self.prices, position, price);
-            self.set_residual_capacity(position, arc.cap.wrapping_sub(arc.low));
+            })?;
+            arcs.residual_capacities
+                .push(arc.cap.wrapping_sub(arc.low))?;
         }
+        Ok(arcs)
     }
 
     #[inline(always)]
-    pub(crate) fn price(&self, position: u32) -> Price<V> {
-        member(&self.prices, position, nowhere())
+    pub(crate) fn price(&self, arc: u32) -> Price<V> {
+        member(&self.prices, arc, nowhere())
     }
 
     #[inline(always)]
-    pub(crate) fn state(&self, position: u32) -> i8 {
-        member(&self.states, position, IN_TREE)
+    pub(crate) fn state(&self, arc: u32) -> i8 {
+        member(&self.states, arc, IN_TREE)
     }
 
     #[inline(always)]
-    pub(crate) fn set_state(&mut self, position: u32, state: i8) {
-        set_member(&mut self.states, position, state);
+    pub(crate) fn set_state(&mut self, arc: u32, state: i8) {
+        set_member(&mut self.states, arc, state);
     }
 
     #[inline(always)]
-    pub(crate) fn residual_capacity(&self, position: u32) -> i64 {
-        member(&self.residual_capacities, position, 0)
+    pub(crate) fn residual_capacity(&self, arc: u32) -> i64 {
+        member(&self.residual_capacities, arc, 0)
     }
 
     /// At the end, a tree arc gets the amount minus the lower bound.
-    pub(crate) fn set_residual_capacity(&mut self, position: u32, residual_capacity: i64) {
-        set_member(&mut self.residual_capacities, position, residual_capacity);
+    pub(crate) fn set_residual_capacity(&mut self, arc: u32, residual_capacity: i64) {
+        set_member(&mut self.residual_capacities, arc, residual_capacity);
     }
 
     /// The amount minus the lower bound of the arc between a node and its parent.
@@ -119,11 +109,11 @@ impl<V: Number> Arcs<V> {
     }
 
     /// The amount minus the lower bound, after `settle`.
-    pub(crate) fn above_low(&self, position: u32) -> i64 {
-        if self.state(position) == AT_LOW {
+    pub(crate) fn above_low(&self, arc: u32) -> i64 {
+        if self.state(arc) == AT_LOW {
             return 0;
         }
-        self.residual_capacity(position)
+        self.residual_capacity(arc)
     }
 
     /// Of the arcs from `start` to `end` that should change their state, the one with the greatest absolute reduced
@@ -133,14 +123,14 @@ impl<V: Number> Arcs<V> {
         let states = self.states.get(start as usize..end as usize)?;
         let mut least = V::of(0);
         let mut best = None;
-        let mut position = start;
+        let mut arc = start;
         for (price, state) in prices.iter().zip(states) {
             let gain = price.reduced(potentials).times(V::of(i64::from(*state)));
             if gain.is_below(least) {
                 least = gain;
-                best = Some(position);
+                best = Some(arc);
             }
-            position = position.wrapping_add(1);
+            arc = arc.wrapping_add(1);
         }
         best
     }

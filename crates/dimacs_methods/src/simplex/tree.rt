@@ -6,7 +6,7 @@ use crate::tables::{count_of, member};
 use dimacs_lines::Memory;
 use std::alloc::{AllocError, Global};
 
-/// Stands for the position of an artificial arc.
+/// Stands for an artificial arc.
 pub(crate) const ARTIFICIAL: u32 = u32::MAX;
 
 /// A node of the tree, with its parent arc.
@@ -15,7 +15,7 @@ pub(crate) struct Node<V> {
     pub up: V,
     pub down: V,
     pub parent: u32,
-    /// The position of the parent arc.
+    /// The arc to the parent or from it.
     pub arc: u32,
     /// The node before this one in preorder.
     pub before: u32,
@@ -37,7 +37,7 @@ pub(crate) struct Thread {
     pub depth: u32,
 }
 
-/// The arc that joins a subtree to a parent: its position, and its residual capacities to the parent and from it.
+/// The arc that joins a subtree to a parent, and its residual capacities to the parent and from it.
 #[derive(Drop)]
 pub(crate) struct Hook<V> {
     pub parent: u32,
