@@ -89,7 +89,8 @@ impl PathBack {
 
     #[inline(always)]
     fn goes_on(&self, tree: &LabelTree, distances: &[i64], from: u32, at: u32) -> bool
-        ensures { IsTrue result ↔ (IsSome (claimed_by_node distances.now at) × (value_of tree.now.labelled at ≡ false) × (value_of self.now.roots at ≢ from)) }
+        ensures { IsTrue result ↔ (IsSome (claimed_by_node distances.now at) × (value_of tree.now.labelled at ≡ false)
+            × (value_of self.now.roots at ≢ from)) }
     {
         distance_of(distances, at).is_some() && !tree.is_labelled(at) && self.roots.get(at) != from
     }

@@ -85,7 +85,8 @@ fn least_by<N: Network>(
     requires least { Least instance.now flow }
     requires slack { Slack instance.now.arcs flow (potential_of potentials) }
     requires nodes { potentials.nodes ≡ instance.now.nodes }
-    ensures { IfOk result (λ solved. (limit : ℕ) → (limit ≡ 0 → flow ≡ start_flow instance.now.arcs) → SolvesMinFlow instance.now limit (Ok solved)) }
+    ensures { IfOk result (λ solved. (limit : ℕ) → (limit ≡ 0 → flow ≡ start_flow instance.now.arcs)
+        → SolvesMinFlow instance.now limit (Ok solved)) }
 {
     let Ok(cost) = cost_within(instance.network(), &flow) else {
         return Ok(MinSolved::GaveUp);

@@ -205,7 +205,8 @@ impl BegunLabels {
     /// Whether the last block, whose source is given, has a label of this node.
     #[inline(always)]
     fn has_label(&self, source: u32, id: u32) -> bool
-        ensures { (front : List BlockValue) (b : BlockValue) → self.now.blocks ≡ front ++ b ∷ [] → b.source ≡ source → result ≡ is_some (claims.label b id) }
+        ensures { (front : List BlockValue) (b : BlockValue) → self.now.blocks ≡ front ++ b ∷ [] → b.source ≡ source
+            → result ≡ is_some (claims.label b id) }
     {
         source == id || self.labelled.get(id) == self.len()
     }

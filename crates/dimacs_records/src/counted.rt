@@ -138,7 +138,8 @@ pub fn read_counted<B: Begun, S: Source>(
     alloc: Global,
     source: &mut S,
 ) -> Result<B::Value, ReadError>
-    ensures reads { (text : List ℕ) → S.coming source.old ≡ Some text → Reads (SpellsValue B.kind B.gives (lines text)) (Fault B.kind (lines text)) result }
+    ensures reads { (text : List ℕ) → S.coming source.old ≡ Some text
+        → Reads (SpellsValue B.kind B.gives (lines text)) (Fault B.kind (lines text)) result }
     ensures faults { CountsRead result (S.faults source.old) (S.faults source.new) }
 {
     read_text(alloc, B::kind(), CountedReading::<B>::new(alloc), source)

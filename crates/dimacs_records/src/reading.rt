@@ -31,7 +31,8 @@ pub trait Reading: Drop {
         requires of_kind { IsOfKind (kind self.old) rec }
         ensures kind { kind self.new ≡ kind self.old }
         ensures allowed { OnOk result ((rs : List LineRecord) → stands_for self.old rs → IsAllowed (records_of rs) rec) }
-        ensures taken { OnOk result ((rs : List LineRecord) → stands_for self.old rs → AreBefore line rs → stands_for self.new (rs ++ on_line line rec ∷ [])) }
+        ensures taken { OnOk result ((rs : List LineRecord) → stands_for self.old rs → AreBefore line rs
+            → stands_for self.new (rs ++ on_line line rec ∷ [])) }
         ensures refused { IfErr result (λ error. (rs : List LineRecord) → stands_for self.old rs → RefusesRecord (records_of rs) rec error) }
         ensures unchanged { OnErr result ((rs : List LineRecord) → stands_for self.new rs ↔ stands_for self.old rs) }
         ensures kept { (value : Self.Value) → keeps self.new value → keeps self.old value };

@@ -81,7 +81,8 @@ pub(crate) fn certify_claim<P: Source, Q: Source>(
     instance: &mut P,
     claim: &mut Q,
 ) -> Result<Outcome, RunError>
-    ensures certifies { (a b : List ℕ) → P.coming instance.old ≡ Some a → IsClaimed kind (Q.coming claim.old) b → MayCertify (Certified kind a b) result }
+    ensures certifies { (a b : List ℕ) → P.coming instance.old ≡ Some a → IsClaimed kind (Q.coming claim.old) b
+        → MayCertify (Certified kind a b) result }
     ensures faults { CountsDevices result (P.faults instance.old ∷ Q.faults claim.old ∷ []) (P.faults instance.new ∷ Q.faults claim.new ∷ []) }
     ensures stops_at_instance { HasFault (certified_kind kind) (P.coming instance.old) → claim.new ≡ claim.old }
     ensures unclaimed { kind ≡ certifies.Infeasible → claim.new ≡ claim.old }

@@ -29,7 +29,8 @@ pub(crate) fn certify_distances<P: Source, Q: Source>(
 ) -> Result<Outcome, Stop>
     ensures certifies { (a b : List ℕ) → P.coming graph.old ≡ Some a → Q.coming distances.old ≡ Some b →
         MayCertify (Certified certifies.Paths a b) (outcome_of result) }
-    ensures faults { CountsDevices (outcome_of result) (P.faults graph.old ∷ Q.faults distances.old ∷ []) (P.faults graph.new ∷ Q.faults distances.new ∷ []) }
+    ensures faults { CountsDevices (outcome_of result) (P.faults graph.old ∷ Q.faults distances.old ∷ [])
+        (P.faults graph.new ∷ Q.faults distances.new ∷ []) }
     ensures stops_at_graph { HasFault kinds.Graph (P.coming graph.old) → distances.new ≡ distances.old }
 {
     let (graph, distances): (Graph<PlainArcs<WeightArc>>, _) = read_two(alloc, graph, distances)?;

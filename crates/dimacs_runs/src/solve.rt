@@ -92,8 +92,10 @@ fn solve_labels<P: Source, Q: Source>(
     graph: &mut P,
     queries: &mut Q,
 ) -> Result<Outcome, Stop>
-    ensures solves { (a b : List ℕ) → P.coming graph.old ≡ Some a → Q.coming queries.old ≡ Some b → MaySolve (Solved jobs.Paths a b) (outcome_of result) }
-    ensures faults { CountsDevices (outcome_of result) (P.faults graph.old ∷ Q.faults queries.old ∷ []) (P.faults graph.new ∷ Q.faults queries.new ∷ []) }
+    ensures solves { (a b : List ℕ) → P.coming graph.old ≡ Some a → Q.coming queries.old ≡ Some b
+        → MaySolve (Solved jobs.Paths a b) (outcome_of result) }
+    ensures faults { CountsDevices (outcome_of result) (P.faults graph.old ∷ Q.faults queries.old ∷ [])
+        (P.faults graph.new ∷ Q.faults queries.new ∷ []) }
     ensures stops_at_graph { HasFault kinds.Graph (P.coming graph.old) → queries.new ≡ queries.old }
     ensures unclaimed { IfOk (outcome_of result) (λ outcome. outcome.claim ≡ Nothing) }
 {

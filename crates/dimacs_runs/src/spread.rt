@@ -62,7 +62,8 @@ pub(crate) fn spread_claim<P: Source, Q: Source>(
     instance: &mut P,
     claim: &mut Q,
 ) -> Result<Outcome, RunError>
-    ensures spreads { (a b : List ℕ) → P.coming instance.old ≡ Some a → Q.coming claim.old ≡ Some b → IfEnds unclaimed_texts (Spreads kind a b) result }
+    ensures spreads { (a b : List ℕ) → P.coming instance.old ≡ Some a → Q.coming claim.old ≡ Some b
+        → IfEnds unclaimed_texts (Spreads kind a b) result }
     ensures faults { CountsDevices result (P.faults instance.old ∷ Q.faults claim.old ∷ []) (P.faults instance.new ∷ Q.faults claim.new ∷ []) }
 {
     outcome_of(match kind {
@@ -78,7 +79,8 @@ fn spread_maximum<P: Source, Q: Source>(
 ) -> Result<Outcome, Stop>
     ensures spreads { (a b : List ℕ) → P.coming instance.old ≡ Some a → Q.coming claim.old ≡ Some b →
         IfEnds unclaimed_texts (Spreads spreads.Max a b) (outcome_of result) }
-    ensures faults { CountsDevices (outcome_of result) (P.faults instance.old ∷ Q.faults claim.old ∷ []) (P.faults instance.new ∷ Q.faults claim.new ∷ []) }
+    ensures faults { CountsDevices (outcome_of result) (P.faults instance.old ∷ Q.faults claim.old ∷ [])
+        (P.faults instance.new ∷ Q.faults claim.new ∷ []) }
 {
     let (instance, claim): (MaxInstance<PlainArcs<CapacityArc>>, _) = read_two(
         alloc, instance, claim,
@@ -94,7 +96,8 @@ fn spread_least<P: Source, Q: Source>(
 ) -> Result<Outcome, Stop>
     ensures spreads { (a b : List ℕ) → P.coming instance.old ≡ Some a → Q.coming claim.old ≡ Some b →
         IfEnds unclaimed_texts (Spreads spreads.Min a b) (outcome_of result) }
-    ensures faults { CountsDevices (outcome_of result) (P.faults instance.old ∷ Q.faults claim.old ∷ []) (P.faults instance.new ∷ Q.faults claim.new ∷ []) }
+    ensures faults { CountsDevices (outcome_of result) (P.faults instance.old ∷ Q.faults claim.old ∷ [])
+        (P.faults instance.new ∷ Q.faults claim.new ∷ []) }
 {
     let (instance, claim): (MinInstance<PlainArcs<ArcView>>, _) = read_two(alloc, instance, claim)?;
     let flow = spread_min(alloc, &instance, &claim);

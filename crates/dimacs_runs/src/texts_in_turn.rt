@@ -41,7 +41,8 @@ pub(crate) fn read_summary<V: Summary, P: Source>(
     alloc: Global,
     source: &mut P,
 ) -> Result<V, Unread>
-    ensures reads { (a : List ℕ) → P.coming source.old ≡ Some a → PlacesOne (λ value summary. V.sums_up summary value) (text_spells V.kind V.spells a) result }
+    ensures reads { (a : List ℕ) → P.coming source.old ≡ Some a
+        → PlacesOne (λ value summary. V.sums_up summary value) (text_spells V.kind V.spells a) result }
     ensures enough { IfOk result (λ summary. (value : V.Content) → V.sums_up summary value → V.line summary ≡ V.shown value) }
     ensures faults { CountsUnread result (P.faults source.old ∷ []) (P.faults source.new ∷ []) }
 {
