@@ -125,12 +125,19 @@ def cell(taken, name, solving):
     return f"**{seconds} ({digits(ratio)})**" if ratio < 1 else f"{seconds} ({digits(ratio)})"
 
 
-def fastest(taken, ours):
-    """The ratio of the fastest peer to a program of dimacs, with its middle half, where both end in time."""
+def fastest(taken):
+    """What the fastest peer took; no runs if none ends in time."""
     peers = [taken[name] for name, _, _ in PEERS if name in taken and taken[name].runs]
-    if not peers or ours not in taken or not taken[ours].runs:
-        return None
-    return min(peers, key=Rounds.cpu).ratio(taken[ours])
+    return min(peers, key=Rounds.cpu, default=Rounds())
+
+
+def quotient(peer, ours):
+    """The ratio of a peer to a program of dimacs, with its middle half, if both end in time."""
+    return peer.ratio(ours) if peer.runs and ours.runs else None
+
+
+def bytes_an_arc(rounds, arcs):
+    return f"{rounds.peak_bytes() / arcs:.0f}" if rounds.runs else ""
 
 
 def measure_kind(asked, kind, megabytes):
@@ -140,17 +147,19 @@ def measure_kind(asked, kind, megabytes):
         return
     ours = OURS[kind]
     peers = [name for name, _, called in PEERS if kind in called]
-    quotients = [f"Fastest peer / {name}" for name in ours]
-    head(f"{KINDS[kind]}, {megabytes} MB", "Family", "Arcs", *ours, *peers, *quotients, "Bytes an arc")
+    ratio_names = [f"Fastest peer / {name}" for name in ours]
+    memory_names = ["Bytes an arc", "Fastest peer's"]
+    head(f"{KINDS[kind]}, {megabytes} MB", "Family", "Arcs", *ours, *peers, *ratio_names, *memory_names)
     ratios = {name: [] for name in ours}
     for family, file in wanted:
         taken = measure_instance(kind, file, commands(asked.binary, kind, megabytes, file), asked.rounds)
         arcs = declared_arcs(file)
-        quotients = {name: fastest(taken, name) for name in ours}
-        spreads = ["{:.2f} ({:.2f} to {:.2f})".format(*it) if it else "" for it in quotients.values()]
-        bytes_an_arc = f"{taken[ours[0]].peak_bytes() / arcs:.0f}" if taken[ours[0]].runs else ""
-        row(family, f"{arcs:,}", *(cell(taken, name, ours[0]) for name in ours + peers), *spreads, bytes_an_arc)
-        for name, ratio in quotients.items():
+        peer = fastest(taken)
+        quotients = [quotient(peer, taken.get(name, Rounds())) for name in ours]
+        spreads = ["{:.2f} ({:.2f} to {:.2f})".format(*it) if it else "" for it in quotients]
+        memory = [bytes_an_arc(rounds, arcs) for rounds in (taken[ours[0]], peer)]
+        row(family, f"{arcs:,}", *(cell(taken, name, ours[0]) for name in ours + peers), *spreads, *memory)
+        for name, ratio in zip(ours, quotients):
             ratios[name] += [ratio[0]] if ratio else []
     for name, of_name in ratios.items():
         if of_name:
