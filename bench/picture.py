@@ -1,5 +1,5 @@
 #!/usr/bin/env python3
-"""Draws how long other programs take in comparison with dimacs, from the tables that 'bench/run producers' prints.
+"""Draws how long other programs take in comparison with dimacs, from tables as 'bench/run producers' prints them.
 
     bench/picture.py [TABLES]... > PICTURE.svg      reads standard input if no file is named
 
