@@ -105,7 +105,7 @@ fn print<T: Text, S: Source, K: Sink>(
 ) -> Result<Status, RunError>
     ensures reports { (bytes : List ℕ) → S.coming text.old ≡ Some bytes
         → Reports (PrintsText (text_spells T.kind T.spells bytes) (in_form form T.canonical T.shown)) result
-            (K.seen sink.old).accepted (K.seen sink.new).accepted }
+        (K.seen sink.old).accepted (K.seen sink.new).accepted }
     ensures faults { CountsDevices result (S.faults text.old ∷ (K.seen sink.old).faults ∷ []) (S.faults text.new ∷ (K.seen sink.new).faults ∷ []) }
     ensures nothing_written { S.faults text.new ≢ S.faults text.old → K.seen sink.new ≡ K.seen sink.old }
     ensures memory { result ≡ Err Memory → K.seen sink.new ≡ K.seen sink.old }
