@@ -81,16 +81,17 @@ impl<V: Number> Scaling<V> {
 
     /// Runs phases until the flow costs least, or an excess can't be moved.
     pub(crate) fn run(&mut self, alloc: Global) -> Result<(), Memory> {
-        let mut is_first = true;
+        self.level = self.level.saturating_sub(HALVINGS);
+        if self.refine(V::of(0))? {
+            return Ok(());
+        }
         for _ in 0..u32::MAX {
-            self.level = self.level.saturating_sub(HALVINGS);
-            let is_refined = !is_first && self.refine_prices(alloc)?;
-            if !is_refined && self.refine(V::of(0))? {
-                return Ok(());
-            }
-            is_first = false;
             if self.level == 0 {
                 break;
+            }
+            self.level = self.level.saturating_sub(HALVINGS);
+            if !self.refine_prices(alloc)? && self.refine(V::of(0))? {
+                return Ok(());
             }
         }
         self.leaves_out = false;

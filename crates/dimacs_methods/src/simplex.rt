@@ -18,7 +18,7 @@ use crate::number::Number;
 use crate::problem::Problem;
 use crate::simplex::arcs::{AT_CAP, AT_LOW, Arcs, IN_TREE};
 use crate::simplex::cycle::{Cycle, Leaving};
-use crate::simplex::tree::{Hook, Tree};
+use crate::simplex::tree::{ARTIFICIAL, Hook, Tree};
 use crate::tables::{member, set_member};
 use dimacs_lines::Memory;
 use dimacs_network::Network;
@@ -30,20 +30,27 @@ const MOVES_PER_NUMBERING: u64 = 32;
 /// The fewest arcs that a search compares at once.
 const LEAST_BLOCK: u32 = 10;
 
-/// How many of this many arcs a search compares at once.
-pub(crate) fn block_size(arcs: u32) -> u32 {
-    arcs.isqrt().max(LEAST_BLOCK)
-}
+/// The most work for each arc and node.
+const MOST_WORK: u64 = 320;
+
+/// The most work for each arc and node until arcs of the network hold most nodes in the tree: so much at first,
+/// and so much times the share of the nodes that they hold. A simplex that needs more is slower than cost scaling.
+const FIRST_WORK: u64 = 10;
+
+const JOINING_WORK: u64 = 110;
 
 #[derive(Drop)]
 pub(crate) struct Simplex<V: Number> {
     tree: Tree<V>,
     arcs: Arcs<V>,
-    /// The number of arcs.
+    /// The number of arcs; of arcs and nodes.
     count: u32,
+    size: u64,
     /// Where the next search begins, and how many arcs it compares at once.
     at: u32,
     block: u32,
+    /// How many artificial arcs have left the tree.
+    joined: u32,
     /// The arcs scanned and the nodes walked over so far.
     work: u64,
     /// How many nodes may move before the next numbering.
@@ -64,20 +71,22 @@ impl<V: Number> Simplex<V> {
             tree,
             arcs,
             count,
+            size: problem.size(),
             at: 0,
-            block: block_size(count),
+            block: count.isqrt().max(LEAST_BLOCK),
+            joined: 0,
             work: 0,
             moves: 1,
         })
     }
 
-    /// Pivots until no arc should change its state. False if that takes more than `work`.
-    pub(crate) fn run(&mut self, alloc: Global, work: u64) -> Result<bool, Memory> {
+    /// Pivots until no arc should change its state. False if that takes too much work, or seems to.
+    pub(crate) fn run(&mut self, alloc: Global) -> Result<bool, Memory> {
         for _ in 0..u64::MAX {
             let Some(entering) = self.entering() else {
                 return Ok(true);
             };
-            if self.work > work {
+            if self.work > self.work_limit() {
                 break;
             }
             self.pivot(entering);
@@ -86,6 +95,18 @@ impl<V: Number> Simplex<V> {
             }
         }
         Ok(false)
+    }
+
+    /// The most work so far.
+    fn work_limit(&self) -> u64 {
+        let nodes = u64::from(self.tree.root());
+        let joined = u64::from(self.joined);
+        let for_each = if joined >= nodes - nodes / 8 {
+            MOST_WORK
+        } else {
+            FIRST_WORK + JOINING_WORK * joined / nodes
+        };
+        self.size.wrapping_mul(for_each)
     }
 
     /// Block search: the best arc that should change its state, in the first block that has one, after the last block.
@@ -165,13 +186,15 @@ impl<V: Number> Simplex<V> {
         let node = self.tree.node(out);
         let is_empty = self.arcs.flow(out, &node).is_zero();
         let state = if is_empty { AT_LOW } else { AT_CAP };
+        if node.arc == ARTIFICIAL {
+            self.joined = self.joined.wrapping_add(1);
+        }
         self.arcs.set_state(node.arc, state);
     }
 
     /// Numbers the nodes again, in the tree and at the arcs.
     fn renumber(&mut self, alloc: Global) -> Result<(), Memory> {
-        let nodes = u64::from(self.tree.root());
-        self.moves = MOVES_PER_NUMBERING.wrapping_mul(nodes.wrapping_add(u64::from(self.count)));
+        self.moves = self.size.wrapping_mul(MOVES_PER_NUMBERING);
         let numbers = self.tree.renumber(alloc)?;
         for price in &mut self.arcs.prices {
             price.tail = member(&numbers, price.tail, 0);
