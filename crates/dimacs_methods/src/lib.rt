@@ -20,4 +20,4 @@ mod tables;
 
 pub use least_flow::{LeastFlow, make_least_flow};
 pub use potentials::{Guess, ResidualArc, guess_potentials};
-pub use preflow::{raise_value, send_excess};
+pub use preflow::{MaximumFlow, raise_value, send_excess};

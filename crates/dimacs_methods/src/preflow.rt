@@ -9,6 +9,7 @@ use crate::levels::{Levels, NONE};
 use crate::preflow::active::ActiveNodes;
 use crate::preflow::residual::{Half, Residual};
 use crate::tables::{member, set_member};
+use dimacs_claims::Cut;
 use dimacs_instance::{MaxInstance, MinInstance};
 use dimacs_lines::Memory;
 use dimacs_network::Network;
@@ -37,13 +38,20 @@ struct Preflow {
     work_limit: u64,
 }
 
-/// Finds a maximum flow from a feasible one. `amounts` are in the order of the arcs. Takes some 60 bytes for each node,
-/// of at most two for each arc and a few, and 44 for each arc.
+/// The amounts, in the order of the arcs, and the nodes that more flow from the source could come to.
+#[derive(Drop)]
+pub struct MaximumFlow {
+    pub amounts: Vec<i64>,
+    pub cut: Cut,
+}
+
+/// Finds a maximum flow from a feasible one, and a cut that shows it. `amounts` are in the order of the arcs. Takes some
+/// 60 bytes for each node, of at most two for each arc and a few, and 44 for each arc.
 pub fn raise_value<N: Network>(
     alloc: Global,
     instance: &MaxInstance<N>,
     amounts: &[i64],
-) -> Result<Vec<i64>, Memory> {
+) -> Result<MaximumFlow, Memory> {
     let network = instance.network();
     let mut preflow = Preflow::new(alloc, network, amounts)?;
     let source = preflow.residual.numbers.of(instance.source());
@@ -51,7 +59,21 @@ pub fn raise_value<N: Network>(
     preflow.saturate_from(source);
     preflow.drain_to(sink, source);
     preflow.drain_to(source, sink);
-    preflow.residual.amounts(alloc, network)
+    let reached = preflow.residual.reached(alloc, source)?;
+    let mut cut = Cut::new(alloc, network.nodes());
+    for number in reached {
+        add_node(&mut cut, preflow.residual.numbers.id(number))?;
+    }
+    let amounts = preflow.residual.amounts(alloc, network)?;
+    Ok(MaximumFlow { amounts, cut })
+}
+
+/// Ignores an ID that is no node.
+fn add_node(cut: &mut Cut, id: u32) -> Result<(), Memory> {
+    if 1 <= id && id <= cut.nodes() {
+        cut.add(id)?;
+    }
+    Ok(())
 }
 
 /// Finds a flow that leaves the least excess, from one within the bounds. Takes as much memory.

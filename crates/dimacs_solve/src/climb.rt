@@ -1,13 +1,16 @@
 //! Maximum flow by successive improvements.
 
-ghost use Rattle.std.specs.Prelude.{IfOk};
+ghost use Rattle.std.specs.Prelude.{◌≡◌, IfOk, IsTrue};
+ghost use Rattle.dimacs_optimality.specs.Cuts.{CutTight, members};
+ghost use Rattle.dimacs_optimality.specs.Feasible.{FeasibleMax};
+ghost use Rattle.dimacs_optimality.specs.Optimum.{Maximum};
 ghost use Rattle.dimacs_solve.specs.Climbing.{Climbs};
 
-use crate::improve::improve_max;
+use crate::improve::raise;
 use dimacs_claims::Cut;
-use dimacs_decide::{Incidence, MaxDecision, decide_max_over};
+use dimacs_decide::{MaxDecision, decide_max};
 use dimacs_instance::MaxInstance;
-use dimacs_judge::Flow;
+use dimacs_judge::{Flow, cut_tests};
 use dimacs_lines::Memory;
 use dimacs_network::Network;
 use std::alloc::Global;
@@ -22,7 +25,8 @@ pub enum MaxFlowAnswer {
 }
 
 /// Starts at the zero flow, and goes to flows of greater value until one is maximum. At most `limit` flows are tested
-/// for being maximum. Between two tests a heuristic may improve the flow further.
+/// for being maximum: by the cut that a heuristic made with the flow, or else by a search, unless the heuristic comes to
+/// a greater value.
 pub fn solve_max_flow<N: Network>(
     alloc: Global,
     instance: &MaxInstance<N>,
@@ -31,13 +35,29 @@ pub fn solve_max_flow<N: Network>(
     ensures { IfOk result (Climbs instance.now limit) }
 {
     let network = instance.network();
-    let incidence = Incidence::new(alloc, network)?;
     let mut flow = Flow::zero(alloc, network.arcs())?;
+    let mut cut = Cut::new(alloc, network.nodes());
     for _turn in 0..limit {
-        match decide_max_over(alloc, instance, &incidence, &flow)? {
-            MaxDecision::Optimal(cut) => return Ok(MaxFlowAnswer::Optimal(flow, cut)),
-            MaxDecision::Better(better) => flow = improve_max(alloc, instance, better),
+        if shows_maximum(instance, &flow, &cut) {
+            return Ok(MaxFlowAnswer::Optimal(flow, cut));
+        }
+        if let Some(raised) = raise(alloc, instance, &flow) {
+            flow = raised.flow;
+            cut = raised.cut;
+        } else {
+            match decide_max(alloc, instance, &flow)? {
+                MaxDecision::Optimal(cut) => return Ok(MaxFlowAnswer::Optimal(flow, cut)),
+                MaxDecision::Better(better) => flow = better,
+            }
         }
     }
     Ok(MaxFlowAnswer::GaveUp)
+}
+
+/// Whether the cut shows that a feasible flow is maximum.
+fn shows_maximum<N: Network>(instance: &MaxInstance<N>, flow: &Flow, cut: &Cut) -> bool
+    requires { FeasibleMax instance.now flow.now }
+    ensures { IsTrue result → Maximum instance.now flow.now × CutTight instance.now flow.now (members cut.now) × (cut.now.nodes ≡ instance.now.nodes) }
+{
+    cut.nodes() == instance.network().nodes() && cut_tests(instance, flow, cut).is_ok()
 }
