@@ -6,7 +6,6 @@ ghost use Rattle.dimacs_network.specs.declared.network.ArcView.{ArcView};
 ghost use Rattle.dimacs_optimality.specs.Feasible.{FeasibleMax};
 ghost use Rattle.dimacs_nodes.specs.Tables.{value_of};
 ghost use Rattle.dimacs_decide.specs.MaxDecision.{DecidesMax};
-ghost use Rattle.dimacs_decide.specs.Incidence.{IsIncidenceOf};
 ghost use Rattle.dimacs_decide.specs.inside.Residual.{IsResidualSearch, rank_of};
 ghost use Rattle.dimacs_decide.specs.inside.Imbalances.{AreEnds};
 
@@ -40,24 +39,10 @@ pub fn decide_max<N: Network>(
     requires { FeasibleMax instance.now flow.now }
     ensures { IfOk result (DecidesMax instance.now flow.now) }
 {
-    let incidence = Incidence::new(alloc, instance.network())?;
-    decide_max_over(alloc, instance, &incidence, flow)
-}
-
-/// The same over adjacency lists that several calls can share.
-pub fn decide_max_over<N: Network>(
-    alloc: Global,
-    instance: &MaxInstance<N>,
-    incidence: &Incidence,
-    flow: &Flow,
-) -> Result<MaxDecision, Memory>
-    requires feasible { FeasibleMax instance.now flow.now }
-    requires incidence { IsIncidenceOf instance.now.arcs incidence.now }
-    ensures { IfOk result (DecidesMax instance.now flow.now) }
-{
     let network = instance.network();
+    let incidence = Incidence::new(alloc, network)?;
     let search = source_search(alloc, instance.source(), instance.sink())?;
-    match send(alloc, network, incidence, flow, search)? {
+    match send(alloc, network, &incidence, flow, search)? {
         Augmentation::Sent(better) => Ok(MaxDecision::Better(better)),
         Augmentation::Stuck(cut) => Ok(MaxDecision::Optimal(cut)),
     }

@@ -1,9 +1,8 @@
 //! Maximum flow by successive improvements.
 
-ghost use Rattle.std.specs.Prelude.{◌≡◌, IfOk, IsTrue};
-ghost use Rattle.dimacs_optimality.specs.Cuts.{CutTight, members};
+ghost use Rattle.std.specs.Prelude.{IfOk, IsTrue};
 ghost use Rattle.dimacs_optimality.specs.Feasible.{FeasibleMax};
-ghost use Rattle.dimacs_optimality.specs.Optimum.{Maximum};
+ghost use Rattle.dimacs_decide.specs.MaxDecision.{DecidesMax};
 ghost use Rattle.dimacs_solve.specs.Climbing.{Climbs};
 
 use crate::improve::raise;
@@ -25,8 +24,8 @@ pub enum MaxFlowAnswer {
 }
 
 /// Starts at the zero flow, and goes to flows of greater value until one is maximum. At most `limit` flows are tested
-/// for being maximum: by the cut that a heuristic made with the flow, or else by a search, unless the heuristic comes to
-/// a greater value.
+/// for being maximum: by the cut that a heuristic made with the flow. If that isn't tight, the heuristic looks for a
+/// greater value; if it finds none, the flow is decided by a search.
 pub fn solve_max_flow<N: Network>(
     alloc: Global,
     instance: &MaxInstance<N>,
@@ -38,7 +37,7 @@ pub fn solve_max_flow<N: Network>(
     let mut flow = Flow::zero(alloc, network.arcs())?;
     let mut cut = Cut::new(alloc, network.nodes());
     for _turn in 0..limit {
-        if shows_maximum(instance, &flow, &cut) {
+        if show_maximum(instance, &flow, &cut) {
             return Ok(MaxFlowAnswer::Optimal(flow, cut));
         }
         if let Some(raised) = raise(alloc, instance, &flow) {
@@ -54,10 +53,9 @@ pub fn solve_max_flow<N: Network>(
     Ok(MaxFlowAnswer::GaveUp)
 }
 
-/// Whether the cut shows that a feasible flow is maximum.
-fn shows_maximum<N: Network>(instance: &MaxInstance<N>, flow: &Flow, cut: &Cut) -> bool
+fn show_maximum<N: Network>(instance: &MaxInstance<N>, flow: &Flow, cut: &Cut) -> bool
     requires { FeasibleMax instance.now flow.now }
-    ensures { IsTrue result → Maximum instance.now flow.now × CutTight instance.now flow.now (members cut.now) × (cut.now.nodes ≡ instance.now.nodes) }
+    ensures { IsTrue result → DecidesMax instance.now flow.now (MaxDecision.Optimal cut.now) }
 {
     cut.nodes() == instance.network().nodes() && cut_tests(instance, flow, cut).is_ok()
 }

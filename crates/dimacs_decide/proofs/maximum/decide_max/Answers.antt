@@ -5,13 +5,13 @@ use Rattle.dimacs_decide.specs.inside.Residual.{rank_of}
 use Rattle.dimacs_decide.specs.inside.Augmentation.{IsSent, IsStuck}
 use Rattle.dimacs_decide.specs.inside.Imbalances.{AreEnds}
 use Rattle.dimacs_decide.proofs.MaximumLemmas.{bounds_from_capacities, max_bounds, sent_tells, stuck_tells}
-use Rattle.dimacs_decide.proofs.maximum.decide_max_over.Goals as goal
+use Rattle.dimacs_decide.proofs.maximum.decide_max.Goals as goal
 
 pub send-requires-clause-bounds : goal.send-requires-clause-bounds
 send-requires-clause-bounds g c = rw c.network-network.ensures.arcs (max_bounds c.args.instance.now.arcs c.network-network.ensures.lawful.capacities)
 
 pub send-requires-clause-within : goal.send-requires-clause-within
-send-requires-clause-within g c = rw c.network-network.ensures.arcs (bounds_from_capacities c.args.instance.now.arcs c.args.flow.now c.network-network.ensures.lawful.capacities c.requires.feasible.within)
+send-requires-clause-within g c = rw c.network-network.ensures.arcs (bounds_from_capacities c.args.instance.now.arcs c.args.flow.now c.network-network.ensures.lawful.capacities c.requires.within)
 
 pub returns-in-Sent : goal.returns-in-Sent
 returns-in-Sent g c =
@@ -19,7 +19,7 @@ returns-in-Sent g c =
     let imbalance = value_of c.in_ok-search.search.imbalance in
     let ends : AreEnds i.source i.sink imbalance = rw (c.source.ensures, c.sink.ensures) at c.in_ok-search.ensures.ends in
     let sent : IsSent i.nodes i.arcs c.args.flow.now c.in-Sent.better imbalance = rw (c.network-network.ensures.nodes, c.network-network.ensures.arcs, c.in-Sent.is) at c.in_ok-better.ensures in
-    sent_tells i c.args.flow.now imbalance c.network-network.ensures.lawful c.requires.feasible ends c.in-Sent.better sent
+    sent_tells i c.args.flow.now imbalance c.network-network.ensures.lawful c.requires ends c.in-Sent.better sent
 
 pub returns-in-Stuck : goal.returns-in-Stuck
 returns-in-Stuck g c =
@@ -30,5 +30,5 @@ returns-in-Stuck g c =
     let ends : AreEnds i.source i.sink imbalance = rw (c.source.ensures, c.sink.ensures) at c.in_ok-search.ensures.ends in
     let begun : 0 < rank_of (value_of search.visits) i.source = rw c.source.ensures at c.in_ok-search.ensures.reached in
     let stuck : IsStuck i.nodes i.arcs c.args.flow.now imbalance (λ v. 0 < rank_of (value_of search.visits) v) c.in-Stuck.cut = rw (c.network-network.ensures.nodes, c.network-network.ensures.arcs, c.in-Stuck.is) at c.in_ok-better.ensures in
-    let (best, tight) = stuck_tells i c.args.flow.now imbalance law c.requires.feasible ends (members c.in-Stuck.cut) stuck.shut (stuck.has i.source law.source_within begun) in
+    let (best, tight) = stuck_tells i c.args.flow.now imbalance law c.requires ends (members c.in-Stuck.cut) stuck.shut (stuck.has i.source law.source_within begun) in
     (best, tight, stuck.of)
