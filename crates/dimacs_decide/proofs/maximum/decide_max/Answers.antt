@@ -21,8 +21,8 @@ returns-in-Sent g c =
     let sent : IsSent i.nodes i.arcs c.args.flow.now c.in-Sent.better imbalance = rw (c.network-network.ensures.nodes, c.network-network.ensures.arcs, c.in-Sent.is) at c.in_ok-better.ensures in
     sent_tells i c.args.flow.now imbalance c.network-network.ensures.lawful c.requires ends c.in-Sent.better sent
 
-pub returns-in-Stuck : goal.returns-in-Stuck
-returns-in-Stuck g c =
+pub returns : goal.returns
+returns g c =
     let i = c.args.instance.now in
     let law = c.network-network.ensures.lawful in
     let search = c.in_ok-search.search in
