@@ -63,14 +63,14 @@ pub fn decide_min_from<N: Network>(
     requires { FeasibleMin instance.now flow.now }
     ensures { IfOk result (DecidesMin instance.now flow.now) }
 {
-    if show_least(instance, flow, &start) {
+    if shows_least(instance, flow, &start) {
         return Ok(MinDecision::Optimal(start));
     }
     let labels = start_labels(alloc, instance.network(), &start)?;
     decide_by_rounds(alloc, instance, flow, labels)
 }
 
-fn show_least<N: Network>(instance: &MinInstance<N>, flow: &Flow, potentials: &Potentials) -> bool
+fn shows_least<N: Network>(instance: &MinInstance<N>, flow: &Flow, potentials: &Potentials) -> bool
     requires { FeasibleMin instance.now flow.now }
     ensures { IsTrue result → DecidesMin instance.now flow.now (MinDecision.Optimal potentials.now) }
 {

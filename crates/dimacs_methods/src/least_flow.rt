@@ -6,7 +6,7 @@ use crate::potentials::set_potential;
 use crate::problem::{MOST_MOVED, Problem};
 use crate::residual::Residual;
 use crate::scaling::Scaling;
-use crate::simplex::Simplex;
+use crate::simplex::{Simplex, block_size};
 use dimacs_claims::Potentials;
 use dimacs_instance::MinInstance;
 use dimacs_lines::Memory;
@@ -23,7 +23,7 @@ pub struct LeastFlow {
 /// Finds a flow of least cost, and potentials that show it. If no flow is feasible, the result leaves the least excess.
 ///
 /// Successive shortest paths come first, if few nodes have an excess and no cost is negative. Then comes the network
-/// simplex, the fastest on most small instances. If that takes long, cost scaling follows.
+/// simplex, the fastest on most small instances. If that takes long, or seems to, cost scaling follows.
 pub fn make_least_flow<N: Network>(
     alloc: Global,
     instance: &MinInstance<N>,
@@ -76,13 +76,25 @@ fn by_paths<N: Network>(
 /// phase, and by at most 32 such tolerances in the price refinement after it; later by less.
 const PRICE_BITS: u32 = 60;
 
+/// How many arcs the simplex may scan, and nodes it may walk over, together, for each arc and node.
+const WORK_FOR_EACH: u64 = 320;
+
+/// The simplex isn't tried if this many pivots for each node are too much work.
+const PIVOTS_FOR_EACH: u64 = 3;
+
 /// The network simplex with numbers of this width. None if it takes too much work, or seems to.
 fn by_simplex<N: Network, V: Number>(
     alloc: Global,
     problem: &Problem<'_, N>,
 ) -> Result<Option<LeastFlow>, Memory> {
+    let work = problem.size().wrapping_mul(WORK_FOR_EACH);
+    let arcs = problem.network().arcs();
+    let pivots = u64::from(problem.numbers.count()).wrapping_mul(PIVOTS_FOR_EACH);
+    if pivots.wrapping_mul(u64::from(block_size(arcs))) > work {
+        return Ok(None);
+    }
     let mut simplex: Simplex<V> = Simplex::new(alloc, problem)?;
-    if !simplex.run(alloc)? {
+    if !simplex.run(alloc, work)? {
         return Ok(None);
     }
     let values = simplex.potentials(alloc)?;

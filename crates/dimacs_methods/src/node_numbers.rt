@@ -68,11 +68,11 @@ impl NodeNumbers {
         count_of(&self.ids)
     }
 
-    /// The number of a node that occurs.
+    /// The number of a node; if it doesn't occur, a number beyond all tables, or of a node without arcs.
     #[inline(always)]
     pub(crate) fn of(&self, id: u32) -> u32 {
         match &self.numbers {
-            Some(numbers) => numbers.get(id).unwrap_or(0),
+            Some(numbers) => numbers.get(id).unwrap_or(u32::MAX),
             None => id,
         }
     }

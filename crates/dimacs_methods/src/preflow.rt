@@ -38,7 +38,7 @@ struct Preflow {
     work_limit: u64,
 }
 
-/// The amounts, in the order of the arcs, and the nodes that more flow from the source could come to.
+/// The amounts, in the order of the arcs, and the nodes that the residual network reaches from the source.
 #[derive(Drop)]
 pub struct MaximumFlow {
     pub amounts: Vec<i64>,

@@ -30,14 +30,14 @@ const MOVES_PER_NUMBERING: u64 = 32;
 /// The fewest arcs that a search compares at once.
 const LEAST_BLOCK: u32 = 10;
 
-/// The most work for each arc and node.
-const MOST_WORK: u64 = 320;
+/// How many of this many arcs a search compares at once.
+pub(crate) fn block_size(arcs: u32) -> u32 {
+    arcs.isqrt().max(LEAST_BLOCK)
+}
 
-/// The most work for each arc and node until arcs of the network hold most nodes in the tree: so much at first,
-/// and so much times the share of the nodes that they hold. A simplex that needs more is slower than cost scaling.
-const FIRST_WORK: u64 = 10;
-
-const JOINING_WORK: u64 = 110;
+/// While the tree has more than an eighth of its artificial arcs, one leaves it late if the work so far is more than this
+/// for each arc and node, and two blocks for each one that left. Then cost scaling is mostly faster.
+const FREE_WORK: u64 = 15;
 
 #[derive(Drop)]
 pub(crate) struct Simplex<V: Number> {
@@ -49,12 +49,13 @@ pub(crate) struct Simplex<V: Number> {
     /// Where the next search begins, and how many arcs it compares at once.
     at: u32,
     block: u32,
-    /// How many artificial arcs have left the tree.
-    joined: u32,
     /// The arcs scanned and the nodes walked over so far.
     work: u64,
     /// How many nodes may move before the next numbering.
     moves: u64,
+    /// How many artificial arcs have left the tree, and whether one left it late.
+    joined: u32,
+    is_late: bool,
 }
 
 impl<V: Number> Simplex<V> {
@@ -73,20 +74,21 @@ impl<V: Number> Simplex<V> {
             count,
             size: problem.size(),
             at: 0,
-            block: count.isqrt().max(LEAST_BLOCK),
-            joined: 0,
+            block: block_size(count),
             work: 0,
             moves: 1,
+            joined: 0,
+            is_late: false,
         })
     }
 
-    /// Pivots until no arc should change its state. False if that takes too much work, or seems to.
-    pub(crate) fn run(&mut self, alloc: Global) -> Result<bool, Memory> {
+    /// Pivots until no arc should change its state. False if that takes more than `work`, or seems to.
+    pub(crate) fn run(&mut self, alloc: Global, work: u64) -> Result<bool, Memory> {
         for _ in 0..u64::MAX {
             let Some(entering) = self.entering() else {
                 return Ok(true);
             };
-            if self.work > self.work_limit() {
+            if self.work > work || self.is_late {
                 break;
             }
             self.pivot(entering);
@@ -95,18 +97,6 @@ impl<V: Number> Simplex<V> {
             }
         }
         Ok(false)
-    }
-
-    /// The most work so far.
-    fn work_limit(&self) -> u64 {
-        let nodes = u64::from(self.tree.root());
-        let joined = u64::from(self.joined);
-        let for_each = if joined >= nodes - nodes / 8 {
-            MOST_WORK
-        } else {
-            FIRST_WORK + JOINING_WORK * joined / nodes
-        };
-        self.size.wrapping_mul(for_each)
     }
 
     /// Block search: the best arc that should change its state, in the first block that has one, after the last block.
@@ -186,10 +176,21 @@ impl<V: Number> Simplex<V> {
         let node = self.tree.node(out);
         let is_empty = self.arcs.flow(out, &node).is_zero();
         let state = if is_empty { AT_LOW } else { AT_CAP };
-        if node.arc == ARTIFICIAL {
-            self.joined = self.joined.wrapping_add(1);
-        }
         self.arcs.set_state(node.arc, state);
+        if node.arc == ARTIFICIAL {
+            self.join();
+        }
+    }
+
+    /// Counts an artificial arc that has left the tree.
+    fn join(&mut self) {
+        self.joined = self.joined.wrapping_add(1);
+        let nodes = self.tree.root();
+        let is_joining = self.joined.saturating_add(2) < nodes - nodes / 8;
+        let blocks = u64::from(self.joined).wrapping_mul(2);
+        let joining = u64::from(self.block).wrapping_mul(blocks);
+        let in_time = self.size.wrapping_mul(FREE_WORK).wrapping_add(joining);
+        self.is_late = is_joining && self.work > in_time;
     }
 
     /// Numbers the nodes again, in the tree and at the arcs.

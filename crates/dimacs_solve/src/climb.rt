@@ -23,9 +23,9 @@ pub enum MaxFlowAnswer {
     GaveUp,
 }
 
-/// Starts at the zero flow, and goes to flows of greater value until one is maximum. At most `limit` flows are tested
-/// for being maximum: by the cut that a heuristic made with the flow. If that isn't tight, the heuristic looks for a
-/// greater value; if it finds none, the flow is decided by a search.
+/// Starts at the zero flow, and goes to flows of greater value until one is maximum. At most `limit` flows are tested:
+/// first by the last cut that a heuristic made. If that isn't tight, the heuristic looks for a greater value. If it finds
+/// none, a search decides.
 pub fn solve_max_flow<N: Network>(
     alloc: Global,
     instance: &MaxInstance<N>,
@@ -37,7 +37,7 @@ pub fn solve_max_flow<N: Network>(
     let mut flow = Flow::zero(alloc, network.arcs())?;
     let mut cut = Cut::new(alloc, network.nodes());
     for _turn in 0..limit {
-        if show_maximum(instance, &flow, &cut) {
+        if shows_maximum(instance, &flow, &cut) {
             return Ok(MaxFlowAnswer::Optimal(flow, cut));
         }
         if let Some(raised) = raise(alloc, instance, &flow) {
@@ -53,7 +53,8 @@ pub fn solve_max_flow<N: Network>(
     Ok(MaxFlowAnswer::GaveUp)
 }
 
-fn show_maximum<N: Network>(instance: &MaxInstance<N>, flow: &Flow, cut: &Cut) -> bool
+/// Whether the cut is tight for a feasible flow.
+fn shows_maximum<N: Network>(instance: &MaxInstance<N>, flow: &Flow, cut: &Cut) -> bool
     requires { FeasibleMax instance.now flow.now }
     ensures { IsTrue result → DecidesMax instance.now flow.now (MaxDecision.Optimal cut.now) }
 {

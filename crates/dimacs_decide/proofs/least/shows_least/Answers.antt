@@ -8,7 +8,7 @@ use Rattle.dimacs_optimality.specs.declared.verdict.Where.{Where}
 use Rattle.dimacs_optimality.specs.CertificateTests.{slack_row}
 use Rattle.dimacs_optimality.specs.Tests.{Row, Decides}
 use Rattle.dimacs_optimality.proofs.Duality.{slack_is_least}
-use Rattle.dimacs_decide.proofs.least.show_least.Goals as goal
+use Rattle.dimacs_decide.proofs.least.shows_least.Goals as goal
 
 -- if no test fails, it holds
 holds : {P : Type 0} (rows : List Row) (tested : Result Unit (Where × Reason)) → Decides P rows tested → IsTrue (is_ok tested) → P

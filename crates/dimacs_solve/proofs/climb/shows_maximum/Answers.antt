@@ -3,7 +3,7 @@ use Rattle.dimacs_optimality.specs.CertificateTests.{cut_rows}
 use Rattle.dimacs_optimality.specs.Cuts.{members}
 use Rattle.dimacs_optimality.proofs.Duality.{tight_is_maximum}
 use Rattle.dimacs_solve.proofs.ClimbingLemmas.{holds, one_each}
-use Rattle.dimacs_solve.proofs.climb.show_maximum.Goals as goal
+use Rattle.dimacs_solve.proofs.climb.shows_maximum.Goals as goal
 
 pub cut_tests-requires : goal.cut_tests-requires
 cut_tests-requires g c = one_each c.args.instance.now c.args.flow.now c.requires
