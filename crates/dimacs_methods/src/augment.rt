@@ -22,7 +22,7 @@ const SCANS: i128 = 20;
 const SCANS_FROM_ONE: i128 = 1;
 
 /// A node that was reached: its distance, and the place of its parent arc.
-#[derive(Clone, Copy)]
+#[derive(Clone, Copy, Default)]
 struct Label {
     distance: i64,
     parent_arc: u32,
@@ -30,13 +30,6 @@ struct Label {
     reached_in: u32,
     settled_in: u32,
 }
-
-const NO_LABEL: Label = Label {
-    distance: 0,
-    parent_arc: 0,
-    reached_in: 0,
-    settled_in: 0,
-};
 
 /// A node in the queue, ordered by distance.
 #[derive(Clone, Copy, PartialEq, Eq, PartialOrd, Ord)]
@@ -75,7 +68,7 @@ impl Augmenting {
         };
         Ok(Augmenting {
             residual: Residual::new(alloc, problem, 0)?,
-            labels: vec![in alloc; NO_LABEL; problem.excess.len()]?,
+            labels: vec![in alloc; Label::default(); problem.excess.len()]?,
             queue: BinaryHeap::new(alloc),
             settled: Vec::new(alloc),
             search: 0,
@@ -188,12 +181,12 @@ impl Augmenting {
 
     #[inline(always)]
     fn label(&self, node: u32) -> Label {
-        member(&self.labels, node, NO_LABEL)
+        member(&self.labels, node, Label::default())
     }
 
     fn lower_settled(&mut self, distance: i64) {
         for node in &self.settled {
-            let own = member(&self.labels, *node, NO_LABEL).distance;
+            let own = member(&self.labels, *node, Label::default()).distance;
             self.residual.lower(*node, distance.wrapping_sub(own));
         }
     }

@@ -46,7 +46,7 @@ impl Levels {
         self.highest = 0;
     }
 
-    /// The highest level at which a node was inserted.
+    /// No node is above this level.
     pub(crate) fn highest(&self) -> u32 {
         self.highest
     }

@@ -1,7 +1,7 @@
 //! The numbers that a method computes with.
 
 /// A signed whole number: of 64 bits if all values fit, otherwise of 128. Sums and products wrap.
-pub(crate) trait Number: Copy {
+pub(crate) trait Number: Copy + Default {
     fn of(value: i64) -> Self;
 
     /// 0 if the value doesn't fit.

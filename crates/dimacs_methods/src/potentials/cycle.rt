@@ -9,22 +9,15 @@ use crate::potentials::tight::Tight;
 use crate::tables::{member, set_member};
 use dimacs_lines::Memory;
 use dimacs_network::Network;
-use std::alloc::{AllocError, Global};
+use std::alloc::Global;
 
 /// The cheapest step from a group to the next group of a cycle.
+#[derive(Clone, Copy)]
 struct Cheapest<V> {
     cost: V,
     next: u32,
     step: Option<Step<V>>,
 }
-
-impl<V: Copy> Clone for Cheapest<V> {
-    fn clone(&self) -> Result<Cheapest<V>, AllocError> {
-        Ok(*self)
-    }
-}
-
-impl<V: Copy> Copy for Cheapest<V> {}
 
 /// A cycle over these groups: the cheapest step from each to the next, joined by tight steps within groups.
 pub(crate) fn cycle_over<N: Network, V: Number>(

@@ -8,16 +8,11 @@ use dimacs_lines::Memory;
 use std::alloc::Global;
 
 /// The number of links into a group, or out of it, and the exclusive or of their indices: of one link, its index.
-#[derive(Clone, Copy)]
+#[derive(Clone, Copy, Default)]
 struct Degree {
     count: u32,
     index_xor: u32,
 }
-
-const NO_DEGREE: Degree = Degree {
-    count: 0,
-    index_xor: 0,
-};
 
 #[derive(Drop)]
 struct Joining<'a, V> {
@@ -55,8 +50,8 @@ pub(crate) fn joints<V: Number>(
 impl<'a, V: Number> Joining<'a, V> {
     fn new(alloc: Global, links: &'a [Link<V>], count: u32) -> Result<Joining<'a, V>, Memory> {
         let groups = Groups::apart(alloc, count)?;
-        let into = vec![in alloc; NO_DEGREE; count as usize]?;
-        let out = vec![in alloc; NO_DEGREE; count as usize]?;
+        let into = vec![in alloc; Degree::default(); count as usize]?;
+        let out = vec![in alloc; Degree::default(); count as usize]?;
         Ok(Joining {
             links,
             groups,
@@ -78,8 +73,8 @@ impl<'a, V: Number> Joining<'a, V> {
 
     /// The only link into a group, or otherwise the only one out of it.
     fn only_link(&self, group: u32) -> Option<u32> {
-        let into = member(&self.into, group, NO_DEGREE);
-        let out = member(&self.out, group, NO_DEGREE);
+        let into = member(&self.into, group, Degree::default());
+        let out = member(&self.out, group, Degree::default());
         if into.count == 1 {
             Some(into.index_xor)
         } else if out.count == 1 {
@@ -118,8 +113,8 @@ impl<'a, V: Number> Joining<'a, V> {
 
     /// The other link of a group with one link in and one out; otherwise this one.
     fn other_link(&self, group: u32, number: u32) -> u32 {
-        let into = member(&self.into, group, NO_DEGREE);
-        let out = member(&self.out, group, NO_DEGREE);
+        let into = member(&self.into, group, Degree::default());
+        let out = member(&self.out, group, Degree::default());
         if into.count == 1 && out.count == 1 {
             into.index_xor ^ out.index_xor ^ number
         } else {
@@ -151,8 +146,8 @@ fn count(degrees: &mut [Degree], group: u32, change: i32, link: u32) {
 }
 
 fn merge(degrees: &mut [Degree], one: u32, other: u32, root: u32) {
-    let a = member(degrees, one, NO_DEGREE);
-    let b = member(degrees, other, NO_DEGREE);
+    let a = member(degrees, one, Degree::default());
+    let b = member(degrees, other, Degree::default());
     let sum = Degree {
         count: a.count.wrapping_add(b.count),
         index_xor: a.index_xor ^ b.index_xor,

@@ -7,22 +7,15 @@ use crate::potentials::listing::HasKey;
 use crate::tables::{member, set_member};
 use dimacs_lines::Memory;
 use dimacs_network::{ArcView, Network};
-use std::alloc::{AllocError, Global};
+use std::alloc::Global;
 
 /// The distance of `to` is at most that of `from` plus `cost`.
+#[derive(Clone, Copy)]
 pub(crate) struct Link<V> {
     pub cost: V,
     pub from: u32,
     pub to: u32,
 }
-
-impl<V: Copy> Clone for Link<V> {
-    fn clone(&self) -> Result<Link<V>, AllocError> {
-        Ok(*self)
-    }
-}
-
-impl<V: Copy> Copy for Link<V> {}
 
 impl<V: Number> HasKey for Link<V> {
     #[inline(always)]

@@ -7,22 +7,15 @@ use crate::potentials::links::Link;
 use crate::potentials::listing::HasKey;
 use dimacs_lines::Memory;
 use dimacs_network::{Network, Side};
-use std::alloc::{AllocError, Global};
+use std::alloc::Global;
 
+#[derive(Clone, Copy)]
 pub(crate) struct Step<V> {
     pub cost: V,
     pub from: u32,
     pub to: u32,
     pub arc: ResidualArc,
 }
-
-impl<V: Copy> Clone for Step<V> {
-    fn clone(&self) -> Result<Step<V>, AllocError> {
-        Ok(*self)
-    }
-}
-
-impl<V: Copy> Copy for Step<V> {}
 
 /// Steps are grouped by their heads.
 impl<V: Number> HasKey for Step<V> {

@@ -6,22 +6,15 @@ use crate::simplex::tree::Node;
 use crate::tables::{member, set_member};
 use dimacs_lines::Memory;
 use dimacs_network::Network;
-use std::alloc::{AllocError, Global};
+use std::alloc::Global;
 
 /// What the search for an entering arc needs.
+#[derive(Clone, Copy, Default)]
 pub(crate) struct Price<V> {
     pub cost: V,
     pub tail: u32,
     pub head: u32,
 }
-
-impl<V: Copy> Clone for Price<V> {
-    fn clone(&self) -> Result<Price<V>, AllocError> {
-        Ok(*self)
-    }
-}
-
-impl<V: Copy> Copy for Price<V> {}
 
 /// The state of an arc: the bound that it carries, or that it is in the tree. It should change if the product of state
 /// and reduced cost is negative.
@@ -75,7 +68,7 @@ impl<V: Number> Arcs<V> {
 
     #[inline(always)]
     pub(crate) fn price(&self, arc: u32) -> Price<V> {
-        member(&self.prices, arc, nowhere())
+        member(&self.prices, arc, Price::default())
     }
 
     #[inline(always)]
@@ -133,14 +126,5 @@ impl<V: Number> Arcs<V> {
             arc = arc.wrapping_add(1);
         }
         best
-    }
-}
-
-/// Stands for an arc beyond the end.
-fn nowhere<V: Number>() -> Price<V> {
-    Price {
-        cost: V::of(0),
-        tail: 0,
-        head: 0,
     }
 }

@@ -4,12 +4,13 @@ use crate::number::Number;
 use crate::simplex::cycle::Cycle;
 use crate::tables::{count_of, member};
 use dimacs_lines::Memory;
-use std::alloc::{AllocError, Global};
+use std::alloc::Global;
 
 /// Stands for an artificial arc.
 pub(crate) const ARTIFICIAL: u32 = u32::MAX;
 
 /// A node of the tree, with its parent arc.
+#[derive(Clone, Copy)]
 pub(crate) struct Node<V> {
     /// The residual capacities to the parent and from it.
     pub up: V,
@@ -20,14 +21,6 @@ pub(crate) struct Node<V> {
     /// The node before this one in preorder.
     pub before: u32,
 }
-
-impl<V: Copy> Clone for Node<V> {
-    fn clone(&self) -> Result<Node<V>, AllocError> {
-        Ok(*self)
-    }
-}
-
-impl<V: Copy> Copy for Node<V> {}
 
 /// A node's successor in preorder, and its depth: what changes in each node of a moved subtree, beside its potential.
 #[derive(Clone, Copy)]
