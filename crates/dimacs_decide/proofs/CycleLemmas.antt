@@ -17,7 +17,7 @@ use Rattle.dimacs_instance.specs.MinFlows.{HasBounds}
 -- ---- a cycle of raised nodes, in the order of the cycle
 -- the residual arc along which a node was raised
 abbrev pub residual_by : HeightLabel → ResidualArc
-residual_by l = record { arc = l.parent_arc - 1; side = l.side }
+residual_by l = record { arc = l.arc_number - 1; side = l.side }
 
 module _ (arcs : List ArcView) (x : List ℤ) (labels : ℕ → HeightLabel) (path : List ℕ) (first last : ℕ) (now : AreHeights arcs x labels) (is : IsCycle arcs labels path first last) where
   --   the nodes, counted from the last one
@@ -40,20 +40,20 @@ module _ (arcs : List ArcView) (x : List ℤ) (labels : ℕ → HeightLabel) (pa
     before : j < last
     before = omega (arith, short)
 
-    pub some_parent_arc : 0 < l.parent_arc
-    some_parent_arc = is.raised j behind before
+    pub some_arc_number : 0 < l.arc_number
+    some_arc_number = is.raised j behind before
 
     raised : IsRaised arcs x (height_of labels) now.time (slice_index path j) l
-    raised = now.raised (slice_index path j) some_parent_arc
+    raised = now.raised (slice_index path j) some_arc_number
 
-    inside : l.parent_arc - 1 < length arcs
-    inside = omega (arith, raised.within, some_parent_arc)
+    inside : l.arc_number - 1 < length arcs
+    inside = omega (arith, raised.within, some_arc_number)
 
     ends : ending_of arcs (raised_by k) ≡ slice_index path j
     ends = raised.to
 
     begins : beginning_of arcs (raised_by k) ≡ node k
-    begins = let next : j + 1 ≡ last - k = omega (arith, short) in sym (below_some arcs l some_parent_arc) ∙ is.steps j behind before ∙ ap (slice_index path) next
+    begins = let next : j + 1 ≡ last - k = omega (arith, short) in sym (below_some arcs l some_arc_number) ∙ is.steps j behind before ∙ ap (slice_index path) next
 
     higher : slice_index path j ≡ node (suc k)
     higher = let e : j ≡ last - suc k = omega arith in ap (slice_index path) e

@@ -19,49 +19,49 @@ use Rattle.dimacs_decide.proofs.SideLemmas.{far_within, near_within}
 use Rattle.dimacs_decide.proofs.HeightLemmas.{arc_bounds, gain_most}
 
 -- ---- the node below
-pub below_none : (arcs : List ArcView) (l : HeightLabel) → l.parent_arc ≡ 0 → below_of arcs l ≡ 0
-below_none arcs l none = let b : (l.parent_arc == 0) ≡ true = eq-eqb l.parent_arc 0 none in rw b refl
+pub below_none : (arcs : List ArcView) (l : HeightLabel) → l.arc_number ≡ 0 → below_of arcs l ≡ 0
+below_none arcs l none = let b : (l.arc_number == 0) ≡ true = eq-eqb l.arc_number 0 none in rw b refl
 
-pub below_some : (arcs : List ArcView) (l : HeightLabel) → 0 < l.parent_arc → below_of arcs l ≡ end_of l.side (arc_at arcs (l.parent_arc - 1))
-below_some arcs l some = let b : (l.parent_arc == 0) ≡ false = ne_eqb l.parent_arc 0 (λ e. omega (arith, e, some)) in rw b refl
+pub below_some : (arcs : List ArcView) (l : HeightLabel) → 0 < l.arc_number → below_of arcs l ≡ end_of l.side (arc_at arcs (l.arc_number - 1))
+below_some arcs l some = let b : (l.arc_number == 0) ≡ false = ne_eqb l.arc_number 0 (λ e. omega (arith, e, some)) in rw b refl
 
-pub cases_parent_arc : (n : ℕ) → (n ≡ 0) ⊎ (0 < n)
-cases_parent_arc zero = inl refl
-cases_parent_arc (suc n) = inr (omega arith)
+pub cases_arc_number : (n : ℕ) → (n ≡ 0) ⊎ (0 < n)
+cases_arc_number zero = inl refl
+cases_arc_number (suc n) = inr (omega arith)
 
 pub some_place : (n : ℕ) → n ≢ 0 → 0 < n
-some_place n ne = elim (cases_parent_arc n) [ inl none ↦ absurd (ne none) | inr some ↦ some ]
+some_place n ne = elim (cases_arc_number n) [ inl none ↦ absurd (ne none) | inr some ↦ some ]
 
 module _ (nodes : ℕ) (arcs : List ArcView) (x : List ℤ) (labels : ℕ → HeightLabel) (joined : All (JoinsNodes nodes) arcs) (bounds : All HasBounds arcs) (now : AreHeights arcs x labels) where
   pub step_down : (v : ℕ) → height_of labels v ≤ℤ (height_of labels (below_of arcs (labels v)) +ℤ pos 9223372036854775808)
-  step_down v = elim (cases_parent_arc (labels v).parent_arc) [
+  step_down v = elim (cases_arc_number (labels v).arc_number) [
     | inl none ↦ let b = below_none arcs (labels v) none in rw b (omega (arith, ints, (now.low v none).0))
     | inr some ↦
         let r = now.raised v some in
         let b = below_some arcs (labels v) some in
         let l = labels v in
-        let most = gain_most l.side (arc_at arcs (l.parent_arc - 1)) (arc_bounds arcs (l.parent_arc - 1) bounds (omega (arith, some, r.within))) in
+        let most = gain_most l.side (arc_at arcs (l.arc_number - 1)) (arc_bounds arcs (l.arc_number - 1) bounds (omega (arith, some, r.within))) in
         rw b (omega (arith, ints, r.low, most))
   ]
 
   pub below_inside : (v : ℕ) → below_of arcs (labels v) ≤ nodes
-  below_inside v = elim (cases_parent_arc (labels v).parent_arc) [
+  below_inside v = elim (cases_arc_number (labels v).arc_number) [
     | inl none ↦ let b = below_none arcs (labels v) none in rw b (omega arith)
     | inr some ↦
         let r = now.raised v some in
         let b = below_some arcs (labels v) some in
         let l = labels v in
-        rw b (near_within l.side nodes arcs (l.parent_arc - 1) joined (omega (arith, some, r.within))).1
+        rw b (near_within l.side nodes arcs (l.arc_number - 1) joined (omega (arith, some, r.within))).1
   ]
 
   --   no arc leads to node 0
   pub height_zero : height_of labels 0 ≤ℤ bound 0
-  height_zero = elim (cases_parent_arc (labels 0).parent_arc) [
+  height_zero = elim (cases_arc_number (labels 0).arc_number) [
     | inl none ↦ (now.low 0 none).1
     | inr some ↦
         let r = now.raised 0 some in
         let l = labels 0 in
-        let node = far_within l.side nodes arcs (l.parent_arc - 1) joined (omega (arith, some, r.within)) in
+        let node = far_within l.side nodes arcs (l.arc_number - 1) joined (omega (arith, some, r.within)) in
         absurd (let e = r.to in omega (arith, e, node.0))
   ]
 
@@ -213,7 +213,7 @@ module _ (nodes : ℕ) (arcs : List ArcView) (x : List ℤ) (labels : ℕ → He
             let c : slice_index path i ≡ slice_index path j = sym (in_front i (omega (arith, less, short))) ∙ e ∙ in_front j short in
             let d = ap places c in
             omega (arith, a, b, d, less);
-        raised = λ j behind less. elim (cases_parent_arc (labels (slice_index longer j)).parent_arc) [
+        raised = λ j behind less. elim (cases_arc_number (labels (slice_index longer j)).arc_number) [
           | inl none ↦ absurd (
               let s = steps_to j (omega (arith, behind, more)) less in
               let z : slice_index longer (j + 1) ≡ 0 = sym s ∙ below_none arcs (labels (slice_index longer j)) none in
@@ -230,12 +230,12 @@ module _ (nodes : ℕ) (arcs : List ArcView) (x : List ℤ) (labels : ℕ → He
 -- ---- all paths down
 pub all_low : (nodes : ℕ) (arcs : List ArcView) (x : List ℤ) (labels : ℕ → HeightLabel) (path : List ℕ) (places : ℕ → ℕ) → AreHeights arcs x labels → IsTrace nodes labels path places
     → ((k : ℕ) → k < length arcs → (0 < places (arc_at arcs k).tail) × (0 < places (arc_at arcs k).head)) → BelowBound (nodes + 1) labels
-all_low nodes arcs x labels path places now is seen v = elim (cases_parent_arc (labels v).parent_arc) [
+all_low nodes arcs x labels path places now is seen v = elim (cases_arc_number (labels v).arc_number) [
   | inl none ↦ omega (arith, ints, (now.low v none).1)
   | inr some ↦
       let r = now.raised v some in
       let l = labels v in
-      let k = l.parent_arc - 1 in
+      let k = l.arc_number - 1 in
       let both = seen k (omega (arith, some, r.within)) in
       let there : 0 < places v = subst (λ u. 0 < places u) r.to (at_far l.side k both) in
       omega (arith, ints, is.low v there, is.each)

@@ -96,7 +96,7 @@ pub(crate) fn raised_along<N: Network>(
     for k in 0..last - cycle.first {
         let label = labels.get(cycle.path[last - k - 1]);
         residuals.push(ResidualArc {
-            arc: label.parent_arc - 1,
+            arc: label.arc_number - 1,
             side: label.side,
         })?;
     }

@@ -19,12 +19,12 @@ use dimacs_network::{ArcView, Network, Side};
 use dimacs_nodes::NodeTable;
 use dimacs_optimality::Flow;
 
-/// A node's raised potential, and the residual arc that raised it: 1 plus the index of its arc, 0 for none, and the
+/// A node's raised potential, and the residual arc that raised it: the number of its arc, from 1, or 0 for none, and the
 /// side from which it leads.
 #[derive(Clone, Copy)]
 pub(crate) struct HeightLabel {
     pub height: i128,
-    pub parent_arc: u32,
+    pub arc_number: u32,
     pub side: Side,
 }
 
@@ -33,7 +33,7 @@ pub(crate) fn unraised_label() -> HeightLabel
 {
     HeightLabel {
         height: 0,
-        parent_arc: 0,
+        arc_number: 0,
         side: Side::Tail,
     }
 }
@@ -41,13 +41,13 @@ pub(crate) fn unraised_label() -> HeightLabel
 /// The node from which a label was raised; 0 for none.
 #[inline(always)]
 pub(crate) fn below<N: Network>(network: &N, label: HeightLabel) -> u32
-    requires { label.parent_arc ≤ length (N.list network.now) }
+    requires { label.arc_number ≤ length (N.list network.now) }
     ensures { result ≡ below_of (N.list network.now) label }
 {
-    if label.parent_arc == 0 {
+    if label.arc_number == 0 {
         return 0;
     }
-    label.side.end_of(network.arc(label.parent_arc - 1))
+    label.side.end_of(network.arc(label.arc_number - 1))
 }
 
 /// What sending one unit along the arc from this side saves.
@@ -91,7 +91,7 @@ fn lift<N: Network>(
     }
     let label = HeightLabel {
         height,
-        parent_arc: parent_arc + 1,
+        arc_number: parent_arc + 1,
         side,
     };
     labels.set(to, label)?;

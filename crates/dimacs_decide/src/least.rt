@@ -70,6 +70,7 @@ pub fn decide_min_from<N: Network>(
     decide_by_rounds(alloc, instance, flow, labels)
 }
 
+/// Whether the potentials are slack for a feasible flow.
 fn shows_least<N: Network>(instance: &MinInstance<N>, flow: &Flow, potentials: &Potentials) -> bool
     requires { FeasibleMin instance.now flow.now }
     ensures { IsTrue result → DecidesMin instance.now flow.now (MinDecision.Optimal potentials.now) }
@@ -210,11 +211,11 @@ fn start_at(labels: &mut NodeTable<HeightLabel>, id: u32, height: i128) -> Resul
 }
 
 fn unraised_at(height: i128) -> HeightLabel
-    ensures { result ≡ record { height = height; parent_arc = 0; side = Tail } }
+    ensures { result ≡ record { height = height; arc_number = 0; side = Tail } }
 {
     HeightLabel {
         height,
-        parent_arc: 0,
+        arc_number: 0,
         side: Side::Tail,
     }
 }

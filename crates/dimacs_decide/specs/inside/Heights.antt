@@ -10,7 +10,7 @@ use Rattle.dimacs_decide.specs.declared.heights.HeightLabel.{HeightLabel}
 use Rattle.dimacs_decide.specs.inside.ResidualCapacities.{residual_capacity_on}
 
 abbrev pub unraised : HeightLabel
-unraised = record { height = pos 0; parent_arc = 0; side = Tail }
+unraised = record { height = pos 0; arc_number = 0; side = Tail }
 
 abbrev pub height_of : (ℕ → HeightLabel) → ℕ → ℤ
 height_of labels v = (labels v).height
@@ -22,7 +22,7 @@ gain_at Head a = a.cost
 
 -- the node from which a label was raised; 0 for none
 abbrev pub below_of : List ArcView → HeightLabel → ℕ
-below_of arcs l = if l.parent_arc == 0 then 0 else end_of l.side (arc_at arcs (l.parent_arc - 1))
+below_of arcs l = if l.arc_number == 0 then 0 else end_of l.side (arc_at arcs (l.arc_number - 1))
 
 -- the greatest height after this many steps
 abbrev pub bound : ℕ → ℤ
@@ -42,12 +42,12 @@ AreSettled arcs x n labels = (k : ℕ) → k < n → (side : Side) → IsSettled
 
 -- v was raised along a residual arc, to at most its tail's height plus the gain; if to just that, after its tail
 pub record IsRaised (arcs : List ArcView) (x : List ℤ) (height : ℕ → ℤ) (time : ℕ → ℕ) (v : ℕ) (l : HeightLabel) : Type 0 where
-  pub within : l.parent_arc ≤ length arcs
-  pub to : other_end l.side (arc_at arcs (l.parent_arc - 1)) ≡ v
-  pub residual_capacity : pos 0 <ℤ residual_capacity_on arcs x l.side (l.parent_arc - 1)
-  pub low : height v ≤ℤ (height (end_of l.side (arc_at arcs (l.parent_arc - 1))) +ℤ gain_at l.side (arc_at arcs (l.parent_arc - 1)))
-  pub strict : (height v <ℤ (height (end_of l.side (arc_at arcs (l.parent_arc - 1))) +ℤ gain_at l.side (arc_at arcs (l.parent_arc - 1))))
-      ⊎ (time (end_of l.side (arc_at arcs (l.parent_arc - 1))) < time v)
+  pub within : l.arc_number ≤ length arcs
+  pub to : other_end l.side (arc_at arcs (l.arc_number - 1)) ≡ v
+  pub residual_capacity : pos 0 <ℤ residual_capacity_on arcs x l.side (l.arc_number - 1)
+  pub low : height v ≤ℤ (height (end_of l.side (arc_at arcs (l.arc_number - 1))) +ℤ gain_at l.side (arc_at arcs (l.arc_number - 1)))
+  pub strict : (height v <ℤ (height (end_of l.side (arc_at arcs (l.arc_number - 1))) +ℤ gain_at l.side (arc_at arcs (l.arc_number - 1))))
+      ⊎ (time (end_of l.side (arc_at arcs (l.arc_number - 1))) < time v)
 
 -- heights that came from raising, each node at its own time
 pub record AreHeights (arcs : List ArcView) (x : List ℤ) (labels : ℕ → HeightLabel) : Type 0 where
@@ -55,13 +55,13 @@ pub record AreHeights (arcs : List ArcView) (x : List ℤ) (labels : ℕ → Hei
   pub now : ℕ
   pub earlier : (v : ℕ) → time v < now
   pub not_negative : (v : ℕ) → pos 0 ≤ℤ height_of labels v
-  pub low : (v : ℕ) → (labels v).parent_arc ≡ 0 → (height_of labels v ≤ℤ height_of labels 0) × (height_of labels v ≤ℤ bound 0)
-  pub raised : (v : ℕ) → 0 < (labels v).parent_arc → IsRaised arcs x (height_of labels) time v (labels v)
+  pub low : (v : ℕ) → (labels v).arc_number ≡ 0 → (height_of labels v ≤ℤ height_of labels 0) × (height_of labels v ≤ℤ bound 0)
+  pub raised : (v : ℕ) → 0 < (labels v).arc_number → IsRaised arcs x (height_of labels) time v (labels v)
 
 -- start heights: no node is higher than node 0, which has no arc
 abbrev pub AreStartHeights : (ℕ → HeightLabel) → Type 0
 AreStartHeights labels =
-    (v : ℕ) → ((labels v).parent_arc ≡ 0) × (pos 0 ≤ℤ height_of labels v)
+    (v : ℕ) → ((labels v).arc_number ≡ 0) × (pos 0 ≤ℤ height_of labels v)
     × (height_of labels v ≤ℤ height_of labels 0) × (height_of labels v ≤ℤ bound 0)
 
 -- the other end of the arc is raised from this side
@@ -69,7 +69,7 @@ pub record Lifted (arcs : List ArcView) (x : List ℤ) (side : Side) (k : ℕ) (
   pub residual_capacity : pos 0 <ℤ residual_capacity_on arcs x side k
   pub rises : height_of labels (other_end side (arc_at arcs k)) <ℤ (height_of labels (end_of side (arc_at arcs k)) +ℤ gain_at side (arc_at arcs k))
   pub height : height_of labels' (other_end side (arc_at arcs k)) ≡ height_of labels (end_of side (arc_at arcs k)) +ℤ gain_at side (arc_at arcs k)
-  pub parent_arc : (labels' (other_end side (arc_at arcs k))).parent_arc ≡ k + 1
+  pub arc_number : (labels' (other_end side (arc_at arcs k))).arc_number ≡ k + 1
   pub side_is : (labels' (other_end side (arc_at arcs k))).side ≡ side
   pub others : (v : ℕ) → v ≢ other_end side (arc_at arcs k) → labels' v ≡ labels v
 

@@ -39,7 +39,7 @@ pub record IsCycle (arcs : List ArcView) (labels : ℕ → HeightLabel) (path : 
   pub steps : (j : ℕ) → first ≤ j → j < last → below_of arcs (labels (slice_index path j)) ≡ slice_index path (j + 1)
   pub closed : slice_index path last ≡ slice_index path first
   pub apart : (i j : ℕ) → first ≤ i → i < j → j < last → slice_index path i ≢ slice_index path j
-  pub raised : (j : ℕ) → first ≤ j → j < last → 0 < (labels (slice_index path j)).parent_arc
+  pub raised : (j : ℕ) → first ≤ j → j < last → 0 < (labels (slice_index path j)).arc_number
 
 -- all nodes down from the start were visited, or they lead back to one of themselves
 abbrev pub Follows : ℕ → List ArcView → (ℕ → HeightLabel) → ℕ → List ℕ → (ℕ → ℕ) → Option ℕ → Type 0

@@ -105,13 +105,13 @@ returns g c =
     let fits_gain : SFits w128 c.gain.result = search rules in
     let more = rw (to_z-of_z w128 c.get.result.height fits_height, to_z-of_z w128 c.gain.result fits_gain) at c.if-height-get.false in
     let fits_sum : SFits w128 (c.get.result.height +ℤ c.gain.result) = omega (arith, ints, from, c.gain.ensures, c.requires.not_negative (end_of c.args.side (arc_at arcs k)), c.requires.bounded (end_of c.args.side (arc_at arcs k)), gain_most c.args.side c.arc-arc.result has, gain_least c.args.side c.arc-arc.result has) in
-    let set : value_of c.set.new.self (other_end c.args.side (arc_at arcs k)) ≡ record { height = c.get.result.height +ℤ c.gain.result; parent_arc = k + 1; side = c.args.side } = rw (far, to_z-of_z w128 c.get.result.height fits_height, to_z-of_z w128 c.gain.result fits_gain, to_z-of_z w128 (c.get.result.height +ℤ c.gain.result) fits_sum) at c.in_ok-set.ensures.set in
+    let set : value_of c.set.new.self (other_end c.args.side (arc_at arcs k)) ≡ record { height = c.get.result.height +ℤ c.gain.result; arc_number = k + 1; side = c.args.side } = rw (far, to_z-of_z w128 c.get.result.height fits_height, to_z-of_z w128 c.gain.result fits_gain, to_z-of_z w128 (c.get.result.height +ℤ c.gain.result) fits_sum) at c.in_ok-set.ensures.set in
     let sum = ap (λ (l : HeightLabel). l.height) set in
     record {
       residual_capacity = omega (arith, ints, some, residual_capacity_is);
       rises = omega (arith, ints, more, from, to, gain);
       height = omega (arith, ints, sum, from, gain);
-      parent_arc = ap (λ (l : HeightLabel). l.parent_arc) set;
+      arc_number = ap (λ (l : HeightLabel). l.arc_number) set;
       side_is = ap (λ (l : HeightLabel). l.side) set;
       others = λ v ne. c.in_ok-set.ensures.others v (λ e. ne (e ∙ far));
     }

@@ -1,19 +1,10 @@
-use Rattle.std.proofs.Common.{◌≡◌, ◌∙◌, List, [], ◌∷◌, Result, Ok, Err, arith, sym}
-use Rattle.std.specs.Prelude.{IsTrue, is_ok}
-use Rattle.std.proofs.lemmas.Bool.{false≢true}
+use Rattle.std.proofs.Common.{◌≡◌, ◌∙◌, [], ◌∷◌, arith, sym}
 use Rattle.std.proofs.lemmas.Slice.Zip.{AllZip-long}
 use Rattle.dimacs_claims.specs.Potentials.{potential_of}
-use Rattle.dimacs_records.specs.declared.reasons.Reason.{Reason}
-use Rattle.dimacs_optimality.specs.declared.verdict.Where.{Where}
 use Rattle.dimacs_optimality.specs.CertificateTests.{slack_row}
-use Rattle.dimacs_optimality.specs.Tests.{Row, Decides}
 use Rattle.dimacs_optimality.proofs.Duality.{slack_is_least}
+use Rattle.dimacs_decide.proofs.TestLemmas.{holds}
 use Rattle.dimacs_decide.proofs.least.shows_least.Goals as goal
-
--- if no test fails, it holds
-holds : {P : Type 0} (rows : List Row) (tested : Result Unit (Where × Reason)) → Decides P rows tested → IsTrue (is_ok tested) → P
-holds rows (Ok done) decided ok = decided
-holds rows (Err refusal) decided ok = absurd (false≢true ok)
 
 pub slack_tests-requires : goal.slack_tests-requires
 slack_tests-requires g c = omega (arith, AllZip-long _ _ _ c.requires.within)

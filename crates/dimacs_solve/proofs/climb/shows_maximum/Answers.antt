@@ -2,7 +2,8 @@ use Rattle.std.proofs.Common.{◌≡◌, ◌∙◌, sym}
 use Rattle.dimacs_optimality.specs.CertificateTests.{cut_rows}
 use Rattle.dimacs_optimality.specs.Cuts.{members}
 use Rattle.dimacs_optimality.proofs.Duality.{tight_is_maximum}
-use Rattle.dimacs_solve.proofs.ClimbingLemmas.{holds, one_each}
+use Rattle.dimacs_decide.proofs.TestLemmas.{holds}
+use Rattle.dimacs_solve.proofs.ClimbingLemmas.{one_each}
 use Rattle.dimacs_solve.proofs.climb.shows_maximum.Goals as goal
 
 pub cut_tests-requires : goal.cut_tests-requires

@@ -1,0 +1,12 @@
+-- What passed tests show.
+use Rattle.std.proofs.Common.{List, Result, Ok, Err}
+use Rattle.std.specs.Prelude.{IsTrue, is_ok}
+use Rattle.std.proofs.lemmas.Bool.{false≢true}
+use Rattle.dimacs_records.specs.declared.reasons.Reason.{Reason}
+use Rattle.dimacs_optimality.specs.declared.verdict.Where.{Where}
+use Rattle.dimacs_optimality.specs.Tests.{Row, Decides}
+
+-- if no test fails, the statement holds
+pub holds : {P : Type 0} (rows : List Row) (tested : Result Unit (Where × Reason)) → Decides P rows tested → IsTrue (is_ok tested) → P
+holds rows (Ok done) decided ok = decided
+holds rows (Err refusal) decided ok = absurd (false≢true ok)
