@@ -10,12 +10,15 @@ traits that it is generic over, as a source's, since they define what its source
 the judge, or of the command, as one text, each file of them after those that it cites.
 
 A definition counts if a clause of a public function or trait, or what a public type stands for, names it, or if
-another that counts does. Blank lines and lines of imports don't. The others describe inner states: nobody has to believe
-them, and they stand in specs/inside. --others names them, by their files. Where one of them stands elsewhere, or one
-that counts stands there, the script names it and ends with 1. It reads the texts by their words alone, so it is no
-proof.
+another that counts does. Public is what the lib.rt of a crate exports, with the types that signatures of it name. The
+invariant of a type isn't: callers don't see it. Blank lines and lines of imports don't count.
+
+The other definitions describe inner states: nobody has to believe them, and they should stand in specs/inside. --others
+names them, by their files. If one of them stands elsewhere, or one that counts stands there, the script names it and
+ends with 1. It reads the texts by their words alone, so it is no proof.
 """
 
+import functools
 import glob
 import os
 import re
@@ -26,6 +29,18 @@ KEPT = ["Limits.antt"]
 ROOT = os.path.dirname(os.path.dirname(os.path.abspath(__file__)))
 WORD = re.compile(r"[^\s(){}\[\],.;:]+")
 STARTS = re.compile(r"(?:  )?(?:(?:abbrev|unfoldable|opaque|inductive|data|record|def) pub|pub (?:record|data|abbrev|inductive)|record|data) (\S+)")
+
+# the beginning of an item of a file of code
+ITEM = re.compile(r"^(?=(?:pub|impl|trait|fn|struct|enum|type|const|static|mod|use|ghost|extern)\b)", re.M)
+# the name that an item declares; calls for C have none here, since lib.rt needn't export them
+DECLARED = re.compile(r"(?:pub(?:\([^)]*\))? )?(?:const )?(?:fn|struct|enum|trait|type) (\w+)")
+# the type of an impl
+OF_TYPE = re.compile(r"impl(?:<[^{]*?>)? (?:[^{]* for )?(?:&'\w+ )?(\w+)")
+# what users see of an impl or a struct
+SEEN = re.compile(
+    r"^ *pub (?:const )?fn .*?(?=^ *(?:requires|ensures|{)|[{;]$)|^ +(?:pub \w+:|type )[^\n]*", re.M | re.S
+)
+INVARIANT = re.compile(r"^ *ghost invariant = .*?};$", re.M | re.S)
 
 
 def imports(text):
@@ -102,23 +117,58 @@ class Definitions:
                     self.rests_on.setdefault((module, inner), set()).add((module, it))
 
 
+def exported(crate):
+    """The names that the lib.rt of a crate exports; a program has none."""
+    path = f"{crate}/src/lib.rt"
+    text = open(path, encoding="utf-8").read() if os.path.exists(path) else ""
+    return set(re.findall(r"\w+", " ".join(re.findall(r"^pub use ([^;]*);", text, re.M))))
+
+
+def items_of(crate):
+    """The items of all code of a crate, without comments."""
+    for path in code_of(crate):
+        yield from ITEM.split(re.sub(r"//.*", "", open(path, encoding="utf-8").read()))
+
+
+def signatures(item):
+    """What users see of an item; of a function without its clauses."""
+    return item if re.match(r"pub (type|enum|trait) ", item) else "\n".join(SEEN.findall(item))
+
+
+@functools.cache
+def hidden_in(crate):
+    """The functions, types and traits of a crate that nobody outside sees: lib.rt doesn't export them, and no signature
+    of what is seen names them."""
+    declared, shown, seen, wanted = set(), {}, set(), exported(crate)
+    for item in items_of(crate):
+        own = DECLARED.match(item)
+        declared |= {own[1]} if own else set()
+        named = own or OF_TYPE.match(item)
+        if named:
+            shown[named[1]] = shown.get(named[1], "") + signatures(item)
+    while wanted:
+        seen |= wanted
+        wanted = {it for name in wanted for it in re.findall(r"[A-Z]\w*", shown.get(name, ""))} & declared - seen
+    return declared - seen
+
+
 def public_clauses(path):
-    """The imports of a file of code, and the clauses of each public function in it and of what its types stand for."""
+    """The imports of a file of code, and the clauses of each public function in it and of what its types stand for. The
+    head of the trait or impl that a public function stands in names nothing hidden."""
     text = open(path, encoding="utf-8").read()
     found, name, is_public, inside, open_braces, open_ghost = {}, "", False, False, 0, 0
-    own = "|".join(re.findall(r"^(?:pub\(crate\) )?trait (\w+)", text, re.M)) or "-"
+    hidden = hidden_in(path.partition("/src/")[0])
     block = ""
-    for line in text.split("\n"):
-        if re.match(r"(pub )?(trait|impl)\b", line) or re.match(r"impl<", line):
+    for line in INVARIANT.sub("", text).split("\n"):
+        if re.match(r"(?:pub(?:\([^)]*\))? )?(?:trait|impl)\b", line):
             block = line
         elif line == "}":
             block = ""
-        is_inner = re.match(rf"impl.* (?:{own})\b.* for ", block)
-        is_in_trait = bool(re.match(r"pub trait", block) or re.match(r"impl.* for ", block)) and not is_inner
-        start = re.match(r' *(?:pub(?:\([^)]*\))? )?(?:const |extern "C" )?fn (\w+)', line)
+        is_in_trait = bool(re.match(r"pub trait|impl.* for ", block)) and hidden.isdisjoint(re.findall(r"\w+", block))
+        start = re.match(r' *(pub )?(?:pub\([^)]*\) )?(?:const |extern "C" )?fn (\w+)', line)
         if start:
-            name, inside = start[1], True
-            is_public = bool(re.match(r' *pub (const |extern "C" )?fn ', line)) or is_in_trait
+            name, inside = start[2], True
+            is_public = is_in_trait or bool(start[1]) and hidden.isdisjoint(re.findall(r"\w+", block or name))
         is_clause = re.match(r" *(ghost|requires|ensures)\b", line) or open_braces > 0
         if inside and is_public and is_clause:
             found.setdefault(name, []).append(line)
@@ -136,9 +186,14 @@ def crates():
     return sorted(it for it in glob.glob(f"{ROOT}/crates/*") if not it.endswith("_tests"))
 
 
+def code_of(crate):
+    """The files of code of a crate."""
+    return sorted(glob.glob(f"{crate}/src/**/*.rt", recursive=True))
+
+
 def sources():
     """The files of code of these crates."""
-    return [path for crate in crates() for path in sorted(glob.glob(f"{crate}/src/**/*.rt", recursive=True))]
+    return [path for crate in crates() for path in code_of(crate)]
 
 
 def all_definitions():
