@@ -1,7 +1,8 @@
 //! Maximum flow instances.
 
-ghost use Rattle.std.specs.Prelude.{◌≡◌, ◌<◌, ◌^◌, ◌++◌, ◌∷◌, [], ℕ, List, Some, IfOk, false, length, option_map, refl, slice_get};
+ghost use Rattle.std.specs.Prelude.{◌≡◌, ◌<◌, ◌^◌, ◌++◌, ◌∷◌, [], ℕ, List, Some, IfOk, false, length, option_map, refl, slice_get, ◌≢◌, ◌≤◌, ◌≤ℤ◌, OnOk, OnErr, pos};
 ghost use Rattle.std.specs.List.{list_any};
+ghost use Rattle.dimacs_lines.specs.Limits.{most_count, most_nodes, IsNode};
 ghost use Rattle.dimacs_lines.specs.Lines.{lines};
 ghost use Rattle.dimacs_lines.specs.Puts.{Puts};
 ghost use Rattle.dimacs_records.specs.declared.kinds.TextKind.TheVariants as kinds;
@@ -10,11 +11,10 @@ ghost use Rattle.dimacs_records.specs.Conditions.{lacks_end};
 ghost use Rattle.dimacs_records.specs.Readings.{CountsRead};
 ghost use Rattle.dimacs_records.specs.Faults.{Fault};
 ghost use Rattle.dimacs_records.specs.Texts.{Reads};
+ghost use Rattle.dimacs_network.specs.KeptArcs.{capacity_arc};
 ghost use Rattle.dimacs_instance.specs.MaxFlows.{MaxValue, IsMax};
 ghost use Rattle.dimacs_instance.specs.MaxTexts.{GivesMax, SpellsMax, canonical_max, max_arc, nodes_by_id};
 ghost use Rattle.dimacs_instance.specs.MaxReading.{AreEnds, EndsAreDistinct, before, before_end, count_of, end_records, max_begun_records, max_node};
-
-mod build;
 
 use crate::summaries::CountedMax;
 use dimacs_lines::{DeviceFault, Memory, Sink, Source};
@@ -45,7 +45,54 @@ impl<N: Network> Model for MaxInstance<N> {
     ghost invariant = { λ m. IsMax (record { nodes = N.node_count m.network; source = m.source; sink = m.sink; arcs = N.list m.network }) };
 }
 
+impl MaxInstance<PlainArcs<CapacityArc>> {
+    /// An instance with this many nodes, without arcs. Allocates nothing.
+    pub fn new(
+        alloc: Global,
+        nodes: u32,
+        source: u32,
+        sink: u32,
+    ) -> MaxInstance<PlainArcs<CapacityArc>>
+        requires nodes { nodes ≤ most_nodes }
+        requires source { IsNode nodes source }
+        requires sink { IsNode nodes sink }
+        requires apart { source ≢ sink }
+        ensures { result ≡ record { nodes = nodes; source = source; sink = sink; arcs = [] } }
+    {
+        MaxInstance {
+            source,
+            sink,
+            network: PlainArcs::new(alloc, nodes),
+        }
+    }
+
+    /// Adds an arc.
+    #[inline(always)]
+    pub fn push(&mut self, arc: CapacityArc) -> Result<(), Memory>
+        requires tail { IsNode self.old.nodes arc.tail }
+        requires head { IsNode self.old.nodes arc.head }
+        requires capacity { pos 0 ≤ℤ arc.cap }
+        requires room { length self.old.arcs < most_count }
+        ensures pushed { OnOk result (self.new ≡ record self.old { arcs = self.old.arcs ++ capacity_arc arc.tail arc.head arc.cap ∷ [] }) }
+        ensures unchanged { OnErr result (self.new ≡ self.old) }
+    {
+        self.network.push(arc)
+    }
+}
+
 impl<N: Network> MaxInstance<N> {
+    /// The instance over a network with its arcs. Allocates nothing.
+    pub fn over(network: N, source: u32, sink: u32) -> MaxInstance<N>
+        requires { IsMax (record { nodes = N.node_count network; source = source; sink = sink; arcs = N.list network }) }
+        ensures { result ≡ record { nodes = N.node_count network; source = source; sink = sink; arcs = N.list network } }
+    {
+        MaxInstance {
+            source,
+            sink,
+            network,
+        }
+    }
+
     /// The nodes and arcs.
     pub fn network(&self) -> &N
         ensures nodes { N.node_count result.now ≡ self.now.nodes }

@@ -1,7 +1,9 @@
 //! Minimum cost flow instances.
 
-ghost use Rattle.std.specs.Prelude.{◌≡◌, ◌<◌, ◌+◌, ◌≤ℤ◌, ◌<ℤ◌, ◌+ℤ◌, ◌^◌, ◌∷◌, [], ℕ, List, None, Some, pos, IfOk, if◌then◌else◌, length, option_map, refl, slice_get};
-ghost use Rattle.dimacs_lines.specs.Limits.{most_nodes};
+ghost use Rattle.std.specs.Prelude.{◌≡◌, ◌<◌, ◌+◌, ◌≤ℤ◌, ◌<ℤ◌, ◌+ℤ◌, ◌^◌, ◌∷◌, [], ℕ, List, None, Some, pos, IfOk, if◌then◌else◌, length, option_map, refl, slice_get, ◌≤◌, ◌++◌, OnOk, OnErr};
+ghost use Rattle.std.specs.List.{All};
+ghost use Rattle.std.specs.FinMap.{empty};
+ghost use Rattle.dimacs_lines.specs.Limits.{most_nodes, most_count, IsNode};
 ghost use Rattle.dimacs_lines.specs.Lines.{lines};
 ghost use Rattle.dimacs_lines.specs.Puts.{Puts};
 ghost use Rattle.dimacs_records.specs.declared.kinds.TextKind.TheVariants as kinds;
@@ -9,12 +11,11 @@ ghost use Rattle.dimacs_records.specs.declared.records.Record.TheVariants.{MinNo
 ghost use Rattle.dimacs_records.specs.Readings.{CountsRead};
 ghost use Rattle.dimacs_records.specs.Faults.{Fault};
 ghost use Rattle.dimacs_records.specs.Texts.{Reads};
-ghost use Rattle.dimacs_instance.specs.MinFlows.{MinValue, IsMin, supply_of, positive_part, negative_part, supply_sum, demand_sum};
+ghost use Rattle.dimacs_network.specs.Arcs.{JoinsNodes};
+ghost use Rattle.dimacs_instance.specs.MinFlows.{MinValue, IsMin, supply_of, positive_part, negative_part, supply_sum, demand_sum, HasBounds, with_supply};
 ghost use Rattle.dimacs_instance.specs.MinTexts.{GivesMin, SpellsMin, canonical_min, min_arc};
 ghost use Rattle.dimacs_records.specs.NodeValues.{is_nonzero};
 ghost use Rattle.dimacs_instance.specs.MinReading.{IsMinBegunBy, after_lines, before, count_of};
-
-mod build;
 
 use dimacs_lines::{DeviceFault, Memory, OutputBuffer, Sink, Source};
 use dimacs_network::{ArcView, ForwardStar, Network, OfCostArcs, PlainArcs, StoredArc};
@@ -31,8 +32,8 @@ use std::marker::{Model, PhantomData};
 #[derive(Drop)]
 pub struct MinInstance<N: Network> {
     /// The supplies of the named nodes, some perhaps 0.
-    pub(crate) supplies: NodeMap<i64>,
-    pub(crate) network: N,
+    supplies: NodeMap<i64>,
+    network: N,
 }
 
 impl<N: Network> Model for MinInstance<N> {
@@ -75,6 +76,55 @@ impl SupplySums {
                 demanded: self.demanded - supply,
                 ..self
             }
+        }
+    }
+}
+
+impl MinInstance<PlainArcs<ArcView>> {
+    /// An instance with this many nodes of supply 0, without arcs. Allocates nothing.
+    pub fn new(alloc: Global, nodes: u32) -> MinInstance<PlainArcs<ArcView>>
+        requires nodes { nodes ≤ most_nodes }
+        ensures { result ≡ record { nodes = nodes; supplies = empty; arcs = [] } }
+    {
+        MinInstance {
+            supplies: NodeMap::new(alloc),
+            network: PlainArcs::new(alloc, nodes),
+        }
+    }
+
+    /// Sets the supply of a node.
+    #[inline]
+    pub fn set_supply(&mut self, id: u32, supply: i64) -> Result<(), Memory>
+        requires node { IsNode self.old.nodes id }
+        ensures set { OnOk result (self.new ≡ with_supply self.old id supply) }
+        ensures unchanged { OnErr result (self.new ≡ self.old) }
+    {
+        self.supplies.set(id, supply)
+    }
+
+    /// Adds an arc.
+    #[inline(always)]
+    pub fn push(&mut self, arc: ArcView) -> Result<(), Memory>
+        requires joined { JoinsNodes self.old.nodes arc }
+        requires bounds { HasBounds arc }
+        requires room { length self.old.arcs < most_count }
+        ensures pushed { OnOk result (self.new ≡ record self.old { arcs = self.old.arcs ++ arc ∷ [] }) }
+        ensures unchanged { OnErr result (self.new ≡ self.old) }
+    {
+        self.network.push(arc)
+    }
+
+    /// The same supplies over a network with its arcs. Drops arcs added before. Allocates nothing.
+    pub fn over<N: Network>(self, network: N) -> MinInstance<N>
+        requires nodes { N.node_count network ≡ self.nodes }
+        requires few { length (N.list network) ≤ most_count }
+        requires joined { All (JoinsNodes self.nodes) (N.list network) }
+        requires bounds { All HasBounds (N.list network) }
+        ensures { result ≡ record self { arcs = N.list network } }
+    {
+        MinInstance {
+            supplies: self.supplies,
+            network,
         }
     }
 }
