@@ -7,7 +7,7 @@ use Rattle.std.proofs.lemmas.Int.{by_lt_z, ints}
 use Rattle.std.proofs.lemmas.List.{get_or-replicate, get_or-set_other, get_or-set_same, length-replicate, length-set}
 use Rattle.std.proofs.lemmas.Option.{slice_get-get_or, slice_get_past}
 use Rattle.dimacs_lines.specs.Limits.{IsNode}
-use Rattle.dimacs_claims.specs.ById.{NodesAreDistinct}
+use Rattle.dimacs_claims.specs.inside.ById.{NodesAreDistinct}
 use Rattle.dimacs_claims.specs.declared.block.Label.{Label}
 use Rattle.dimacs_claims.specs.Labels.{BlockValue, distance_in, label}
 use Rattle.dimacs_claims.proofs.ByIdLemmas.{distance_in-at}

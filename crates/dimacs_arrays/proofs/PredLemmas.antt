@@ -5,7 +5,7 @@ use Rattle.std.proofs.lemmas.Bool.{cases_order}
 use Rattle.std.proofs.lemmas.List.{get_or-set_other, get_or-set_same}
 use Rattle.std.proofs.lemmas.List.Elements.{All-from_get_or}
 use Rattle.dimacs_lines.specs.Limits.{IsNode}
-use Rattle.dimacs_claims.specs.ById.{NodesAreDistinct}
+use Rattle.dimacs_claims.specs.inside.ById.{NodesAreDistinct}
 use Rattle.dimacs_claims.specs.declared.block.Label.{Label}
 use Rattle.dimacs_claims.specs.Labels.{distance_in, no_label}
 use Rattle.dimacs_claims.proofs.ByIdLemmas.{distance_in-at}

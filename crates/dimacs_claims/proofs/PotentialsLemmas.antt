@@ -29,7 +29,8 @@ use Rattle.dimacs_claims.specs.Cuts.{is_id}
 use Rattle.dimacs_records.specs.Ranges.{IsWide}
 use Rattle.dimacs_claims.specs.Potentials.{PotentialsValue, ArePotentials, GivesPotentials, SpellsPotentials, canonical_potentials, node_line, nonzero_ids, potential_of, potentials_records, with_values, zero_potentials}
 use Rattle.dimacs_records.specs.NodeValues.{NameNodes, has_value, is_nonzero, is_of, without_zeros}
-use Rattle.dimacs_claims.specs.PotentialsReading.{PotentialsBegun, ArePotentialsBegunBy, potentials_begun, after_lines, before, has_line}
+use Rattle.dimacs_claims.specs.PotentialsReading.{PotentialsBegun, ArePotentialsBegunBy, after_lines, before, has_line}
+use Rattle.dimacs_claims.specs.inside.PotentialsReading.{potentials_begun}
 use Rattle.dimacs_records.specs.Tests.{Passes, PassesEnd, after_records, earlier_of, noted_before}
 use Rattle.dimacs_records.specs.Spelling.{kind_of}
 use Rattle.dimacs_claims.proofs.NodeLists.{All-passing, count_map, passing, passing_below, passing_few, passing_listed, passing_once, lines_of_passing}

@@ -1,12 +1,9 @@
 -- Labels while their text is read.
-use Rattle.std.specs.Prelude.{ℕ, ◌≡◌, ◌≤◌, ◌+◌, List, [], ◌∷◌, ◌++◌, map, length, is_some, ◌==◌, Some, None, false, is_none, not}
-use Rattle.std.specs.List.{All, list_any}
-use Rattle.dimacs_lines.specs.Limits.{most_count, most_nodes}
-use Rattle.dimacs_nodes.specs.declared.node_table.NodeTable.{NodeTable}
-use Rattle.dimacs_nodes.specs.Tables.{value_of}
+use Rattle.std.specs.Prelude.{ℕ, ◌+◌, List, [], ◌∷◌, ◌++◌, map, length, Some, None, false, is_none, not}
+use Rattle.std.specs.List.{list_any}
 use Rattle.dimacs_records.specs.declared.records.Record.{Record}
 use Rattle.dimacs_records.specs.declared.records.Record.TheVariants.{LabelsProblem, LabelsBlock, LabelsNode, DistancesBlock, DistancesNode}
-use Rattle.dimacs_claims.specs.Labels.{BlockValue, EachAfter, IsBlock, IsNewSource, distance_in}
+use Rattle.dimacs_claims.specs.Labels.{BlockValue}
 use Rattle.dimacs_claims.specs.LabelTexts.{label_line}
 use Rattle.dimacs_records.specs.declared.order.Earlier.{Earlier}
 use Rattle.dimacs_records.specs.Blocks.{block_in, is_full_block, is_labelled, is_past_block, is_short_block}
@@ -37,26 +34,6 @@ lines_of_blocks missing (b ∷ more) = lines_of_short (lacking missing more) b +
 -- the records so far
 abbrev pub labels_begun_records : LabelsBegun → List Record
 labels_begun_records begun = LabelsProblem begun.nodes begun.declared ∷ lines_of_blocks begun.missing begun.blocks
-
--- the last block declares no more labels than a text may have
-abbrev pub LastIsFew : LabelsBegun → Type 0
-LastIsFew begun = (front : List BlockValue) (b : BlockValue) → begun.blocks ≡ front ++ b ∷ [] → length b.labels + begun.missing ≤ most_count
-
--- a lawful state
-pub record AreLabelsBegun (begun : LabelsBegun) : Type 0 where
-  pub nodes_few : begun.nodes ≤ most_nodes
-  pub blocks_few : begun.declared ≤ most_count
-  pub no_more : length begun.blocks ≤ begun.declared
-  pub last_few : LastIsFew begun
-  pub none_lack : begun.blocks ≡ [] → begun.missing ≡ 0
-  pub blocks : All (IsBlock begun.nodes) begun.blocks
-  pub sources : EachAfter IsNewSource begun.blocks
-
--- the table has for each node the number of the last block with a label of it, from 1
-pub record AreLabelled (labelled : NodeTable ℕ) (blocks : List BlockValue) : Type 0 where
-  pub few : (id : ℕ) → value_of labelled id ≤ length blocks
-  pub last : (front : List BlockValue) (b : BlockValue) → blocks ≡ front ++ b ∷ [] → (id : ℕ)
-      → (value_of labelled id == length blocks) ≡ is_some (distance_in b.labels id)
 
 -- what the tests need if blocks don't matter
 abbrev pub after_lines : LabelsBegun → Earlier

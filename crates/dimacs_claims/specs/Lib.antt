@@ -1,4 +1,3 @@
-pub mod ById
 pub mod CutReading
 pub mod Cuts
 pub mod DistanceTexts

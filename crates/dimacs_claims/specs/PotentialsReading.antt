@@ -6,7 +6,7 @@ use Rattle.std.specs.FinMap.{FinMap, from_entries, get}
 use Rattle.std.specs.FinMap as map
 use Rattle.dimacs_records.specs.declared.records.Record.{Record}
 use Rattle.dimacs_claims.specs.Potentials.{PotentialsValue, potentials_records}
-use Rattle.dimacs_records.specs.NodeValues.{NameNodes, without_zeros}
+use Rattle.dimacs_records.specs.NodeValues.{NameNodes}
 use Rattle.dimacs_records.specs.declared.order.Earlier.{Earlier}
 use Rattle.dimacs_records.specs.declared.records.Record.TheVariants.{PotentialsNode}
 use Rattle.dimacs_records.specs.Tests.{earlier_of}
@@ -17,10 +17,6 @@ pub record PotentialsBegun : Type 0 where
   pub declared : ℕ
   pub taken : ℕ
   pub values : FinMap nat_cmp ℤ
-
--- the potentials so far, without zeros
-abbrev pub potentials_begun : PotentialsBegun → PotentialsValue
-potentials_begun begun = record { nodes = begun.nodes; values = without_zeros begun.values }
 
 -- these records may lead to this state
 pub record ArePotentialsBegunBy (begun : PotentialsBegun) (rs : List Record) : Type 0 where

@@ -12,7 +12,7 @@ ghost use Rattle.dimacs_records.specs.Faults.{Fault};
 ghost use Rattle.dimacs_records.specs.Readings.{CountsRead, LineRecord, records_of};
 ghost use Rattle.dimacs_records.specs.Tests.{Passes, PassesEnd};
 ghost use Rattle.dimacs_records.specs.Texts.{Reads};
-ghost use Rattle.dimacs_claims.specs.ById.{AreIndexed};
+ghost use Rattle.dimacs_claims.specs.inside.ById.{AreIndexed};
 ghost use Rattle.dimacs_claims.specs.Labels as claims;
 ghost use Rattle.dimacs_claims.specs.Labels.{AreLabels, AreSources, BlockValue, IsBlock, IsNewSource, LabelsValue, label_at, with_block, with_label};
 ghost use Rattle.std.specs.FinSet as set;
@@ -22,7 +22,8 @@ ghost use Rattle.dimacs_records.specs.Ranges.{IsRadius, IsWide};
 ghost use Rattle.dimacs_claims.specs.DistanceTexts.{bare};
 ghost use Rattle.dimacs_claims.specs.LabelTexts.{FitText, GivesLabels, SpellsLabels, block_lines, canonical_labels, label_line, label_records};
 ghost use Rattle.dimacs_claims.specs.inside.Lines.{in_kind, line_in_kind};
-ghost use Rattle.dimacs_claims.specs.LabelsReading.{AreLabelsBegun, labels_begun_records, after_lines, before, before_end};
+ghost use Rattle.dimacs_claims.specs.LabelsReading.{labels_begun_records, after_lines, before, before_end};
+ghost use Rattle.dimacs_claims.specs.inside.LabelsReading.{AreLabelsBegun};
 
 use crate::block::{Block, Label};
 use crate::by_id::{ById, distance_by};
@@ -46,7 +47,7 @@ pub struct Labels {
 }
 
 impl Model for Labels {
-    ghost use Rattle.dimacs_claims.specs.ById.{AreIndexed};
+    ghost use Rattle.dimacs_claims.specs.inside.ById.{AreIndexed};
     ghost use Rattle.dimacs_claims.specs.Labels.{LabelsValue, AreLabels};
 
     ghost Value = { LabelsValue };
@@ -153,7 +154,8 @@ pub struct BegunLabels {
 
 impl Model for BegunLabels {
     ghost use Rattle.dimacs_claims.specs.Labels.{AreSources};
-    ghost use Rattle.dimacs_claims.specs.LabelsReading.{LabelsBegun, AreLabelsBegun, AreLabelled};
+    ghost use Rattle.dimacs_claims.specs.LabelsReading.{LabelsBegun};
+    ghost use Rattle.dimacs_claims.specs.inside.LabelsReading.{AreLabelsBegun, AreLabelled};
 
     ghost Value = { LabelsBegun };
 

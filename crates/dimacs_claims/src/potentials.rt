@@ -114,7 +114,8 @@ pub struct BegunPotentials {
 
 impl Model for BegunPotentials {
     ghost use Rattle.dimacs_claims.specs.Potentials.{ArePotentials};
-    ghost use Rattle.dimacs_claims.specs.PotentialsReading.{PotentialsBegun, begun_code, potentials_begun};
+    ghost use Rattle.dimacs_claims.specs.PotentialsReading.{PotentialsBegun, begun_code};
+    ghost use Rattle.dimacs_claims.specs.inside.PotentialsReading.{potentials_begun};
 
     ghost Value = { PotentialsBegun };
 

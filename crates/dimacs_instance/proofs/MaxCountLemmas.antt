@@ -19,8 +19,10 @@ use Rattle.dimacs_network.specs.Arcs.{JoinsNodes}
 use Rattle.dimacs_network.specs.KeptArcs.{capacity_arc}
 use Rattle.dimacs_instance.specs.MaxFlows.{HasCapacityAlone, MaxValue}
 use Rattle.dimacs_instance.specs.MaxTexts.{GivesMax, max_arc}
-use Rattle.dimacs_instance.specs.MaxReading.{AreEnds, AreNodes, EndsAreDistinct, IsMaxBegun, IsMaxCountedBy, MaxBegun, MaxCount, before, before_end, count_of, end_records, max_begun_records}
-use Rattle.dimacs_instance.specs.Summaries.{GivesSummary, SumsUpMax}
+use Rattle.dimacs_instance.specs.MaxReading.{MaxBegun, MaxCount, before, before_end, count_of, end_records, max_begun_records}
+use Rattle.dimacs_instance.specs.inside.MaxReading.{AreEnds, AreNodes, EndsAreDistinct, IsMaxBegun, IsMaxCountedBy}
+use Rattle.dimacs_instance.specs.Summaries.{SumsUpMax}
+use Rattle.dimacs_instance.specs.inside.Summaries.{GivesSummary}
 use Rattle.dimacs_instance.specs.declared.max.EndLines.{EndLines}
 use Rattle.dimacs_instance.specs.declared.max.EndLines.TheVariants.{Neither, One, Both}
 use Rattle.dimacs_instance.proofs.MaxLemmas.{end_noted, before_noted}

@@ -16,8 +16,10 @@ use Rattle.dimacs_records.specs.Tests.{Passes, PassesEnd, after_records, noted_b
 use Rattle.dimacs_network.specs.declared.network.ArcView.{ArcView}
 use Rattle.dimacs_instance.specs.MinFlows.{IsMin, demand_sum, supply_sum}
 use Rattle.dimacs_instance.specs.MinTexts.{GivesMin, min_arc, min_node, min_records}
-use Rattle.dimacs_instance.specs.MinReading.{IsMinBegun, IsMinCountedBy, MinCount, after_lines, before, count_of, without_arcs}
-use Rattle.dimacs_instance.specs.Summaries.{GivesSummary, SumsUpMin}
+use Rattle.dimacs_instance.specs.MinReading.{MinCount, after_lines, before, count_of}
+use Rattle.dimacs_instance.specs.inside.MinReading.{IsMinBegun, IsMinCountedBy, without_arcs}
+use Rattle.dimacs_instance.specs.Summaries.{SumsUpMin}
+use Rattle.dimacs_instance.specs.inside.Summaries.{GivesSummary}
 use Rattle.dimacs_instance.proofs.MinLemmas.{arc_bounds, arc_joins, arc_room, begins, gives_min, law_with_arc, law_with_supply, lines_noted, min_law, names_one, new_law, node, before_noted, with_arc}
 
 pub counted_none : (nodes declared : ℕ) → nodes ≤ most_nodes → declared ≤ most_count → IsMinCountedBy (record { nodes = nodes; declared = declared; supplies = empty; arcs = 0 }) (MinProblem nodes declared ∷ [])

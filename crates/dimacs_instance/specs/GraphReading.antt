@@ -1,12 +1,9 @@
 -- A graph while its text is read.
-use Rattle.std.specs.Prelude.{ℕ, ◌≤◌, List, ◌∷◌, map, length, Some}
-use Rattle.std.specs.List.{All}
-use Rattle.dimacs_lines.specs.Limits.{most_count, most_nodes}
+use Rattle.std.specs.Prelude.{ℕ, List, ◌∷◌, map, length, Some}
 use Rattle.dimacs_records.specs.declared.records.Record.{Record}
 use Rattle.dimacs_records.specs.declared.records.Record.TheVariants.{GraphProblem}
 use Rattle.dimacs_network.specs.declared.network.ArcView.{ArcView}
-use Rattle.dimacs_network.specs.Arcs.{JoinsNodes}
-use Rattle.dimacs_instance.specs.Graph.{HasWeightAlone, graph_arc}
+use Rattle.dimacs_instance.specs.Graph.{graph_arc}
 use Rattle.dimacs_records.specs.declared.order.Earlier.{Earlier}
 use Rattle.dimacs_records.specs.Tests.{earlier_of}
 
@@ -15,14 +12,6 @@ pub record GraphBegun : Type 0 where
   pub nodes : ℕ
   pub declared : ℕ
   pub arcs : List ArcView
-
--- a lawful state
-pub record IsGraphBegun (begun : GraphBegun) : Type 0 where
-  pub nodes_few : begun.nodes ≤ most_nodes
-  pub arcs_few : begun.declared ≤ most_count
-  pub no_more : length begun.arcs ≤ begun.declared
-  pub joined : All (JoinsNodes begun.nodes) begun.arcs
-  pub weights : All HasWeightAlone begun.arcs
 
 -- the records so far
 abbrev pub graph_begun_records : GraphBegun → List Record

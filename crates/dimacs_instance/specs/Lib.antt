@@ -10,3 +10,4 @@ pub mod MinTexts
 pub mod QueriesReading
 pub mod QueryTexts
 pub mod Summaries
+pub mod inside

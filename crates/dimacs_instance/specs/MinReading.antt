@@ -1,16 +1,11 @@
 -- A minimum cost flow instance while its text is read.
-use Rattle.std.specs.Prelude.{ℕ, ℤ, ◌≡◌, ◌≤◌, List, [], length, Bool, Some, is_some, nat_lt}
-use Rattle.std.specs.List.{All}
+use Rattle.std.specs.Prelude.{ℕ, ℤ, ◌≡◌, List, length, Bool, Some, is_some, nat_lt}
 use Rattle.std.specs.Ordering.{nat_cmp}
-use Rattle.std.specs.FinMap.{FinMap, from_entries, entries, get}
-use Rattle.dimacs_lines.specs.Limits.{most_count, most_nodes, IsNode}
+use Rattle.std.specs.FinMap.{FinMap, from_entries, get}
 use Rattle.dimacs_records.specs.declared.records.Record.{Record}
 use Rattle.dimacs_network.specs.declared.network.ArcView.{ArcView}
-use Rattle.dimacs_network.specs.Arcs.{JoinsNodes}
-use Rattle.dimacs_instance.specs.MinFlows.{HasBounds}
 use Rattle.dimacs_instance.specs.MinTexts.{min_records}
 use Rattle.dimacs_records.specs.NodeValues.{NameNodes}
-use Rattle.dimacs_records.specs.Ranges.{IsWhole}
 use Rattle.dimacs_records.specs.declared.order.Earlier.{Earlier}
 use Rattle.dimacs_records.specs.declared.records.Record.TheVariants.{MinNode}
 use Rattle.dimacs_records.specs.Tests.{earlier_of}
@@ -21,19 +16,6 @@ pub record MinBegun : Type 0 where
   pub declared : ℕ
   pub supplies : FinMap nat_cmp ℤ
   pub arcs : List ArcView
-
--- a node with a supply, perhaps 0
-abbrev pub IsNamed : ℕ → ℕ × ℤ → Type 0
-IsNamed nodes s = IsNode nodes s.0 × IsWhole s.1
-
--- a lawful state
-pub record IsMinBegun (begun : MinBegun) : Type 0 where
-  pub nodes_few : begun.nodes ≤ most_nodes
-  pub arcs_few : begun.declared ≤ most_count
-  pub no_more : length begun.arcs ≤ begun.declared
-  pub supplied : All (IsNamed begun.nodes) (entries begun.supplies)
-  pub joined : All (JoinsNodes begun.nodes) begun.arcs
-  pub bounds : All HasBounds begun.arcs
 
 -- these records may lead to this state
 pub record IsMinBegunBy (begun : MinBegun) (rs : List Record) : Type 0 where
@@ -51,17 +33,6 @@ pub record MinCount : Type 0 where
 
 abbrev pub count_of : MinBegun → MinCount
 count_of begun = record { nodes = begun.nodes; declared = begun.declared; supplies = begun.supplies; arcs = length begun.arcs }
-
--- the same without arcs
-abbrev pub without_arcs : MinCount → MinBegun
-without_arcs counted = record { nodes = counted.nodes; declared = counted.declared; supplies = counted.supplies; arcs = [] }
-
--- these records may lead to this state; their arcs are counted
-pub record IsMinCountedBy (counted : MinCount) (rs : List Record) : Type 0 where
-  pub begun : MinBegun
-  pub is_begun : IsMinBegun begun
-  pub begun_by : IsMinBegunBy begun rs
-  pub counts : counted ≡ count_of begun
 
 abbrev pub has_line : MinCount → ℕ → Bool
 has_line counted id = is_some (get counted.supplies id)

@@ -1,9 +1,8 @@
 -- Queries while their text is read.
-use Rattle.std.specs.Prelude.{ℕ, ◌≤◌, List, ◌∷◌, length, Bool, false, true, None, Some}
-use Rattle.dimacs_lines.specs.Limits.{most_count}
+use Rattle.std.specs.Prelude.{ℕ, List, ◌∷◌, length, Bool, false, true, None, Some}
 use Rattle.dimacs_records.specs.declared.records.Record.{Record}
 use Rattle.dimacs_records.specs.declared.records.Record.TheVariants.{QueriesProblem, SourceQuery, PairQuery}
-use Rattle.dimacs_instance.specs.QueryTexts.{QueriesValue, HaveIds, kind_asked, query_lines, Sources, Pairs}
+use Rattle.dimacs_instance.specs.QueryTexts.{QueriesValue, kind_asked, query_lines, Sources, Pairs}
 use Rattle.dimacs_records.specs.declared.order.Earlier.{Earlier}
 use Rattle.dimacs_records.specs.Tests.{earlier_of}
 
@@ -11,12 +10,6 @@ use Rattle.dimacs_records.specs.Tests.{earlier_of}
 pub record QueriesBegun : Type 0 where
   pub declared : ℕ
   pub queries : QueriesValue
-
--- a lawful state
-pub record AreQueriesBegun (begun : QueriesBegun) : Type 0 where
-  pub few : begun.declared ≤ most_count
-  pub no_more : length (query_lines begun.queries) ≤ begun.declared
-  pub ids : HaveIds begun.queries
 
 -- the records so far
 abbrev pub queries_begun_records : QueriesBegun → List Record

@@ -1,31 +1,21 @@
 -- Summaries of the instances that texts spell.
-use Rattle.std.specs.Prelude.{ℕ, ◌≡◌, List, [], ◌∷◌, codes, length, pos, Some, Result, Ok, Err}
+use Rattle.std.specs.Prelude.{ℕ, ◌≡◌, List, [], ◌∷◌, codes, length, pos, Result, Ok, Err}
 use Rattle.std.specs.Fmt.{decimal, signed_decimal}
 use Rattle.dimacs_records.specs.declared.faults.ReadError.{ReadError}
-use Rattle.dimacs_records.specs.declared.order.Earlier.{Earlier}
 use Rattle.dimacs_records.specs.declared.reasons.Reason.{Reason}
-use Rattle.dimacs_records.specs.declared.records.Record.{Record}
 use Rattle.dimacs_records.specs.Printed.{shown}
-use Rattle.dimacs_records.specs.Readings.{LineRecord}
-use Rattle.dimacs_records.specs.Tests.{earlier_of}
 use Rattle.dimacs_records.specs.Texts.{Reads}
 use Rattle.dimacs_network.specs.Arcs.{NetworkValue}
-use Rattle.dimacs_instance.specs.GraphReading.{GraphBegun, IsGraphBegun, graph_begun_records}
 use Rattle.dimacs_instance.specs.MaxFlows.{MaxValue}
 use Rattle.dimacs_instance.specs.declared.summaries.max.MaxSummary.{MaxSummary}
 use Rattle.dimacs_instance.specs.MinFlows.{MinValue, demand_sum, supply_sum}
 use Rattle.dimacs_instance.specs.declared.summaries.min.MinSummary.{MinSummary}
 use Rattle.dimacs_instance.specs.declared.summaries.graph.GraphSummary.{GraphSummary}
-use Rattle.dimacs_instance.specs.declared.summaries.graph.CountedGraph.{CountedGraph}
 
 -- the summary of the value that the text spells, or why it spells none
 abbrev pub ReadsSummary : {T V : Type 0} → (T → V → Type 0) → (V → Type 0) → (ℕ → ℕ → Reason → Type 0) → Result T ReadError → Type 0
 ReadsSummary {T} {V} sums_up spells fault (Ok summary) = (value : V) × sums_up summary value × Reads spells fault (Ok value)
 ReadsSummary sums_up spells fault (Err error) = Reads spells fault (Err error)
-
--- the records give a value with this summary
-abbrev pub GivesSummary : {T V : Type 0} → (List LineRecord → V → Type 0) → (T → V → Type 0) → List LineRecord → T → Type 0
-GivesSummary {T} {V} gives sums_up rs summary = (value : V) × gives rs value × sums_up summary value
 
 -- the numbers of nodes and arcs of the graph
 abbrev pub graph_summary : NetworkValue → GraphSummary
@@ -36,19 +26,6 @@ SumsUpGraph s g = s ≡ graph_summary g
 
 abbrev pub graph_summary_line : GraphSummary → List ℕ
 graph_summary_line s = shown (codes "sp" ∷ decimal s.nodes ∷ decimal s.arcs ∷ [])
-
--- these records may lead to this state; their arcs are counted
-pub record IsGraphCountedBy (c : CountedGraph) (rs : List Record) : Type 0 where
-  pub begun : GraphBegun
-  pub is_begun : IsGraphBegun begun
-  pub records : rs ≡ graph_begun_records begun
-  pub nodes : c.nodes ≡ begun.nodes
-  pub declared : c.declared ≡ begun.declared
-  pub arcs : c.arcs ≡ length begun.arcs
-
--- what the tests need after the problem line and these arcs
-abbrev pub counted_lines : CountedGraph → Earlier
-counted_lines c = earlier_of (Some (record { nodes = Some c.nodes; count = c.declared })) c.arcs
 
 -- the numbers of nodes and arcs of the instance, its source and its sink
 abbrev pub max_summary : MaxValue → MaxSummary

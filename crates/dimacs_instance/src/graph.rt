@@ -120,7 +120,8 @@ pub struct BegunGraph<N: OfWeightArcs> {
 }
 
 impl<N: OfWeightArcs> Model for BegunGraph<N> {
-    ghost use Rattle.dimacs_instance.specs.GraphReading.{GraphBegun, IsGraphBegun};
+    ghost use Rattle.dimacs_instance.specs.GraphReading.{GraphBegun};
+    ghost use Rattle.dimacs_instance.specs.inside.GraphReading.{IsGraphBegun};
 
     ghost Value = { GraphBegun };
 

@@ -14,7 +14,8 @@ ghost use Rattle.dimacs_records.specs.Texts.{Reads};
 ghost use Rattle.dimacs_network.specs.KeptArcs.{capacity_arc};
 ghost use Rattle.dimacs_instance.specs.MaxFlows.{MaxValue, IsMax};
 ghost use Rattle.dimacs_instance.specs.MaxTexts.{GivesMax, SpellsMax, canonical_max, max_arc, nodes_by_id};
-ghost use Rattle.dimacs_instance.specs.MaxReading.{AreEnds, EndsAreDistinct, before, before_end, count_of, end_records, max_begun_records, max_node};
+ghost use Rattle.dimacs_instance.specs.MaxReading.{before, before_end, count_of, end_records, max_begun_records, max_node};
+ghost use Rattle.dimacs_instance.specs.inside.MaxReading.{AreEnds, EndsAreDistinct};
 
 use crate::summaries::CountedMax;
 use dimacs_lines::{DeviceFault, Memory, Sink, Source};
@@ -236,7 +237,8 @@ pub struct BegunMax<N: OfCapacityArcs> {
 }
 
 impl<N: OfCapacityArcs> Model for BegunMax<N> {
-    ghost use Rattle.dimacs_instance.specs.MaxReading.{MaxBegun, IsMaxBegun};
+    ghost use Rattle.dimacs_instance.specs.MaxReading.{MaxBegun};
+    ghost use Rattle.dimacs_instance.specs.inside.MaxReading.{IsMaxBegun};
 
     ghost Value = { MaxBegun };
 

@@ -204,7 +204,8 @@ pub struct BegunMin<N: OfCostArcs> {
 }
 
 impl<N: OfCostArcs> Model for BegunMin<N> {
-    ghost use Rattle.dimacs_instance.specs.MinReading.{MinBegun, IsMinBegun};
+    ghost use Rattle.dimacs_instance.specs.MinReading.{MinBegun};
+    ghost use Rattle.dimacs_instance.specs.inside.MinReading.{IsMinBegun};
     ghost use Rattle.dimacs_instance.specs.MinCodes.{begun_code};
 
     ghost Value = { MinBegun };

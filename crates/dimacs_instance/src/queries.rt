@@ -117,7 +117,8 @@ pub struct BegunQueries {
 
 impl Model for BegunQueries {
     ghost use Rattle.dimacs_instance.specs.QueryTexts.{asked};
-    ghost use Rattle.dimacs_instance.specs.QueriesReading.{QueriesBegun, AreQueriesBegun};
+    ghost use Rattle.dimacs_instance.specs.QueriesReading.{QueriesBegun};
+    ghost use Rattle.dimacs_instance.specs.inside.QueriesReading.{AreQueriesBegun};
 
     ghost Value = { QueriesBegun };
 

@@ -3,7 +3,6 @@ pub mod Puts
 pub mod Limits
 pub mod Lines
 pub mod Reader
-pub mod Buffer
 pub mod Number
 pub mod Fields
 pub mod FieldViews

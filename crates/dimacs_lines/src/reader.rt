@@ -66,7 +66,7 @@ pub struct Lines {
 impl Model for Lines {
     ghost use Rattle.std.specs.Prelude.{slice_range, length};
     ghost use Rattle.dimacs_lines.specs.Reader.{State};
-    ghost use Rattle.dimacs_lines.specs.Buffer.{IsLaidOut};
+    ghost use Rattle.dimacs_lines.specs.inside.Buffer.{IsLaidOut};
 
     ghost Value = { State };
 

@@ -1,9 +1,7 @@
 -- A flow while entries are put on their arcs, entry by entry.
-use Rattle.std.specs.Prelude.{ℕ, zero, suc, ◌≡◌, ◌<◌, ◌≤◌, ◌^◌, Bool, true, false, List, length, take, get_or, count_by, ℤ, Option, None, Some}
+use Rattle.std.specs.Prelude.{ℕ, zero, suc, ◌≡◌, Bool, false, List, take, get_or, count_by, ℤ, Option, None, Some}
 use Rattle.dimacs_network.specs.declared.network.ArcView.{ArcView}
-use Rattle.dimacs_network.specs.declared.arc_index.ArcIndex.{ArcIndex}
 use Rattle.dimacs_network.specs.Arcs.{joins, IsKthBetween}
-use Rattle.dimacs_network.specs.ArcOrder.{HasRoom, Indexes}
 use Rattle.dimacs_claims.specs.declared.solution.Entry.{Entry}
 use Rattle.dimacs_records.specs.declared.reasons.Reason.{Reason}
 use Rattle.dimacs_optimality.specs.declared.verdict.Where.{Where}
@@ -20,13 +18,6 @@ pub record PlacesValue : Type 0 where
   pub out_of_order : Bool
   pub searched : Bool
   pub refusal : Option (Where × Reason)
-
--- an amount and a count for each arc
-pub record HaveRoom (p : PlacesValue) : Type 0 where
-  pub flow : length p.flow ≡ length p.arcs
-  pub counts : length p.counts ≡ length p.arcs
-  pub in_order : p.in_order ≤ length p.arcs
-  pub arc_limit : length p.arcs < 2 ^ 32
 
 -- k, or n if k is 0
 abbrev pub counted_or : ℕ → ℕ → ℕ
@@ -54,9 +45,3 @@ Hold p entries (Some refusal) = FirstOfRow (entry_row p.arcs entries) refusal.0 
 -- these entries were put
 abbrev pub ArePlaced : PlacesValue → List Entry → Type 0
 ArePlaced p entries = Hold p entries p.refusal
-
--- an index of these arcs, if there is one: filled, or with room for them
-abbrev pub IsIndexFor : List ArcView → Bool → Option ArcIndex → Type 0
-IsIndexFor arcs filled None = Unit {0}
-IsIndexFor arcs true (Some index) = Indexes arcs index
-IsIndexFor arcs false (Some index) = HasRoom arcs index

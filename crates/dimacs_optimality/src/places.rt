@@ -5,7 +5,8 @@ ghost use Rattle.dimacs_claims.specs.declared.solution.Entry.{Entry};
 ghost use Rattle.dimacs_network.specs.declared.network.ArcView.{ArcView};
 ghost use Rattle.dimacs_network.specs.Arcs.{joins, IsKthBetween, arc_at};
 ghost use Rattle.dimacs_optimality.specs.Claims.{Carries, entry_row};
-ghost use Rattle.dimacs_optimality.specs.Places.{ArePlaced, HavePlaced, IsIndexFor, placed_between};
+ghost use Rattle.dimacs_optimality.specs.Places.{ArePlaced, HavePlaced, placed_between};
+ghost use Rattle.dimacs_optimality.specs.inside.Places.{IsIndexFor};
 ghost use Rattle.dimacs_optimality.specs.inside.ArcChains.{IsFirstBetween};
 ghost use Rattle.dimacs_optimality.specs.inside.Places.{PutsEntry, FindsFlow};
 ghost use Rattle.dimacs_optimality.specs.Tests.{FirstOfRow};
@@ -48,7 +49,8 @@ pub struct FlowPlaces<'a, N: Network> {
 
 impl<'a, N: Network> Model for FlowPlaces<'a, N> {
     ghost use Rattle.dimacs_optimality.specs.Claims.{Carries, entry_row};
-    ghost use Rattle.dimacs_optimality.specs.Places.{PlacesValue, HaveRoom, IsIndexFor};
+    ghost use Rattle.dimacs_optimality.specs.Places.{PlacesValue};
+    ghost use Rattle.dimacs_optimality.specs.inside.Places.{HaveRoom, IsIndexFor};
     ghost use Rattle.dimacs_optimality.specs.inside.ArcChains.{AreChainedIf};
 
     ghost Value = { PlacesValue };

@@ -1,7 +1,7 @@
 //! The priority queue of a search, the nearest node first.
 
 ghost use Rattle.std.specs.Prelude.{◌≡◌, ◌∷◌, [], OnOk, MatchOption, IsPermutation};
-ghost use Rattle.dimacs_solve.specs.Frontiers.{walk_of};
+ghost use Rattle.dimacs_solve.specs.inside.Frontiers.{walk_of};
 ghost use Rattle.dimacs_solve.specs.inside.Frontiers.{IsNearest};
 
 use crate::distance::Distance;
@@ -29,7 +29,7 @@ impl<D: Distance> Model for Frontier<D> {
     ghost use Rattle.std.specs.Prelude.{List, map, ℕ};
     ghost use Rattle.std.specs.BinaryHeap.{heap_items, IsHeap};
     ghost use Rattle.dimacs_solve.specs.declared.frontier.Walk.{Walk};
-    ghost use Rattle.dimacs_solve.specs.Frontiers.{walk_cmp, walk_in};
+    ghost use Rattle.dimacs_solve.specs.inside.Frontiers.{walk_cmp, walk_in};
 
     ghost Value = { List (Walk ℕ) };
 

@@ -4,7 +4,8 @@ ghost use Rattle.std.specs.Prelude.{◌≡◌, refl};
 ghost use Rattle.dimacs_records.specs.declared.kinds.TextKind.TheVariants as kinds;
 ghost use Rattle.dimacs_network.specs.Arcs.{NetworkValue};
 ghost use Rattle.dimacs_instance.specs.Graph.{GivesGraph, SpellsGraph, shown_graph};
-ghost use Rattle.dimacs_instance.specs.Summaries.{GivesSummary, IsGraphCountedBy, SumsUpGraph, counted_lines, graph_summary_line};
+ghost use Rattle.dimacs_instance.specs.Summaries.{SumsUpGraph, graph_summary_line};
+ghost use Rattle.dimacs_instance.specs.inside.Summaries.{GivesSummary, IsGraphCountedBy, counted_lines};
 
 use crate::summaries::Summary;
 use dimacs_lines::{DeviceFault, Memory, Sink, Source};

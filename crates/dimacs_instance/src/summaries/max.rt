@@ -3,9 +3,11 @@
 ghost use Rattle.std.specs.Prelude.{◌≡◌, refl};
 ghost use Rattle.dimacs_records.specs.declared.kinds.TextKind.TheVariants as kinds;
 ghost use Rattle.dimacs_instance.specs.MaxFlows.{MaxValue};
-ghost use Rattle.dimacs_instance.specs.MaxReading.{IsMaxCountedBy, after_lines, before, before_end};
+ghost use Rattle.dimacs_instance.specs.MaxReading.{after_lines, before, before_end};
+ghost use Rattle.dimacs_instance.specs.inside.MaxReading.{IsMaxCountedBy};
 ghost use Rattle.dimacs_instance.specs.MaxTexts.{GivesMax, SpellsMax, shown_max};
-ghost use Rattle.dimacs_instance.specs.Summaries.{GivesSummary, SumsUpMax, max_summary_line};
+ghost use Rattle.dimacs_instance.specs.Summaries.{SumsUpMax, max_summary_line};
+ghost use Rattle.dimacs_instance.specs.inside.Summaries.{GivesSummary};
 
 use crate::max::{EndLine, EndLines};
 use crate::summaries::Summary;
@@ -71,7 +73,8 @@ pub struct CountedMax {
 }
 
 impl Model for CountedMax {
-    ghost use Rattle.dimacs_instance.specs.MaxReading.{EndsAreDistinct, MaxCount};
+    ghost use Rattle.dimacs_instance.specs.MaxReading.{MaxCount};
+    ghost use Rattle.dimacs_instance.specs.inside.MaxReading.{EndsAreDistinct};
 
     ghost Value = { MaxCount };
 

@@ -3,9 +3,11 @@
 ghost use Rattle.std.specs.Prelude.{◌≡◌, refl};
 ghost use Rattle.dimacs_records.specs.declared.kinds.TextKind.TheVariants as kinds;
 ghost use Rattle.dimacs_instance.specs.MinFlows.{MinValue};
-ghost use Rattle.dimacs_instance.specs.MinReading.{IsMinCountedBy, after_lines, before};
+ghost use Rattle.dimacs_instance.specs.MinReading.{after_lines, before};
+ghost use Rattle.dimacs_instance.specs.inside.MinReading.{IsMinCountedBy};
 ghost use Rattle.dimacs_instance.specs.MinTexts.{GivesMin, SpellsMin, shown_min};
-ghost use Rattle.dimacs_instance.specs.Summaries.{GivesSummary, SumsUpMin, min_summary_line};
+ghost use Rattle.dimacs_instance.specs.Summaries.{SumsUpMin, min_summary_line};
+ghost use Rattle.dimacs_instance.specs.inside.Summaries.{GivesSummary};
 
 use crate::min::MinInstance;
 use crate::summaries::Summary;
@@ -74,8 +76,9 @@ pub struct CountedMin {
 }
 
 impl Model for CountedMin {
-    ghost use Rattle.dimacs_instance.specs.MinReading.{IsMinBegun, MinCount, without_arcs};
-    ghost use Rattle.dimacs_instance.specs.MinCodes.{count_code};
+    ghost use Rattle.dimacs_instance.specs.MinReading.{MinCount};
+    ghost use Rattle.dimacs_instance.specs.inside.MinReading.{IsMinBegun, without_arcs};
+    ghost use Rattle.dimacs_instance.specs.inside.MinCodes.{count_code};
 
     ghost Value = { MinCount };
 

@@ -4,10 +4,19 @@ use Rattle.std.specs.List.{position_or_len, before_first, after_first}
 use Rattle.dimacs_lines.specs.declared.reader.LinesError.{LinesError}
 use Rattle.dimacs_lines.specs.declared.reader.LinesError.TheVariants.{TooMany, TooLong, Device, Memory}
 use Rattle.dimacs_lines.specs.declared.reader.Progress.TheVariants.{Ended, Failed}
-use Rattle.dimacs_lines.specs.Limits.{longest_line, most_lines}
+use Rattle.dimacs_lines.specs.Limits.{longest_line, most_lines, most_held}
 use Rattle.dimacs_lines.specs.Devices.{before_piece}
 use Rattle.dimacs_lines.specs.Lines.{is_end}
 use Rattle.dimacs_lines.specs.Reader.{State}
+
+-- the last line and the held bytes lie within the buffer, and the buffer is bounded
+pub record IsLaidOut (line_start line_end next end given size : ℕ) : Type 0 where
+  pub line_ordered : line_start ≤ line_end
+  pub line_within : line_end ≤ size
+  pub held_ordered : next ≤ end
+  pub held_within : end ≤ size
+  pub few : given ≤ most_lines
+  pub bounded : size ≤ most_held
 
 -- a piece of this size was appended to what was held
 pub record PullsMore (old new : State) (before after : Option (List ℕ)) (count : ℕ) : Type 0 where

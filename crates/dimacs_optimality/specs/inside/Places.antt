@@ -1,5 +1,5 @@
 -- Inside: a flow while entries are put on their arcs, entry by entry.
-use Rattle.std.specs.Prelude.{List, ℤ, Result, Ok, Err, ◌++◌, ◌∷◌, []}
+use Rattle.std.specs.Prelude.{List, ℤ, Result, Ok, Err, ◌++◌, ◌∷◌, [], ◌≡◌, ◌<◌, ◌≤◌, ◌^◌, Bool, true, false, length, Option, None, Some}
 use Rattle.dimacs_network.specs.declared.network.ArcView.{ArcView}
 use Rattle.dimacs_claims.specs.declared.solution.Entry.{Entry}
 use Rattle.dimacs_records.specs.declared.reasons.Reason.{Reason}
@@ -7,6 +7,21 @@ use Rattle.dimacs_optimality.specs.declared.verdict.Where.{Where}
 use Rattle.dimacs_optimality.specs.Claims.{Carries, EntryFails, entry_row}
 use Rattle.dimacs_optimality.specs.Tests.{Clear, FirstOfRow}
 use Rattle.dimacs_optimality.specs.Places.{PlacesValue, HavePlaced}
+use Rattle.dimacs_network.specs.declared.arc_index.ArcIndex.{ArcIndex}
+use Rattle.dimacs_network.specs.ArcOrder.{HasRoom, Indexes}
+
+-- an amount and a count for each arc
+pub record HaveRoom (p : PlacesValue) : Type 0 where
+  pub flow : length p.flow ≡ length p.arcs
+  pub counts : length p.counts ≡ length p.arcs
+  pub in_order : p.in_order ≤ length p.arcs
+  pub arc_limit : length p.arcs < 2 ^ 32
+
+-- an index of these arcs, if there is one: filled, or with room for them
+abbrev pub IsIndexFor : List ArcView → Bool → Option ArcIndex → Type 0
+IsIndexFor arcs filled None = Unit {0}
+IsIndexFor arcs true (Some index) = Indexes arcs index
+IsIndexFor arcs false (Some index) = HasRoom arcs index
 
 -- one more entry: it passes and its flow is put, or the reason why it fails
 abbrev pub PutsEntry : List ArcView → List Entry → Entry → Result Unit Reason → PlacesValue → Type 0

@@ -1,5 +1,5 @@
 use Rattle.std.proofs.Common.{◌≡◌, length}
-use Rattle.dimacs_claims.specs.ById.{AreIndexed}
+use Rattle.dimacs_claims.specs.inside.ById.{AreIndexed}
 use Rattle.dimacs_claims.proofs.labels.index_others.Given as goal
 
 -- the blocks so far are indexed

@@ -1,5 +1,6 @@
 use Rattle.std.proofs.Common.{ap, refl}
-use Rattle.dimacs_claims.specs.LabelsReading.{AreLabelsBegun, LabelsBegun}
+use Rattle.dimacs_claims.specs.LabelsReading.{LabelsBegun}
+use Rattle.dimacs_claims.specs.inside.LabelsReading.{AreLabelsBegun}
 use Rattle.dimacs_claims.proofs.BegunLemmas.{end_noted}
 use Rattle.dimacs_claims.proofs.LabelRecords.{short_noted}
 use Rattle.dimacs_claims.proofs.labels.BegunLabelsBegun.before_end.Goals as goal

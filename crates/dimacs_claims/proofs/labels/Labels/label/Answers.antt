@@ -3,7 +3,7 @@ use Rattle.std.specs.Prelude.{slice_get}
 use Rattle.std.proofs.lemmas.Option.{get_or_from_slice_get, slice_get-get_or}
 use Rattle.std.proofs.lemmas.Grind.{common_steps}
 use Rattle.dimacs_records.specs.Ranges.{IsWide}
-use Rattle.dimacs_claims.specs.ById.{labels_at}
+use Rattle.dimacs_claims.specs.inside.ById.{labels_at}
 use Rattle.dimacs_claims.specs.Labels.{BlockValue, distance_in, label_at}
 use Rattle.dimacs_claims.proofs.BlockLemmas.{label_at_wide}
 use Rattle.dimacs_claims.specs.declared.by_id.ById.{ById}

@@ -2,7 +2,7 @@ use Rattle.std.proofs.Common.{◌≡◌, ◌≤◌, ◌-◌, ◌+◌, ◌∙◌,
 use Rattle.std.specs.Prelude.{slice_range}
 use Rattle.std.proofs.lemmas.List.{with_items_is}
 use Rattle.std.proofs.lemmas.Slice.{between_from_start}
-use Rattle.dimacs_lines.specs.Buffer.{IsLaidOut}
+use Rattle.dimacs_lines.specs.inside.Buffer.{IsLaidOut}
 use Rattle.dimacs_lines.specs.Limits.{most_lines, most_held}
 use Rattle.dimacs_lines.proofs.PieceLemmas.{held_and_piece, length-piece}
 use Rattle.dimacs_lines.proofs.reader.Lines.pull_more.Goals as goal

@@ -1,5 +1,5 @@
 use Rattle.std.proofs.lemmas.List.Sorted.{IsPermutation-map}
-use Rattle.dimacs_solve.specs.Frontiers.{walk_in}
+use Rattle.dimacs_solve.specs.inside.Frontiers.{walk_in}
 use Rattle.dimacs_solve.proofs.frontier.Frontier.push.Goals as goal
 
 pub returns : goal.returns

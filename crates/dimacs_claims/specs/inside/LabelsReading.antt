@@ -1,0 +1,28 @@
+-- Inside: labels while their text is read.
+use Rattle.std.specs.Prelude.{ℕ, ◌≡◌, ◌≤◌, ◌+◌, List, [], ◌∷◌, ◌++◌, length, is_some, ◌==◌}
+use Rattle.std.specs.List.{All}
+use Rattle.dimacs_lines.specs.Limits.{most_count, most_nodes}
+use Rattle.dimacs_nodes.specs.declared.node_table.NodeTable.{NodeTable}
+use Rattle.dimacs_nodes.specs.Tables.{value_of}
+use Rattle.dimacs_claims.specs.Labels.{BlockValue, EachAfter, IsBlock, IsNewSource, distance_in}
+use Rattle.dimacs_claims.specs.LabelsReading.{LabelsBegun}
+
+-- the last block declares no more labels than a text may have
+abbrev pub LastIsFew : LabelsBegun → Type 0
+LastIsFew begun = (front : List BlockValue) (b : BlockValue) → begun.blocks ≡ front ++ b ∷ [] → length b.labels + begun.missing ≤ most_count
+
+-- a lawful state
+pub record AreLabelsBegun (begun : LabelsBegun) : Type 0 where
+  pub nodes_few : begun.nodes ≤ most_nodes
+  pub blocks_few : begun.declared ≤ most_count
+  pub no_more : length begun.blocks ≤ begun.declared
+  pub last_few : LastIsFew begun
+  pub none_lack : begun.blocks ≡ [] → begun.missing ≡ 0
+  pub blocks : All (IsBlock begun.nodes) begun.blocks
+  pub sources : EachAfter IsNewSource begun.blocks
+
+-- the table has for each node the number of the last block with a label of it, from 1
+pub record AreLabelled (labelled : NodeTable ℕ) (blocks : List BlockValue) : Type 0 where
+  pub few : (id : ℕ) → value_of labelled id ≤ length blocks
+  pub last : (front : List BlockValue) (b : BlockValue) → blocks ≡ front ++ b ∷ [] → (id : ℕ)
+      → (value_of labelled id == length blocks) ≡ is_some (distance_in b.labels id)
