@@ -1,6 +1,7 @@
-//! Decides by a search for an augmenting path whether a flow is maximum.
+//! Decides whether a flow is maximum. A heuristic proposes a cut. If that isn't tight, a search for an augmenting path
+//! decides.
 
-ghost use Rattle.std.specs.Prelude.{◌≢◌, ◌<◌, ℕ, List, ℤ, IfOk};
+ghost use Rattle.std.specs.Prelude.{◌≢◌, ◌<◌, ◌↔◌, ℕ, List, ℤ, IfOk, IsTrue};
 ghost use Rattle.dimacs_lines.specs.Limits.{IsNode};
 ghost use Rattle.dimacs_network.specs.declared.network.ArcView.{ArcView};
 ghost use Rattle.dimacs_optimality.specs.Feasible.{FeasibleMax};
@@ -15,9 +16,10 @@ use crate::send::{Augmentation, send};
 use dimacs_claims::Cut;
 use dimacs_instance::MaxInstance;
 use dimacs_lines::Memory;
+use dimacs_methods::guess_cut;
 use dimacs_network::Network;
 use dimacs_nodes::NodeTable;
-use dimacs_optimality::Flow;
+use dimacs_optimality::{Flow, cut_tests};
 use std::alloc::Global;
 
 /// Whether a feasible flow is maximum.
@@ -32,6 +34,32 @@ pub enum MaxDecision {
 /// Decides whether a feasible flow is maximum. Takes time in proportion to the nodes and arcs, and memory for the arcs
 /// and the nodes that have one.
 pub fn decide_max<N: Network>(
+    alloc: Global,
+    instance: &MaxInstance<N>,
+    flow: &Flow,
+) -> Result<MaxDecision, Memory>
+    requires { FeasibleMax instance.now flow.now }
+    ensures { IfOk result (DecidesMax instance.now flow.now) }
+{
+    if let Some(cut) = guess_cut(alloc, instance, flow.amounts())? {
+        if shows_maximum(instance, flow, &cut) {
+            return Ok(MaxDecision::Optimal(cut));
+        }
+    }
+    decide_by_search(alloc, instance, flow)
+}
+
+/// Whether a cut is tight for a feasible flow: one pass over the arcs. It then shows that the flow is maximum.
+pub fn shows_maximum<N: Network>(instance: &MaxInstance<N>, flow: &Flow, cut: &Cut) -> bool
+    requires { FeasibleMax instance.now flow.now }
+    ensures { IsTrue result ↔ DecidesMax instance.now flow.now (MaxDecision.Optimal cut.now) }
+{
+    cut.nodes() == instance.network().nodes() && cut_tests(instance, flow, cut).is_ok()
+}
+
+/// Looks for an augmenting path from the source to the sink. If there is none, the nodes that it reached form a tight
+/// cut.
+fn decide_by_search<N: Network>(
     alloc: Global,
     instance: &MaxInstance<N>,
     flow: &Flow,

@@ -5,6 +5,7 @@
 mod active;
 mod residual;
 
+use crate::cut::add_node;
 use crate::levels::{Levels, NONE};
 use crate::preflow::active::ActiveNodes;
 use crate::preflow::residual::{Half, Residual};
@@ -66,14 +67,6 @@ pub fn raise_value<N: Network>(
     }
     let amounts = preflow.residual.amounts(alloc, network)?;
     Ok(MaximumFlow { amounts, cut })
-}
-
-/// Ignores an ID that is no node.
-fn add_node(cut: &mut Cut, id: u32) -> Result<(), Memory> {
-    if 1 <= id && id <= cut.nodes() {
-        cut.add(id)?;
-    }
-    Ok(())
 }
 
 /// Finds a flow that leaves the least excess, from one within the bounds. Takes as much memory.

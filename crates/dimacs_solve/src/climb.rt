@@ -1,15 +1,13 @@
 //! Maximum flow by successive improvements.
 
-ghost use Rattle.std.specs.Prelude.{IfOk, IsTrue};
-ghost use Rattle.dimacs_optimality.specs.Feasible.{FeasibleMax};
-ghost use Rattle.dimacs_decide.specs.MaxDecision.{DecidesMax};
+ghost use Rattle.std.specs.Prelude.{IfOk};
 ghost use Rattle.dimacs_solve.specs.Climbing.{Climbs};
 
 use crate::improve::raise;
 use dimacs_claims::Cut;
-use dimacs_decide::{MaxDecision, decide_max};
+use dimacs_decide::{MaxDecision, decide_max, shows_maximum};
 use dimacs_instance::MaxInstance;
-use dimacs_judge::{Flow, cut_tests};
+use dimacs_judge::Flow;
 use dimacs_lines::Memory;
 use dimacs_network::Network;
 use std::alloc::Global;
@@ -51,12 +49,4 @@ pub fn solve_max_flow<N: Network>(
         }
     }
     Ok(MaxFlowAnswer::GaveUp)
-}
-
-/// Whether the cut is tight for a feasible flow.
-fn shows_maximum<N: Network>(instance: &MaxInstance<N>, flow: &Flow, cut: &Cut) -> bool
-    requires { FeasibleMax instance.now flow.now }
-    ensures { IsTrue result → DecidesMax instance.now flow.now (MaxDecision.Optimal cut.now) }
-{
-    cut.nodes() == instance.network().nodes() && cut_tests(instance, flow, cut).is_ok()
 }

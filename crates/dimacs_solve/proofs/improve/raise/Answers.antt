@@ -1,5 +1,6 @@
-use Rattle.dimacs_solve.proofs.ClimbingLemmas.{one_each}
+use Rattle.std.proofs.Common.{arith}
+use Rattle.std.proofs.lemmas.Slice.Zip.{AllZip-long}
 use Rattle.dimacs_solve.proofs.improve.raise.Goals as goal
 
 pub is_better-requires : goal.is_better-requires
-is_better-requires g c = one_each c.args.instance.now c.args.flow.now c.requires
+is_better-requires g c = omega (arith, AllZip-long _ _ _ c.requires.within)

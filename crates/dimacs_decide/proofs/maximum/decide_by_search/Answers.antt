@@ -5,7 +5,7 @@ use Rattle.dimacs_decide.specs.inside.Residual.{rank_of}
 use Rattle.dimacs_decide.specs.inside.Augmentation.{IsSent, IsStuck}
 use Rattle.dimacs_decide.specs.inside.Imbalances.{AreEnds}
 use Rattle.dimacs_decide.proofs.MaximumLemmas.{bounds_from_capacities, max_bounds, sent_tells, stuck_tells}
-use Rattle.dimacs_decide.proofs.maximum.decide_max.Goals as goal
+use Rattle.dimacs_decide.proofs.maximum.decide_by_search.Goals as goal
 
 pub send-requires-clause-bounds : goal.send-requires-clause-bounds
 send-requires-clause-bounds g c = rw c.network-network.ensures.arcs (max_bounds c.args.instance.now.arcs c.network-network.ensures.lawful.capacities)
