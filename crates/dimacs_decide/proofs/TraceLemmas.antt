@@ -25,16 +25,16 @@ below_none arcs l none = let b : (l.arc_number == 0) ≡ true = eq-eqb l.arc_num
 pub below_some : (arcs : List ArcView) (l : HeightLabel) → 0 < l.arc_number → below_of arcs l ≡ end_of l.side (arc_at arcs (l.arc_number - 1))
 below_some arcs l some = let b : (l.arc_number == 0) ≡ false = ne_eqb l.arc_number 0 (λ e. omega (arith, e, some)) in rw b refl
 
-pub cases_arc_number : (n : ℕ) → (n ≡ 0) ⊎ (0 < n)
-cases_arc_number zero = inl refl
-cases_arc_number (suc n) = inr (omega arith)
+pub cases_zero : (n : ℕ) → (n ≡ 0) ⊎ (0 < n)
+cases_zero zero = inl refl
+cases_zero (suc n) = inr (omega arith)
 
 pub some_place : (n : ℕ) → n ≢ 0 → 0 < n
-some_place n ne = elim (cases_arc_number n) [ inl none ↦ absurd (ne none) | inr some ↦ some ]
+some_place n ne = elim (cases_zero n) [ inl none ↦ absurd (ne none) | inr some ↦ some ]
 
 module _ (nodes : ℕ) (arcs : List ArcView) (x : List ℤ) (labels : ℕ → HeightLabel) (joined : All (JoinsNodes nodes) arcs) (bounds : All HasBounds arcs) (now : AreHeights arcs x labels) where
   pub step_down : (v : ℕ) → height_of labels v ≤ℤ (height_of labels (below_of arcs (labels v)) +ℤ pos 9223372036854775808)
-  step_down v = elim (cases_arc_number (labels v).arc_number) [
+  step_down v = elim (cases_zero (labels v).arc_number) [
     | inl none ↦ let b = below_none arcs (labels v) none in rw b (omega (arith, ints, (now.low v none).0))
     | inr some ↦
         let r = now.raised v some in
@@ -45,7 +45,7 @@ module _ (nodes : ℕ) (arcs : List ArcView) (x : List ℤ) (labels : ℕ → He
   ]
 
   pub below_inside : (v : ℕ) → below_of arcs (labels v) ≤ nodes
-  below_inside v = elim (cases_arc_number (labels v).arc_number) [
+  below_inside v = elim (cases_zero (labels v).arc_number) [
     | inl none ↦ let b = below_none arcs (labels v) none in rw b (omega arith)
     | inr some ↦
         let r = now.raised v some in
@@ -56,7 +56,7 @@ module _ (nodes : ℕ) (arcs : List ArcView) (x : List ℤ) (labels : ℕ → He
 
   --   no arc leads to node 0
   pub height_zero : height_of labels 0 ≤ℤ bound 0
-  height_zero = elim (cases_arc_number (labels 0).arc_number) [
+  height_zero = elim (cases_zero (labels 0).arc_number) [
     | inl none ↦ (now.low 0 none).1
     | inr some ↦
         let r = now.raised 0 some in
@@ -213,7 +213,7 @@ module _ (nodes : ℕ) (arcs : List ArcView) (x : List ℤ) (labels : ℕ → He
             let c : slice_index path i ≡ slice_index path j = sym (in_front i (omega (arith, less, short))) ∙ e ∙ in_front j short in
             let d = ap places c in
             omega (arith, a, b, d, less);
-        raised = λ j behind less. elim (cases_arc_number (labels (slice_index longer j)).arc_number) [
+        raised = λ j behind less. elim (cases_zero (labels (slice_index longer j)).arc_number) [
           | inl none ↦ absurd (
               let s = steps_to j (omega (arith, behind, more)) less in
               let z : slice_index longer (j + 1) ≡ 0 = sym s ∙ below_none arcs (labels (slice_index longer j)) none in
@@ -230,7 +230,7 @@ module _ (nodes : ℕ) (arcs : List ArcView) (x : List ℤ) (labels : ℕ → He
 -- ---- all paths down
 pub all_low : (nodes : ℕ) (arcs : List ArcView) (x : List ℤ) (labels : ℕ → HeightLabel) (path : List ℕ) (places : ℕ → ℕ) → AreHeights arcs x labels → IsTrace nodes labels path places
     → ((k : ℕ) → k < length arcs → (0 < places (arc_at arcs k).tail) × (0 < places (arc_at arcs k).head)) → BelowBound (nodes + 1) labels
-all_low nodes arcs x labels path places now is seen v = elim (cases_arc_number (labels v).arc_number) [
+all_low nodes arcs x labels path places now is seen v = elim (cases_zero (labels v).arc_number) [
   | inl none ↦ omega (arith, ints, (now.low v none).1)
   | inr some ↦
       let r = now.raised v some in

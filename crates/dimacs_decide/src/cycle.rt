@@ -1,23 +1,29 @@
 //! Tests cycles of residual arcs, and reads them from the labels of nodes.
 
-ghost use Rattle.std.specs.Prelude.{◌≡◌, ◌<◌, ◌≤◌, ◌+◌, ◌-◌, IsTrue, All, length, IfOk};
+ghost use Rattle.std.specs.Prelude.{◌≡◌, ◌≤◌, ◌-◌, IsTrue, All, length, IfOk};
 ghost use Rattle.dimacs_lines.specs.Limits.{most_nodes};
 ghost use Rattle.dimacs_instance.specs.MinFlows.{HasBounds};
 ghost use Rattle.dimacs_nodes.specs.Tables.{value_of};
 ghost use Rattle.dimacs_decide.specs.Bounds.{KeepsBounds};
-ghost use Rattle.dimacs_decide.specs.inside.Cycles.{IsSaving, LeadsFrom, ending_of, gain_of};
+ghost use Rattle.dimacs_decide.specs.inside.Cycles.{IsSaving, LeadsFrom, ending_of};
 ghost use Rattle.dimacs_decide.specs.inside.Heights.{AreHeights};
 ghost use Rattle.dimacs_decide.specs.inside.Traces.{IsCycle};
 
 use crate::heights::{HeightLabel, gain};
 use crate::residual_capacity::residual_capacity_from;
-use crate::trace::Cycle;
 use dimacs_lines::Memory;
 use dimacs_methods::ResidualArc;
 use dimacs_network::Network;
 use dimacs_nodes::NodeTable;
 use dimacs_optimality::Flow;
 use std::alloc::Global;
+
+/// A path of nodes, each raised from the next. Its last node is also at `first`, where the cycle begins.
+#[derive(Drop)]
+pub(crate) struct Cycle {
+    pub path: Vec<u32>,
+    pub first: usize,
+}
 
 /// Whether any residual arcs form a cycle with residual capacity and negative cost that visits no node twice. Takes
 /// memory for its nodes.
