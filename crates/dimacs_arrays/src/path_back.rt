@@ -4,7 +4,7 @@ ghost use Rattle.std.specs.Prelude.{ℕ, ◌≡◌, ◌≢◌, ◌⊎◌, ◌<�
 ghost use Rattle.dimacs_lines.specs.Limits.{most_nodes};
 ghost use Rattle.dimacs_nodes.specs.Tables.{value_of};
 ghost use Rattle.dimacs_decide.specs.Claims.{claimed_by_node};
-ghost use Rattle.dimacs_arrays.specs.Paths.{LeadsBack, pred_by_node};
+ghost use Rattle.dimacs_arrays.specs.Paths.{pred_by_node};
 ghost use Rattle.dimacs_arrays.specs.inside.LabelTrees.{AreLabelledBelow, IsClimbing, IsLabelTree, Keeps, Leads};
 
 use crate::label_tree::{LabelTree, distance_of, predecessor_of};

@@ -1,8 +1,6 @@
 //! Predecessors by node, from labels.
 
-ghost use Rattle.std.specs.Prelude.{ℕ, ◌≡◌, ◌≢◌, ◌≤◌, All, Contains, length, IfOk};
-ghost use Rattle.dimacs_lines.specs.Limits.{IsNode};
-ghost use Rattle.dimacs_claims.specs.declared.block.Label.{Label};
+ghost use Rattle.std.specs.Prelude.{IfOk};
 ghost use Rattle.dimacs_claims.specs.Labels.{IsBlock};
 ghost use Rattle.dimacs_arrays.specs.inside.LabelTrees.{ArePredsOf};
 

@@ -1,6 +1,6 @@
 //! Showing over arrays that no flow is feasible.
 
-ghost use Rattle.std.specs.Prelude.{◌≡◌, ℕ, List, Option, None, Some, IfOk};
+ghost use Rattle.std.specs.Prelude.{◌≡◌, None, Some, IfOk};
 ghost use Rattle.dimacs_lines.specs.Puts.{Puts};
 ghost use Rattle.dimacs_arrays.specs.MinArrays.{CertifiesInfeasibleArrays, JudgesInfeasibleArrays};
 ghost use Rattle.dimacs_c.specs.Arrays.{AnswersItems, AnswersLine, infeasible_printed, buffers, printed};

@@ -1,6 +1,6 @@
 //! The lines of answers over arrays, with their statuses.
 
-ghost use Rattle.std.specs.Prelude.{◌≡◌, ℕ, List, Option, IfOk};
+ghost use Rattle.std.specs.Prelude.{◌≡◌, IfOk};
 ghost use Rattle.dimacs_lines.specs.Puts.{Puts};
 ghost use Rattle.dimacs_runs.specs.Verdicts.{failure_line, gave_up_line, verdict_lines};
 ghost use Rattle.dimacs_c.specs.Arrays.{error_line, error_status, feasible_line, printed, verdict_printed};

@@ -1,6 +1,6 @@
 //! Maximum flows over arrays.
 
-ghost use Rattle.std.specs.Prelude.{◌≡◌, ℕ, List, Option, None, Some, IfOk};
+ghost use Rattle.std.specs.Prelude.{◌≡◌, None, Some, IfOk};
 ghost use Rattle.dimacs_lines.specs.Puts.{Puts};
 ghost use Rattle.dimacs_arrays.specs.MaxArrays.{CertifiesMaxArrays, JudgesMaxArrays, SolvesMaxArrays};
 ghost use Rattle.dimacs_c.specs.Arrays.{AnswersItems, AnswersLine, max_found, max_printed, buffers, printed};

@@ -1,6 +1,6 @@
 //! Flows of least cost over arrays.
 
-ghost use Rattle.std.specs.Prelude.{◌≡◌, ℕ, List, Option, None, Some, IfOk};
+ghost use Rattle.std.specs.Prelude.{◌≡◌, None, Some, IfOk};
 ghost use Rattle.dimacs_lines.specs.Puts.{Puts};
 ghost use Rattle.dimacs_arrays.specs.MinArrays.{CertifiesMinArrays, JudgesMinArrays, SolvesMinArrays};
 ghost use Rattle.dimacs_c.specs.Arrays.{AnswersItems, AnswersLine, min_found, min_printed, buffers, printed};

@@ -1,6 +1,6 @@
 //! Distances over arrays.
 
-ghost use Rattle.std.specs.Prelude.{◌≡◌, ℕ, List, Option, None, Some, IfOk};
+ghost use Rattle.std.specs.Prelude.{◌≡◌, None, Some, IfOk};
 ghost use Rattle.dimacs_lines.specs.Puts.{Puts};
 ghost use Rattle.dimacs_arrays.specs.GraphArrays.{CertifiesPathsArrays, JudgesPathsArrays, SolvesPathsArrays};
 ghost use Rattle.dimacs_c.specs.Arrays.{AnswersItems, AnswersLine, paths_found, paths_printed, buffers, printed};

@@ -1,6 +1,6 @@
 //! The labels of one source.
 
-ghost use Rattle.std.specs.Prelude.{◌≡◌, ◌==◌, ◌<◌, if◌then◌else◌, ℕ, [], length, OnOk, OnErr, IsSome, Option, Some, None};
+ghost use Rattle.std.specs.Prelude.{◌≡◌, ◌==◌, ◌<◌, if◌then◌else◌, ℕ, [], length, OnOk, OnErr, IsSome, Some, None};
 ghost use Rattle.dimacs_lines.specs.Limits.{most_count, IsNode};
 ghost use Rattle.dimacs_records.specs.Blocks.{is_past};
 ghost use Rattle.dimacs_claims.specs.Labels.{BlockValue, IsBlock, IsLabel, IsWithinRadius, with_label};

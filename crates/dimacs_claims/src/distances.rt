@@ -1,6 +1,6 @@
 //! Distances: claims without predecessors.
 
-ghost use Rattle.std.specs.Prelude.{◌≡◌, ◌<◌, ◌≤◌, ◌∷◌, [], ℕ, List, Some, OnOk, OnErr, IfOk, IfSome, length, map, refl};
+ghost use Rattle.std.specs.Prelude.{◌≡◌, ◌<◌, ◌≤◌, [], ℕ, List, Some, OnOk, OnErr, IfOk, IfSome, length, map, refl};
 ghost use Rattle.std.specs.List.{All};
 ghost use Rattle.dimacs_lines.specs.Limits.{most_count, most_nodes};
 ghost use Rattle.dimacs_lines.specs.Lines.{lines};

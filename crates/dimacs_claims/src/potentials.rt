@@ -1,6 +1,6 @@
 //! Node potentials.
 
-ghost use Rattle.std.specs.Prelude.{◌≡◌, ◌≤◌, ◌<◌, ◌+◌, ◌++◌, ◌∷◌, [], ℕ, List, None, Some, OnOk, OnErr, if◌then◌else◌, length, refl};
+ghost use Rattle.std.specs.Prelude.{◌≡◌, ◌≤◌, ◌<◌, ◌+◌, ℕ, List, None, Some, OnOk, OnErr, if◌then◌else◌, length, refl};
 ghost use Rattle.dimacs_lines.specs.Limits.{most_nodes, IsNode};
 ghost use Rattle.dimacs_lines.specs.Lines.{lines};
 ghost use Rattle.dimacs_lines.specs.Puts.{Puts};

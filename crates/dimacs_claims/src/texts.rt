@@ -1,6 +1,5 @@
 //! How each kind of claim and certificate is read, written and shown.
 
-ghost use Rattle.std.specs.Prelude.{◌≡◌, ℕ, List};
 ghost use Rattle.dimacs_records.specs.declared.kinds.TextKind.TheVariants as kinds;
 ghost use Rattle.dimacs_claims.specs.Cuts.{CutValue, SpellsCut, canonical_cut, shown_cut};
 ghost use Rattle.dimacs_claims.specs.DistanceTexts.{SpellsDistances, canonical_distances, shown_distances};

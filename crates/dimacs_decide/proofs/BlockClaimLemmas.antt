@@ -1,5 +1,5 @@
 -- The distances of a block by node, copied from the last label to the first.
-use Rattle.std.proofs.Common.{◌≡◌, ◌≢◌, inl, inr, ℕ, ◌+◌, ◌-◌, ◌^◌, ◌<◌, List, drop, length, get_or, Option, None, Some, ℤ, ◌<ℤ◌, pos, sym, ap, ◌∙◌, ◌∷◌, [], arith}
+use Rattle.std.proofs.Common.{◌≡◌, ◌≢◌, inl, inr, ℕ, ◌+◌, ◌<◌, List, drop, length, get_or, Option, None, Some, ℤ, pos, sym, ap, ◌∙◌, ◌∷◌, [], arith}
 use Rattle.std.specs.Prelude.{IfSome}
 use Rattle.std.specs.Option.{ForSome}
 use Rattle.std.proofs.lemmas.Bool.{cases_eq}

@@ -1,12 +1,11 @@
 -- The lightest arc between each two nodes stands for all of them.
-use Rattle.std.proofs.Common.{◌≡◌, inl, inr, ℕ, ◌<◌, List, [], ◌∷◌, All, Contains, length, map, get_or, Option, None, Some, Bool, ℤ, ◌+ℤ◌, ◌≤ℤ◌, ◌<ℤ◌, refl, sym, ap, subst, ◌∙◌, arith}
+use Rattle.std.proofs.Common.{◌≡◌, inl, inr, ℕ, ◌<◌, List, [], ◌∷◌, All, Contains, length, get_or, Option, None, Bool, ℤ, ◌+ℤ◌, ◌≤ℤ◌, ◌<ℤ◌, refl, sym, ap, subst, ◌∙◌, arith}
 use Rattle.std.proofs.lemmas.Int.{ints}
 use Rattle.std.proofs.lemmas.List.{get_or_default, get_or-map, length-map}
 use Rattle.std.proofs.lemmas.List.Elements.{All-contains, All-weaker, Contains-get_or}
 use Rattle.dimacs_network.specs.declared.network.ArcView.{ArcView}
 use Rattle.dimacs_network.specs.Arcs.{JoinsNodes, arc_at, no_arc}
 use Rattle.dimacs_records.specs.declared.reasons.Reason.{Reason}
-use Rattle.dimacs_claims.specs.declared.block.Label.{Label}
 use Rattle.dimacs_claims.specs.Labels.{BlockValue}
 use Rattle.dimacs_optimality.specs.CertificateTests.{RelaxFails}
 use Rattle.dimacs_optimality.specs.Labels.{HasTightArc}
@@ -14,7 +13,7 @@ use Rattle.dimacs_optimality.specs.Tests.{Clear}
 use Rattle.dimacs_optimality.specs.Walks.{IsWalk}
 use Rattle.dimacs_optimality.specs.LightestArcs.{AreCovering, Covers}
 use Rattle.dimacs_optimality.specs.LightestArcs.{arcs_in}
-use Rattle.dimacs_decide.specs.Distances.{IsTight, claim_row}
+use Rattle.dimacs_decide.specs.Distances.{claim_row}
 use Rattle.dimacs_decide.specs.inside.FewLabels.{AreLightest}
 use Rattle.dimacs_decide.specs.inside.TightTrees.{IsTightTree}
 

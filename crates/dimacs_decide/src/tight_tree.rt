@@ -1,6 +1,6 @@
 //! A search in breadth over tight arcs: their weight is the difference of the claims of their ends.
 
-ghost use Rattle.std.specs.Prelude.{◌≡◌, ◌≢◌, ◌<◌, ◌≤◌, ◌+ℤ◌, ◌↔◌, ℕ, is_some, IsTrue, All, length, false, true, Some, IfOk, IfSome, OnOk, MatchOption, pos};
+ghost use Rattle.std.specs.Prelude.{◌≡◌, ◌<◌, ◌≤◌, ◌+ℤ◌, ◌↔◌, ℕ, is_some, IsTrue, All, length, false, true, Some, IfOk, IfSome, OnOk, MatchOption, pos};
 ghost use Rattle.dimacs_lines.specs.Limits.{most_nodes, IsNode};
 ghost use Rattle.dimacs_records.specs.Ranges.{IsWide};
 ghost use Rattle.dimacs_network.specs.Arcs.{JoinsNodes, arc_at};

@@ -1,5 +1,5 @@
 -- Comparing differences of distances in numbers of a fixed width.
-use Rattle.std.proofs.Common.{IsTrue, ◌≡◌, ◌↔◌, true, ℤ, ◌+ℤ◌, ◌-ℤ◌, ◌<ℤ◌, SFits, of_z, to_z, eqb, eqb-true, eq-eqb, sym, ap, ◌∙◌, arith}
+use Rattle.std.proofs.Common.{IsTrue, ◌≡◌, ◌↔◌, ℤ, ◌+ℤ◌, ◌-ℤ◌, ◌<ℤ◌, SFits, of_z, to_z, eqb, eqb-true, eq-eqb, sym, ap, ◌∙◌, arith}
 use Rattle.std.specs.Prelude.{int_lt}
 use Rattle.std.specs.Int.{Width}
 use Rattle.std.proofs.lemmas.Int.{ints, to_z-of_z}

@@ -1,6 +1,6 @@
 //! Judging a block with few labels by the arcs that leave its nodes.
 
-ghost use Rattle.std.specs.Prelude.{◌≡◌, ◌≤◌, ◌+ℤ◌, ℕ, Some, IsTrue};
+ghost use Rattle.std.specs.Prelude.{◌≡◌, ◌+ℤ◌, ℕ, Some, IsTrue};
 ghost use Rattle.dimacs_network.specs.declared.network.ArcView.{ArcView};
 ghost use Rattle.dimacs_claims.specs.Labels.{IsBlock, IsWithinRadius, label};
 ghost use Rattle.dimacs_records.specs.Ranges.{IsWide};

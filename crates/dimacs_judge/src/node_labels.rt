@@ -1,15 +1,14 @@
 //! Judging labels with tables: all arcs are relaxed for each block, or those that leave its nodes.
 
-ghost use Rattle.std.specs.Prelude.{◌≡◌, ◌<◌, ◌≤◌, ◌↔◌, ℕ, List, All, Option, IfOk, IfSome, OnOk, IsTrue, ℤ};
+ghost use Rattle.std.specs.Prelude.{◌≡◌, ◌<◌, ◌≤◌, ◌↔◌, ℕ, List, All, IfOk, IfSome, OnOk, IsTrue};
 ghost use Rattle.std.specs.Result.{result_err};
 ghost use Rattle.dimacs_lines.specs.Limits.{most_nodes};
 ghost use Rattle.dimacs_network.specs.declared.network.ArcView.{ArcView};
 ghost use Rattle.dimacs_claims.specs.declared.block.Label.{Label};
 ghost use Rattle.dimacs_claims.specs.Labels.{AreLabels, BlockValue, IsBlock};
-ghost use Rattle.dimacs_nodes.specs.Tables.{blank_of};
 ghost use Rattle.dimacs_optimality.specs.CertificateTests.{RelaxFails, label_rows, relax_row, support_row, weight_row};
 ghost use Rattle.dimacs_judge.specs.inside.CertificateTests.{distance_rows};
-ghost use Rattle.dimacs_judge.specs.inside.Distances.{Fits, Improves};
+ghost use Rattle.dimacs_judge.specs.inside.Distances.{Fits};
 ghost use Rattle.dimacs_optimality.specs.LightestArcs.{AreLightest};
 ghost use Rattle.dimacs_judge.specs.inside.NodeLabels.{AllUnlabelled, AreAsTested, AreUnlabelled, AreSupported, AreSupportedBelow, AreWide, DefaultsToNone, IsLabelled, IsFirstTight, RelaxesArc, entries};
 ghost use Rattle.dimacs_optimality.specs.Tests.{Clear, TestsRow};

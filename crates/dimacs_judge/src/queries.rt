@@ -1,6 +1,6 @@
 //! Tests of queries, and the answers that labels give.
 
-ghost use Rattle.std.specs.Prelude.{◌≡◌, ◌<◌, ◌≤◌, ◌↔◌, IsTrue, All, List, Some, IfOk, OnOk, map, length, slice_get};
+ghost use Rattle.std.specs.Prelude.{◌≡◌, ◌<◌, ◌≤◌, ◌↔◌, IsTrue, All, Some, IfOk, OnOk, map, length, slice_get};
 ghost use Rattle.dimacs_records.specs.declared.reasons.Reason.TheVariants as reasons;
 ghost use Rattle.dimacs_instance.specs.QueryTexts.{AreLawful, Pairs, asked};
 ghost use Rattle.dimacs_optimality.specs.Answers.{AnswersQueries, answer_to, distance_from, radius_from};

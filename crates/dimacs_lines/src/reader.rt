@@ -1,6 +1,6 @@
 //! The lines of a text that comes in pieces, with one bounded buffer.
 
-ghost use Rattle.std.specs.Prelude.{◌≡◌, ◌≢◌, ◌↔◌, ◌≤◌, ◌<◌, ◌+◌, ◌++◌, ℕ, List, [], Some, None, Ok, Err, IfOk, IfErr, OnOk, OnErr, IfSome, length, take, drop, slice_range, ◌-◌};
+ghost use Rattle.std.specs.Prelude.{◌≡◌, ◌≢◌, ◌≤◌, ◌<◌, ◌+◌, [], Some, None, Ok, Err, IfOk, IfErr, OnOk, IfSome, length, take, drop, slice_range, ◌-◌};
 ghost use Rattle.std.specs.List.{position_or_len};
 ghost use Rattle.dimacs_lines.specs.Devices.{before_piece, CountsFault};
 ghost use Rattle.dimacs_lines.specs.Limits.{longest_line, most_lines, most_held, greatest_piece};

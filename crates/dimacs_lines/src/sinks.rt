@@ -1,6 +1,6 @@
 //! Sinks in memory, one of them for tests.
 
-ghost use Rattle.std.specs.Prelude.{◌≡◌, ◌≤◌, [], List, ℕ, Some, IfOk, OnErr, IsErr, IsTrue, take, length};
+ghost use Rattle.std.specs.Prelude.{◌≡◌, ◌≤◌, [], Some, IfOk, OnErr, IsErr, IsTrue, take, length};
 ghost use Rattle.dimacs_lines.specs.Devices.{InMemory, Flaky, after_piece, CountsPut, cut_by, next_call, fails_next, sizes_left};
 
 use crate::device::{DeviceFault, Sink};

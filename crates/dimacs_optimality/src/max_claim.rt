@@ -2,7 +2,7 @@
 
 ghost use Rattle.std.specs.Prelude.{◌≡◌, List, ℤ, IfErr, IfOk, IfSome, Ok};
 ghost use Rattle.dimacs_claims.specs.SolutionReading.{IsPlaced};
-ghost use Rattle.dimacs_claims.specs.SolutionTexts.{SolutionValue, claimed};
+ghost use Rattle.dimacs_claims.specs.SolutionTexts.{SolutionValue};
 ghost use Rattle.dimacs_optimality.specs.declared.verdict.Verdict.TheVariants.{Max};
 ghost use Rattle.dimacs_optimality.specs.Agreement.{value_row};
 ghost use Rattle.dimacs_optimality.specs.Feasible.{FeasibleMax, value};

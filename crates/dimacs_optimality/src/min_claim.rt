@@ -2,7 +2,7 @@
 
 ghost use Rattle.std.specs.Prelude.{◌≡◌, IfErr, IfOk, IfSome, Ok};
 ghost use Rattle.dimacs_claims.specs.SolutionReading.{IsPlaced};
-ghost use Rattle.dimacs_claims.specs.SolutionTexts.{SolutionValue, claimed};
+ghost use Rattle.dimacs_claims.specs.SolutionTexts.{SolutionValue};
 ghost use Rattle.dimacs_optimality.specs.declared.verdict.Verdict.TheVariants.{Min};
 ghost use Rattle.dimacs_optimality.specs.Feasible.{FeasibleMin};
 ghost use Rattle.dimacs_optimality.specs.MinJudge.{IsMinClaim, ShowsLeast, min_claim_rows, min_rows};

@@ -1,6 +1,6 @@
 //! The flow that entries claim, placed on the arcs entry by entry.
 
-ghost use Rattle.std.specs.Prelude.{◌≡◌, ◌≤◌, ◌<◌, ◌+◌, ◌++◌, ◌∷◌, [], List, Result, Some, None, true, false, length, take, count_by, IfOk, IfErr, IfSome, IsOk, IsTrue, OnOk, OnErr, ◌↔◌};
+ghost use Rattle.std.specs.Prelude.{◌≡◌, ◌≤◌, ◌<◌, ◌+◌, ◌++◌, ◌∷◌, [], List, Some, None, true, false, length, take, count_by, IfOk, IfErr, IfSome, IsOk, IsTrue, OnOk, OnErr, ◌↔◌};
 ghost use Rattle.dimacs_claims.specs.declared.solution.Entry.{Entry};
 ghost use Rattle.dimacs_network.specs.declared.network.ArcView.{ArcView};
 ghost use Rattle.dimacs_network.specs.Arcs.{joins, IsKthBetween, arc_at};

@@ -1,6 +1,6 @@
 //! Reading a whole text.
 
-ghost use Rattle.std.specs.Prelude.{◌≡◌, ◌≢◌, ◌+◌, ◌≤◌, ◌++◌, ◌∷◌, [], ℕ, List, Option, Some, IfOk, IfErr, IfSome, OnOk, length, take};
+ghost use Rattle.std.specs.Prelude.{◌≡◌, ◌≢◌, ◌+◌, ◌≤◌, [], ℕ, List, Option, Some, IfOk, IfErr, IfSome, OnOk, length, take};
 ghost use Rattle.std.specs.Option.{option_len};
 ghost use Rattle.dimacs_lines.specs.Devices.{before_piece};
 ghost use Rattle.dimacs_lines.specs.Lines.{lines, AreWholeLines};

@@ -2,7 +2,7 @@
 //!
 //! A fault is reported only at the end of the line, since a wrong number of fields comes first.
 
-ghost use Rattle.std.specs.Prelude.{◌≡◌, ◌≤ℤ◌, ◌≤◌, pos, neg_ℤ, ◌^◌, codes};
+ghost use Rattle.std.specs.Prelude.{◌≡◌, ◌≤ℤ◌, pos, neg_ℤ, ◌^◌, codes};
 ghost use Rattle.dimacs_lines.specs.Number.{IsWithin};
 ghost use Rattle.dimacs_records.specs.Earlier.{or_else};
 ghost use Rattle.dimacs_records.specs.Forms.{Nodes, Count, Id, Whole, Wide, Word, Either, Number};

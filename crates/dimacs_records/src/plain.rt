@@ -1,7 +1,7 @@
 //! Fast reading of lines in the plain form, which most have: a letter, one blank before each number, and the line's end
 //! right after the last. `record` reads all others.
 
-ghost use Rattle.std.specs.Prelude.{◌≡◌, ◌≤◌, ◌∷◌, [], pos, length, IfSome};
+ghost use Rattle.std.specs.Prelude.{◌∷◌, [], pos, IfSome};
 ghost use Rattle.dimacs_records.specs.declared.kinds.TextKind.TheVariants.{Min, Potentials, Labels, Distances};
 ghost use Rattle.dimacs_records.specs.Forms.{Id, Whole};
 ghost use Rattle.dimacs_records.specs.inside.Plain.{IsPlainLine, SpellsArc, SpellsFirst};

@@ -1,6 +1,5 @@
 //! Writing lines of words and numbers.
 
-ghost use Rattle.std.specs.Prelude.{◌++◌};
 ghost use Rattle.dimacs_lines.specs.OutputBuffers.{Appends};
 ghost use Rattle.dimacs_lines.specs.Puts.{Puts};
 ghost use Rattle.dimacs_records.specs.Printed.{after_blank, printed, printed_line};

@@ -1,6 +1,5 @@
 //! The lines of verdicts and of tests that fail.
 
-ghost use Rattle.std.specs.Prelude.{◌++◌};
 ghost use Rattle.std.specs.List.{flat_map};
 ghost use Rattle.dimacs_lines.specs.OutputBuffers.{Appends};
 ghost use Rattle.dimacs_lines.specs.Puts.{Puts};

@@ -1,6 +1,6 @@
 //! Minimum cost flow by successive improvements.
 
-ghost use Rattle.std.specs.Prelude.{◌≡◌, ◌+◌, length, map, take, IfOk};
+ghost use Rattle.std.specs.Prelude.{◌≡◌, IfOk};
 ghost use Rattle.dimacs_solve.specs.Descending.{start_amount, start_flow};
 ghost use Rattle.dimacs_solve.specs.Descending.{Descends};
 

@@ -1,9 +1,9 @@
 //! Labels for queries.
 
-ghost use Rattle.std.specs.Prelude.{◌≡◌, ◌<◌, ◌≤◌, ◌*◌, [], ℕ, All, length, IfOk, OnOk, MatchOption};
+ghost use Rattle.std.specs.Prelude.{◌≡◌, ◌<◌, ◌≤◌, ◌*◌, [], All, length, IfOk, OnOk, MatchOption};
 ghost use Rattle.dimacs_lines.specs.Limits.{most_count, IsNode};
 ghost use Rattle.dimacs_instance.specs.QueryTexts.{AreLawful, asked, query_lines};
-ghost use Rattle.dimacs_claims.specs.Labels.{AreLabels, BlockValue, IsNewSource};
+ghost use Rattle.dimacs_claims.specs.Labels.{BlockValue, IsNewSource};
 ghost use Rattle.dimacs_optimality.specs.QueryTests.{sources_asked};
 ghost use Rattle.dimacs_solve.specs.inside.Adjacency.{AreByNode};
 ghost use Rattle.dimacs_solve.specs.inside.Blocks.{AddsBlock, AreSolved};

@@ -1,6 +1,6 @@
 //! Dealing out what exceeds the lower bounds: the cheapest arcs are filled first.
 
-ghost use Rattle.std.specs.Prelude.{◌≡◌, ◌<◌, ◌≤◌, ◌≤ℤ◌, List, length, ℕ, pos};
+ghost use Rattle.std.specs.Prelude.{◌≡◌, ◌<◌, ◌≤ℤ◌, List, length, ℕ, pos};
 ghost use Rattle.std.specs.List.{All};
 ghost use Rattle.dimacs_claims.specs.declared.solution.Entry.{Entry};
 ghost use Rattle.dimacs_instance.specs.MinFlows.{HasBounds};

@@ -1,6 +1,6 @@
 //! The lines of a text, however its source cuts it.
 
-ghost use Rattle.std.specs.Prelude.{◌≡◌, None};
+ghost use Rattle.std.specs.Prelude.{None};
 
 use crate::checks::{same, same_at};
 use crate::spelling::spell_lines;

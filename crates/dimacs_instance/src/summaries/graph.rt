@@ -1,6 +1,6 @@
 //! The summary of a graph.
 
-ghost use Rattle.std.specs.Prelude.{◌≡◌, refl};
+ghost use Rattle.std.specs.Prelude.{refl};
 ghost use Rattle.dimacs_records.specs.declared.kinds.TextKind.TheVariants as kinds;
 ghost use Rattle.dimacs_network.specs.Arcs.{NetworkValue};
 ghost use Rattle.dimacs_instance.specs.Graph.{GivesGraph, SpellsGraph, shown_graph};

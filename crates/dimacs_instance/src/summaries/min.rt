@@ -1,6 +1,6 @@
 //! The summary of a minimum cost flow instance.
 
-ghost use Rattle.std.specs.Prelude.{◌≡◌, refl};
+ghost use Rattle.std.specs.Prelude.{refl};
 ghost use Rattle.dimacs_records.specs.declared.kinds.TextKind.TheVariants as kinds;
 ghost use Rattle.dimacs_instance.specs.MinFlows.{MinValue};
 ghost use Rattle.dimacs_instance.specs.MinReading.{after_lines, before};

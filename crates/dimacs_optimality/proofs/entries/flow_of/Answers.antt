@@ -1,4 +1,4 @@
-use Rattle.std.proofs.Common.{List, [], ◌∷◌, inl}
+use Rattle.std.proofs.Common.{[], ◌∷◌, inl}
 use Rattle.dimacs_optimality.specs.Claims.{entry_row}
 use Rattle.dimacs_optimality.specs.declared.verdict.JudgeError.TheVariants.{Refused}
 use Rattle.dimacs_optimality.proofs.Claims.{carries_clear, entry_one_way}

@@ -1,4 +1,4 @@
-use Rattle.std.proofs.Common.{ℕ, ◌≤◌, length}
+use Rattle.std.proofs.Common.{◌≤◌, length}
 use Rattle.dimacs_decide.specs.inside.DenseTables.{HasNodes, value_at}
 use Rattle.dimacs_decide.specs.inside.DistanceBlocks.{below_none}
 use Rattle.dimacs_decide.proofs.BlockClaimLemmas.{AreFrom}

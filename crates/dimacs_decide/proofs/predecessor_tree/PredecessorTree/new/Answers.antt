@@ -1,5 +1,3 @@
-use Rattle.std.proofs.Common.{◌∙◌}
-use Rattle.dimacs_decide.specs.inside.DenseTables.{value_at}
 use Rattle.dimacs_decide.proofs.PredecessorTreeLemmas.{predecessor_tree_begun}
 use Rattle.dimacs_decide.proofs.predecessor_tree.PredecessorTree.new.Goals as goal
 
