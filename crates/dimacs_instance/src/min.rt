@@ -32,8 +32,8 @@ use std::marker::{Model, PhantomData};
 #[derive(Drop)]
 pub struct MinInstance<N: Network> {
     /// The supplies of the named nodes, some perhaps 0.
-    supplies: NodeMap<i64>,
-    network: N,
+    pub(crate) supplies: NodeMap<i64>,
+    pub(crate) network: N,
 }
 
 impl<N: Network> Model for MinInstance<N> {

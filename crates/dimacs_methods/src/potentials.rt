@@ -24,7 +24,7 @@ mod step;
 mod tight;
 mod tree;
 
-use crate::claim::Claim;
+use crate::claim::{Claim, ResidualArc};
 use crate::number::Number;
 use crate::potentials::cycle::{cycle_over, cycle_within};
 use crate::potentials::groups::{GroupPlaces, Groups};
