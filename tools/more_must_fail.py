@@ -392,6 +392,9 @@ def attempt(crates, is_kept):
 
 def main():
     flags = {it for it in sys.argv[1:] if it.startswith("--")}
+    if not flags <= {"--apply", "--kept"}:
+        print(__doc__)
+        return 2
     named = [it for it in sys.argv[1:] if it not in flags]
     crates = named or sorted({it.split("/")[-3] for it in glob.glob(f"{TOP}/crates/*/*must-fail/*.edit")})
     failed = apply(crates) if "--apply" in flags else attempt(crates, "--kept" in flags)
