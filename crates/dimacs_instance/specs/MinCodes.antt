@@ -14,7 +14,7 @@ arc_code =
     (λ a. (a.tail, (a.head, (a.low, (a.cap, a.cost)))))
     (λ p. record { tail = p.0; head = p.1.0; low = p.1.1.0; cap = p.1.1.1.0; cost = p.1.1.1.1 }) (λ _. refl)
 
-abbrev supplies_code : Coded (FinMap nat_cmp ℤ)
+abbrev pub supplies_code : Coded (FinMap nat_cmp ℤ)
 supplies_code = map.code coded_ℕ coded_ℤ
 
 abbrev pub min_code : Coded MinValue
