@@ -5,7 +5,6 @@
 #![tactic(auto)]
 
 mod augment;
-mod claim;
 mod cut;
 mod least_flow;
 mod levels;
@@ -20,8 +19,7 @@ mod simplex;
 mod starts;
 mod tables;
 
-pub use claim::ResidualArc;
 pub use cut::guess_cut;
 pub use least_flow::{LeastFlow, make_least_flow};
-pub use potentials::{Guess, guess_potentials};
+pub use potentials::{Guess, ResidualArc, guess_potentials};
 pub use preflow::{MaximumFlow, raise_value, send_excess};

@@ -12,7 +12,7 @@ use std::alloc::Global;
 #[derive(Drop)]
 pub(crate) struct NodeNumbers {
     /// The numbers by ID, in the order in which nodes occur. None if each ID is its own number, and 0 is the number of
-    /// no node: that is faster, and is done if there are at most two nodes for each arc, and a few.
+    /// no node: that is faster, and is done if IDs are dense.
     numbers: Option<NodeMap<u32>>,
     ids: Vec<u32>,
 }
@@ -34,11 +34,10 @@ impl NodeNumbers {
 
     /// Numbers the nodes with an arc.
     pub(crate) fn of_ends<N: Network>(alloc: Global, network: &N) -> Result<NodeNumbers, Memory> {
-        let nodes = network.nodes();
-        if u64::from(nodes) <= u64::from(network.arcs()) * 2 + 1024 {
+        if has_dense_ids(network) {
             return Ok(NodeNumbers {
                 numbers: None,
-                ids: (0..=nodes).collect(alloc)?,
+                ids: (0..=network.nodes()).collect(alloc)?,
             });
         }
         let mut numbers = NodeNumbers {
@@ -86,4 +85,9 @@ impl NodeNumbers {
     pub(crate) fn ids(&self) -> &[u32] {
         &self.ids
     }
+}
+
+/// Whether there are at most two nodes for each arc, and a few. Tables by ID then grow with the text.
+pub(crate) fn has_dense_ids<N: Network>(network: &N) -> bool {
+    u64::from(network.nodes()) <= u64::from(network.arcs()) * 2 + 1024
 }

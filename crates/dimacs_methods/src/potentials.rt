@@ -12,6 +12,7 @@
 //!    The tree of the links that lowered last is kept. If a group is lowered, its subtree is lowered with it, or leaves
 //!    the tree until it is reached again. A link that would lower a group from within its own subtree closes a cycle.
 
+mod claim;
 mod cycle;
 mod groups;
 mod join;
@@ -24,8 +25,8 @@ mod step;
 mod tight;
 mod tree;
 
-use crate::claim::{Claim, ResidualArc};
 use crate::number::Number;
+use crate::potentials::claim::Claim;
 use crate::potentials::cycle::{cycle_over, cycle_within};
 use crate::potentials::groups::{GroupPlaces, Groups};
 use crate::potentials::join::joints;
@@ -35,6 +36,7 @@ use crate::potentials::rounds::rounds_suffice;
 use crate::potentials::search::{End, lower_all};
 use crate::potentials::tree::Tree;
 use crate::tables::member;
+pub use claim::ResidualArc;
 use dimacs_claims::Potentials;
 use dimacs_instance::MinInstance;
 use dimacs_lines::{Memory, WIDE};
@@ -66,7 +68,7 @@ pub fn guess_potentials<N: Network>(
     instance: &MinInstance<N>,
     amounts: &[i64],
 ) -> Result<Guess, Memory> {
-    let claim = Claim::new(alloc, instance.network(), amounts)?;
+    let claim = Claim::new(alloc, instance, amounts)?;
     if claim.cost_sum() < NARROW {
         tie_and_link::<N, i64>(alloc, &claim)
     } else {
@@ -125,7 +127,7 @@ fn correct_labels<N: Network, V: Number>(
     let listing = Listing::new(alloc, &links, places.groups)?;
     drop(links);
     let mut tree = Tree::new(alloc, places.groups)?;
-    let size = u64::from(claim.network.arcs()) + u64::from(claim.numbers.count());
+    let size = u64::from(claim.network().arcs()) + u64::from(claim.numbers.count());
     let end = lower_all(alloc, &listing, &mut tree, size * BUDGET)?;
     drop(listing);
     match end {
@@ -148,7 +150,7 @@ fn potentials<N: Network, V: Number>(
     places: &GroupPlaces<V>,
     distances: &[V],
 ) -> Result<Potentials, Memory> {
-    let mut potentials = Potentials::new(alloc, claim.network.nodes());
+    let mut potentials = Potentials::new(alloc, claim.instance.network().nodes());
     for number in 0..claim.numbers.count() {
         let place = places.of(number);
         let distance = member(distances, place.group, V::of(0)).plus(place.shift);

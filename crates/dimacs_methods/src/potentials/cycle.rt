@@ -1,8 +1,8 @@
 //! Cycles of residual arcs with negative cost.
 
-use crate::claim::Claim;
 use crate::number::Number;
 use crate::potentials::Guess;
+use crate::potentials::claim::Claim;
 use crate::potentials::groups::GroupPlaces;
 use crate::potentials::step::Step;
 use crate::potentials::tight::Tight;

@@ -1,7 +1,7 @@
 //! Groups of nodes with known differences of distances: a union-find structure with shifts.
 
-use crate::claim::Claim;
 use crate::number::Number;
+use crate::potentials::claim::Claim;
 use crate::tables::{count_of, member, set_member};
 use dimacs_lines::Memory;
 use dimacs_network::Network;
@@ -113,7 +113,7 @@ impl<V: Number> Groups<V> {
 
     /// Ties the ends of all arcs that can carry both more and less. False if one contradicts earlier ones.
     pub(crate) fn tie_all<N: Network>(&mut self, claim: &Claim<'_, N>) -> bool {
-        let network = claim.network;
+        let network = claim.network();
         for i in 0..network.arcs() {
             let arc = network.arc(i);
             let directions = claim.directions(i, arc);

@@ -1,7 +1,7 @@
 //! Links: residual arcs between groups.
 
-use crate::claim::Claim;
 use crate::number::Number;
+use crate::potentials::claim::Claim;
 use crate::potentials::groups::{GroupPlace, GroupPlaces};
 use crate::potentials::listing::HasKey;
 use crate::tables::{member, set_member};
@@ -96,7 +96,7 @@ pub(crate) fn all_links<N: Network, V: Number>(
     claim: &Claim<'_, N>,
     places: &GroupPlaces<V>,
 ) -> Result<Option<Vec<Link<V>>>, Memory> {
-    let network = claim.network;
+    let network = claim.network();
     let mut links = Vec::with_capacity(alloc, network.arcs() as usize)?;
     for i in 0..network.arcs() {
         let Some(link) = Link::of(claim, places, i, network.arc(i)) else {

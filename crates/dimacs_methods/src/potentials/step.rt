@@ -1,7 +1,7 @@
 //! Steps: residual arcs between nodes, with their costs.
 
-use crate::claim::{Claim, ResidualArc};
 use crate::number::Number;
+use crate::potentials::claim::{Claim, ResidualArc};
 use crate::potentials::groups::GroupPlaces;
 use crate::potentials::links::Link;
 use crate::potentials::listing::HasKey;
@@ -31,7 +31,7 @@ impl<V: Number> Step<V> {
         alloc: Global,
         claim: &Claim<'_, N>,
     ) -> Result<Vec<Step<V>>, Memory> {
-        let network = claim.network;
+        let network = claim.network();
         let mut steps = Vec::new(alloc);
         for i in 0..network.arcs() {
             let arc = network.arc(i);

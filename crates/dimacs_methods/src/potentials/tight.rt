@@ -1,7 +1,7 @@
 //! Paths of tight steps within groups.
 
-use crate::claim::ResidualArc;
 use crate::number::Number;
+use crate::potentials::claim::ResidualArc;
 use crate::potentials::listing::Listing;
 use crate::potentials::step::Step;
 use crate::tables::{member, set_member};

@@ -1,6 +1,7 @@
-//! A flow that is claimed to be maximum, or to cost least, and its residual arcs.
+//! A flow that is claimed to cost least, and its residual arcs.
 
 use crate::node_numbers::NodeNumbers;
+use dimacs_instance::MinInstance;
 use dimacs_lines::Memory;
 use dimacs_network::{ArcView, Network, Side};
 use std::alloc::Global;
@@ -23,7 +24,7 @@ pub(crate) struct ResidualDirections {
 
 #[derive(Drop)]
 pub(crate) struct Claim<'a, N: Network> {
-    pub network: &'a N,
+    pub instance: &'a MinInstance<N>,
     /// In the order of the arcs.
     amounts: &'a [i64],
     pub numbers: NodeNumbers,
@@ -32,15 +33,20 @@ pub(crate) struct Claim<'a, N: Network> {
 impl<'a, N: Network> Claim<'a, N> {
     pub(crate) fn new(
         alloc: Global,
-        network: &'a N,
+        instance: &'a MinInstance<N>,
         amounts: &'a [i64],
     ) -> Result<Claim<'a, N>, Memory> {
-        let numbers = NodeNumbers::of_ends(alloc, network)?;
+        let numbers = NodeNumbers::of_ends(alloc, instance.network())?;
         Ok(Claim {
-            network,
+            instance,
             amounts,
             numbers,
         })
+    }
+
+    #[inline(always)]
+    pub(crate) fn network(&self) -> &'a N {
+        self.instance.network()
     }
 
     /// Whether arc `i` can carry more, and less; neither if it has no amount.
@@ -60,9 +66,10 @@ impl<'a, N: Network> Claim<'a, N> {
 
     /// The sum of all absolute costs.
     pub(crate) fn cost_sum(&self) -> u128 {
+        let network = self.network();
         let mut sum: u128 = 0;
-        for i in 0..self.network.arcs() {
-            let cost = self.network.arc(i).cost;
+        for i in 0..network.arcs() {
+            let cost = network.arc(i).cost;
             sum = sum.wrapping_add(u128::from(cost.unsigned_abs()));
         }
         sum
