@@ -1,7 +1,7 @@
 -- If each distance has a tight arc of positive weight, the distances are right.
 use Rattle.std.proofs.Common.{◌≡◌, ◌≢◌, inl, inr, ℕ, suc, zero, ◌+◌, ◌-◌, ◌^◌, ◌<◌, ◌≤◌, List, [], ◌∷◌, All, length, get_or, Option, Some, None, Ok, IsSome, is_some, ℤ, pos, ◌+ℤ◌, ◌≤ℤ◌, ◌<ℤ◌, refl, sym, ap, subst, ◌∙◌, arith}
 use Rattle.std.specs.Prelude.{int_lt, slice_get, slice_set}
-use Rattle.std.proofs.lemmas.Bool.{cases_Bool, cases_eq, cases_order}
+use Rattle.std.proofs.lemmas.Bool.{cases_Bool, cases_eq, cases_order, ne_eqb}
 use Rattle.std.proofs.lemmas.Bool.Decides.{eqb_tells}
 use Rattle.std.proofs.lemmas.Int.{ints}
 use Rattle.std.proofs.lemmas.List.Elements.{All-cons, All-from_get_or, All-get_or, All-nil, Contains-get_or}
@@ -26,7 +26,6 @@ use Rattle.dimacs_optimality.specs.Walks.{IsDistance}
 use Rattle.dimacs_optimality.proofs.Distances.{labels_are_distances}
 use Rattle.dimacs_optimality.proofs.LabelsPassing.{labels_clear, stays_near}
 use Rattle.dimacs_claims.proofs.ByIdLemmas.{distance_in-at, fresh_apart}
-use Rattle.std.proofs.lemmas.Bool.{ne_eqb}
 use Rattle.dimacs_decide.specs.Claims.{claimed_by_node, unless_greatest}
 use Rattle.dimacs_decide.specs.Distances.{AreDistancesFrom}
 use Rattle.dimacs_arrays.specs.Paths.{AreLabelsBy, ArePredecessors, NeedsPredecessor, JudgesByNode, pred_by_node}

@@ -11,8 +11,7 @@ use Rattle.dimacs_optimality.specs.CertificateTests.{RelaxFails}
 use Rattle.dimacs_optimality.specs.Labels.{HasTightArc}
 use Rattle.dimacs_optimality.specs.Tests.{Clear}
 use Rattle.dimacs_optimality.specs.Walks.{IsWalk}
-use Rattle.dimacs_optimality.specs.LightestArcs.{AreCovering, Covers}
-use Rattle.dimacs_optimality.specs.LightestArcs.{arcs_in}
+use Rattle.dimacs_optimality.specs.LightestArcs.{AreCovering, Covers, arcs_in}
 use Rattle.dimacs_decide.specs.Distances.{claim_row}
 use Rattle.dimacs_decide.specs.inside.FewLabels.{AreLightest}
 use Rattle.dimacs_decide.specs.inside.TightTrees.{IsTightTree}

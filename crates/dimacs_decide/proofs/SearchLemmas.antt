@@ -11,8 +11,7 @@ use Rattle.dimacs_network.specs.Arcs.{arc_at}
 use Rattle.dimacs_network.specs.declared.adjacency_lists.Side.{Side}
 use Rattle.dimacs_network.specs.declared.adjacency_lists.Side.TheVariants.{Tail, Head}
 use Rattle.dimacs_decide.specs.declared.search.Visit.{Visit}
-use Rattle.dimacs_network.specs.AdjacencyLists.{end_of, other_end}
-use Rattle.dimacs_network.specs.AdjacencyLists.{IsLast}
+use Rattle.dimacs_network.specs.AdjacencyLists.{end_of, other_end, IsLast}
 use Rattle.dimacs_decide.specs.inside.Residual.{unvisited, rank_of, residual_capacity_of, parent_arc_of, IsReachedBy, unreached, IsSideFollowed, IsDone, IsQueued, IsResidualSearch, IsNext, Becomes, Reaches, Grows, IsExplored}
 use Rattle.dimacs_decide.specs.inside.ResidualCapacities.{residual_capacity_on}
 use Rattle.dimacs_decide.proofs.CountLemmas.{count_most, one_zero_fewer}

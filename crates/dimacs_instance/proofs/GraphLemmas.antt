@@ -14,13 +14,12 @@ use Rattle.dimacs_records.specs.declared.records.Record.TheVariants.{GraphProble
 use Rattle.dimacs_records.specs.Earlier.{counted_in}
 use Rattle.dimacs_records.specs.Spelling.{kind_of}
 use Rattle.dimacs_records.specs.Tests.{after_records, earlier_of, noted_before}
-use Rattle.dimacs_records.specs.Readings.{IsAllowed, IsComplete}
+use Rattle.dimacs_records.specs.Readings.{IsAllowed, IsComplete, LineRecord, records_of}
 use Rattle.dimacs_records.proofs.ConditionLemmas.{is_allowed, is_complete}
 use Rattle.dimacs_network.specs.declared.network.ArcView.{ArcView}
 use Rattle.dimacs_network.specs.KeptArcs.{weight_arc}
 use Rattle.dimacs_records.specs.Forms.{form, Word, Nodes, Count, Id, Whole}
 use Rattle.dimacs_records.specs.Canonical.{CanBeSpelled}
-use Rattle.dimacs_records.specs.Readings.{LineRecord, records_of}
 use Rattle.dimacs_records.specs.Texts.{AreFaultless}
 use Rattle.dimacs_records.proofs.SplitLemmas.{image_at, All-at}
 use Rattle.dimacs_records.proofs.CanonicalLaws.{canonical_spelled, numbered_all}

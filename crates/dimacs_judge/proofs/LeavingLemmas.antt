@@ -15,9 +15,8 @@ use Rattle.dimacs_claims.specs.declared.block.Label.{Label}
 use Rattle.dimacs_claims.specs.Labels.{BlockValue, IsBlock, IsWithinRadius, label, no_label}
 use Rattle.dimacs_claims.proofs.BlockLemmas.{has_pred}
 use Rattle.dimacs_optimality.specs.CertificateTests.{RelaxFails, relax_row}
-use Rattle.dimacs_optimality.specs.LightestArcs.{AreCovering, Covers}
+use Rattle.dimacs_optimality.specs.LightestArcs.{AreCovering, Covers, WeightsFall, arcs_in}
 use Rattle.dimacs_judge.specs.inside.Leaving.{AreRelaxedFrom, IsRelaxedBy}
-use Rattle.dimacs_optimality.specs.LightestArcs.{WeightsFall, arcs_in}
 use Rattle.dimacs_judge.specs.inside.NodeLabels.{AreSupported, HasLabels, NodeEntry, RelaxesArc}
 use Rattle.dimacs_network.specs.Arcs.{arc_at}
 use Rattle.dimacs_optimality.specs.Tests.{Clear}

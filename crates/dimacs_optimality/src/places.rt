@@ -6,9 +6,8 @@ ghost use Rattle.dimacs_network.specs.declared.network.ArcView.{ArcView};
 ghost use Rattle.dimacs_network.specs.Arcs.{joins, IsKthBetween, arc_at};
 ghost use Rattle.dimacs_optimality.specs.Claims.{Carries, entry_row};
 ghost use Rattle.dimacs_optimality.specs.Places.{ArePlaced, HavePlaced, placed_between};
-ghost use Rattle.dimacs_optimality.specs.inside.Places.{IsIndexFor};
+ghost use Rattle.dimacs_optimality.specs.inside.Places.{IsIndexFor, PutsEntry, FindsFlow};
 ghost use Rattle.dimacs_optimality.specs.inside.ArcChains.{IsFirstBetween};
-ghost use Rattle.dimacs_optimality.specs.inside.Places.{PutsEntry, FindsFlow};
 ghost use Rattle.dimacs_optimality.specs.Tests.{FirstOfRow};
 
 use crate::arc_chains::{ArcChains, GAP, has_ends};

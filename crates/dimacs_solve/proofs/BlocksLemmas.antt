@@ -21,8 +21,7 @@ use Rattle.dimacs_optimality.proofs.BlockNumbers.{block_found}
 use Rattle.dimacs_optimality.specs.QueryTests.{HasBlock, HasFullBlock, IsServed, ends_of, nodes_asked, sources_asked}
 use Rattle.dimacs_solve.specs.declared.adjacency.Adjacency.{Adjacency}
 use Rattle.dimacs_solve.specs.declared.adjacency.WeightedArc.{WeightedArc}
-use Rattle.dimacs_solve.specs.inside.Adjacency.{out}
-use Rattle.dimacs_solve.specs.inside.Adjacency.{out_arc_to, IsOutArcOf, IsAdjacencyOf}
+use Rattle.dimacs_solve.specs.inside.Adjacency.{out, out_arc_to, IsOutArcOf, IsAdjacencyOf}
 use Rattle.dimacs_solve.specs.inside.Blocks.{AddsBlock, AreSolved}
 use Rattle.dimacs_solve.specs.Paths.{AreProduced, IsNearestFirst, block_source, distinct_after, noted}
 use Rattle.dimacs_solve.specs.inside.Search.{HasTightOutArc, IsPathTree}

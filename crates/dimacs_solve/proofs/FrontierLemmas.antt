@@ -7,8 +7,7 @@ use Rattle.std.specs.declared.cmp.Reverse.{Reverse}
 use Rattle.std.proofs.lemmas.List.Elements.{All-nil, All-cons, All-head}
 use Rattle.std.proofs.lemmas.List.Sorted.{first_le_from_greatest}
 use Rattle.dimacs_solve.specs.declared.frontier.Walk.{Walk}
-use Rattle.dimacs_solve.specs.inside.Frontiers.{walk_cmp, walk_in}
-use Rattle.dimacs_solve.specs.inside.Frontiers.{IsNearest}
+use Rattle.dimacs_solve.specs.inside.Frontiers.{walk_cmp, walk_in, IsNearest}
 
 -- the order by end and predecessor
 abbrev ends_cmp : ℕ × ℕ → ℕ × ℕ → Ordering

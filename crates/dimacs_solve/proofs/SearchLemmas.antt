@@ -15,8 +15,7 @@ use Rattle.dimacs_claims.specs.Labels.{BlockValue, IsBlock, IsLabel, label, with
 use Rattle.dimacs_solve.specs.declared.adjacency.Adjacency.{Adjacency}
 use Rattle.dimacs_solve.specs.declared.adjacency.WeightedArc.{WeightedArc}
 use Rattle.dimacs_solve.specs.declared.frontier.Walk.{Walk}
-use Rattle.dimacs_solve.specs.inside.Adjacency.{AreByNode, IsOutArc, out}
-use Rattle.dimacs_solve.specs.inside.Adjacency.{out_arc_to}
+use Rattle.dimacs_solve.specs.inside.Adjacency.{AreByNode, IsOutArc, out, out_arc_to}
 use Rattle.dimacs_solve.specs.inside.NodeStates.{Known, AreUnknown, IsSettled, IsReachedWithin, Sets, reached, settled}
 use Rattle.dimacs_solve.specs.Paths.{IsNearestFirst}
 use Rattle.dimacs_solve.specs.inside.Search.{is_settled, settled_count, settled_label, IsWalk, IsQueuedWalk, IsPending, IsFront, Lowers, Offers, IsArcRelaxed, IsReady, Relaxes, HasTightOutArc, IsPathSearch, IsPopped, IsClosed, IsPathTree, work}

@@ -23,7 +23,7 @@ pub enum MaxFlowAnswer {
 
 /// Starts at the zero flow, and goes to flows of greater value until one is maximum. At most `limit` flows are tested:
 /// first by the last cut that a heuristic made. If that isn't tight, the heuristic looks for a greater value. If it finds
-/// none, a search decides.
+/// none, `decide_max` decides.
 pub fn solve_max_flow<N: Network>(
     alloc: Global,
     instance: &MaxInstance<N>,

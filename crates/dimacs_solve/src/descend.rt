@@ -1,8 +1,7 @@
 //! Minimum cost flow by successive improvements.
 
 ghost use Rattle.std.specs.Prelude.{◌≡◌, IfOk};
-ghost use Rattle.dimacs_solve.specs.Descending.{start_amount, start_flow};
-ghost use Rattle.dimacs_solve.specs.Descending.{Descends};
+ghost use Rattle.dimacs_solve.specs.Descending.{start_amount, start_flow, Descends};
 
 use crate::jump::jump;
 use crate::question::{Reply, ask_over};

@@ -1,8 +1,7 @@
 //! The priority queue of a search, the nearest node first.
 
 ghost use Rattle.std.specs.Prelude.{◌≡◌, ◌∷◌, [], OnOk, MatchOption, IsPermutation};
-ghost use Rattle.dimacs_solve.specs.inside.Frontiers.{walk_of};
-ghost use Rattle.dimacs_solve.specs.inside.Frontiers.{IsNearest};
+ghost use Rattle.dimacs_solve.specs.inside.Frontiers.{walk_of, IsNearest};
 
 use crate::distance::Distance;
 use dimacs_lines::Memory;

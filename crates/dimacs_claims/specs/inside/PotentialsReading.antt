@@ -1,4 +1,4 @@
--- Inside: potentials while their text is read, and how such values are stored.
+-- Inside: potentials while their text is read.
 use Rattle.dimacs_claims.specs.Potentials.{PotentialsValue}
 use Rattle.dimacs_records.specs.NodeValues.{without_zeros}
 use Rattle.dimacs_claims.specs.PotentialsReading.{PotentialsBegun}

@@ -1,4 +1,4 @@
--- Inside: how the values of minimum cost flow instances are stored.
+-- Inside: how the counts of a minimum cost flow instance are stored.
 use Rattle.std.specs.Prelude.{ℕ, ℤ, refl}
 use Rattle.std.specs.Coded.{Coded, code_by, coded×, coded_ℕ}
 use Rattle.std.specs.Ordering.{nat_cmp}

@@ -6,8 +6,7 @@ use Rattle.dimacs_claims.specs.Labels.{BlockValue, IsBlock, label}
 use Rattle.dimacs_solve.specs.declared.adjacency.Adjacency.{Adjacency}
 use Rattle.dimacs_solve.specs.declared.adjacency.WeightedArc.{WeightedArc}
 use Rattle.dimacs_solve.specs.declared.frontier.Walk.{Walk}
-use Rattle.dimacs_solve.specs.inside.Adjacency.{AreByNode, out}
-use Rattle.dimacs_solve.specs.inside.Adjacency.{out_arc_to}
+use Rattle.dimacs_solve.specs.inside.Adjacency.{AreByNode, out, out_arc_to}
 use Rattle.dimacs_solve.specs.inside.Frontiers.{IsNearest}
 use Rattle.dimacs_solve.specs.inside.NodeStates.{Known, IsSettled, IsReachedWithin, Sets, reached}
 use Rattle.dimacs_solve.specs.Paths.{IsNearestFirst}
