@@ -1,7 +1,8 @@
 //! Decides by a search over tight arcs whether claimed distances are right.
 
-ghost use Rattle.std.specs.Prelude.{◌≤◌, None};
+ghost use Rattle.std.specs.Prelude.{◌≤◌, ◌+ℤ◌, ◌<ℤ◌, ◌↔◌, IsTrue, None};
 ghost use Rattle.dimacs_lines.specs.Limits.{most_nodes, IsNode};
+ghost use Rattle.dimacs_records.specs.Ranges.{IsWide};
 ghost use Rattle.dimacs_network.specs.AdjacencyLists.{AreAdjacencyLists};
 ghost use Rattle.dimacs_network.specs.declared.adjacency_lists.Side.TheVariants.{Tail};
 ghost use Rattle.dimacs_optimality.specs.Tests.{TestsRow};
@@ -111,9 +112,17 @@ pub(crate) fn arc_fault<C: DistanceClaim>(claim: &C, arc: ArcView) -> Option<Rea
     let from = claim.of(arc.tail)?;
     match claim.of(arc.head) {
         None => Some(Reason::Escapes),
-        Some(to) if from + i128::from(arc.cost) < to => Some(Reason::NotShortest),
+        Some(to) if is_beyond(to, from, arc.cost) => Some(Reason::NotShortest),
         Some(_) => None,
     }
+}
+
+#[inline(always)]
+fn is_beyond(to: i128, from: i128, weight: i64) -> bool
+    requires { IsWide from }
+    ensures { IsTrue result ↔ ((from +ℤ weight) <ℤ to) }
+{
+    to > from + i128::from(weight)
 }
 
 /// Refuses the first node with a claim that the search didn't reach.

@@ -1,6 +1,6 @@
 //! Tests whether labels are distances, without allocating.
 
-ghost use Rattle.std.specs.Prelude.{◌≡◌, ◌<◌, ◌+ℤ◌, ℤ, Some, All, length, IsTrue, ◌↔◌, IfSome, OnOk};
+ghost use Rattle.std.specs.Prelude.{◌≡◌, ◌<◌, ◌+ℤ◌, ◌<ℤ◌, ℤ, Some, All, length, IsTrue, ◌↔◌, IfSome, OnOk};
 ghost use Rattle.dimacs_claims.specs.Labels.{AreLabels, IsWithinRadius, label_at};
 ghost use Rattle.dimacs_optimality.specs.CertificateTests.{RelaxFails, label_rows, negative_row, relax_row, support_row, weight_row};
 ghost use Rattle.dimacs_judge.specs.inside.CertificateTests.{block_rows};
@@ -190,7 +190,7 @@ pub(crate) fn relax_fault_from(
 {
     match to {
         None => escape_fault(radius, from, weight),
-        Some(to) if from + i128::from(weight) < to => Some(Reason::NotShortest),
+        Some(to) if is_beyond(to, from, weight) => Some(Reason::NotShortest),
         Some(_) => None,
     }
 }
@@ -205,4 +205,12 @@ pub(crate) fn escape_fault(radius: Option<i128>, from: i128, weight: i64) -> Opt
         Some(radius) if from + i128::from(weight) > radius => None,
         _ => Some(Reason::Escapes),
     }
+}
+
+#[inline(always)]
+fn is_beyond(to: i128, from: i128, weight: i64) -> bool
+    requires { IsWide from }
+    ensures { IsTrue result ↔ ((from +ℤ weight) <ℤ to) }
+{
+    to > from + i128::from(weight)
 }
