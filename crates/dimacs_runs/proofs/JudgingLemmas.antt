@@ -1,5 +1,5 @@
 -- The reports on judged texts.
-use Rattle.std.proofs.Common.{◌≡◌, ℕ, List, [], ◌∷◌, Result, Ok, Err, refl, sym, subst, ap, ◌∙◌}
+use Rattle.std.proofs.Common.{◌≡◌, ℕ, List, [], ◌∷◌, Result, Ok, Err, refl, sym, subst, ap, ◌∙◌, inl, inr}
 use Rattle.dimacs_records.specs.declared.faults.ReadError.{ReadError}
 use Rattle.dimacs_records.specs.declared.reasons.Reason.{Reason}
 use Rattle.dimacs_optimality.specs.declared.verdict.JudgeError.{JudgeError}
@@ -18,8 +18,9 @@ use Rattle.dimacs_optimality.specs.Tests.{Row, Judges}
 use Rattle.dimacs_runs.specs.declared.status.Status.{Status}
 use Rattle.dimacs_runs.specs.declared.status.Status.TheVariants.{Done, Refused, GaveUp}
 use Rattle.dimacs_runs.specs.Judgings.{CountsDevices, VerdictOr}
-use Rattle.dimacs_runs.specs.Runs.{TextSpells, ReportsAlone}
+use Rattle.dimacs_runs.specs.Runs.{TextSpells}
 use Rattle.dimacs_runs.specs.inside.Judgings.{ReadsIn}
+use Rattle.dimacs_runs.specs.Runs.{ReportsAlone}
 use Rattle.dimacs_runs.specs.inside.Outcomes.{MayReport, judge_outcome, outcome_of}
 use Rattle.dimacs_runs.specs.Verdicts.{answer_line, failure_line, sources_line, verdict_lines}
 use Rattle.dimacs_optimality.proofs.Firsts.{none_first}
