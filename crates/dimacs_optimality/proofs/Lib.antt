@@ -22,4 +22,5 @@ mod OnePass
 pub mod MaxJudge
 pub mod MinJudge
 mod SolutionLemmas
+mod HubLemmas
 pub mod LeastLemmas
