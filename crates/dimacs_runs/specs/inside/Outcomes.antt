@@ -10,6 +10,7 @@ use Rattle.dimacs_optimality.specs.declared.verdict.JudgeError.TheVariants as ju
 use Rattle.dimacs_optimality.specs.declared.verdict.Verdict.{Verdict}
 use Rattle.dimacs_optimality.specs.declared.verdict.Verdict.TheVariants as verdicts
 use Rattle.dimacs_optimality.specs.declared.verdict.Where.TheVariants.{Arc}
+use Rattle.dimacs_optimality.specs.Tests.{AllClear, FirstAlone, Refuses}
 use Rattle.dimacs_records.specs.declared.faults.ReadError.{ReadError}
 use Rattle.dimacs_records.specs.declared.faults.ReadError.TheVariants as read_errors
 use Rattle.dimacs_records.specs.declared.kinds.TextKind.{TextKind}
@@ -21,7 +22,7 @@ use Rattle.dimacs_solve.specs.declared.maximum.MaxAnswer.{MaxAnswer}
 use Rattle.dimacs_solve.specs.declared.maximum.MaxAnswer.TheVariants as max_answers
 use Rattle.dimacs_solve.specs.declared.least.MinAnswer.{MinAnswer}
 use Rattle.dimacs_solve.specs.declared.least.MinAnswer.TheVariants as min_answers
-use Rattle.dimacs_spread.specs.Spread.{IsRefusal}
+use Rattle.dimacs_spread.specs.Spread.{Deals, spread_rows}
 use Rattle.dimacs_runs.specs.declared.jobs.SpreadKind.{SpreadKind}
 use Rattle.dimacs_runs.specs.declared.status.Status.{Status}
 use Rattle.dimacs_runs.specs.declared.status.RunError.{RunError}
@@ -37,7 +38,7 @@ use Rattle.dimacs_runs.specs.declared.stop.Stop.TheVariants as stops
 use Rattle.dimacs_runs.specs.Judgings.{OneMore}
 use Rattle.dimacs_runs.specs.Outputs.{AcceptAll, AcceptInTurn, MayWrite, WritesAlike}
 use Rattle.dimacs_runs.specs.Runs.{ReportsAlone}
-use Rattle.dimacs_runs.specs.Spread.{IsBestOf, SpreadsFlow}
+use Rattle.dimacs_runs.specs.Spread.{IsBestOf}
 use Rattle.dimacs_runs.specs.inside.Reports.{report_lines, report_status}
 
 -- the bytes of a text
@@ -137,5 +138,5 @@ MayCertify writes = IfEnds unclaimed_texts (WritesAlike writes)
 
 -- a flow that deals out a claim, or why there is none
 abbrev pub DealsOut : SpreadKind → List ArcView → SolutionValue → Result (List ℤ) JudgeError → Type 0
-DealsOut kind arcs s (Ok x) = SpreadsFlow arcs s x × IsBestOf kind arcs s x
-DealsOut kind arcs s (Err error) = IsRefusal arcs s.entries error
+DealsOut kind arcs s (Ok x) = AllClear (spread_rows arcs s.entries) × Deals arcs s.entries x × IsBestOf kind arcs s x
+DealsOut kind arcs s (Err error) = Refuses (FirstAlone (spread_rows arcs s.entries)) error
