@@ -15,10 +15,6 @@ FROM = build$(if $(UNPROVED),/quick)
 IN = $(DESTDIR)$(PREFIX)
 MAN = $(if $(wildcard tools/man_pages.py),build/man)
 
-CODE := crates.txt $(shell find crates -path '*/out' -prune -o -path '*_tests' -prune -o -path '*/src/*.rt' -print)
-PROOFS := $(shell find crates -path '*/out' -prune -o -path '*_tests' -prune -o -name '*.antt' -print)
-TOOLS = tools/kit.py tools/quick_build.py
-
 ## make: proves the program and the library, and builds build/dimacs, build/libdimacs.a and build/libdimacs.so
 all: build/dimacs $(LIBRARY:%=build/%)
 
@@ -38,14 +34,15 @@ check: quick
 prove:
 	.ci/gate
 
-build/quick/dimacs: $(CODE) $(TOOLS)
-	tools/quick_build.py program $@
+# These leave what was built of the same sources as it is (tools/sources.py), which times alone don't show.
+build/quick/dimacs: FORCE
+	@tools/quick_build.py program $@
 
-build/quick/dimacs_c.a: $(CODE) $(TOOLS)
-	tools/quick_build.py library $@
+build/quick/dimacs_c.a: FORCE
+	@tools/quick_build.py library $@
 
-build/dimacs build/dimacs_c.a &: $(CODE) $(PROOFS)
-	tools/proved_build.py build
+build/dimacs build/dimacs_c.a &: FORCE
+	@tools/proved_build.py build
 
 # What the gate runs over: what rt ci proved, put in build/ without a proof made again.
 proved-by-ci:
@@ -117,5 +114,6 @@ bench:
 clean:
 	rm -rf build dist
 
-.PRECIOUS: %/dimacs.o %/libdimacs.so.0
-.PHONY: all help quick check prove proved-by-ci install dist proved-only bench clean
+# Of these, what a failed proof leaves is whole, and of the sources that are noted beside it.
+.PRECIOUS: build/dimacs build/dimacs_c.a %/dimacs.o %/libdimacs.so.0
+.PHONY: all help quick check prove proved-by-ci install dist proved-only bench clean FORCE

@@ -15,16 +15,16 @@ import subprocess
 import sys
 import tempfile
 
+from pages import commands
+
 PAGES = ["README.md", "examples/README.md", "docs/JUDGING.md", "man/dimacs.1.md"]
 
 
 def shown(page):
     """Yields the words of each run that the page shows, and the lines under it."""
-    with open(page, encoding="utf-8") as it:
-        blocks = re.findall(r"^```\n(.*?)^```", it.read(), re.DOTALL | re.MULTILINE)
-    for block in blocks:
-        for run in re.findall(r"^\$ dimacs (.*)\n((?:(?!\$ ).*\n)*)", block, re.MULTILINE):
-            yield run[0].split(), re.sub(r" {2,}# .*", "", run[1]).rstrip("\n").split("\n")
+    for command, lines in commands(page):
+        if command.startswith("dimacs "):
+            yield command.split()[1:], re.sub(r" {2,}# .*", "", lines).rstrip("\n").split("\n")
 
 
 def wrong_pages():

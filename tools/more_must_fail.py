@@ -29,6 +29,9 @@ import subprocess
 import sys
 import tempfile
 
+import edits as bodies
+import kit as kits
+
 TOP = os.path.dirname(os.path.dirname(os.path.abspath(__file__)))
 
 # The checks that run at once, and the twins in one of them.
@@ -62,26 +65,6 @@ def write(path, text):
         it.write(text)
 
 
-def applied(path):
-    """The texts that an edit makes, by their files, and why it can't be applied, if it can't."""
-    crate = os.path.dirname(os.path.dirname(path))
-    texts, file, old = {}, "", ""
-    for line in text_of(path).splitlines():
-        word, _, text = line.partition(": ")
-        if word == "file":
-            file = text
-        elif word == "old":
-            old = text
-        elif word == "new":
-            if file not in texts:
-                texts[file] = text_of(f"{crate}/{file}")
-            count = texts[file].count(old)
-            if count != 1:
-                return texts, f"{old!r} stands {count} times in {file}"
-            texts[file] = texts[file].replace(old, text)
-    return texts, None if texts else "it changes nothing"
-
-
 def functions(lines):
     """The functions with a body in a text in the layout of rt fmt."""
     block = ""
@@ -111,16 +94,14 @@ def type_of(block):
 class Edit:
     """A wrong body: what it makes of the crate's files, and the function that it changes, if it is one."""
 
-    def __init__(self, path):
-        self.path = path
-        self.crate = path.split("/")[-3]
-        self.name = os.path.basename(path)
+    def __init__(self, crate, body):
+        self.crate, self.body, self.name = crate, body, body.name
         self.function = self.file = self.result = self.why = None
-        self.texts, fault = applied(path)
-        if fault:
-            self.settle(BAD, fault)
-        else:
+        try:
+            self.texts = body.applied(f"{TOP}/crates/{crate}")
             self.find_function()
+        except bodies.Fault as fault:
+            self.settle(BAD, str(fault))
 
     def settle(self, result, why=""):
         self.result, self.why = result, why
@@ -357,7 +338,7 @@ def print_results(edits, minutes):
     """Prints what became of the edits, and answers how many weren't refused."""
     for it in edits:
         if it.result != REFUSED:
-            print(f"{os.path.relpath(it.path, TOP)}: {it.result.upper()}{': ' + it.why if it.why else ''}")
+            print(f"{it.crate}: {it.name}: {it.result.upper()}{': ' + it.why if it.why else ''}")
     print(f"{'crate':20} edits  refused  proved  bad  minutes")
     for crate in sorted({it.crate for it in edits}):
         count = collections.Counter(it.result for it in edits if it.crate == crate)
@@ -368,23 +349,25 @@ def print_results(edits, minutes):
     return failed
 
 
-def edits_in(crates, folder):
-    return [Edit(it) for name in crates for it in sorted(glob.glob(f"{TOP}/crates/{name}/{folder}/*.edit"))]
+def bodies_of(crate):
+    """The wrong bodies of a crate, as they are read."""
+    paths = [*sorted(glob.glob(f"{TOP}/crates/{crate}/*must-fail/*.edit")), f"{TOP}/crates/{crate}/wrong-bodies"]
+    return [it for path in paths for it in bodies.edits_in(path)]
 
 
 def apply(crates):
-    """Applies the edits of these crates, and answers how many can't be."""
-    edits = edits_in(crates, "*must-fail")
-    failed = [it for it in edits if it.result == BAD]
-    for it in failed:
-        print(f"{os.path.relpath(it.path, TOP)}: {it.why}")
-    print(f"{len(edits) - len(failed)} passed, {len(failed)} failed")
-    return len(failed)
+    """Applies the edits of these crates, and answers how many show nothing."""
+    read = {it: crate for crate in crates for it in bodies_of(crate)}
+    faults = list(bodies.showing_nothing(kits.folder(), read, lambda it: f"{TOP}/crates/{read[it]}"))
+    for it, fault in faults:
+        print(f"{read[it]}: {it.name}: {fault}")
+    print(f"edits: {len(read)}, showing nothing: {len(faults)}")
+    return len(faults) + (not read)
 
 
 def attempt(crates, is_kept):
     """Tries the edits of these crates, and answers how many aren't refused."""
-    edits = edits_in(crates, "more-must-fail")
+    edits = [Edit(crate, it) for crate in crates for it in bodies_of(crate)]
     for crate in [] if is_kept else sorted({it.crate for it in edits}):
         subprocess.run(["rt", "check"], cwd=f"{TOP}/crates/{crate}", check=True)
     return print_results(edits, try_all(edits))
@@ -396,7 +379,7 @@ def main():
         print(__doc__)
         return 2
     named = [it for it in sys.argv[1:] if it not in flags]
-    crates = named or sorted({it.split("/")[-3] for it in glob.glob(f"{TOP}/crates/*/*must-fail/*.edit")})
+    crates = named or [it for it in kits.crates() if bodies_of(it)]
     failed = apply(crates) if "--apply" in flags else attempt(crates, "--kept" in flags)
     return 1 if failed else 0
 

@@ -3,8 +3,10 @@
 
 Proves the crates one by one, lowest first, if they aren't proved yet, with a line each minute that names the one at
 work and how many are left; and puts the program `dimacs` and the archive `dimacs_c.a`, which the Makefile links, into
-the folder. With --by-ci it takes what rt ci proved: its program, and for the library the crates below, over which
-dimacs_c is proved again. rt lib takes none of these, since they hold statements alone, and would prove them all again.
+the folder, with a file of what they were made of. What is there already of the same sources is left as it is. With
+--by-ci it takes what rt ci proved: its program, and for the library the crates below, over which dimacs_c is proved
+again. rt lib takes none of these, since they hold statements alone, and would prove them all again. What was proved by rt
+ci has to be what stands here now: .ci/gate writes down, after rt ci, what it was.
 """
 import argparse
 import os
@@ -15,9 +17,13 @@ import tempfile
 import time
 
 import kit as kits
+import sources
 
 CRATES = f"{kits.TOP}/crates"
 PROGRAM, ARCHIVE = f"{CRATES}/dimacs/out/dimacs", f"{CRATES}/dimacs_c/out/libdimacs_c.a"
+
+# What the program that rt ci built was made of: rt ci removes this file as it begins.
+BY_CI = f"{CRATES}/dimacs/out/sources"
 
 
 def order(listed):
@@ -72,14 +78,20 @@ def main():
     words.add_argument("--by-ci", action="store_true", help="take what rt ci proved")
     words.add_argument("folder")
     asked = words.parse_args()
+    noted, built = f"{asked.folder}/sources", [f"{asked.folder}/{it}" for it in ("dimacs", "dimacs_c.a")]
+    if not asked.by_ci and sources.is_current(noted, sources.PROVED, built):
+        return
     kit, listed = kits.folder("bin/rattle", "c/liblibc_c.a"), kits.crates()
+    if asked.by_ci and not sources.is_current(BY_CI, sources.PROVED, [PROGRAM]):
+        sys.exit("crates/dimacs/out/dimacs isn't what rt ci proved of these sources: .ci/gate proves and builds it")
     if asked.by_ci:
         build_over_ci(kit, listed)
     else:
         prove_all(listed)
     os.makedirs(asked.folder, exist_ok=True)
-    shutil.copy(PROGRAM, f"{asked.folder}/dimacs")
-    shutil.copy(ARCHIVE, f"{asked.folder}/dimacs_c.a")
+    shutil.copy(PROGRAM, built[0])
+    shutil.copy(ARCHIVE, built[1])
+    sources.note(noted, sources.PROVED, built)
 
 
 if __name__ == "__main__":
