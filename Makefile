@@ -68,9 +68,10 @@ proved-by-ci:
 
 ## make install: installs what is proved, into PREFIX=/usr/local below DESTDIR=; UNPROVED=1 takes what isn't proved
 install: $(if $(UNPROVED),quick,all) $(MAN)
-	install -d $(IN)/bin $(IN)/include $(IN)/lib/pkgconfig $(IN)/lib/cmake/dimacs
+	install -d $(IN)/bin $(IN)/include/dimacs $(IN)/lib/pkgconfig $(IN)/lib/cmake/dimacs
 	install -m 755 $(FROM)/dimacs $(wildcard tools/dimacs-batch) $(IN)/bin
 	install -m 644 lib/include/dimacs.h lib/include/dimacs.hpp $(IN)/include
+	install -m 644 lib/include/dimacs/*.hpp $(IN)/include/dimacs
 	install -m 644 $(FROM)/libdimacs.a $(IN)/lib
 	install -m 644 $(FROM)/libdimacs.so.0 $(IN)/lib/libdimacs.so.$(VERSION)
 	ln -sf libdimacs.so.$(VERSION) $(IN)/lib/libdimacs.so.0

@@ -44,14 +44,18 @@ C_TESTS = [
     ("large_arrays", "nothing", []),
 ]
 
-# Each test in C++: its file, the standard of the language, and a library's header that it needs. What LEMON and Boost have
-# in templates takes long to compile with -O1, and gets warnings then.
+# Each test in C++: its file, the standard of the language, and a library's header that it needs. Compilers take gnu++17
+# if none is named; in c++17 their integers of 128 bits aren't integers. What LEMON and Boost have in templates takes long
+# to compile with -O1, and gets warnings then.
 CPP_WARN = ["-O0", "-g", "-Wall", "-Wextra", "-Wpedantic", "-Werror", f"-I{LIB}/include"]
 CPP_TESTS = [
     ("hpp", "c++17", None),
+    ("hpp", "gnu++17", None),
     ("hpp", "c++20", None),
     ("lemon", "c++17", ("LEMON", "lemon/core.h")),
+    ("lemon", "gnu++17", ("LEMON", "lemon/core.h")),
     ("boost", "c++17", ("Boost", "boost/graph/adjacency_list.hpp")),
+    ("boost", "gnu++17", ("Boost", "boost/graph/adjacency_list.hpp")),
 ]
 
 
