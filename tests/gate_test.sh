@@ -36,10 +36,10 @@ expect "0 passed, 1 failed" 1 'true'
 expect "0 passed, 1 failed" 1 'echo "5 passed, 0 failed, but"; no-such-command'
 
 # The pages without their runs.
-mkdir "$room/docs" "$room/man"
+mkdir "$room/docs" "$room/man" "$room/referee"
 cp -r examples tests "$room"
-for page in README.md examples/README.md docs/*.md man/*.md; do
-    sed 's/^\$ dimacs /$ another /' "$page" >"$room/$page"
+for page in README.md examples/README.md docs/*.md man/*.md referee/README.md; do
+    sed -E 's/^\$ (dimacs|referee\S+) /$ another /' "$page" >"$room/$page"
 done
-expect "0 passed, 5 failed" 1 "exec '$room/tests/shown_runs.py' /bin/true"
+expect "0 passed, 6 failed" 1 "exec '$room/tests/shown_runs.py' /bin/true"
 finish
