@@ -145,8 +145,8 @@ def block_rows(rng, arcs, source, radius):
 
 def query_rows(rng, nodes, sources):
     """Of sources that have a block, but for a few."""
-    count = rng.randint(0, 3)
-    asked = [rng.choice(sources) if sources and rng.random() < 0.95 else rng.randint(1, nodes) for _ in range(count)]
+    count = rng.choice([0, 1, 2, 3, 3]) if sources else rng.choice([0, 0, 0, 1])
+    asked = [rng.choice(sources) if sources and rng.random() < 0.97 else rng.randint(1, nodes) for _ in range(count)]
     if rng.random() < 0.3:
         return rows(f"p aux sp ss {count}", *(f"s {v}" for v in asked))
     return rows(f"p aux sp p2p {count}", *(f"q {v} {rng.randint(1, nodes)}" for v in asked))
@@ -182,20 +182,20 @@ is_number = re.compile("-?[0-9]+").fullmatch
 
 
 def any_field(rng, lines):
-    """A line and a place in it after the letter. The problem line is taken most often."""
+    """A line and a place in it after the letter. The problem line is taken more often than others."""
     long = [line for line in lines if len(line) > 1]
     if not long:
         return NO_FIELD
-    line = long[0] if rng.random() < 0.3 else rng.choice(long)
+    line = long[0] if rng.random() < 0.2 else rng.choice(long)
     return line, rng.randrange(1, len(line))
 
 
 def near(rng, _, lines):
     """Changes a number by 1, or to one that stands elsewhere in the text."""
-    line, place = any_field(rng, lines)
-    if is_number(line[place]):
-        others = [field for other in lines for field in other if is_number(field)]
-        line[place] = rng.choice([str(int(line[place]) + rng.choice([-1, 1])), rng.choice(others)])
+    places = [(line, place) for line in lines for place, field in enumerate(line) if is_number(field)]
+    if places:
+        (line, place), (other, elsewhere) = rng.choice(places), rng.choice(places)
+        line[place] = rng.choice([str(int(line[place]) + rng.choice([-1, 1])), other[elsewhere]])
 
 
 def end_of_range(rng, kind, lines):
@@ -271,9 +271,9 @@ def count_again(lines):
             block[2] = str(int(block[2]) + 1)
 
 
-SLIPS = {near: 8, repeated: 1, inserted: 1, removed: 1, moved: 2}
-FAULTS = {near: 4, end_of_range: 5, no_number: 5, other_word: 1, other_letter: 1, other_length: 2, repeated: 3}
-FAULTS.update({inserted: 3, removed: 2, moved: 2, cut_off: 1})
+SLIPS = {near: 12, repeated: 1, inserted: 1, removed: 1, moved: 1}
+FAULTS = {near: 4, end_of_range: 9, no_number: 7, other_word: 1, other_letter: 1, other_length: 3, repeated: 3}
+FAULTS.update({inserted: 4, removed: 2, moved: 2, cut_off: 1})
 
 
 # ---- layouts of a text
@@ -330,8 +330,8 @@ def judged_texts(command, seed):
     rng = random.Random(seed)
     texts = MAKERS[command](rng)
     edits, recounted = rng.choice([(SLIPS, 0.9), (FAULTS, 0.3)])
-    for _ in range(rng.choice([0, 1, 1, 1, 1, 2, 2, 3])):
-        at = rng.randrange(len(texts))
+    for _ in range(rng.choice([0, 1, 1, 1, 1, 1, 1, 2, 2, 3])):
+        at = rng.choice([0, 1, 2]) % len(texts)
         chosen(rng, edits)(rng, JUDGES[command][1][at], texts[at])
         if rng.random() < recounted:
             count_again(texts[at])
