@@ -86,14 +86,15 @@ def min_rows(rng, nodes, supplies, arcs):
 
 
 def min_texts(rng):
-    """Bounds about a flow, so that complementary slackness holds."""
+    """Bounds about a flow, so that complementary slackness holds; but for a few, with a potential that is off by 1."""
     nodes, scale = rng.randint(1, 6), rng.choice(SCALES)
     most_cost, most_y = rng.choice([3, 3, 10**15, 2**63 - 1]), rng.choice([3, 3, 2**63, 10**30])
     y = [rng.choice([0, rng.randint(-most_y, most_y)]) for _ in range(nodes + 1)]
     arcs, flow, supplies = [], [], [0] * (nodes + 1)
     for _ in range(rng.randint(0, 6)):
         tail, head = rng.randint(1, nodes), rng.randint(1, nodes)
-        cost = rng.choice([most_cost, -most_cost, rng.randint(-most_cost, most_cost)])
+        costs = [y[tail] - y[head] + rng.randint(-1, 1), most_cost, -most_cost, rng.randint(-most_cost, most_cost)]
+        cost = rng.choice([cost for cost in costs if abs(cost) < 2**63])
         amount, reduced = rng.randint(0, 2) * scale, cost - y[tail] + y[head]
         low = amount if reduced > 0 else rng.choice([0, rng.randint(0, amount)])
         cap = amount if reduced < 0 else amount + rng.choice([0, 0, 1, 5])
@@ -101,6 +102,7 @@ def min_texts(rng):
         flow.append(amount)
         supplies[tail] += amount
         supplies[head] -= amount
+    y[rng.randint(1, nodes)] += rng.choice([0] * 8 + [-1, 1])
     named = [v for v in range(1, nodes + 1) if y[v] or rng.random() < 0.2]
     potentials = rows(f"p pot {nodes} {len(named)}", *(f"y {v} {y[v]}" for v in mixed(rng, named)))
     cost = sum(arc[4] * amount for arc, amount in zip(arcs, flow))
@@ -162,7 +164,7 @@ def paths_texts(rng):
         tail, head = rng.randint(1, nodes), rng.randint(1, nodes)
         arcs.append((tail, head, (rng.randint(0, 4) + heights[tail] - heights[head]) * scale))
     sources = rng.sample(range(1, nodes + 1), rng.randint(0, min(3, nodes)))
-    radii = [rng.choice([None, rng.randint(0, 8) * scale]) if radius else None for _ in sources]
+    radii = [rng.choice([None, 0, rng.randint(0, 8) * scale, 10**30]) if radius else None for _ in sources]
     blocks = [block_rows(rng, arcs, source, radius) for source, radius in zip(sources, radii)]
     graph = rows(f"p sp {nodes} {len(arcs)}", *("a " + " ".join(map(str, arc)) for arc in arcs))
     labels = rows(f"p dist {nodes} {len(blocks)}", *(" ".join(line) for block in blocks for line in block))
