@@ -26,6 +26,7 @@ SLOW = r"^test (\S+) \.\.\. FAILED\n *checked: no-answer: the program did not en
 SCRIPTS = {
     "library": ["--build", "{build}"],
     "malicious": ["{build}/dimacs"],
+    "referee": ["{build}/dimacs"],
     "refusals": ["{build}/dimacs"],
     "large_runs": ["{build}/dimacs"],
     "batch": ["{build}/dimacs"],

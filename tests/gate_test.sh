@@ -53,14 +53,14 @@ expect "5 passed, 0 failed" 5 'echo "left out: a tool"; echo "5 passed, 0 failed
 ALL_TOOLS=yes expect "5 passed, 1 failed" 5 'echo "left out: a tool"; echo "5 passed, 0 failed"'
 
 # The pages without their runs, and two pages that aren't read and have one.
-mkdir "$room/docs" "$room/man"
+mkdir "$room/docs" "$room/man" "$room/referee"
 cp -r examples tests "$room"
-for page in README.md examples/README.md docs/*.md man/*.md; do
-    sed 's/^\$ dimacs /$ another /' "$page" >"$room/$page"
+for page in README.md examples/README.md docs/*.md man/*.md referee/README.md; do
+    sed -E 's/^\$ (dimacs|referee\S+) /$ another /' "$page" >"$room/$page"
 done
 printf '```console\n$ dimacs show gr road.gr\n```\n' >"$room/docs/console.md"
 printf 'A run:\n\n    $ dimacs show gr road.gr\n' >"$room/docs/indented.md"
-expect "0 passed, 7 failed" 1 "exec '$room/tests/shown_runs.py' /bin/true"
+expect "0 passed, 8 failed" 1 "exec '$room/tests/shown_runs.py' /bin/true"
 
 # The repository of one crate.
 one=$room/one
