@@ -38,13 +38,13 @@ check: quick
 prove:
 	.ci/gate
 
-build/quick/dimacs: $(CODE) $(TOOLS)
-	tools/quick_build.py program $@
+build/quick/dimacs build/quick/dimacs.bc &: $(CODE) $(TOOLS)
+	tools/quick_build.py program build/quick/dimacs
 
-build/quick/dimacs_c.a: $(CODE) $(TOOLS)
-	tools/quick_build.py library $@
+build/quick/dimacs_c.a build/quick/dimacs_c.bc &: $(CODE) $(TOOLS)
+	tools/quick_build.py library build/quick/dimacs_c.a
 
-build/dimacs build/dimacs_c.a &: $(CODE) $(PROOFS)
+build/dimacs build/dimacs_c.a build/dimacs_c.bc &: $(CODE) $(PROOFS)
 	tools/proved_build.py build
 
 # What the gate runs over: what rt ci proved, put in build/ without a proof made again.
