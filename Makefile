@@ -117,5 +117,7 @@ bench:
 clean:
 	rm -rf build dist
 
+include targets.mk
+
 .PRECIOUS: %/dimacs.o %/libdimacs.so.0
 .PHONY: all help quick check prove proved-by-ci install dist proved-only bench clean

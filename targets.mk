@@ -1,0 +1,28 @@
+# Builds for other systems, of the module kept beside what was built for this one: in build/TARGET, or with UNPROVED=1 in
+# build/quick/TARGET. The Makefile includes it.
+CALLS = $(shell grep -o '^uint32_t dimacs_[a-z_]*' lib/include/dimacs.h | cut -d' ' -f2)
+TOOLCHAIN = $(or $(KIT),kit-is-missing)/toolchain/bin
+
+## make wasm: builds build/wasm/dimacs.wasm, which is not proved but compiled from what is; UNPROVED=1 takes what isn't
+wasm: $(FROM)/wasm/dimacs.wasm
+
+# One page of 64 KB less than 32-bit addresses reach.
+WASM_CC = $(TOOLCHAIN)/clang --target=wasm64-unknown-unknown -mcpu=lime1 -O2 -fwrapv -ffreestanding -nostdinc \
+    -fno-builtin-malloc --no-default-config -mllvm -expand-div-rem-bits=64
+WASM_LINK = $(TOOLCHAIN)/ld.lld -flavor wasm -mwasm64 --no-entry --stack-first -z stack-size=1048576 \
+    --max-memory=4294901760 --gc-sections --strip-all --compress-relocations -O2 --export=malloc --export=free
+
+%/wasm/dimacs.o: %/dimacs_c.bc tools/targets/compile.py
+	mkdir -p $(@D)
+	tools/targets/compile.py wasm $< $@
+
+%/wasm/dimacs64.wasm: %/wasm/dimacs.o lib/glue/wasm_heap.c lib/glue/wasm_int128.c lib/include/dimacs.h
+	$(WASM_CC) -c lib/glue/wasm_heap.c -o $(@D)/heap.o
+	$(WASM_CC) -c lib/glue/wasm_int128.c -o $(@D)/int128.o
+	$(WASM_LINK) $(CALLS:%=--export=%) $< $(@D)/heap.o $(@D)/int128.o -o $@
+
+%/wasm/dimacs.wasm: %/wasm/dimacs64.wasm tools/targets/lower_addresses.py
+	tools/targets/lower_addresses.py $< $@
+
+.PRECIOUS: %/wasm/dimacs.o %/wasm/dimacs64.wasm
+.PHONY: wasm
