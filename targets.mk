@@ -24,5 +24,18 @@ WASM_LINK = $(TOOLCHAIN)/ld.lld -flavor wasm -mwasm64 --no-entry --stack-first -
 %/wasm/dimacs.wasm: %/wasm/dimacs64.wasm tools/targets/lower_addresses.py
 	tools/targets/lower_addresses.py $< $@
 
+## make npm: packs the module with its calls and its command for node, as build/npm/dimacs-VERSION.tgz
+npm: $(FROM)/npm/dimacs.tgz
+
+JS = $(filter-out lib/js/package.json,$(wildcard lib/js/*.js lib/js/*.ts lib/js/*.json lib/js/README.md))
+
+%/npm/dimacs.tgz: %/wasm/dimacs.wasm %/dimacs lib/js/package.json $(JS) VERSION
+	rm -rf $(@D)
+	mkdir -p $(@D)/package
+	cp $(JS) $< $(@D)/package
+	sed 's/"version": .*/"version": "$(VERSION)$(if $(UNPROVED),-unproved)",/' lib/js/package.json >$(@D)/package/package.json
+	$*/dimacs 2>&1 | sed '/^dimacs: usage$$/d; /^  explain /d' >$(@D)/package/usage.txt
+	cd $(@D) && tar --sort=name --mtime=@0 --owner=0 --group=0 --numeric-owner -c package | gzip -9n >dimacs.tgz
+
 .PRECIOUS: %/wasm/dimacs.o %/wasm/dimacs64.wasm
-.PHONY: wasm
+.PHONY: wasm npm
