@@ -37,5 +37,12 @@ JS = $(filter-out lib/js/package.json,$(wildcard lib/js/*.js lib/js/*.ts lib/js/
 	$*/dimacs 2>&1 | sed '/^dimacs: usage$$/d; /^  explain /d' >$(@D)/package/usage.txt
 	cd $(@D) && tar --sort=name --mtime=@0 --owner=0 --group=0 --numeric-owner -c package | gzip -9n >dimacs.tgz
 
+## make page: makes build/page/dimacs.html, one file that checks and solves in a browser, and needs no server
+page: $(FROM)/page/dimacs.html
+
+%/page/dimacs.html: %/wasm/dimacs.wasm tools/targets/page.py lib/js/library.js $(wildcard lib/page/* examples/*)
+	mkdir -p $(@D)
+	tools/targets/page.py $< $@
+
 .PRECIOUS: %/wasm/dimacs.o %/wasm/dimacs64.wasm
-.PHONY: wasm npm
+.PHONY: wasm npm page
