@@ -9,6 +9,8 @@ PREFIX = /usr/local
 DESTDIR =
 KIT = $(shell tools/kit.py)
 LIBRARY = libdimacs.a libdimacs.so
+OBJCOPY = objcopy
+HEAP = $(or $(KIT),kit-is-missing)/c/liblibc_c.a
 
 # The folder of what is installed: what is proved, or with UNPROVED=1 what isn't.
 FROM = build$(if $(UNPROVED),/quick)
@@ -55,8 +57,8 @@ proved-by-ci:
 # One object of the calls and the kit's C library, which takes memory by malloc. What isn't exported is local in it:
 # nothing else can clash with a name of another library.
 %/dimacs.o: %/dimacs_c.a
-	$(CC) -r -nostdlib -o $@ -Wl,--whole-archive $< -Wl,--no-whole-archive $(or $(KIT),kit-is-missing)/c/liblibc_c.a
-	objcopy --wildcard --keep-global-symbol='dimacs_*' $@
+	$(CC) -r -nostdlib -o $@ -Wl,--whole-archive $< -Wl,--no-whole-archive $(HEAP)
+	$(OBJCOPY) --wildcard --keep-global-symbol='dimacs_*' $@
 
 %/libdimacs.a: %/dimacs.o
 	rm -f $@

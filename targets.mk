@@ -44,5 +44,55 @@ page: $(FROM)/page/dimacs.html
 	mkdir -p $(@D)
 	tools/targets/page.py $< $@
 
-.PRECIOUS: %/wasm/dimacs.o %/wasm/dimacs64.wasm
-.PHONY: wasm npm page
+## make aarch64: builds the program and the library for aarch64 Linux in build/aarch64, proved for that target
+aarch64: $(addprefix $(FROM)/aarch64/,dimacs $(LIBRARY))
+
+# The Makefile's rules link the library, by these tools.
+ARM = aarch64-linux-gnu
+%/aarch64/dimacs.o %/aarch64/libdimacs.a %/aarch64/libdimacs.so.0: CC = $(ARM)-gcc
+%/aarch64/dimacs.o %/aarch64/libdimacs.a %/aarch64/libdimacs.so.0: AR = $(ARM)-ar
+%/aarch64/dimacs.o: OBJCOPY = $(ARM)-objcopy
+%/aarch64/dimacs.o: HEAP = $(@D)/heap.o
+
+%/aarch64/dimacs.o: %/aarch64/heap.o
+
+%/aarch64/heap.o: lib/glue/heap.c
+	mkdir -p $(@D)
+	$(ARM)-gcc -O2 -fPIC -Wall -Wextra -c $< -o $@
+
+%/aarch64/dimacs: %/aarch64/main.o %/aarch64/heap.o lib/glue/os.c
+	$(ARM)-gcc -O2 -fPIE -pie -Wall -Wextra -s -o $@ $^
+
+build/aarch64/dimacs_c.a build/aarch64/main.o &: build/dimacs tools/targets/aarch64.py
+	tools/targets/aarch64.py build/aarch64
+
+build/quick/aarch64/dimacs_c.a: build/quick/dimacs_c.bc tools/targets/compile.py
+	mkdir -p $(@D)
+	tools/targets/compile.py aarch64 $< $(@D)/calls.o
+	rm -f $@
+	$(ARM)-ar rcs $@ $(@D)/calls.o
+
+build/quick/aarch64/main.o: build/quick/dimacs.bc tools/targets/compile.py
+	mkdir -p $(@D)
+	tools/targets/compile.py aarch64 $< $@
+
+## make windows: builds build/windows/dimacs.dll and its import library, which aren't proved but compiled from what is
+windows: $(FROM)/windows/dimacs.dll
+
+MINGW = x86_64-w64-mingw32
+
+%/windows/calls.o: %/dimacs_c.bc tools/targets/compile.py
+	mkdir -p $(@D)
+	tools/targets/compile.py windows $< $@
+
+%/windows/heap.o: lib/glue/heap.ll
+	mkdir -p $(@D)
+	$(TOOLCHAIN)/clang --target=x86_64-w64-windows-gnu --no-default-config -O2 -Wno-override-module -c $< -o $@
+
+%/windows/dimacs.dll: %/windows/calls.o %/windows/heap.o lib/include/dimacs.h
+	printf '%s\n' EXPORTS $(CALLS) >$(@D)/dimacs.def
+	$(MINGW)-gcc -shared -static-libgcc -s -Wl,--gc-sections,--no-insert-timestamp -o $@ $(filter %.o,$^) $(@D)/dimacs.def \
+	    -Wl,--out-implib,$(@D)/libdimacs.dll.a
+
+.PRECIOUS: %/wasm/dimacs.o %/wasm/dimacs64.wasm %/aarch64/heap.o %/windows/calls.o %/windows/heap.o
+.PHONY: wasm npm page aarch64 windows
