@@ -12,8 +12,9 @@ const SHOWN_LINES = 100, AROUND = 3;
 const NONE = new Uint8Array(0);
 const NEWLINE = 10;
 
-/** How compressed files begin, but for gzip, which is unpacked. */
-const PACKED = {"BZh": "bzip2", "\xfd7zXZ": "xz", "\x28\xb5\x2f\xfd": "zstd", "PK\x03\x04": "zip"};
+/** How compressed files begin. Those by gzip are unpacked. */
+const GZIP = [0x1f, 0x8b];
+const PACKED = {bzip2: [0x42, 0x5a, 0x68], xz: [0xfd, 0x37, 0x7a, 0x58, 0x5a], zstd: [0x28, 0xb5, 0x2f, 0xfd], zip: [0x50, 0x4b, 3, 4]};
 
 /** What is wrong with a file, in a sentence for the reader. */
 class Unreadable extends Error {}
@@ -65,11 +66,10 @@ function watched(file) {
 
 async function bytesOf(file) {
     if (file.size > MOST_BYTES) throw tooLong(file.name);
-    const head = latin.decode(await file.slice(0, 6).arrayBuffer());
-    for (const [begin, name] of Object.entries(PACKED)) {
-        if (head.startsWith(begin)) throw new Unreadable(`${file.name} is packed by ${name}. Unpack it first; only .gz is unpacked here.`);
-    }
-    if (!head.startsWith("\x1f\x8b")) return gathered(watched(file), file.size, file.name);
+    const head = new Uint8Array(await file.slice(0, 6).arrayBuffer()), begins = (bytes) => bytes.every((it, i) => it === head[i]);
+    const packed = Object.keys(PACKED).find((it) => begins(PACKED[it]));
+    if (packed) throw new Unreadable(`${file.name} is packed by ${packed}. Unpack it first; only .gz is unpacked here.`);
+    if (!begins(GZIP)) return gathered(watched(file), file.size, file.name);
     try {
         return await gathered(watched(file).pipeThrough(new DecompressionStream("gzip")), 4 * file.size, file.name);
     } catch (why) {
@@ -203,7 +203,8 @@ function checked(kind, claimed) {
     return {...answer, names: [answer.status === 0 ? CERTIFICATES[kind] : "solution"]};
 }
 
-function solved(kind) {
+function solved(claimed) {
+    const kind = claimed === "infeasible" ? "min" : claimed;
     const answer = texts.solve(kind, held.instance, kind === "paths" ? held.claim : NONE, LIMIT);
     const isInfeasible = latin.decode(answer.handed[0]).startsWith("v infeasible");
     return {...answer, names: ["solution", isInfeasible ? "cut" : CERTIFICATES[kind]]};

@@ -1,29 +1,22 @@
-// Drives a browser without a display, by its own protocol: Chromium's, or WebDriver BiDi of Firefox. It needs a node with
-// WebSocket: 22, or 20 with --experimental-websocket.
+// Drives a browser without a display, by its own protocol: Chromium's over pipes, or WebDriver BiDi of Firefox, for which
+// node needs WebSocket: 22, or 20 with --experimental-websocket.
 import {spawn} from "node:child_process";
-import {existsSync, mkdtempSync, rmSync} from "node:fs";
+import {mkdtempSync, rmSync} from "node:fs";
 import {tmpdir} from "node:os";
 import {join} from "node:path";
 
-const WORDS = {
-    chromium: (room) => ["--headless=new", "--no-sandbox", "--disable-gpu", "--no-first-run", `--user-data-dir=${room}`, "--remote-debugging-port=0", "about:blank"],
-    firefox: (room) => ["--headless", "--no-remote", "--profile", room, "--remote-debugging-port", "0", "about:blank"],
-};
-
 const sleep = (milliseconds) => new Promise((good) => setTimeout(good, milliseconds));
 
-/** A connection that answers commands and keeps events. */
+/** A connection that answers commands and keeps events. What it writes goes to `write`. */
 class Connection {
-    constructor(address) {
-        this.socket = new WebSocket(address);
+    constructor(write) {
+        this.write = write;
         this.waiting = new Map();
         this.events = [];
         this.count = 0;
-        this.socket.onmessage = ({data}) => this.#take(JSON.parse(data));
-        this.opened = new Promise((good, bad) => Object.assign(this.socket, {onopen: good, onerror: bad}));
     }
 
-    #take({id, result, error, method, params}) {
+    take({id, result, error, method, params}) {
         if (!this.waiting.has(id)) {
             if (method) this.events.push({method, params});
             return;
@@ -37,9 +30,33 @@ class Connection {
     send(method, params = {}, sessionId = undefined) {
         return new Promise((good, bad) => {
             this.waiting.set(++this.count, {good, bad});
-            this.socket.send(JSON.stringify({id: this.count, method, params, sessionId}));
+            this.write(JSON.stringify({id: this.count, method, params, sessionId}));
         });
     }
+}
+
+/** Chromium reads messages from its file 3 and writes them to 4, each with a byte 0 after it. */
+function overPipes(browser) {
+    const [, , , toBrowser, fromBrowser] = browser.stdio;
+    const connection = new Connection((message) => toBrowser.write(`${message}\0`));
+    let parts = [];
+    fromBrowser.on("data", (chunk) => {
+        for (let at; (at = chunk.indexOf(0)) >= 0; chunk = chunk.subarray(at + 1)) {
+            connection.take(JSON.parse(Buffer.concat([...parts, chunk.subarray(0, at)]).toString()));
+            parts = [];
+        }
+        parts.push(chunk);
+    });
+    return connection;
+}
+
+/** Firefox prints the address of its socket. */
+async function overSocket(browser) {
+    const socket = new WebSocket(`${await addressOf(browser)}/session`);
+    const connection = new Connection((message) => socket.send(message));
+    socket.onmessage = ({data}) => connection.take(JSON.parse(data));
+    await new Promise((good, bad) => Object.assign(socket, {onopen: good, onerror: bad}));
+    return connection;
 }
 
 /** A page in Chromium. */
@@ -50,7 +67,7 @@ class ChromiumPage {
         const {targetId} = targetInfos.find((it) => it.type === "page");
         ({sessionId: this.session} = await connection.send("Target.attachToTarget", {targetId, flatten: true}));
         await connection.send("Browser.setDownloadBehavior", {behavior: "allow", downloadPath: folder});
-        for (const it of ["Page", "Network", "Runtime"]) await this.send(`${it}.enable`);
+        for (const it of ["Page", "Runtime"]) await this.send(`${it}.enable`);
     }
 
     send(method, params) {
@@ -80,16 +97,11 @@ class ChromiumPage {
         const {data} = await this.send("Page.captureScreenshot", {captureBeyondViewport: true});
         return Buffer.from(data, "base64");
     }
-
-    /** The addresses that the page asked for, and whether each was let through. */
-    requests() {
-        return this.connection.events.filter((it) => it.method === "Network.requestWillBeSent").map((it) => it.params.request.url);
-    }
 }
 
 /** A page in Firefox. */
 class FirefoxPage {
-    async open(connection, folder) {
+    async open(connection) {
         this.connection = connection;
         await connection.send("session.new", {capabilities: {}});
         const {contexts} = await connection.send("browsingContext.getTree");
@@ -117,7 +129,18 @@ class FirefoxPage {
     }
 }
 
-const PAGES = {chromium: ChromiumPage, firefox: FirefoxPage};
+const BROWSERS = {
+    chromium: {
+        words: (room) => ["--headless=new", "--no-sandbox", "--disable-gpu", "--no-first-run", `--user-data-dir=${room}`, "--remote-debugging-pipe", "about:blank"],
+        connect: overPipes,
+        Page: ChromiumPage,
+    },
+    firefox: {
+        words: (room) => ["--headless", "--no-remote", "--profile", room, "--remote-debugging-port", "0", "about:blank"],
+        connect: overSocket,
+        Page: FirefoxPage,
+    },
+};
 
 async function addressOf(browser) {
     let printed = "";
@@ -131,22 +154,19 @@ async function addressOf(browser) {
     throw new Error(`the browser doesn't answer: ${printed.slice(-600)}`);
 }
 
-/** Starts a browser, opens an empty page, and ends it after `use`. */
+/** Starts a browser, opens an empty page, and ends it after `use`, which gets a folder for downloads too. */
 export async function withPage(kind, program, use) {
-    const room = mkdtempSync(join(tmpdir(), "browser-"));
-    const how = {stdio: ["ignore", "ignore", "pipe"], detached: true, env: {...process.env, HOME: room}};
-    const browser = spawn(program, WORDS[kind](room), how);
+    const {words, connect, Page} = BROWSERS[kind], room = mkdtempSync(join(tmpdir(), "browser-"));
+    const how = {stdio: ["ignore", "ignore", "pipe", "pipe", "pipe"], detached: true, env: {...process.env, HOME: room}};
+    const browser = spawn(program, words(room), how);
     try {
-        const address = await addressOf(browser);
-        const connection = new Connection(kind === "firefox" ? `${address}/session` : address);
-        await connection.opened;
-        const page = new PAGES[kind]();
-        await page.open(connection, room);
+        const page = new Page();
+        await page.open(await connect(browser), room);
         return await use(page, room);
     } finally {
         process.kill(-browser.pid, "SIGTERM");
         await sleep(500);
-        if (existsSync(room)) rmSync(room, {recursive: true, force: true, maxRetries: 5, retryDelay: 200});
+        rmSync(room, {recursive: true, force: true, maxRetries: 5, retryDelay: 200});
     }
 }
 
