@@ -3,9 +3,10 @@
 
 Proves the crates one by one, lowest first, if they aren't proved yet, with a line each minute that names the one at
 work and how many are left; and puts the program `dimacs` and the archive `dimacs_c.a`, which the Makefile links, into
-the folder, and beside that `dimacs_c.bc`, the LLVM module of which clang made it: builds for other systems are made of
-it. With --by-ci it takes what rt ci proved: its program, and for the library the crates below, over which dimacs_c is
-proved again. rt lib takes none of these, since they hold statements alone, and would prove them all again.
+the folder. Beside that it keeps `dimacs_c.bc`, the LLVM module of which clang made the archive, and `dimacs_c.words`,
+clang's words: builds for other systems are made of the module. With --by-ci it takes what rt ci proved: its program, and
+for the library the crates below, over which dimacs_c is proved again. rt lib takes none of these, since they hold
+statements alone, and would prove them all again.
 """
 import argparse
 import os
@@ -21,10 +22,10 @@ import quick_build
 CRATES = f"{kits.TOP}/crates"
 PROGRAM, ARCHIVE = f"{CRATES}/dimacs/out/dimacs", f"{CRATES}/dimacs_c/out/libdimacs_c.a"
 
-# Stands for clang: keeps the module that it compiles.
+# Stands for clang: keeps the module that it compiles, and the words that came with it.
 CLANG = """#!/bin/sh
 case "$*" in
-*module.bc*) cp module.bc '{room}/dimacs_c.bc' ;;
+*module.bc*) cp module.bc '{room}/dimacs_c.bc' && printf '%s\\n' "$@" >'{room}/dimacs_c.words' ;;
 esac
 exec '{kit}/toolchain/bin/clang' "$@"
 """
@@ -97,7 +98,8 @@ def main():
         os.makedirs(asked.folder, exist_ok=True)
         shutil.copy(PROGRAM, f"{asked.folder}/dimacs")
         shutil.copy(ARCHIVE, f"{asked.folder}/dimacs_c.a")
-        shutil.copy(f"{room}/dimacs_c.bc", asked.folder)
+        for it in ("dimacs_c.bc", "dimacs_c.words"):
+            shutil.copy(f"{room}/{it}", asked.folder)
 
 
 if __name__ == "__main__":
