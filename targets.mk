@@ -29,12 +29,12 @@ npm: $(FROM)/npm/dimacs.tgz
 
 JS = $(filter-out lib/js/package.json,$(wildcard lib/js/*.js lib/js/*.ts lib/js/*.json lib/js/README.md))
 
-%/npm/dimacs.tgz: %/wasm/dimacs.wasm %/dimacs lib/js/package.json $(JS) VERSION
+%/npm/dimacs.tgz: %/wasm/dimacs.wasm %/dimacs lib/js/package.json $(JS) tools/targets/usage.py VERSION
 	rm -rf $(@D)
 	mkdir -p $(@D)/package
 	cp $(JS) $< $(@D)/package
 	sed 's/"version": .*/"version": "$(VERSION)$(if $(UNPROVED),-unproved)",/' lib/js/package.json >$(@D)/package/package.json
-	$*/dimacs 2>&1 | sed '/^dimacs: usage$$/d; /^  explain /d' >$(@D)/package/usage.txt
+	tools/targets/usage.py $*/dimacs $(@D)/package/usage.json
 	cd $(@D) && tar --sort=name --mtime=@0 --owner=0 --group=0 --numeric-owner -c package | gzip -9n >dimacs.tgz
 
 ## make page: makes build/page/dimacs.html, one file that checks and solves in a browser, and needs no server

@@ -29,6 +29,9 @@ const FILES = {
     "spread-min": [2, [1]],
 };
 
+/** The verbs whose file has a kind before it. */
+const ONE_FILE = {convert: true, show: true};
+
 /** An I/O error: what failed, and how. */
 class Failure extends Error {
     constructor(name, call, why) {
@@ -53,7 +56,7 @@ function limitIn(word) {
 
 /** The run that arguments ask for, or null. */
 function jobOf([verb, ...rest]) {
-    if (verb === "convert" || verb === "show") {
+    if (Object.hasOwn(ONE_FILE, verb ?? "")) {
         const [kind, ...files] = rest;
         return files.length === 1 && Object.hasOwn(TEXTS, kind) ? {what: verb, kind, reads: files, writes: []} : null;
     }
@@ -105,7 +108,7 @@ function answer(texts, {what, kind, limit}, read) {
     if (what === "judge" && kind === "infeasible") return texts.judge(kind, instance, NONE, claim);
     if (what === "judge") return texts.judge(kind, instance, claim, certificate);
     if (what === "solve") return texts.solve(kind, instance, claim, limit);
-    return what in {convert: 0, show: 0} ? texts[what](kind, instance) : texts[what](kind, instance, claim);
+    return Object.hasOwn(ONE_FILE, what) ? texts[what](kind, instance) : texts[what](kind, instance, claim);
 }
 
 /** How many of the texts that were read precede the one that a line refuses. */
@@ -158,10 +161,12 @@ function loaded() {
     return new Library(new WebAssembly.Module(readFileSync(process.env.DIMACS_WASM || (existsSync(own) ? own : built))));
 }
 
-/** The text that the program prints of itself, noted when the package was made. */
-function usage() {
-    const noted = new URL("usage.txt", import.meta.url);
-    return existsSync(noted) ? readFileSync(noted, "utf8") : `dimacs COMMAND FILE..., as docs/JUDGING.md describes\n`;
+/** What the program prints of the use of a command, or of all; it was noted when the package was made. */
+function usage(name = "") {
+    const noted = new URL("usage.json", import.meta.url);
+    if (!existsSync(noted)) return "dimacs COMMAND FILE..., as docs/JUDGING.md describes\n";
+    const texts = JSON.parse(readFileSync(noted, "utf8"));
+    return Object.hasOwn(texts, name) ? texts[name] : texts[""];
 }
 
 function complain(status, more = "") {
@@ -169,18 +174,20 @@ function complain(status, more = "") {
     return status;
 }
 
+function print(text) {
+    writeAll(STDOUT, Buffer.from(text));
+    return DONE;
+}
+
+const TRANSLATED = "compiled to WebAssembly, by a translation that isn't proved";
+
 function main(words) {
-    if (words.length === 1 && ["--version", "-V"].includes(words[0])) {
-        const library = loaded();
-        writeAll(STDOUT, Buffer.from(`dimacs ${library.version} (WebAssembly${library.proved ? "" : ", not proved"})\n`));
-        return DONE;
-    }
-    if (words.length === 1 && ["--help", "-h", "help"].includes(words[0])) {
-        writeAll(STDOUT, Buffer.from(usage()));
-        return DONE;
-    }
+    const [first, second] = words, isAlone = words.length === 1;
+    if (isAlone && ["--version", "-V"].includes(first)) return print(`dimacs ${loaded().description}\n${TRANSLATED}\n`);
+    if (isAlone && ["--help", "-h", "help"].includes(first)) return print(usage());
+    if (words.length === 2 && first === "help" && Object.hasOwn({...FILES, ...ONE_FILE}, second)) return print(usage(second));
     const job = jobOf(words);
-    if (!job) return complain(NO_RUN, usage());
+    if (!job) return complain(NO_RUN, usage(first));
     const twice = job.writes.length === 2 && job.writes[0] === job.writes[1];
     try {
         return run(new Texts(loaded()), job);
