@@ -147,7 +147,7 @@ export function throwUndecided(status, lines) {
 
 const BETTER = ["NotMaximum", "NotLeast"];
 
-/** Throws the no of a status, if it is one. `flow` gives the better or the feasible flow that was handed out, or null. */
+/** Throws the no of a status, if it is one. `flow` gives the better or the feasible flow that was made, or null. */
 export function throwRefused(status, lines, flow = () => null) {
     if (status === DONE) return;
     const {reason, place} = refused(lines[0]);

@@ -1,5 +1,5 @@
-// The calls over arrays. Nodes and arcs are numbered from 1: the first items of tails, heads, caps and so on belong to arc 1,
-// those of supplies, inside, distances and so on to node 1.
+// The calls over arrays. Nodes and arcs are numbered from 1: the first items of tails, heads, caps and so on belong to
+// arc 1, those of supplies, inside, distances and so on to node 1.
 import {Certified, Infeasible, Solved, linesOf, throwRefused, throwUndecided, verdict} from "./answers.js";
 import {InArrays, LIMIT, LINE, Room} from "./library.js";
 import {library} from "./loaded.js";
@@ -34,7 +34,7 @@ const FORMS = {
 /** The arguments of a call: an instance, and then arrays by their names. */
 class Given {
     constructor(form, instance) {
-        if (typeof instance !== "object" || instance === null) throw new TypeError("an instance is an object of numbers and arrays");
+        if (Object(instance) !== instance) throw new TypeError("an instance is an object of numbers and arrays");
         const [numbers, arrays] = FORMS[form];
         const [nodes, ...ends] = numbers.map((name) => IDS.one(instance[name], name));
         const made = arrays.map((name) => [name, ARRAYS[name][0].all(instance[name], name)]);
@@ -111,8 +111,10 @@ export const judgeMinArrays = (instance, flows, potentials) =>
 export const judgeInfeasibleArrays = (instance, inside) =>
     judge("judge_infeasible", ofMin(instance).addArray("inside", inside));
 
-export const judgePathsArrays = (graph, source, distances, predecessors) =>
-    judge("judge_paths", ofGraph(graph, source).addArray("distances", distances).addArray("predecessors", predecessors));
+export function judgePathsArrays(graph, source, distances, predecessors) {
+    const given = ofGraph(graph, source).addArray("distances", distances);
+    return judge("judge_paths", given.addArray("predecessors", predecessors));
+}
 
 export const certifyMaxArrays = (instance, flows) =>
     certify("certify_max", ofMax(instance).addArray("flows", flows), "inside", "flows");
@@ -131,4 +133,5 @@ export const solveMaxArrays = (instance, limit = LIMIT) =>
 export const solveMinArrays = (instance, limit = LIMIT) =>
     solve("solve_min", ofMin(instance).addWord(limitOf(limit)), "flows", "potentials", "inside");
 
-export const solvePathsArrays = (graph, source) => solve("solve_paths", ofGraph(graph, source), "distances", "predecessors");
+export const solvePathsArrays = (graph, source) =>
+    solve("solve_paths", ofGraph(graph, source), "distances", "predecessors");

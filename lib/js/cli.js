@@ -157,8 +157,10 @@ function run(texts, job) {
 }
 
 function loaded() {
-    const own = new URL("dimacs.wasm", import.meta.url), built = new URL("../../build/wasm/dimacs.wasm", import.meta.url);
-    return new Library(new WebAssembly.Module(readFileSync(process.env.DIMACS_WASM || (existsSync(own) ? own : built))));
+    const own = new URL("dimacs.wasm", import.meta.url);
+    const built = new URL("../../build/wasm/dimacs.wasm", import.meta.url);
+    const place = process.env.DIMACS_WASM || (existsSync(own) ? own : built);
+    return new Library(new WebAssembly.Module(readFileSync(place)));
 }
 
 /** What the program prints of the use of a command, or of all; it was noted when the package was made. */
@@ -185,7 +187,8 @@ function main(words) {
     const [first, second] = words, isAlone = words.length === 1;
     if (isAlone && ["--version", "-V"].includes(first)) return print(`dimacs ${loaded().description}\n${TRANSLATED}\n`);
     if (isAlone && ["--help", "-h", "help"].includes(first)) return print(usage());
-    if (words.length === 2 && first === "help" && Object.hasOwn({...FILES, ...ONE_FILE}, second)) return print(usage(second));
+    const isVerb = Object.hasOwn({...FILES, ...ONE_FILE}, second ?? "");
+    if (words.length === 2 && first === "help" && isVerb) return print(usage(second));
     const job = jobOf(words);
     if (!job) return complain(NO_RUN, usage(first));
     const twice = job.writes.length === 2 && job.writes[0] === job.writes[1];

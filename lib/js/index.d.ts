@@ -60,8 +60,8 @@ export interface Pair {
 }
 
 /**
- * A yes. `kind` is "max", "min", "infeasible", "sp" (all distances from so many sources) or "pairs"; `value` the value of
- * the flow, its cost, or the number of sources; `pairs` the answers to queries for pairs.
+ * A yes. `kind` is "max", "min", "infeasible", "sp" (all distances from so many sources) or "pairs"; `value` the value
+ * of the flow, its cost, or the number of sources; `pairs` the answers to queries for pairs.
  */
 export class Verdict {
     readonly kind: "max" | "min" | "infeasible" | "sp" | "pairs";
@@ -69,7 +69,7 @@ export class Verdict {
     readonly pairs: Pair[];
 }
 
-/** A yes, with a certificate by which the judge answers yes too. `value` is null if the claim has neither value nor cost. */
+/** A yes, with a certificate by which the judge answers yes too. `value` is null if the claim has neither. */
 export class Certified<Certificate, Value = bigint> {
     readonly value: Value;
     readonly certificate: Certificate;
@@ -89,8 +89,8 @@ export class Solved<Solution, Certificate, Value = bigint> extends Certified<Cer
 
 /**
  * A no: the fault of a text, or the first test that fails. A fault has its text ("instance", "query", "solution",
- * "distances" or "certificate"), line and field, from 1; field 0 is the whole line. A test has the number of an arc or of a
- * node. What doesn't apply is null. `reason` is the command's word.
+ * "distances" or "certificate"), line and field, from 1; field 0 is the whole line. A test has the number of an arc or of
+ * a node. What doesn't apply is null. `reason` is the command's word.
  */
 export class Refused extends Error {
     readonly reason: string;
@@ -102,8 +102,8 @@ export class Refused extends Error {
 }
 
 /**
- * The flow is feasible and has the claimed value, but there is a better one. `better` is such a flow, in the form of the
- * claimed one; null if its cost is out of the range of solutions.
+ * The flow is feasible and has the claimed value, but there is a better one. `better` is such a flow, in the form of
+ * the claimed one; null if its cost is out of the range of solutions.
  */
 export class NotOptimal<Flow = any> extends Refused {
     readonly better: Flow | null;
@@ -164,8 +164,8 @@ export function certifyPaths<T extends Text>(graph: T, distances: Text): Certifi
  */
 export function solveMax<T extends Text>(instance: T, limit?: number | bigint): Solved<Made<T>, Made<T>>;
 /**
- * Makes a flow of least cost. Throws Infeasible with the text of a set if no flow is feasible; GaveUp after `limit` steps
- * to better flows, or if the least cost is out of range.
+ * Makes a flow of least cost. Throws Infeasible with the text of a set if no flow is feasible; GaveUp after `limit`
+ * steps to better flows, or if the least cost is out of range.
  */
 export function solveMin<T extends Text>(instance: T, limit?: number | bigint): Solved<Made<T>, Made<T>>;
 /** Makes labels that answer the queries. Throws Refused if a query names no node, or a weight is negative. */

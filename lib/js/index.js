@@ -1,5 +1,5 @@
-// Claims about flows and distances, judged, certified and made by functions that are proved, compiled to WebAssembly by a
-// translation that isn't. A yes is returned, and a no is thrown as Refused.
+// Claims about flows and distances, judged, certified and made by functions that are proved, compiled to WebAssembly by
+// a translation that isn't. A yes is returned, and a no is thrown as Refused.
 import {library} from "./loaded.js";
 
 export {OutOfMemory, Trapped} from "./library.js";

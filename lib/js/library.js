@@ -64,8 +64,8 @@ class Held {
 
     /** The items of a typed array, copied, and their number. */
     array(it) {
-        const at = this.take(it.byteLength);
-        new Uint8Array(this.exports.memory.buffer).set(new Uint8Array(it.buffer, it.byteOffset, it.byteLength), Number(at));
+        const at = this.take(it.byteLength), bytes = new Uint8Array(it.buffer, it.byteOffset, it.byteLength);
+        new Uint8Array(this.exports.memory.buffer).set(bytes, Number(at));
         return [at, BigInt(it.length)];
     }
 
@@ -96,7 +96,7 @@ class Held {
     }
 }
 
-/** The library: an instance of its module. It is dropped after a call that trapped, or had too little memory or very much. */
+/** The library: an instance of its module. It is dropped after a call that trapped, or had too little or much memory. */
 export class Library {
     #module;
     #exports;
@@ -188,11 +188,13 @@ export class Texts {
     }
 
     certify(kind, instance, claim) {
-        return this.#call("dimacs_certify", [KINDS[kind], instance, claim], LINE, LINE + instance.length + claim.length);
+        const room = LINE + instance.length + claim.length;
+        return this.#call("dimacs_certify", [KINDS[kind], instance, claim], LINE, room);
     }
 
     spread(kind, instance, claim) {
-        return this.#call("dimacs_spread", [KINDS[kind], instance, claim], LINE, LINE + instance.length + claim.length);
+        const room = LINE + instance.length + claim.length;
+        return this.#call("dimacs_spread", [KINDS[kind], instance, claim], LINE, room);
     }
 
     /** An answer to a query is a longer line than the query, and a potential or label may be one than an arc. */

@@ -76,7 +76,9 @@ export function solvePaths(graph, queries) {
 }
 
 function printed(call, kind, text) {
-    if (!Object.hasOwn(TEXTS, kind)) throw new RangeError(`${kind} is no kind of text: these are ${Object.keys(TEXTS).join(", ")}`);
+    if (!Object.hasOwn(TEXTS, kind)) {
+        throw new RangeError(`${kind} is no kind of text: these are ${Object.keys(TEXTS).join(", ")}`);
+    }
     const {status, handed: [out]} = texts[call](kind, bytesOf(text));
     throwRefused(status, linesOf(out));
     return inFormOf(text, out);

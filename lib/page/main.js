@@ -4,6 +4,9 @@ import {FORMATS, inWords} from "./words.js";
 const $ = (id) => document.getElementById(id);
 const SLOTS = ["instance", "claim", "certificate"];
 
+const PROVED = "Every function that decides here is proved. Its translation to WebAssembly, this page and your browser aren't.";
+const UNPROVED = "This page was built of code that is not proved.";
+
 /** The longest that typing pauses before a text is read, in milliseconds. */
 const PAUSE = 250;
 
@@ -71,8 +74,8 @@ function show({slot, kind, about: text, text: shown, isWhole}, source, name) {
     if (shown !== undefined) area.value = shown;
     if (name) area.scrollTop = 0;
     area.readOnly = !isWhole;
-    const whole = isWhole ? "" : " Only its first lines are shown.";
-    about(slot, text && `${name ? `${name}: ` : ""}${text}.${isWrong ? " It doesn't belong here." : ""}${whole}`, isWrong);
+    const notes = [isWrong && "It doesn't belong here.", !isWhole && "Only its first lines are shown."].filter(Boolean);
+    about(slot, text && [`${name ? `${name}: ` : ""}${text}.`, ...notes].join(" "), isWrong);
     if (slot === "certificate" && source !== "") $("more").open = true;
     if (slot === "instance" && kind && FORMATS[kind].claim) $("kind").value = FORMATS[kind].claim;
 }
@@ -162,13 +165,14 @@ function markedText(text, field) {
 function excerpt({slot, line, field, lines}) {
     const rows = lines.map(({number, text, isEnd}) => {
         const isFaulty = number === line;
-        const row = element("li", {className: isFaulty ? "faulty" : ""}, element("span", {textContent: isEnd ? "end" : number}));
+        const row = element("li", {className: isFaulty ? "faulty" : ""});
+        row.append(element("span", {textContent: isEnd ? "end" : number}));
         row.append(element("span", {}, ...(isFaulty ? markedText(text, field) : [text])));
         if (isFaulty) row.setAttribute("aria-label", `Line ${number}, the faulty one: ${text}`);
         return row;
     });
-    const name = slots[slot].name || {instance: "instance", claim: "claim", certificate: "certificate"}[slot];
-    return element("div", {className: "excerpt"}, element("h3", {textContent: `${name}, line ${line}`}), element("pre", {}, element("ol", {}, ...rows)));
+    const title = element("h3", {textContent: `${slots[slot].name || slot}, line ${line}`});
+    return element("div", {className: "excerpt"}, title, element("pre", {}, element("ol", {}, ...rows)));
 }
 
 /** Selects the faulty line in its text too. */
@@ -192,7 +196,8 @@ function made({name, bytes, text, isWhole}, {what, kind, status}) {
     const base = (slots.instance.name || "instance").replace(/(\.gz)$/i, "").replace(/\.[^.]*$/, "");
     const isBetter = what === "check" && status === 1;
     const certificate = CERTIFICATES[kind === "min" && name === "cut" ? "infeasible" : kind];
-    const title = isBetter ? "A better solution" : name === "solution" ? "The solution" : `What shows it: ${certificate}`;
+    const own = name === "solution" ? "The solution" : `What shows it: ${certificate}`;
+    const title = isBetter ? "A better solution" : own;
     const file = `${base}${isBetter ? "-better" : ""}.${name}`;
     const row = element("div", {className: "row"}, element("h3", {textContent: title}));
     row.append(button(`Download ${file}`, () => download(file, bytes)));
@@ -215,7 +220,8 @@ function answer(got) {
     const [heading, sentence] = inWords(got);
     $("answer").className = got.status === 0 ? "yes" : got.status === 1 ? "no" : "";
     $("verdict").textContent = heading;
-    $("meaning").textContent = `${sentence} (${got.took < 1000 ? `${Math.ceil(got.took)} ms` : `${(got.took / 1000).toFixed(1)} s`})`;
+    const time = got.took < 1000 ? `${Math.ceil(got.took)} ms` : `${(got.took / 1000).toFixed(1)} s`;
+    $("meaning").textContent = `${sentence} (${time})`;
     $("line").textContent = got.output.trimEnd();
     $("places").replaceChildren(...got.places.map(excerpt));
     $("made").replaceChildren(...got.files.map((it) => made(it, got)));
@@ -275,11 +281,12 @@ function drop(event, slot) {
 
 function wire() {
     for (const pane of document.querySelectorAll(".pane")) {
-        const slot = pane.dataset.slot;
-        pane.querySelector("[data-open]").onclick = () => openFile(slot);
-        pane.querySelector("[data-clear]").onclick = () => clear(slot);
-        pane.querySelector("[data-open]").setAttribute("aria-label", `Open a file: ${pane.querySelector("label").textContent}`);
-        pane.querySelector("[data-clear]").setAttribute("aria-label", `Clear: ${pane.querySelector("label").textContent}`);
+        const slot = pane.dataset.slot, title = pane.querySelector("label").textContent;
+        const opens = pane.querySelector("[data-open]"), clears = pane.querySelector("[data-clear]");
+        opens.onclick = () => openFile(slot);
+        opens.setAttribute("aria-label", `Open a file: ${title}`);
+        clears.onclick = () => clear(slot);
+        clears.setAttribute("aria-label", `Clear: ${title}`);
         $(slot).oninput = () => typed(slot);
         pane.ondragenter = pane.ondragover = () => pane.classList.add("over");
         pane.ondragleave = pane.ondrop = () => pane.classList.remove("over");
@@ -302,10 +309,7 @@ async function start() {
     ready();
     try {
         const {version, proved} = await startWorker();
-        const code = proved
-            ? "Every function that decides here is proved; its translation to WebAssembly, this page and your browser aren't."
-            : "This page was built of code that is not proved.";
-        $("proof").textContent = `dimacs ${version}. ${code}`;
+        $("proof").textContent = `dimacs ${version}. ${proved ? PROVED : UNPROVED}`;
         $("proof").classList.toggle("warning", !proved);
         document.documentElement.dataset.ready = Math.round(performance.now());
     } catch (why) {

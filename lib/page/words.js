@@ -61,14 +61,12 @@ export const REASONS = {
     BlockMissing: "A query asks for distances from this node, and there are none.",
 };
 
-const TITLES = {instance: "instance", solution: "solution", query: "queries", distances: "distances", certificate: "certificate"};
-
 /** Where a refusal points to, in words. */
 export function placeInWords({text, line, field, arc, node}) {
     if (arc) return `Arc ${arc}`;
     if (node) return `Node ${node}`;
-    if (!line) return `The ${TITLES[text]}`;
-    return `Line ${line}${field ? `, field ${field}` : ""} of the ${TITLES[text]}`;
+    const title = text === "query" ? "queries" : text;
+    return line ? `Line ${line}${field ? `, field ${field}` : ""} of the ${title}` : `The ${title}`;
 }
 
 /** The answer of a run, by its status and the first line that it prints: a heading and a sentence. */

@@ -9,12 +9,20 @@ const MOST_BYTES = 2 ** 31 - 1;
 const MOST_SHOWN = 2 ** 18;
 
 const SHOWN_LINES = 100, AROUND = 3;
+
+/** The most bytes of a line that are looked at here. */
+const MOST_OF_LINE = 1000;
 const NONE = new Uint8Array(0);
 const NEWLINE = 10;
 
 /** How compressed files begin. Those by gzip are unpacked. */
 const GZIP = [0x1f, 0x8b];
-const PACKED = {bzip2: [0x42, 0x5a, 0x68], xz: [0xfd, 0x37, 0x7a, 0x58, 0x5a], zstd: [0x28, 0xb5, 0x2f, 0xfd], zip: [0x50, 0x4b, 3, 4]};
+const PACKED = {
+    bzip2: [0x42, 0x5a, 0x68],
+    xz: [0xfd, 0x37, 0x7a, 0x58, 0x5a],
+    zstd: [0x28, 0xb5, 0x2f, 0xfd],
+    zip: [0x50, 0x4b, 3, 4],
+};
 
 /** What is wrong with a file, in a sentence for the reader. */
 class Unreadable extends Error {}
@@ -28,7 +36,7 @@ const megabytes = (bytes) => `${(bytes / 1e6).toFixed(1)} MB`;
 // ---- reading
 
 function tooLong(name) {
-    return new Unreadable(`${name} has more than 2 GB, and this page reads texts of at most 2 GB. Use the command dimacs.`);
+    return new Unreadable(`${name} has more than 2 GB, which is too much for this page. Use the command dimacs.`);
 }
 
 /** All bytes of a stream, which has about so many. */
@@ -66,9 +74,10 @@ function watched(file) {
 
 async function bytesOf(file) {
     if (file.size > MOST_BYTES) throw tooLong(file.name);
-    const head = new Uint8Array(await file.slice(0, 6).arrayBuffer()), begins = (bytes) => bytes.every((it, i) => it === head[i]);
+    const head = new Uint8Array(await file.slice(0, 6).arrayBuffer());
+    const begins = (bytes) => bytes.every((it, i) => it === head[i]);
     const packed = Object.keys(PACKED).find((it) => begins(PACKED[it]));
-    if (packed) throw new Unreadable(`${file.name} is packed by ${packed}. Unpack it first; only .gz is unpacked here.`);
+    if (packed) throw new Unreadable(`${file.name} is packed by ${packed}: unpack it first. Only .gz is unpacked here.`);
     if (!begins(GZIP)) return gathered(watched(file), file.size, file.name);
     try {
         return await gathered(watched(file).pipeThrough(new DecompressionStream("gzip")), 4 * file.size, file.name);
@@ -95,7 +104,10 @@ function firstByte(bytes, at, end) {
     return at < end ? bytes[at] : NEWLINE;
 }
 
-const fieldsOf = (bytes, at, end) => latin.decode(bytes.subarray(at, Math.min(end, at + 4096))).split(/[\s]+/).filter(Boolean);
+/** The fields of a line, or of its beginning. */
+function fieldsOf(bytes, at, end) {
+    return latin.decode(bytes.subarray(at, Math.min(end, at + MOST_OF_LINE))).split(/\s+/).filter(Boolean);
+}
 
 /** Yields the lines that begin with one of these letters: the number of each and its fields. */
 function* linesWith(bytes, letters) {
@@ -117,7 +129,17 @@ function firstRecord(bytes) {
     return [];
 }
 
-const WORDS = {max: "max", min: "min", sp: "gr", cut: "cut", pot: "pot", dist: "dist", distances: "distances", aux: "query"};
+/** The kind of each word of a problem line. */
+const WORDS = {
+    max: "max",
+    min: "min",
+    sp: "gr",
+    aux: "query",
+    cut: "cut",
+    pot: "pot",
+    dist: "dist",
+    distances: "distances",
+};
 
 /** The kind of a text by its first record, or null. */
 function kindOf([letter, word]) {
@@ -147,8 +169,8 @@ function shown(bytes) {
 function excerpt(slot, bytes, line, field) {
     const lines = [];
     for (let at = 0, number = 1; at < bytes.length && number <= line + AROUND; number++) {
-        const end = afterLine(bytes, at);
-        if (number >= line - AROUND) lines.push({number, text: latin.decode(bytes.subarray(at, Math.min(end, at + 400))).trimEnd()});
+        const end = afterLine(bytes, at), shownEnd = Math.min(end, at + MOST_OF_LINE);
+        if (number >= line - AROUND) lines.push({number, text: latin.decode(bytes.subarray(at, shownEnd)).trimEnd()});
         at = end;
     }
     if (lines.every((it) => it.number < line)) lines.push({number: line, text: "", isEnd: true});
@@ -173,10 +195,13 @@ function placesOfArc(arc) {
 
 /** The lines that name a node. */
 function placesOfNode(node) {
-    const isSame = ([, id]) => Number(id) === node;
+    const isSame = ([, id]) => Number(id) === node, isEnd = ([, tail, head]) => [tail, head].map(Number).includes(node);
     const own = found("instance", linesWith(held.instance, "n"), isSame);
-    const first = own.length ? own : found("instance", linesWith(held.instance, "a"), ([, tail, head]) => Number(tail) === node || Number(head) === node);
-    return [...first, ...found("claim", linesWith(held.claim, "dsq"), isSame), ...found("certificate", linesWith(held.certificate, "uyd"), isSame)];
+    return [
+        ...(own.length ? own : found("instance", linesWith(held.instance, "a"), isEnd)),
+        ...found("claim", linesWith(held.claim, "dsq"), isSame),
+        ...found("certificate", linesWith(held.certificate, "uyd"), isSame),
+    ];
 }
 
 const SLOTS = {instance: "instance", solution: "claim", query: "claim", distances: "claim", certificate: "certificate"};
@@ -195,7 +220,7 @@ const CERTIFICATES = {max: "cut", min: "pot", infeasible: "cut", paths: "dist"};
 function checked(kind, claimed) {
     const {instance, claim, certificate} = held;
     if (kind === "paths" && claimed === "query" && !certificate.length) {
-        throw new Unreadable("Queries are judged by labels: put these into the certificate, or press Solve, which makes them.");
+        throw new Unreadable("Queries are judged by labels: give them as the certificate, or press Solve to make them.");
     }
     const given = kind === "infeasible" ? NONE : claim;
     if (certificate.length) return {...texts.judge(kind, instance, given, certificate), names: []};
@@ -233,7 +258,8 @@ const ASKED = {
         const {status, handed: [printed, ...made], names} = what === "solve" ? solved(kind) : checked(kind, claimed);
         const took = performance.now() - begun, output = latin.decode(printed.subarray(0, MOST_SHOWN));
         const line = output.split("\n", 1)[0];
-        const files = status === GAVE_UP ? [] : names.map((name, i) => ({name, bytes: made[i], ...shown(made[i])})).filter((it) => it.bytes.length);
+        const all = names.map((name, i) => ({name, bytes: made[i], ...shown(made[i])}));
+        const files = status === GAVE_UP ? [] : all.filter((it) => it.bytes.length);
         return {what, kind, status, line, output, took, files, places: status === 1 ? placesOf(line) : []};
     },
 };

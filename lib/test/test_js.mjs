@@ -1,5 +1,5 @@
-// Tests the package for JavaScript: node test_js.mjs, with DIMACS_WASM naming the module. The last line counts what passed
-// and what failed.
+// Tests the package for JavaScript: node test_js.mjs, with DIMACS_WASM naming the module. The last line counts what
+// passed and what failed.
 import assert from "node:assert/strict";
 import * as dimacs from "../js/index.js";
 import {Library, Texts} from "../js/library.js";
@@ -20,7 +20,8 @@ const NEAR = "p dist 4 1\nt 1 1 7\nd 2 5 1\n";
 
 const IN_MAX = {nodes: 4, source: 1, sink: 4, tails: [1, 1, 2, 2, 3], heads: [2, 3, 3, 4, 4], caps: [4, 2, 2, 3, 5]};
 const ENDS = {tails: IN_MAX.tails, heads: IN_MAX.heads};
-const IN_MIN = {nodes: 4, ...ENDS, lows: [0, 0, 0, 0, 0], caps: IN_MAX.caps, costs: [2, 2, 1, 3, 1], supplies: [4, 0, 0, -4]};
+const NUMBERS = {lows: [0, 0, 0, 0, 0], caps: IN_MAX.caps, costs: [2, 2, 1, 3, 1], supplies: [4, 0, 0, -4]};
+const IN_MIN = {nodes: 4, ...ENDS, ...NUMBERS};
 const IN_SHORT = {nodes: 2, tails: [1], heads: [2], lows: [0], caps: [3], costs: [1], supplies: [5, -5]};
 const IN_GRAPH = {nodes: 4, tails: [1, 2, 3], heads: [2, 3, 2], weights: [5, 4, 0]};
 const LARGE = 2n ** 62n;
@@ -49,12 +50,13 @@ function throws(call, type, properties = {}) {
 /** A module whose dimacs_show fails: with a trap, or since malloc gives nothing. It counts its calls in a global. */
 function failing(malloc, show) {
     const body = (...code) => [code.length + 2, 0, ...code, 0x0b];
+    const named = (name, ...what) => [name.length, ...bytes(name), ...what];
     const sections = [
         [1, 3, 0x60, 1, 0x7e, 1, 0x7e, 0x60, 1, 0x7e, 0, 0x60, 6, 0x7f, 0x7e, 0x7e, 0x7e, 0x7e, 0x7e, 1, 0x7f],
         [3, 3, 0, 1, 2],
         [5, 1, 0, 1],
         [6, 1, 0x7f, 1, 0x41, 0, 0x0b],
-        [7, 4, 6, ...bytes("memory"), 2, 0, 6, ...bytes("malloc"), 0, 0, 4, ...bytes("free"), 0, 1, 11, ...bytes("dimacs_show"), 0, 2],
+        [7, 4, ...named("memory", 2, 0), ...named("malloc", 0, 0), ...named("free", 0, 1), ...named("dimacs_show", 0, 2)],
         [10, 3, ...body(...malloc), ...body(), ...body(...show)],
     ];
     const whole = sections.flatMap(([number, ...content]) => [number, content.length, ...content]);
@@ -86,7 +88,8 @@ const CASES = {
         assert.equal(dimacs.certifyPaths(GRAPH, "p distances 4 1\nt 1 2\nd 2 5\nd 3 9\n").value, null);
     },
     "a better flow is handed out in the form of the claim": () => {
-        const no = throws(() => dimacs.certifyMax(MAX, SMALLER), dimacs.NotOptimal, {text: "solution", line: 1, field: 2});
+        const place = {text: "solution", line: 1, field: 2};
+        const no = throws(() => dimacs.certifyMax(MAX, SMALLER), dimacs.NotOptimal, place);
         assert.equal(dimacs.certifyMax(MAX, no.better).value > 2n, true);
         assert.ok(thrown(() => dimacs.certifyMax(MAX, bytes(SMALLER))).better instanceof Uint8Array);
         throws(() => dimacs.certifyMin(MIN, DEARER), dimacs.NotOptimal, {reason: "NotLeast"});
@@ -96,12 +99,16 @@ const CASES = {
         assert.equal(dimacs.judgeInfeasible(SHORT, certificate).kind, "infeasible");
         const set = throws(() => dimacs.solveMin(SHORT), dimacs.Infeasible).inside;
         assert.equal(dimacs.judgeInfeasible(SHORT, set).kind, "infeasible");
-        assert.equal(dimacs.show("solution", throws(() => dimacs.certifyInfeasible(MIN), dimacs.Feasible).flow).slice(0, 11), "i solution ");
+        const {flow} = throws(() => dimacs.certifyInfeasible(MIN), dimacs.Feasible);
+        assert.match(dimacs.show("solution", flow), /^i solution /);
     },
     "a refusal names its place": () => {
-        throws(() => dimacs.judgeMax(MAX, "s 4\nf 1 2 4\n", CUT), dimacs.Refused, {reason: "Balance", node: 2, text: null, arc: null});
-        throws(() => dimacs.judgeMax(MAX, "s 6\nf 1 2 9\n", CUT), dimacs.Refused, {reason: "AboveCap", arc: 1, message: "arc 1 AboveCap"});
-        throws(() => dimacs.convert("gr", "p sp 1 1\na 1 1 1.0\n"), dimacs.Refused, {line: 2, field: 4, reason: "BadNumber"});
+        const balance = {reason: "Balance", node: 2, text: null, arc: null};
+        throws(() => dimacs.judgeMax(MAX, "s 4\nf 1 2 4\n", CUT), dimacs.Refused, balance);
+        const above = {reason: "AboveCap", arc: 1, message: "arc 1 AboveCap"};
+        throws(() => dimacs.judgeMax(MAX, "s 6\nf 1 2 9\n", CUT), dimacs.Refused, above);
+        const fault = {line: 2, field: 4, reason: "BadNumber"};
+        throws(() => dimacs.convert("gr", "p sp 1 1\na 1 1 1.0\n"), dimacs.Refused, fault);
         throws(() => dimacs.convert("cut", "p cut 1 1\nu \u00e9\n"), dimacs.Refused, {line: 2});
     },
     "solvers over texts": () => {
@@ -126,35 +133,42 @@ const CASES = {
         assert.equal(dimacs.judgeMinArrays(IN_MIN, [2, 2, 2, 0, 4], [4, 2, 1, 0]).value, 14n);
         assert.equal(dimacs.judgeInfeasibleArrays(IN_SHORT, [1, 0]).kind, "infeasible");
         assert.equal(dimacs.judgePathsArrays(IN_GRAPH, 1, [0, 5, 9, Infinity], [0, 1, 2, 0]).value, 1n);
-        assert.equal(dimacs.judgePathsArrays(IN_GRAPH, 1, big(0, 5, 9, dimacs.UNREACHED), Uint32Array.of(0, 1, 2, 0)).kind, "sp");
+        const typed = [big(0, 5, 9, dimacs.UNREACHED), Uint32Array.of(0, 1, 2, 0)];
+        assert.equal(dimacs.judgePathsArrays(IN_GRAPH, 1, ...typed).kind, "sp");
     },
     "certifiers over arrays": () => {
         const most = dimacs.certifyMaxArrays(IN_MAX, [4n, 2n, 1n, 3n, 3n]);
         assert.deepEqual([most.value, most.inside], [6n, Uint8Array.of(1, 0, 0, 0)]);
         const {better} = throws(() => dimacs.certifyMaxArrays(IN_MAX, [0, 2, 0, 0, 2]), dimacs.NotOptimal);
         assert.ok(better instanceof BigInt64Array && better.length === 5);
-        assert.equal(dimacs.judgeMinArrays(IN_MIN, [2, 2, 2, 0, 4], dimacs.certifyMinArrays(IN_MIN, [2, 2, 2, 0, 4]).potentials).value, 14n);
+        const least = [2, 2, 2, 0, 4], {potentials} = dimacs.certifyMinArrays(IN_MIN, least);
+        assert.equal(dimacs.judgeMinArrays(IN_MIN, least, potentials).value, 14n);
         assert.deepEqual(dimacs.certifyInfeasibleArrays(IN_SHORT).inside, Uint8Array.of(1, 0));
         assert.equal(throws(() => dimacs.certifyInfeasibleArrays(IN_MIN), dimacs.Feasible).flow.length, 5);
-        assert.deepEqual(dimacs.certifyPathsArrays(IN_GRAPH, 1, [0, 5, 9, Infinity]).predecessors, Uint32Array.of(0, 1, 2, 0));
-        throws(() => dimacs.certifyPathsArrays(IN_GRAPH, 1, [0, 5, 8, Infinity]), dimacs.Refused, {reason: "NoTightArc", node: 3});
+        const {predecessors} = dimacs.certifyPathsArrays(IN_GRAPH, 1, [0, 5, 9, Infinity]);
+        assert.deepEqual(predecessors, Uint32Array.of(0, 1, 2, 0));
+        const loose = {reason: "NoTightArc", node: 3};
+        throws(() => dimacs.certifyPathsArrays(IN_GRAPH, 1, [0, 5, 8, Infinity]), dimacs.Refused, loose);
     },
     "solvers over arrays": () => {
         assert.equal(dimacs.solveMaxArrays(IN_MAX).value, 6n);
         assert.equal(dimacs.solveMinArrays(IN_MIN, 10n).value, 14n);
         assert.deepEqual(dimacs.solvePathsArrays(IN_GRAPH, 1).distances, big(0, 5, 9, dimacs.UNREACHED));
         assert.deepEqual(throws(() => dimacs.solveMinArrays(IN_SHORT), dimacs.Infeasible).inside, Uint8Array.of(1, 0));
-        throws(() => dimacs.solvePathsArrays({...IN_GRAPH, weights: [5, -4, 0]}, 1), dimacs.Refused, {reason: "NegativeWeight", arc: 2});
+        const negative = {reason: "NegativeWeight", arc: 2};
+        throws(() => dimacs.solvePathsArrays({...IN_GRAPH, weights: [5, -4, 0]}, 1), dimacs.Refused, negative);
         throws(() => dimacs.solvePathsArrays({...IN_GRAPH, weights: [LARGE, LARGE, 0]}, 1), dimacs.GaveUp);
     },
     "amounts of 64 bits stay whole": () => {
         const wide = {nodes: 2, source: 1, sink: 2, tails: [1, 1], heads: [2, 2], caps: [LARGE, LARGE - 1n]};
-        assert.deepEqual([dimacs.solveMaxArrays(wide).value, dimacs.solveMaxArrays(wide).flows], [2n * LARGE - 1n, big(LARGE, LARGE - 1n)]);
+        const {value, flows} = dimacs.solveMaxArrays(wide);
+        assert.deepEqual([value, flows], [2n * LARGE - 1n, big(LARGE, LARGE - 1n)]);
     },
     "wrong arrays": () => {
         const flows = [4, 2, 1, 3, 3];
-        throws(() => dimacs.certifyMaxArrays({...IN_MAX, heads: [2, 3, 3, 4, 5]}, flows), dimacs.PastLimit, {arc: 5, reason: "NodeRange"});
-        throws(() => dimacs.certifyMaxArrays({...IN_MAX, heads: [2]}, flows), RangeError, {message: "heads has 1 items, and there are 5 arcs"});
+        const far = {...IN_MAX, heads: [2, 3, 3, 4, 5]}, few = "heads has 1 items, and there are 5 arcs";
+        throws(() => dimacs.certifyMaxArrays(far, flows), dimacs.PastLimit, {arc: 5, reason: "NodeRange"});
+        throws(() => dimacs.certifyMaxArrays({...IN_MAX, heads: [2]}, flows), RangeError, {message: few});
         throws(() => dimacs.certifyMaxArrays(IN_MAX, [4, 2, 1, 3]), RangeError);
         throws(() => dimacs.certifyMaxArrays(IN_MAX, [4, 2, 0.5, 3, 3]), RangeError);
         throws(() => dimacs.certifyMaxArrays(IN_MAX, [4, 2, 2 ** 60, 3, 3]), RangeError);

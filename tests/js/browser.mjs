@@ -1,5 +1,5 @@
-// Drives a browser without a display, by its own protocol: Chromium's over pipes, or WebDriver BiDi of Firefox, for which
-// node needs WebSocket: 22, or 20 with --experimental-websocket.
+// Drives a browser without a display, by its own protocol: Chromium's over pipes, or WebDriver BiDi of Firefox, for
+// which node needs WebSocket: 22, or 20 with --experimental-websocket.
 import {spawn} from "node:child_process";
 import {mkdtempSync, rmSync} from "node:fs";
 import {tmpdir} from "node:os";
@@ -79,14 +79,16 @@ class ChromiumPage {
     }
 
     async evaluate(expression) {
-        const words = {expression: `(async () => (${expression}))()`, awaitPromise: true, returnByValue: true, userGesture: true};
-        const {result, exceptionDetails} = await this.send("Runtime.evaluate", words);
+        const words = {awaitPromise: true, returnByValue: true, userGesture: true};
+        const asked = {...words, expression: `(async () => (${expression}))()`};
+        const {result, exceptionDetails} = await this.send("Runtime.evaluate", asked);
         if (exceptionDetails) throw new Error(exceptionDetails.exception?.description ?? exceptionDetails.text);
         return result.value;
     }
 
     size(width, height) {
-        return this.send("Emulation.setDeviceMetricsOverride", {width, height, deviceScaleFactor: 1, mobile: width < 600});
+        const mobile = width < 600;
+        return this.send("Emulation.setDeviceMetricsOverride", {width, height, deviceScaleFactor: 1, mobile});
     }
 
     scheme(value) {
@@ -113,8 +115,9 @@ class FirefoxPage {
     }
 
     async evaluate(expression) {
-        const words = {expression: `(async () => JSON.stringify(await (${expression})))()`, target: {context: this.context}, awaitPromise: true};
-        const {type, result, exceptionDetails} = await this.connection.send("script.evaluate", {...words, userActivation: true});
+        const words = {target: {context: this.context}, awaitPromise: true, userActivation: true};
+        const asked = {...words, expression: `(async () => JSON.stringify(await (${expression})))()`};
+        const {type, result, exceptionDetails} = await this.connection.send("script.evaluate", asked);
         if (type === "exception") throw new Error(exceptionDetails.text);
         return result.value === undefined ? undefined : JSON.parse(result.value);
     }
@@ -124,19 +127,23 @@ class FirefoxPage {
     }
 
     async picture() {
-        const {data} = await this.connection.send("browsingContext.captureScreenshot", {context: this.context, origin: "document"});
+        const words = {context: this.context, origin: "document"};
+        const {data} = await this.connection.send("browsingContext.captureScreenshot", words);
         return Buffer.from(data, "base64");
     }
 }
 
+const CHROMIUM = ["--headless=new", "--no-sandbox", "--disable-gpu", "--no-first-run", "--remote-debugging-pipe"];
+const FIREFOX = ["--headless", "--no-remote", "--remote-debugging-port", "0"];
+
 const BROWSERS = {
     chromium: {
-        words: (room) => ["--headless=new", "--no-sandbox", "--disable-gpu", "--no-first-run", `--user-data-dir=${room}`, "--remote-debugging-pipe", "about:blank"],
+        words: (room) => [...CHROMIUM, `--user-data-dir=${room}`, "about:blank"],
         connect: overPipes,
         Page: ChromiumPage,
     },
     firefox: {
-        words: (room) => ["--headless", "--no-remote", "--profile", room, "--remote-debugging-port", "0", "about:blank"],
+        words: (room) => [...FIREFOX, "--profile", room, "about:blank"],
         connect: overSocket,
         Page: FirefoxPage,
     },
@@ -157,8 +164,8 @@ async function addressOf(browser) {
 /** Starts a browser, opens an empty page, and ends it after `use`, which gets a folder for downloads too. */
 export async function withPage(kind, program, use) {
     const {words, connect, Page} = BROWSERS[kind], room = mkdtempSync(join(tmpdir(), "browser-"));
-    const how = {stdio: ["ignore", "ignore", "pipe", "pipe", "pipe"], detached: true, env: {...process.env, HOME: room}};
-    const browser = spawn(program, words(room), how);
+    const stdio = ["ignore", "ignore", "pipe", "pipe", "pipe"], env = {...process.env, HOME: room};
+    const browser = spawn(program, words(room), {stdio, env, detached: true});
     try {
         const page = new Page();
         await page.open(await connect(browser), room);

@@ -1,8 +1,8 @@
 // Makes calls of dimacs.wasm for through.py: calls.mjs MODULE
 //
-// A line of JSON names a call and gives its arguments: a number of 32 bits (n) or 64 (q), the bytes of an array of so wide
-// items (b, w), a room with what is in it before (r, w), or an instance (s): its numbers and arrays. The line of JSON that
-// goes back has the status, and of each room the number of items that is needed and all of its bytes.
+// A line of JSON names a call and gives its arguments: a number of 32 bits (n) or 64 (q), the bytes of an array of so
+// wide items (b, w), a room with what is in it before (r, w), or an instance (s): its numbers and arrays. The line of JSON
+// that goes back has the status, and of each room the number of items that is needed and all of its bytes.
 import {readFileSync} from "node:fs";
 import {createInterface} from "node:readline";
 

@@ -1,9 +1,9 @@
 #!/usr/bin/env python3
 """Runs a Python test of the library with each call made twice: through.py MODULE LIBRARY SCRIPT WORDS..
 
-One call goes to LIBRARY, the other through node to MODULE, which is dimacs.wasm. Both have to return the same status and
-to leave the same in every byte that they may write; the test gets what the module handed out. Prints last how many calls
-were the same, and how many weren't. If the test itself fails, its output is printed, and one more has failed.
+One call goes to LIBRARY, the other through node to MODULE, which is dimacs.wasm. Both have to return the same status
+and to leave the same in every byte that they may write; the test gets what the module handed out. Prints last how many
+calls were the same, and how many weren't. If the test itself fails, its output is printed, and one more has failed.
 """
 import base64
 import contextlib
@@ -32,7 +32,8 @@ def read_header():
     for body, name in re.findall(r"typedef struct \{([^}]*)\} (\w+);", text):
         fields = [line.split(None, 1) for line in body.split(";") if line.strip()]
         structs[name] = [(kind, name.strip()) for kind, names in fields for name in names.split(",")]
-    return {name: [" ".join(it.split()) for it in words.split(",") if it.strip() != "void"] for name, words in calls}, structs
+    parameters = {name: [" ".join(it.split()) for it in words.split(",")] for name, words in calls}
+    return {name: [it for it in words if it != "void"] for name, words in parameters.items()}, structs
 
 
 CALLS, STRUCTS = read_header()
