@@ -24,7 +24,7 @@ WASM_LINK = $(TOOLCHAIN)/ld.lld -flavor wasm -mwasm64 --no-entry --stack-first -
 %/wasm/dimacs.wasm: %/wasm/dimacs64.wasm tools/targets/lower_addresses.py
 	tools/targets/lower_addresses.py $< $@
 
-## make npm: packs the module with its calls and its command for node, as build/npm/dimacs-VERSION.tgz
+## make npm: packs the module with its calls and its command for node, as build/npm/dimacs.tgz
 npm: $(FROM)/npm/dimacs.tgz
 
 JS = $(filter-out lib/js/package.json,$(wildcard lib/js/*.js lib/js/*.ts lib/js/*.json lib/js/README.md))
@@ -94,5 +94,10 @@ MINGW = x86_64-w64-mingw32
 	$(MINGW)-gcc -shared -static-libgcc -s -Wl,--gc-sections,--no-insert-timestamp -o $@ $(filter %.o,$^) $(@D)/dimacs.def \
 	    -Wl,--out-implib,$(@D)/libdimacs.dll.a
 
+## make check-targets: tests all of these that can be run here; UNPROVED=1 tests those of build/quick
+check-targets:
+	tests/lower_addresses.py
+	tests/targets.py --build $(FROM) --all
+
 .PRECIOUS: %/wasm/dimacs.o %/wasm/dimacs64.wasm %/aarch64/heap.o %/windows/calls.o %/windows/heap.o
-.PHONY: wasm npm page aarch64 windows
+.PHONY: wasm npm page aarch64 windows check-targets
