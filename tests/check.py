@@ -35,6 +35,7 @@ SCRIPTS = {
     "promises": [],
     "man_pages": [],
     "completion": [],
+    "lower_addresses": [],
 }
 
 
