@@ -9,6 +9,8 @@ PREFIX = /usr/local
 DESTDIR =
 KIT = $(shell tools/kit.py)
 LIBRARY = libdimacs.a libdimacs.so
+OBJCOPY = objcopy
+HEAP = $(or $(KIT),kit-is-missing)/c/liblibc_c.a
 
 # The folder of what is installed: what is proved, or with UNPROVED=1 what isn't.
 FROM = build$(if $(UNPROVED),/quick)
@@ -35,13 +37,13 @@ prove:
 	.ci/gate
 
 # These leave what was built of the same sources as it is (tools/sources.py), which times alone don't show.
-build/quick/dimacs: FORCE
-	@tools/quick_build.py program $@
+build/quick/dimacs build/quick/dimacs.bc &: FORCE
+	@tools/quick_build.py program build/quick/dimacs
 
-build/quick/dimacs_c.a: FORCE
-	@tools/quick_build.py library $@
+build/quick/dimacs_c.a build/quick/dimacs_c.bc &: FORCE
+	@tools/quick_build.py library build/quick/dimacs_c.a
 
-build/dimacs build/dimacs_c.a &: FORCE
+build/dimacs build/dimacs_c.a build/dimacs_c.bc &: FORCE
 	@tools/proved_build.py build
 
 # What the gate runs over: what rt ci proved, put in build/ without a proof made again.
@@ -52,8 +54,8 @@ proved-by-ci:
 # One object of the calls and the kit's C library, which takes memory by malloc. What isn't exported is local in it:
 # nothing else can clash with a name of another library.
 %/dimacs.o: %/dimacs_c.a
-	$(CC) -r -nostdlib -o $@ -Wl,--whole-archive $< -Wl,--no-whole-archive $(or $(KIT),kit-is-missing)/c/liblibc_c.a
-	objcopy --wildcard --keep-global-symbol='dimacs_*' $@
+	$(CC) -r -nostdlib -o $@ -Wl,--whole-archive $< -Wl,--no-whole-archive $(HEAP)
+	$(OBJCOPY) --wildcard --keep-global-symbol='dimacs_*' $@
 
 %/libdimacs.a: %/dimacs.o
 	rm -f $@
@@ -115,6 +117,8 @@ bench:
 clean:
 	rm -rf build dist
 
+include targets.mk
+
 # Of these, what a failed proof leaves is whole, and of the sources that are noted beside it.
-.PRECIOUS: build/dimacs build/dimacs_c.a %/dimacs.o %/libdimacs.so.0
+.PRECIOUS: build/dimacs build/dimacs_c.a build/dimacs_c.bc %/dimacs.o %/libdimacs.so.0
 .PHONY: all help quick check prove proved-by-ci install dist proved-only bench clean FORCE

@@ -36,6 +36,7 @@ SCRIPTS = {
     "promises": [],
     "man_pages": [],
     "completion": [],
+    "lower_addresses": [],
 }
 
 

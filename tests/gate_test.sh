@@ -65,7 +65,7 @@ expect "0 passed, 8 failed" 1 "exec '$room/tests/shown_runs.py' /bin/true"
 # The repository of one crate.
 one=$room/one
 mkdir -p "$one/crates/dimacs/src" "$one/crates/dimacs_c/src" "$one/crates/dimacs_c/specs" "$one/build"
-cp -r lib tests tools Makefile README.md HANDLES VERSION "$one"
+cp -r lib tests tools Makefile targets.mk README.md HANDLES VERSION "$one"
 rm -rf "$one/tests/must_fail"
 printf 'dimacs:\ndimacs_c:\n' >"$one/crates.txt"
 printf 'pub fn one() -> u8 {\n    1 // one\n}\n' >"$one/crates/dimacs/src/lib.rt"
@@ -165,8 +165,11 @@ printf '#!/bin/sh\n[ "$1" = version ] && cat "$(dirname "$0")/../version"\n' >"$
 chmod +x "$kit/bin/rt"
 echo 'a kit' >"$kit/version"
 here="env PATH=$kit/bin:$PATH make --no-print-directory -C $one"
-touch "$one/build/dimacs" "$one/build/dimacs_c.a"
-PATH="$kit/bin:$PATH" "$one/tools/sources.py" "$one/build/dimacs" "$one/build/dimacs_c.a" >/dev/null
+built=$(cd "$one/tools" && python3 -B -c "import proved_build as it; print(*(f'$one/build/{name}' for name in it.BUILT))")
+# shellcheck disable=SC2086  # they are paths without blanks
+touch $built
+# shellcheck disable=SC2086
+PATH="$kit/bin:$PATH" "$one/tools/sources.py" $built >/dev/null
 
 # stale PATH COMMAND..: tests that make and tools/dist.py refuse the build after a command on that path, which is undone.
 stale() {

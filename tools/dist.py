@@ -13,6 +13,7 @@ import sys
 import tarfile
 import tempfile
 
+import proved_build
 import sources
 
 TOP = os.path.dirname(os.path.dirname(os.path.abspath(__file__)))
@@ -22,7 +23,6 @@ sys.path.insert(0, f"{TOP}/lib/python")
 import build_wheel  # noqa: E402  (the folder isn't a package of this one)
 
 BUILT = ["dimacs", "libdimacs.a", "libdimacs.so.0"]
-PROVED = ["dimacs", "dimacs_c.a"]
 
 CONTROL = """Package: dimacs
 Version: {version}
@@ -48,7 +48,7 @@ def content(path):
 
 def test_proved():
     """Refuses what isn't built of what stands here, or isn't proved."""
-    if not sources.is_current(f"{TOP}/build/sources", sources.PROVED, [f"{TOP}/build/{it}" for it in PROVED]):
+    if not sources.is_current(f"{TOP}/build/sources", sources.PROVED, [f"{TOP}/build/{it}" for it in proved_build.BUILT]):
         print("build isn't of these sources: make proves and builds them", file=sys.stderr)
         sys.exit(2)
     for it in BUILT:

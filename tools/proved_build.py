@@ -3,10 +3,12 @@
 
 Proves the crates one by one, lowest first, if they aren't proved yet, with a line each minute that names the one at
 work and how many are left; and puts the program `dimacs` and the archive `dimacs_c.a`, which the Makefile links, into
-the folder, with a file of what they were made of. What is there already of the same sources is left as it is. With
---by-ci it takes what rt ci proved: its program, and for the library the crates below, over which dimacs_c is proved
-again. rt lib takes none of these, since they hold statements alone, and would prove them all again. What was proved by rt
-ci has to be what stands here now: .ci/gate writes down, after rt ci, what it was.
+the folder, with a file of what they were made of. What is there already of the same sources is left as it is. Beside
+that it keeps `dimacs_c.bc`, the LLVM module of which clang made the archive, and `dimacs_c.words`, clang's words: builds
+for other systems are made of the module. With --by-ci it takes what rt ci proved: its program, and for the library the
+crates below, over which dimacs_c is proved again. rt lib takes none of these, since they hold statements alone, and would
+prove them all again. What was proved by rt ci has to be what stands here now: .ci/gate writes down, after rt ci, what it
+was.
 """
 import argparse
 import os
@@ -17,13 +19,23 @@ import tempfile
 import time
 
 import kit as kits
+import quick_build
 import sources
 
 CRATES = f"{kits.TOP}/crates"
+BUILT = ["dimacs", "dimacs_c.a", "dimacs_c.bc", "dimacs_c.words"]
 PROGRAM, ARCHIVE = f"{CRATES}/dimacs/out/dimacs", f"{CRATES}/dimacs_c/out/libdimacs_c.a"
 
 # What the program that rt ci built was made of: rt ci removes this file as it begins.
 BY_CI = f"{CRATES}/dimacs/out/sources"
+
+# Stands for clang: keeps the module that it compiles, and the words that came with it.
+CLANG = """#!/bin/sh
+case "$*" in
+*module.bc*) cp module.bc '{room}/dimacs_c.bc' && printf '%s\\n' "$@" >'{room}/dimacs_c.words' ;;
+esac
+exec '{kit}/toolchain/bin/clang' "$@"
+"""
 
 
 def order(listed):
@@ -33,11 +45,11 @@ def order(listed):
 
 
 def prove(name, words, left):
-    """Runs rt in a crate's folder, and prints a line each minute."""
+    """Runs a command in a crate's folder, and prints a line each minute."""
     begun = time.monotonic()
     with tempfile.TemporaryFile("w+", errors="replace") as output:
         how = {"stdin": subprocess.DEVNULL, "stdout": output, "stderr": output}
-        ran = subprocess.Popen(["rt", *words], cwd=f"{CRATES}/{name}", **how)
+        ran = subprocess.Popen(words, cwd=f"{CRATES}/{name}", **how)
         while True:
             minutes = (time.monotonic() - begun) / 60
             print(f"{name}: at work for {minutes:.0f} minutes, and {left} crates are left after it", flush=True)
@@ -48,29 +60,33 @@ def prove(name, words, left):
                 continue
         if status:
             output.seek(0)
-            sys.exit(f"{output.read()}{name} isn't proved: rt {' '.join(words)} ended with status {status}")
+            sys.exit(f"{output.read()}{name} isn't proved: {' '.join(words)} ended with status {status}")
 
 
-def prove_all(listed):
+def crate_words(kit, listed, name):
+    """The command by which rattle proves and builds a crate, but for its root, over the crates below it that are proved."""
+    words = [f"{kit}/bin/rattle", "build", "--crate-name", name, "-L", f"dependency={kit}/rlibs"]
+    for it in ["std", *listed[name]]:
+        place = f"../{it}/out/rlib" if it in listed else f"{kit}/rlibs"
+        words += ["--extern", f"{it}={place}/{it}.rlib"]
+    for it in kits.below(listed, name):
+        words += ["-L", f"dependency=../{it}/out/rlib"]
+    return [*words, "--antt-project", f"{kit}/rattle/logic/antt-project.json", "--logic-built", f"{kit}/logic_built"]
+
+
+def calls_words(kit, listed, room):
+    """The command that proves dimacs_c, builds its archive, and keeps the module in `room`."""
+    words = [*crate_words(kit, listed, "dimacs_c"), "src/lib.rt", "--crate-type", "staticlib"]
+    return [*words, "--toolchain", quick_build.stand_in(kit, room, CLANG), "-o", "out/libdimacs_c.a"]
+
+
+def prove_all(listed, calls):
     """Proves each crate in turn, and builds the two at the top."""
     crates = order(listed)
-    words = {"dimacs": ["run", "--", "show", "gr", "../../examples/road.gr"]}
+    words = {"dimacs": ["rt", "run", "--", "show", "gr", "../../examples/road.gr"]}
+    words["dimacs_c"] = [*calls, "--incremental", "out/incremental"]
     for at, name in enumerate(crates):
-        prove(name, words.get(name, ["lib"]), len(crates) - at - 1)
-
-
-def build_over_ci(kit, listed):
-    """Proves dimacs_c, and builds its archive, over the crates that rt ci proved."""
-    words = ["build", "--crate-name", "dimacs_c", "src/lib.rt", "--crate-type", "staticlib"]
-    words += ["--extern", f"std={kit}/rlibs/std.rlib", "-L", f"dependency={kit}/rlibs"]
-    for it in listed["dimacs_c"]:
-        words += ["--extern", f"{it}=../{it}/out/rlib/{it}.rlib"]
-    for it in kits.below(listed, "dimacs_c"):
-        words += ["-L", f"dependency=../{it}/out/rlib"]
-    words += ["--antt-project", f"{kit}/rattle/logic/antt-project.json", "--logic-built", f"{kit}/logic_built"]
-    words += ["--toolchain", f"{kit}/toolchain", "-o", "out/libdimacs_c.a"]
-    os.makedirs(f"{CRATES}/dimacs_c/out", exist_ok=True)
-    subprocess.run([f"{kit}/bin/rattle", *words], cwd=f"{CRATES}/dimacs_c", check=True)
+        prove(name, words.get(name, ["rt", "lib"]), len(crates) - at - 1)
 
 
 def main():
@@ -78,19 +94,22 @@ def main():
     words.add_argument("--by-ci", action="store_true", help="take what rt ci proved")
     words.add_argument("folder")
     asked = words.parse_args()
-    noted, built = f"{asked.folder}/sources", [f"{asked.folder}/{it}" for it in ("dimacs", "dimacs_c.a")]
+    noted, built = f"{asked.folder}/sources", [f"{asked.folder}/{it}" for it in BUILT]
     if not asked.by_ci and sources.is_current(noted, sources.PROVED, built):
         return
     kit, listed = kits.folder("bin/rattle", "c/liblibc_c.a"), kits.crates()
     if asked.by_ci and not sources.is_current(BY_CI, sources.PROVED, [PROGRAM]):
         sys.exit("crates/dimacs/out/dimacs isn't what rt ci proved of these sources: .ci/gate proves and builds it")
-    if asked.by_ci:
-        build_over_ci(kit, listed)
-    else:
-        prove_all(listed)
+    os.makedirs(f"{CRATES}/dimacs_c/out", exist_ok=True)
     os.makedirs(asked.folder, exist_ok=True)
-    shutil.copy(PROGRAM, built[0])
-    shutil.copy(ARCHIVE, built[1])
+    with tempfile.TemporaryDirectory() as room:
+        calls = calls_words(kit, listed, room)
+        if asked.by_ci:
+            subprocess.run(calls, cwd=f"{CRATES}/dimacs_c", check=True)
+        else:
+            prove_all(listed, calls)
+        for made, kept in zip([PROGRAM, ARCHIVE, f"{room}/dimacs_c.bc", f"{room}/dimacs_c.words"], built):
+            shutil.copy(made, kept)
     sources.note(noted, sources.PROVED, built)
 
 

@@ -1,0 +1,176 @@
+// What calls return, and what they throw.
+import {DONE, GAVE_UP, MISUSED} from "./library.js";
+
+/** The distance of a node that isn't reached. Its predecessor is 0. */
+export const UNREACHED = 2n ** 63n - 1n;
+
+/** In place of a distance: it is greater than this radius, or there is no walk. */
+export class Beyond {
+    constructor(radius) {
+        this.radius = radius;
+    }
+}
+
+/** A yes. */
+export class Verdict {
+    constructor(kind, value = null, pairs = []) {
+        this.kind = kind;
+        this.value = value;
+        this.pairs = pairs;
+    }
+}
+
+/** A yes, with a certificate by which the judge answers yes too. */
+export class Certified {
+    constructor(value, certificate) {
+        this.value = value;
+        this.certificate = certificate;
+    }
+
+    get inside() {
+        return this.certificate;
+    }
+
+    get potentials() {
+        return this.certificate;
+    }
+
+    get predecessors() {
+        return this.certificate;
+    }
+}
+
+/** An answer, which was judged before it was returned. */
+export class Solved extends Certified {
+    constructor(value, solution, certificate) {
+        super(value, certificate);
+        this.solution = solution;
+    }
+
+    get flows() {
+        return this.solution;
+    }
+
+    get distances() {
+        return this.solution;
+    }
+}
+
+function placed({text, line, field, arc, node}, reason) {
+    if (text) return `${text} ${line} ${field} ${reason}`;
+    return arc ? `arc ${arc} ${reason}` : `node ${node} ${reason}`;
+}
+
+const NOWHERE = {text: null, line: null, field: null, arc: null, node: null};
+
+/** A no: the fault of a text, or the first test that fails. */
+export class Refused extends Error {
+    constructor(reason, place = {}, message = placed(place, reason)) {
+        super(message);
+        this.name = new.target.name;
+        Object.assign(this, NOWHERE, place, {reason});
+    }
+}
+
+/** The first number of an instance in arrays that is past its limit: nothing was judged. */
+export class PastLimit extends RangeError {
+    constructor(reason, place) {
+        super(placed(place, reason));
+        this.name = "PastLimit";
+        Object.assign(this, {arc: null, node: null}, place, {reason});
+    }
+}
+
+/** The flow is feasible and has the claimed value, but there is a better one. */
+export class NotOptimal extends Refused {
+    constructor(reason, place, better) {
+        super(reason, place);
+        this.better = better;
+    }
+}
+
+/** No flow is feasible, as the certificate shows. */
+export class Infeasible extends Refused {
+    constructor(certificate) {
+        super("Infeasible", {}, "no flow is feasible");
+        this.certificate = certificate;
+    }
+
+    get inside() {
+        return this.certificate;
+    }
+}
+
+/** The instance that was claimed to have no feasible flow has one. */
+export class Feasible extends Refused {
+    constructor(flow) {
+        super("Feasible", {text: "instance", line: 0, field: 0}, "a flow is feasible");
+        this.flow = flow;
+    }
+}
+
+/** A limit was reached before the best was found, or the answer has numbers that don't fit. */
+export class GaveUp extends Error {
+    constructor() {
+        super("a limit was reached, or numbers that were found are out of range");
+        this.name = "GaveUp";
+    }
+}
+
+const ASCII = new TextDecoder("latin1");
+
+/** The lines of a text that a call printed. */
+export function linesOf(bytes) {
+    return ASCII.decode(bytes).split("\n").slice(0, -1);
+}
+
+function place(words) {
+    const [name, ...numbers] = words;
+    if (name === "arc" || name === "node") return {[name]: Number(numbers[0])};
+    return {text: name, line: Number(numbers[0]), field: Number(numbers[1])};
+}
+
+/** The reason and the place of a line that begins with x. */
+function refused(line) {
+    const words = line.split(" ").slice(1);
+    return {reason: words.pop(), place: place(words)};
+}
+
+/** Throws what a status stands for that leaves the claim undecided, or whose certificate doesn't fit. */
+export function throwUndecided(status, lines) {
+    if (status === GAVE_UP) throw new GaveUp();
+    if (status !== MISUSED) return;
+    if (lines.length === 0) throw new RangeError("the library doesn't take these arguments");
+    const {reason, place} = refused(lines[0]);
+    throw new PastLimit(reason, place);
+}
+
+const BETTER = ["NotMaximum", "NotLeast"];
+
+/** Throws the no of a status, if it is one. `flow` gives the better or the feasible flow that was made, or null. */
+export function throwRefused(status, lines, flow = () => null) {
+    if (status === DONE) return;
+    const {reason, place} = refused(lines[0]);
+    if (BETTER.includes(reason)) throw new NotOptimal(reason, place, flow());
+    if (reason === "Feasible") throw new Feasible(flow());
+    throw new Refused(reason, place);
+}
+
+function distance([word, radius]) {
+    if (word === "unreachable") return null;
+    return word === "more" ? new Beyond(BigInt(radius)) : BigInt(word);
+}
+
+function pair(line) {
+    const [, source, target, ...more] = line.split(" ");
+    return {source: Number(source), target: Number(target), distance: distance(more)};
+}
+
+/** What the lines of a yes say. */
+export function verdict(lines) {
+    const [, kind, ...more] = lines.length ? lines[0].split(" ") : [];
+    if (kind === "max" || kind === "min") return new Verdict(kind, BigInt(more[0]));
+    if (kind === "infeasible") return new Verdict(kind);
+    if (kind === "sp") return new Verdict(kind, BigInt(more[1]));
+    return new Verdict("pairs", null, lines.map(pair));
+}

@@ -1,0 +1,137 @@
+// The calls over arrays. Nodes and arcs are numbered from 1: the first items of tails, heads, caps and so on belong to
+// arc 1, those of supplies, inside, distances and so on to node 1.
+import {Certified, Infeasible, Solved, linesOf, throwRefused, throwUndecided, verdict} from "./answers.js";
+import {InArrays, LIMIT, LINE, Room} from "./library.js";
+import {library} from "./loaded.js";
+import {DISTANCES, IDS, MARKS, NUMBERS, limitOf} from "./numbers.js";
+
+/** The greatest number of nodes. If there are more, the library hands out no array by node. */
+const MOST_NODES = 2 ** 27;
+
+/** The items of each array, and whether there is one for each node or for each arc. */
+const ARRAYS = {
+    tails: [IDS, "arcs"],
+    heads: [IDS, "arcs"],
+    lows: [NUMBERS, "arcs"],
+    caps: [NUMBERS, "arcs"],
+    costs: [NUMBERS, "arcs"],
+    weights: [NUMBERS, "arcs"],
+    flows: [NUMBERS, "arcs"],
+    supplies: [NUMBERS, "nodes"],
+    potentials: [NUMBERS, "nodes"],
+    inside: [MARKS, "nodes"],
+    distances: [DISTANCES, "nodes"],
+    predecessors: [IDS, "nodes"],
+};
+
+/** The numbers and the arrays of each kind of instance, in the order of dimacs.h. */
+const FORMS = {
+    max: [["nodes", "source", "sink"], ["tails", "heads", "caps"]],
+    min: [["nodes"], ["tails", "heads", "lows", "caps", "costs", "supplies"]],
+    graph: [["nodes"], ["tails", "heads", "weights"]],
+};
+
+/** The arguments of a call: an instance, and then arrays by their names. */
+class Given {
+    constructor(form, instance) {
+        if (Object(instance) !== instance) throw new TypeError("an instance is an object of numbers and arrays");
+        const [numbers, arrays] = FORMS[form];
+        const [nodes, ...ends] = numbers.map((name) => IDS.one(instance[name], name));
+        const made = arrays.map((name) => [name, ARRAYS[name][0].all(instance[name], name)]);
+        this.counts = {nodes, arcs: made[0][1].length};
+        made.forEach((it) => this.#testLength(...it));
+        this.words = [new InArrays([nodes, ...ends], made.map(([, it]) => it))];
+    }
+
+    /** The library tests lengths too, but doesn't report which one is wrong. */
+    #testLength(name, {length}) {
+        const [, each] = ARRAYS[name], wanted = this.counts[each];
+        if (length !== wanted) throw new RangeError(`${name} has ${length} items, and there are ${wanted} ${each}`);
+    }
+
+    addArray(name, numbers) {
+        const it = ARRAYS[name][0].all(numbers, name);
+        this.#testLength(name, it);
+        this.words.push(it);
+        return this;
+    }
+
+    addWord(word) {
+        this.words.push(word);
+        return this;
+    }
+
+    /** Room for an array that is handed out. */
+    room(name) {
+        const [{array}, each] = ARRAYS[name];
+        return new Room(array, each === "nodes" ? Math.min(this.counts.nodes, MOST_NODES) : this.counts.arcs);
+    }
+}
+
+/** Makes a call that hands out a line and arrays of these names, and throws what leaves the claim undecided. */
+function ask(name, given, ...handed) {
+    const rooms = [new Room(Uint8Array, LINE), ...handed.map((it) => given.room(it))];
+    const {status, handed: [line, ...arrays]} = library.call(`dimacs_${name}_arrays`, given.words, rooms);
+    const lines = linesOf(line);
+    throwUndecided(status, lines);
+    return {status, lines, arrays};
+}
+
+function judge(name, given) {
+    const {status, lines} = ask(name, given);
+    throwRefused(status, lines);
+    return verdict(lines);
+}
+
+function certify(name, given, ...handed) {
+    const {status, lines, arrays: [certificate, flow]} = ask(name, given, ...handed);
+    throwRefused(status, lines, () => flow);
+    const {kind, value} = verdict(lines);
+    return new Certified(kind === "max" || kind === "min" ? value : null, certificate);
+}
+
+function solve(name, given, ...handed) {
+    const {status, lines, arrays: [solution, certificate, inside]} = ask(name, given, ...handed);
+    throwRefused(status, lines);
+    const {kind, value} = verdict(lines);
+    if (kind === "infeasible") throw new Infeasible(inside);
+    return new Solved(kind === "sp" ? null : value, solution, certificate);
+}
+
+const ofMax = (instance) => new Given("max", instance);
+const ofMin = (instance) => new Given("min", instance);
+const ofGraph = (graph, source) => new Given("graph", graph).addWord(IDS.one(source, "source"));
+
+export const judgeMaxArrays = (instance, flows, inside) =>
+    judge("judge_max", ofMax(instance).addArray("flows", flows).addArray("inside", inside));
+
+export const judgeMinArrays = (instance, flows, potentials) =>
+    judge("judge_min", ofMin(instance).addArray("flows", flows).addArray("potentials", potentials));
+
+export const judgeInfeasibleArrays = (instance, inside) =>
+    judge("judge_infeasible", ofMin(instance).addArray("inside", inside));
+
+export function judgePathsArrays(graph, source, distances, predecessors) {
+    const given = ofGraph(graph, source).addArray("distances", distances);
+    return judge("judge_paths", given.addArray("predecessors", predecessors));
+}
+
+export const certifyMaxArrays = (instance, flows) =>
+    certify("certify_max", ofMax(instance).addArray("flows", flows), "inside", "flows");
+
+export const certifyMinArrays = (instance, flows) =>
+    certify("certify_min", ofMin(instance).addArray("flows", flows), "potentials", "flows");
+
+export const certifyInfeasibleArrays = (instance) => certify("certify_infeasible", ofMin(instance), "inside", "flows");
+
+export const certifyPathsArrays = (graph, source, distances) =>
+    certify("certify_paths", ofGraph(graph, source).addArray("distances", distances), "predecessors");
+
+export const solveMaxArrays = (instance, limit = LIMIT) =>
+    solve("solve_max", ofMax(instance).addWord(limitOf(limit)), "flows", "inside");
+
+export const solveMinArrays = (instance, limit = LIMIT) =>
+    solve("solve_min", ofMin(instance).addWord(limitOf(limit)), "flows", "potentials", "inside");
+
+export const solvePathsArrays = (graph, source) =>
+    solve("solve_paths", ofGraph(graph, source), "distances", "predecessors");

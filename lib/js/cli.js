@@ -1,0 +1,212 @@
+#!/usr/bin/env node
+// The command, on each system that has node: its arguments, output, files and statuses. Texts go through dimacs.wasm.
+import {closeSync, existsSync, fstatSync, openSync, readFileSync, readSync, writeSync} from "node:fs";
+import {KINDS, LIMIT, Library, OutOfMemory, TEXTS, Texts} from "./library.js";
+
+const DONE = 0, NO_RUN = 2, DEVICE = 3, NO_MEMORY = 4;
+const COMPLAINTS = {[NO_RUN]: "dimacs: usage", [DEVICE]: "dimacs: device fault", [NO_MEMORY]: "dimacs: out of memory"};
+const GREATEST_LIMIT = 1_000_000_000n;
+const NONE = new Uint8Array(0);
+const STDOUT = 1;
+
+/** At most so many bytes are read or written at once. */
+const PIECE = 2 ** 30;
+
+/** How many files a verb reads, and how many it may write. */
+const FILES = {
+    "judge-max": [3, [0]],
+    "judge-min": [3, [0]],
+    "judge-infeasible": [2, [0]],
+    "judge-paths": [3, [0]],
+    "certify-max": [2, [0, 1]],
+    "certify-min": [2, [0, 1]],
+    "certify-infeasible": [1, [0, 1]],
+    "certify-paths": [2, [0, 1]],
+    "solve-max": [1, [2]],
+    "solve-min": [1, [2]],
+    "solve-paths": [2, [1]],
+    "spread-max": [2, [1]],
+    "spread-min": [2, [1]],
+};
+
+/** The verbs whose file has a kind before it. */
+const ONE_FILE = {convert: true, show: true};
+
+/** An I/O error: what failed, and how. */
+class Failure extends Error {
+    constructor(name, call, why) {
+        const reason = /^\w+: (.*?)(, \w+( '.*')?)?$/.exec(why.message)?.[1] ?? why.message;
+        super(`dimacs: ${name}: cannot be ${call}: ${reason} (${why.code})`);
+    }
+}
+
+function attempt(name, call, run) {
+    try {
+        return run();
+    } catch (why) {
+        if (why.code === "ERR_OUT_OF_RANGE" || why instanceof RangeError) throw new OutOfMemory();
+        throw new Failure(name, call, why);
+    }
+}
+
+function limitIn(word) {
+    const limit = /^[+-]?[0-9]+$/.test(word) ? BigInt(word.replace("+", "")) : -1n;
+    return limit >= 0n && limit <= GREATEST_LIMIT ? limit : null;
+}
+
+/** The run that arguments ask for, or null. */
+function jobOf([verb, ...rest]) {
+    if (Object.hasOwn(ONE_FILE, verb ?? "")) {
+        const [kind, ...files] = rest;
+        return files.length === 1 && Object.hasOwn(TEXTS, kind) ? {what: verb, kind, reads: files, writes: []} : null;
+    }
+    if (!Object.hasOwn(FILES, verb ?? "")) return null;
+    const [what, kind] = verb.split("-"), [count, written] = FILES[verb];
+    const hasLimit = what === "solve" && kind !== "paths" && rest.length === 5 && rest[3] === "--limit";
+    const limit = hasLimit ? limitIn(rest[4]) : LIMIT;
+    const files = hasLimit ? rest.slice(0, 3) : rest;
+    if (limit === null || !written.includes(files.length - count)) return null;
+    return {what, kind, limit, reads: files.slice(0, count), writes: files.slice(count)};
+}
+
+function readAll(file) {
+    let room = Buffer.allocUnsafe(Math.max(fstatSync(file).size + 1, 65536)), length = 0;
+    for (;;) {
+        const got = readSync(file, room, length, Math.min(room.length - length, PIECE), null);
+        if (got === 0) return room.subarray(0, length);
+        length += got;
+        if (length === room.length) room = Buffer.concat([room, Buffer.allocUnsafe(length)]);
+    }
+}
+
+function writeAll(file, bytes) {
+    for (let at = 0; at < bytes.length; ) {
+        try {
+            at += writeSync(file, bytes, at, Math.min(bytes.length - at, PIECE));
+        } catch (why) {
+            if (why.code !== "EAGAIN") throw why;
+            Atomics.wait(new Int32Array(new SharedArrayBuffer(4)), 0, 0, 5);
+        }
+    }
+}
+
+/** The texts of the files that are read, in their order, up to the first that fails, which is `failure`. */
+function readTexts(names, files) {
+    const read = [];
+    for (const [i, file] of files.entries()) {
+        try {
+            read.push(attempt(names[i], "read", () => readAll(file)));
+        } catch (failure) {
+            return {read, failure};
+        }
+    }
+    return {read, failure: null};
+}
+
+function answer(texts, {what, kind, limit}, read) {
+    const [instance, claim = NONE, certificate = NONE] = read;
+    if (what === "judge" && kind === "infeasible") return texts.judge(kind, instance, NONE, claim);
+    if (what === "judge") return texts.judge(kind, instance, claim, certificate);
+    if (what === "solve") return texts.solve(kind, instance, claim, limit);
+    return Object.hasOwn(ONE_FILE, what) ? texts[what](kind, instance) : texts[what](kind, instance, claim);
+}
+
+/** How many of the texts that were read precede the one that a line refuses. */
+const ORDER = {instance: 0, query: 1, solution: 1, distances: 1, certificate: 2};
+
+/** An empty text stands for one that can't be read. Only a refusal of an earlier text is an answer then. */
+function isOfEarlier({handed: [line]}, {what, kind}, count) {
+    const name = Buffer.from(line).toString("latin1").split(" ")[1];
+    const at = what === "judge" && kind === "infeasible" && name === "certificate" ? 1 : ORDER[name];
+    return at !== undefined && at < count;
+}
+
+function answered(texts, job, names, files) {
+    const {read, failure} = readTexts(names, files);
+    if (failure && read.length === 0) throw failure;
+    const given = answer(texts, job, [...read, ...Array(names.length - read.length).fill(NONE)]);
+    if (failure && !isOfEarlier(given, job, read.length)) throw failure;
+    return given;
+}
+
+function open(name, call, flags) {
+    return attempt(name, call, () => openSync(name, flags));
+}
+
+function write(name, file, text) {
+    attempt(name, "written", () => writeAll(file, text));
+}
+
+/** Writes the texts that an answer has for files. A solver's files are open, those of the others are created now. */
+function writeTexts({what, kind, writes}, handed, created) {
+    const made = what === "solve" && kind === "paths" ? handed.slice(2) : handed.slice(1);
+    for (const [i, name] of writes.entries()) {
+        if (what === "solve") write(name, created[i], made[i]);
+        else if (made[i].length) write(name, open(name, "created", "w"), made[i]);
+    }
+}
+
+function run(texts, job) {
+    const files = job.reads.map((name) => open(name, "opened", "r"));
+    const created = job.what === "solve" ? job.writes.map((name) => open(name, "created", "w")) : [];
+    const {status, handed} = answered(texts, job, job.reads, files);
+    files.forEach((it) => closeSync(it));
+    writeTexts(job, handed, created);
+    attempt("standard output", "written", () => writeAll(STDOUT, handed[0]));
+    return status;
+}
+
+function loaded() {
+    const own = new URL("dimacs.wasm", import.meta.url);
+    const built = new URL("../../build/wasm/dimacs.wasm", import.meta.url);
+    const place = process.env.DIMACS_WASM || (existsSync(own) ? own : built);
+    return new Library(new WebAssembly.Module(readFileSync(place)));
+}
+
+/** What the program prints of the use of a command, or of all; it was noted when the package was made. */
+function usage(name = "") {
+    const noted = new URL("usage.json", import.meta.url);
+    if (!existsSync(noted)) return "dimacs COMMAND FILE..., as docs/JUDGING.md describes\n";
+    const texts = JSON.parse(readFileSync(noted, "utf8"));
+    return Object.hasOwn(texts, name) ? texts[name] : texts[""];
+}
+
+function complain(status, more = "") {
+    process.stderr.write(`${COMPLAINTS[status]}\n${more}`);
+    return status;
+}
+
+function print(text) {
+    writeAll(STDOUT, Buffer.from(text));
+    return DONE;
+}
+
+const TRANSLATED = "compiled to WebAssembly, by a translation that isn't proved";
+
+function main(words) {
+    const [first, second] = words, isAlone = words.length === 1;
+    if (isAlone && ["--version", "-V"].includes(first)) return print(`dimacs ${loaded().description}\n${TRANSLATED}\n`);
+    if (isAlone && ["--help", "-h", "help"].includes(first)) return print(usage());
+    const isVerb = Object.hasOwn({...FILES, ...ONE_FILE}, second ?? "");
+    if (words.length === 2 && first === "help" && isVerb) return print(usage(second));
+    const job = jobOf(words);
+    if (!job) return complain(NO_RUN, usage(first));
+    const twice = job.writes.length === 2 && job.writes[0] === job.writes[1];
+    try {
+        return run(new Texts(loaded()), job);
+    } catch (why) {
+        if (why instanceof Failure) return complain(DEVICE, `${why.message}\n`);
+        if (why instanceof OutOfMemory) return complain(NO_MEMORY);
+        throw why;
+    } finally {
+        if (twice) process.stderr.write(`dimacs: ${job.writes[0]}: written twice\n`);
+    }
+}
+
+// Whatever else fails, as a call that the engine ended, leaves a claim undecided: node's own status would be a no.
+try {
+    process.exitCode = main(process.argv.slice(2));
+} catch (why) {
+    process.stderr.write(`dimacs: ${why.stack}\n`);
+    process.exitCode = NO_MEMORY;
+}

@@ -1,0 +1,213 @@
+// The WebAssembly module of the library, and how one of its calls is made.
+
+/** What a call returns, as in dimacs.h. */
+export const DONE = 0, REFUSED = 1, MISUSED = 2, NO_MEMORY = 4, GAVE_UP = 5;
+
+/** The kinds of claim, and those of text, as in dimacs.h. */
+export const KINDS = {max: 0, min: 1, infeasible: 2, paths: 3};
+export const TEXTS = {max: 0, min: 1, gr: 2, query: 3, solution: 4, cut: 5, pot: 6, dist: 7, distances: 8};
+
+/** The limit of solvers if none is given. */
+export const LIMIT = 1_000_000n;
+
+/** Room for any line, except for answers to pairs. */
+export const LINE = 256;
+
+/** The most memory in bytes that an instance keeps after a call: it never shrinks, so one with more is dropped. */
+const MOST_KEPT = 2 ** 28;
+
+/** There wasn't enough memory: the claim is undecided. */
+export class OutOfMemory extends Error {
+    constructor() {
+        super("there was not enough memory to judge");
+        this.name = "OutOfMemory";
+    }
+}
+
+/** The WebAssembly engine ended a call: the claim is undecided. `cause` is what it threw. */
+export class Trapped extends Error {
+    constructor(cause) {
+        super(`the engine ended the call: ${cause?.message ?? cause}`, {cause});
+        this.name = "Trapped";
+    }
+}
+
+/** Room for items that a call hands out: so many of a typed array's kind. */
+export class Room {
+    constructor(items, length) {
+        this.items = items;
+        this.length = length;
+    }
+}
+
+/** An instance in arrays: its numbers, and then the address and the length of each array. */
+export class InArrays {
+    constructor(numbers, arrays) {
+        this.numbers = numbers;
+        this.arrays = arrays;
+    }
+}
+
+/** The memory that one call takes in an instance of the module. */
+class Held {
+    constructor(exports) {
+        this.exports = exports;
+        this.addresses = [];
+    }
+
+    take(bytes) {
+        const at = this.exports.malloc(BigInt(bytes || 1));
+        if (at === 0n) throw new OutOfMemory();
+        this.addresses.push(at);
+        return at;
+    }
+
+    /** The items of a typed array, copied, and their number. */
+    array(it) {
+        const at = this.take(it.byteLength), bytes = new Uint8Array(it.buffer, it.byteOffset, it.byteLength);
+        new Uint8Array(this.exports.memory.buffer).set(bytes, Number(at));
+        return [at, BigInt(it.length)];
+    }
+
+    inArrays({numbers, arrays}) {
+        const head = Math.ceil(numbers.length / 2) * 8;
+        const fields = arrays.flatMap((it) => this.array(it));
+        const at = this.take(head + 8 * fields.length);
+        const view = new DataView(this.exports.memory.buffer, Number(at), head + 8 * fields.length);
+        numbers.forEach((it, i) => view.setUint32(4 * i, it, true));
+        fields.forEach((it, i) => view.setBigUint64(head + 8 * i, it, true));
+        return [at];
+    }
+
+    /** The arguments in C for one that is given here. */
+    words(it) {
+        if (ArrayBuffer.isView(it)) return this.array(it);
+        return it instanceof InArrays ? this.inArrays(it) : [it];
+    }
+
+    copied(items, at, length) {
+        const bytes = length * items.BYTES_PER_ELEMENT;
+        return new items(this.exports.memory.buffer.slice(Number(at), Number(at) + bytes));
+    }
+
+    free() {
+        for (const it of this.addresses) this.exports.free(it);
+        this.addresses = [];
+    }
+}
+
+/** The library: an instance of its module. It is dropped after a call that trapped, or had too little or much memory. */
+export class Library {
+    #module;
+    #exports;
+
+    constructor(module) {
+        this.#module = module;
+    }
+
+    /** The exports of the instance. */
+    #calls() {
+        this.#exports ??= new WebAssembly.Instance(this.#module).exports;
+        return this.#exports;
+    }
+
+    /** Whether the module was compiled from code that is proved. */
+    get proved() {
+        return (this.#calls().dimacs_proved?.() ?? 0) !== 0;
+    }
+
+    /** The version, such as "0.1.0". */
+    get version() {
+        return this.description.split(" ")[0];
+    }
+
+    /** The version, and what proved the code that was compiled, such as "0.1.0 (not proved)". */
+    get description() {
+        if (this.#calls().dimacs_version_text) {
+            return String.fromCharCode(...this.call("dimacs_version_text", [], [new Room(Uint8Array, LINE)]).handed[0]);
+        }
+        const number = this.#calls().dimacs_version();
+        return `${Math.trunc(number / 10000)}.${Math.trunc(number / 100) % 100}.${number % 100} (not proved)`;
+    }
+
+    /**
+     * Makes a call. Of its arguments a number is one of 32 bits, a BigInt one of 64, and a typed array its address and
+     * length. It is made again with more room if something that it hands out doesn't fit. Returns its status, and what
+     * was handed out to each room.
+     */
+    call(name, given, rooms) {
+        const held = new Held(this.#calls());
+        let isWhole = false;
+        try {
+            const words = given.flatMap((it) => held.words(it));
+            const answer = this.#ask(held, name, words, rooms);
+            isWhole = answer.status !== NO_MEMORY;
+            if (!isWhole) throw new OutOfMemory();
+            return answer;
+        } finally {
+            if (isWhole && held.exports.memory.buffer.byteLength <= MOST_KEPT) held.free();
+            else this.#exports = undefined;
+        }
+    }
+
+    #ask(held, name, words, rooms) {
+        for (;;) {
+            const needed = held.take(8 * rooms.length);
+            const places = rooms.map(({items, length}) => held.take(length * items.BYTES_PER_ELEMENT));
+            const handed = rooms.flatMap((it, i) => [places[i], BigInt(it.length), needed + BigInt(8 * i)]);
+            const status = run(held.exports[name], [...words, ...handed]);
+            const lengths = Array.from(held.copied(BigUint64Array, needed, rooms.length), Number);
+            if (lengths.every((it, i) => it <= rooms[i].length)) {
+                return {status, handed: rooms.map(({items}, i) => held.copied(items, places[i], lengths[i]))};
+            }
+            rooms = rooms.map(({items, length}, i) => new Room(items, Math.max(length, lengths[i])));
+        }
+    }
+}
+
+function run(call, words) {
+    try {
+        return call(...words) >>> 0;
+    } catch (why) {
+        throw new Trapped(why);
+    }
+}
+
+/** The calls over texts, as bytes. Each returns its status, and the texts that it handed out, the printed one first. */
+export class Texts {
+    constructor(library) {
+        this.library = library;
+    }
+
+    #call(name, given, ...rooms) {
+        return this.library.call(name, given, rooms.map((length) => new Room(Uint8Array, length)));
+    }
+
+    judge(kind, instance, claim, certificate) {
+        return this.#call("dimacs_judge", [KINDS[kind], instance, claim, certificate], LINE);
+    }
+
+    certify(kind, instance, claim) {
+        const room = LINE + instance.length + claim.length;
+        return this.#call("dimacs_certify", [KINDS[kind], instance, claim], LINE, room);
+    }
+
+    spread(kind, instance, claim) {
+        const room = LINE + instance.length + claim.length;
+        return this.#call("dimacs_spread", [KINDS[kind], instance, claim], LINE, room);
+    }
+
+    /** An answer to a query is a longer line than the query, and a potential or label may be one than an arc. */
+    solve(kind, instance, queries, limit) {
+        const rooms = [LINE + 4 * queries.length, LINE + instance.length, LINE + 2 * instance.length];
+        return this.#call("dimacs_solve", [KINDS[kind], instance, queries, limit], ...rooms);
+    }
+
+    convert(kind, text) {
+        return this.#call("dimacs_convert", [TEXTS[kind], text], LINE + text.length);
+    }
+
+    show(kind, text) {
+        return this.#call("dimacs_show", [TEXTS[kind], text], LINE);
+    }
+}

@@ -1,0 +1,209 @@
+// Tests the package for JavaScript: node test_js.mjs, with DIMACS_WASM naming the module. The last line counts what
+// passed and what failed.
+import assert from "node:assert/strict";
+import * as dimacs from "../js/index.js";
+import {Library, Texts} from "../js/library.js";
+
+// Networks whose answers were worked out by hand.
+const MAX = "p max 4 5\nn 1 s\nn 4 t\na 1 2 4\na 1 3 2\na 2 3 2\na 2 4 3\na 3 4 5\n";
+const FLOW = "s 6\nf 1 2 4\nf 1 3 2\nf 2 3 1\nf 2 4 3\nf 3 4 3\n";
+const SMALLER = "s 2\nf 1 3 2\nf 3 4 2\n";
+const CUT = "p cut 4 1\nu 1\n";
+const MIN = "p min 4 5\nn 1 4\nn 4 -4\na 1 2 0 4 2\na 1 3 0 2 2\na 2 3 0 2 1\na 2 4 0 3 3\na 3 4 0 5 1\n";
+const LEAST = "s 14\nf 1 2 2\nf 1 3 2\nf 2 3 2\nf 3 4 4\n";
+const DEARER = "s 17\nf 1 2 3\nf 1 3 1\nf 2 3 1\nf 2 4 2\nf 3 4 2\n";
+const POT = "p pot 4 3\ny 1 4\ny 2 2\ny 3 1\n";
+const SHORT = "p min 2 1\nn 1 5\nn 2 -5\na 1 2 0 3 1\n";
+const GRAPH = "p sp 4 3\na 1 2 5\na 2 3 4\na 3 2 0\n";
+const PAIRS = "p aux sp p2p 2\nq 1 3\nq 1 4\n";
+const NEAR = "p dist 4 1\nt 1 1 7\nd 2 5 1\n";
+
+const IN_MAX = {nodes: 4, source: 1, sink: 4, tails: [1, 1, 2, 2, 3], heads: [2, 3, 3, 4, 4], caps: [4, 2, 2, 3, 5]};
+const ENDS = {tails: IN_MAX.tails, heads: IN_MAX.heads};
+const NUMBERS = {lows: [0, 0, 0, 0, 0], caps: IN_MAX.caps, costs: [2, 2, 1, 3, 1], supplies: [4, 0, 0, -4]};
+const IN_MIN = {nodes: 4, ...ENDS, ...NUMBERS};
+const IN_SHORT = {nodes: 2, tails: [1], heads: [2], lows: [0], caps: [3], costs: [1], supplies: [5, -5]};
+const IN_GRAPH = {nodes: 4, tails: [1, 2, 3], heads: [2, 3, 2], weights: [5, 4, 0]};
+const LARGE = 2n ** 62n;
+
+const bytes = (text) => new TextEncoder().encode(text);
+const big = (...numbers) => BigInt64Array.from(numbers, BigInt);
+
+/** What a call throws. */
+function thrown(call) {
+    try {
+        call();
+    } catch (why) {
+        return why;
+    }
+    throw new assert.AssertionError({message: "it threw nothing"});
+}
+
+/** Tests that a call throws an error of a class, with these properties. */
+function throws(call, type, properties = {}) {
+    const why = thrown(call);
+    assert.ok(why instanceof type, `it threw ${why.name}: ${why.message}`);
+    for (const [name, wanted] of Object.entries(properties)) assert.deepEqual(why[name], wanted, name);
+    return why;
+}
+
+/** A module whose dimacs_show fails: with a trap, or since malloc gives nothing. It counts its calls in a global. */
+function failing(malloc, show) {
+    const body = (...code) => [code.length + 2, 0, ...code, 0x0b];
+    const named = (name, ...what) => [name.length, ...bytes(name), ...what];
+    const sections = [
+        [1, 3, 0x60, 1, 0x7e, 1, 0x7e, 0x60, 1, 0x7e, 0, 0x60, 6, 0x7f, 0x7e, 0x7e, 0x7e, 0x7e, 0x7e, 1, 0x7f],
+        [3, 3, 0, 1, 2],
+        [5, 1, 0, 1],
+        [6, 1, 0x7f, 1, 0x41, 0, 0x0b],
+        [7, 4, ...named("memory", 2, 0), ...named("malloc", 0, 0), ...named("free", 0, 1), ...named("dimacs_show", 0, 2)],
+        [10, 3, ...body(...malloc), ...body(), ...body(...show)],
+    ];
+    const whole = sections.flatMap(([number, ...content]) => [number, content.length, ...content]);
+    return new WebAssembly.Module(Uint8Array.from([0, 0x61, 0x73, 0x6d, 1, 0, 0, 0, ...whole]));
+}
+
+const SOME_PLACE = [0x42, 16], NO_PLACE = [0x42, 0];
+// It returns 1 if this instance was called before, and traps otherwise.
+const TRAPS_FIRST = [0x23, 0, 0x41, 1, 0x24, 0, 0x04, 0x7f, 0x41, 1, 0x05, 0x00, 0x0b];
+const NO_MEMORY = [0x41, 4];
+
+const CASES = {
+    "judges over texts": () => {
+        assert.deepEqual({...dimacs.judgeMax(MAX, FLOW, CUT)}, {kind: "max", value: 6n, pairs: []});
+        assert.equal(dimacs.judgeMin(MIN, LEAST, POT).value, 14n);
+        assert.equal(dimacs.judgeInfeasible(SHORT, "p cut 2 1\nu 1\n").kind, "infeasible");
+    },
+    "answers to pairs": () => {
+        const {kind, pairs} = dimacs.judgePaths(GRAPH, PAIRS, "p dist 4 1\nt 1 2\nd 2 5 1\nd 3 9 2\n");
+        assert.deepEqual([kind, pairs.map((it) => it.distance)], ["pairs", [9n, null]]);
+        const near = dimacs.judgePaths(GRAPH, "p aux sp p2p 1\nq 1 3\n", NEAR).pairs;
+        assert.deepEqual(near, [{source: 1, target: 3, distance: Object.assign(new dimacs.Beyond(7n))}]);
+    },
+    "a certificate is accepted, and has the form of the instance": () => {
+        const {value, certificate} = dimacs.certifyMax(MAX, FLOW);
+        assert.deepEqual([value, dimacs.judgeMax(MAX, FLOW, certificate).value], [6n, 6n]);
+        assert.ok(dimacs.certifyMax(bytes(MAX), FLOW).certificate instanceof Uint8Array);
+        assert.equal(dimacs.judgeMin(MIN, LEAST, dimacs.certifyMin(MIN, LEAST).potentials).value, 14n);
+        assert.equal(dimacs.certifyPaths(GRAPH, "p distances 4 1\nt 1 2\nd 2 5\nd 3 9\n").value, null);
+    },
+    "a better flow is handed out in the form of the claim": () => {
+        const place = {text: "solution", line: 1, field: 2};
+        const no = throws(() => dimacs.certifyMax(MAX, SMALLER), dimacs.NotOptimal, place);
+        assert.equal(dimacs.certifyMax(MAX, no.better).value > 2n, true);
+        assert.ok(thrown(() => dimacs.certifyMax(MAX, bytes(SMALLER))).better instanceof Uint8Array);
+        throws(() => dimacs.certifyMin(MIN, DEARER), dimacs.NotOptimal, {reason: "NotLeast"});
+    },
+    "no flow is feasible, and one is": () => {
+        const {certificate} = dimacs.certifyInfeasible(SHORT);
+        assert.equal(dimacs.judgeInfeasible(SHORT, certificate).kind, "infeasible");
+        const set = throws(() => dimacs.solveMin(SHORT), dimacs.Infeasible).inside;
+        assert.equal(dimacs.judgeInfeasible(SHORT, set).kind, "infeasible");
+        const {flow} = throws(() => dimacs.certifyInfeasible(MIN), dimacs.Feasible);
+        assert.match(dimacs.show("solution", flow), /^i solution /);
+    },
+    "a refusal names its place": () => {
+        const balance = {reason: "Balance", node: 2, text: null, arc: null};
+        throws(() => dimacs.judgeMax(MAX, "s 4\nf 1 2 4\n", CUT), dimacs.Refused, balance);
+        const above = {reason: "AboveCap", arc: 1, message: "arc 1 AboveCap"};
+        throws(() => dimacs.judgeMax(MAX, "s 6\nf 1 2 9\n", CUT), dimacs.Refused, above);
+        const fault = {line: 2, field: 4, reason: "BadNumber"};
+        throws(() => dimacs.convert("gr", "p sp 1 1\na 1 1 1.0\n"), dimacs.Refused, fault);
+        throws(() => dimacs.convert("cut", "p cut 1 1\nu \u00e9\n"), dimacs.Refused, {line: 2});
+    },
+    "solvers over texts": () => {
+        const most = dimacs.solveMax(MAX), least = dimacs.solveMin(bytes(MIN)), paths = dimacs.solvePaths(GRAPH, PAIRS);
+        assert.equal(dimacs.judgeMax(MAX, most.solution, most.certificate).value, 6n);
+        assert.deepEqual([least.value, least.solution instanceof Uint8Array], [14n, true]);
+        assert.deepEqual([paths.solution[0].distance, paths.solution[1].distance, paths.value], [9n, null, null]);
+        throws(() => dimacs.solveMax(MAX, 0), dimacs.GaveUp);
+        throws(() => dimacs.solveMax(MAX, -1), RangeError);
+    },
+    "spread, convert and show": () => {
+        const parallel = "p max 2 2\nn 1 s\nn 2 t\na 1 2 3\na 1 2 4\n";
+        assert.equal(dimacs.certifyMax(parallel, dimacs.spreadMax(parallel, "s 7\nf 1 2 7\n")).value, 7n);
+        assert.equal(dimacs.convert("cut", "c \np  cut 4 1\r\nu +1\n"), CUT);
+        assert.equal(dimacs.show("max", MAX), "i max 4 5 1 4\n");
+        throws(() => dimacs.show("graph", MAX), RangeError);
+        throws(() => dimacs.show("max", 7), TypeError);
+    },
+    "judges over arrays": () => {
+        const flows = [4, 2, 1, 3, 3];
+        assert.equal(dimacs.judgeMaxArrays(IN_MAX, flows, [true, false, false, false]).value, 6n);
+        assert.equal(dimacs.judgeMinArrays(IN_MIN, [2, 2, 2, 0, 4], [4, 2, 1, 0]).value, 14n);
+        assert.equal(dimacs.judgeInfeasibleArrays(IN_SHORT, [1, 0]).kind, "infeasible");
+        assert.equal(dimacs.judgePathsArrays(IN_GRAPH, 1, [0, 5, 9, Infinity], [0, 1, 2, 0]).value, 1n);
+        const typed = [big(0, 5, 9, dimacs.UNREACHED), Uint32Array.of(0, 1, 2, 0)];
+        assert.equal(dimacs.judgePathsArrays(IN_GRAPH, 1, ...typed).kind, "sp");
+    },
+    "certifiers over arrays": () => {
+        const most = dimacs.certifyMaxArrays(IN_MAX, [4n, 2n, 1n, 3n, 3n]);
+        assert.deepEqual([most.value, most.inside], [6n, Uint8Array.of(1, 0, 0, 0)]);
+        const {better} = throws(() => dimacs.certifyMaxArrays(IN_MAX, [0, 2, 0, 0, 2]), dimacs.NotOptimal);
+        assert.ok(better instanceof BigInt64Array && better.length === 5);
+        const least = [2, 2, 2, 0, 4], {potentials} = dimacs.certifyMinArrays(IN_MIN, least);
+        assert.equal(dimacs.judgeMinArrays(IN_MIN, least, potentials).value, 14n);
+        assert.deepEqual(dimacs.certifyInfeasibleArrays(IN_SHORT).inside, Uint8Array.of(1, 0));
+        assert.equal(throws(() => dimacs.certifyInfeasibleArrays(IN_MIN), dimacs.Feasible).flow.length, 5);
+        const {predecessors} = dimacs.certifyPathsArrays(IN_GRAPH, 1, [0, 5, 9, Infinity]);
+        assert.deepEqual(predecessors, Uint32Array.of(0, 1, 2, 0));
+        const loose = {reason: "NoTightArc", node: 3};
+        throws(() => dimacs.certifyPathsArrays(IN_GRAPH, 1, [0, 5, 8, Infinity]), dimacs.Refused, loose);
+    },
+    "solvers over arrays": () => {
+        assert.equal(dimacs.solveMaxArrays(IN_MAX).value, 6n);
+        assert.equal(dimacs.solveMinArrays(IN_MIN, 10n).value, 14n);
+        assert.deepEqual(dimacs.solvePathsArrays(IN_GRAPH, 1).distances, big(0, 5, 9, dimacs.UNREACHED));
+        assert.deepEqual(throws(() => dimacs.solveMinArrays(IN_SHORT), dimacs.Infeasible).inside, Uint8Array.of(1, 0));
+        const negative = {reason: "NegativeWeight", arc: 2};
+        throws(() => dimacs.solvePathsArrays({...IN_GRAPH, weights: [5, -4, 0]}, 1), dimacs.Refused, negative);
+        throws(() => dimacs.solvePathsArrays({...IN_GRAPH, weights: [LARGE, LARGE, 0]}, 1), dimacs.GaveUp);
+    },
+    "amounts of 64 bits stay whole": () => {
+        const wide = {nodes: 2, source: 1, sink: 2, tails: [1, 1], heads: [2, 2], caps: [LARGE, LARGE - 1n]};
+        const {value, flows} = dimacs.solveMaxArrays(wide);
+        assert.deepEqual([value, flows], [2n * LARGE - 1n, big(LARGE, LARGE - 1n)]);
+    },
+    "wrong arrays": () => {
+        const flows = [4, 2, 1, 3, 3];
+        const far = {...IN_MAX, heads: [2, 3, 3, 4, 5]}, few = "heads has 1 items, and there are 5 arcs";
+        throws(() => dimacs.certifyMaxArrays(far, flows), dimacs.PastLimit, {arc: 5, reason: "NodeRange"});
+        throws(() => dimacs.certifyMaxArrays({...IN_MAX, heads: [2]}, flows), RangeError, {message: few});
+        throws(() => dimacs.certifyMaxArrays(IN_MAX, [4, 2, 1, 3]), RangeError);
+        throws(() => dimacs.certifyMaxArrays(IN_MAX, [4, 2, 0.5, 3, 3]), RangeError);
+        throws(() => dimacs.certifyMaxArrays(IN_MAX, [4, 2, 2 ** 60, 3, 3]), RangeError);
+        throws(() => dimacs.certifyMaxArrays(IN_MAX, [4, 2, 2n ** 63n, 3, 3]), RangeError);
+        throws(() => dimacs.certifyMaxArrays(IN_MAX, [4, 2, "1", 3, 3]), TypeError);
+        throws(() => dimacs.certifyMaxArrays(IN_MAX, new Set(flows)), TypeError);
+        throws(() => dimacs.certifyMaxArrays({...IN_MAX, caps: undefined}, flows), TypeError);
+        throws(() => dimacs.certifyMaxArrays({...IN_MAX, source: -1}, flows), RangeError);
+        throws(() => dimacs.certifyMaxArrays(null, flows), TypeError);
+    },
+    "a trap is an error, and its instance is dropped": () => {
+        const texts = new Texts(new Library(failing(SOME_PLACE, TRAPS_FIRST)));
+        throws(() => texts.show("cut", bytes(CUT)), dimacs.Trapped);
+        throws(() => texts.show("cut", bytes(CUT)), dimacs.Trapped);
+    },
+    "memory that isn't there is an error": () => {
+        for (const module of [failing(NO_PLACE, TRAPS_FIRST), failing(SOME_PLACE, NO_MEMORY)]) {
+            throws(() => new Texts(new Library(module)).show("cut", bytes(CUT)), dimacs.OutOfMemory);
+        }
+    },
+    "what is said of the module": () => {
+        assert.match(dimacs.version, /^\d+\.\d+\.\d+/);
+        assert.equal(typeof dimacs.proved, "boolean");
+    },
+};
+
+let passed = 0, failed = 0;
+for (const [name, test] of Object.entries(CASES)) {
+    try {
+        test();
+        passed++;
+    } catch (why) {
+        failed++;
+        console.log(`FAILED: ${name}: ${why.stack}`);
+    }
+}
+console.log(`${passed} passed, ${failed} failed`);
+process.exitCode = failed ? 1 : 0;

@@ -1,0 +1,202 @@
+#!/usr/bin/env python3
+"""Runs a Python test of the library with each call made twice: through.py MODULE LIBRARY SCRIPT WORDS..
+
+One call goes to LIBRARY, the other through node to MODULE, which is dimacs.wasm. Both have to return the same status
+and to leave the same in every byte that they may write; the test gets what the module handed out. Prints last how many
+calls were the same, and how many weren't. If the test itself fails, its output is printed, and one more has failed.
+"""
+import base64
+import contextlib
+import ctypes
+import io
+import json
+import os
+import re
+import runpy
+import subprocess
+import sys
+import traceback
+
+HERE = os.path.dirname(os.path.abspath(__file__))
+HEADER = os.path.join(HERE, "../../lib/include/dimacs.h")
+WIDTHS = {"uint8_t": 1, "uint32_t": 4, "int64_t": 8}
+ARRAYS = {"dimacs_nodes": 4, "dimacs_numbers": 8}
+
+
+def read_header():
+    """The parameters of each call, and the fields of each instance, as dimacs.h declares them."""
+    with open(HEADER, encoding="ascii") as it:
+        text = re.sub(r"/\*.*?\*/", "", it.read(), flags=re.DOTALL)
+    calls = re.findall(r"^uint32_t (\w+)\(([^)]*)\);", text, re.MULTILINE)
+    structs = {}
+    for body, name in re.findall(r"typedef struct \{([^}]*)\} (\w+);", text):
+        fields = [line.split(None, 1) for line in body.split(";") if line.strip()]
+        structs[name] = [(kind, name.strip()) for kind, names in fields for name in names.split(",")]
+    parameters = {name: [" ".join(it.split()) for it in words.split(",")] for name, words in calls}
+    return {name: [it for it in words if it != "void"] for name, words in parameters.items()}, structs
+
+
+CALLS, STRUCTS = read_header()
+
+
+def address(it):
+    """The address that ctypes would hand on for an argument."""
+    if it is None or isinstance(it, int):
+        return it or 0
+    if isinstance(it, bytes):
+        return ctypes.cast(ctypes.c_char_p(it), ctypes.c_void_p).value
+    if hasattr(it, "_obj"):
+        return ctypes.addressof(it._obj)
+    return it.value or 0 if isinstance(it, ctypes.c_void_p) else ctypes.addressof(it)
+
+
+def content(at, length):
+    return ctypes.string_at(at, length) if length else b""
+
+
+def encoded(at, length):
+    return base64.b64encode(content(at, length)).decode()
+
+
+def number_at(at):
+    return ctypes.c_uint64.from_address(at).value
+
+
+def instance(struct, at):
+    """The numbers and the arrays of an instance in memory."""
+    parts, place = [], at
+    for kind, _ in STRUCTS[struct]:
+        if kind == "uint32_t":
+            parts.append({"n": ctypes.c_uint32.from_address(place).value})
+            place += 4
+        else:
+            place += -place % 8
+            width = ARRAYS[kind]
+            parts.append({"b": encoded(number_at(place), width * number_at(place + 8)), "w": width})
+            place += 16
+    return {"s": parts}
+
+
+class Room:
+    """What a call may write: the items of an array, and the number that is needed."""
+
+    def __init__(self, at, length, needed):
+        self.at, self.length, self.needed = at, length, needed
+        self.before = content(at, length), number_at(needed)
+
+    def now(self):
+        return content(self.at, self.length), number_at(self.needed)
+
+    def set(self, items, needed):
+        ctypes.memmove(self.at, items, len(items))
+        ctypes.c_uint64.from_address(self.needed).value = needed
+
+
+def described(parameters, given):
+    """The arguments of a call as calls.mjs takes them, and its rooms."""
+    words, rooms, given = [], [], list(given)
+    parameters = list(parameters)
+    while parameters:
+        kind = re.sub(r"\w+$", "", parameters.pop(0)).strip()
+        struct = re.match(r"const (dimacs_\w+) \*", kind)
+        array = re.match(r"(const )?(u?int\d+_t) \*$", kind)
+        if struct:
+            words.append(instance(struct[1], address(given.pop(0))))
+        elif array:
+            width, at, length = WIDTHS[array[2]], address(given.pop(0)), given.pop(0)
+            parameters.pop(0)
+            words.append({"b" if array[1] else "r": encoded(at, width * length), "w": width})
+            if not array[1]:
+                parameters.pop(0)
+                rooms.append(Room(at, width * length, address(given.pop(0))))
+        else:
+            words.append({"n": given.pop(0)} if kind == "uint32_t" else {"q": str(given.pop(0))})
+    return words, rooms
+
+
+class Function:
+    """A call, as ctypes has a function."""
+
+    same = differing = 0
+
+    def __init__(self, name, node, native):
+        self.name, self.node, self.native = name, node, native
+        self.argtypes = self.restype = None
+
+    def __call__(self, *given):
+        words, rooms = described(CALLS[self.name], given)
+        self.native.argtypes, self.native.restype = self.argtypes, ctypes.c_uint32
+        status = self.native(*given)
+        wanted = status, [it.now() for it in rooms]
+        for it in rooms:
+            it.set(*it.before)
+        self.node.stdin.write(json.dumps({"name": self.name, "args": words}) + "\n")
+        answer = json.loads(self.node.stdout.readline())
+        for it, back in zip(rooms, answer["back"]):
+            it.set(base64.b64decode(back["bytes"]), int(back["needed"]))
+        self.compare((answer["status"], [it.now() for it in rooms]), wanted)
+        return answer["status"]
+
+    def compare(self, found, wanted):
+        Function.same += found == wanted
+        Function.differing += found != wanted
+        if found != wanted:
+            print(f"{self.name}: the module {found}, the library {wanted}"[:600])
+
+
+class Both:
+    """Stands for the library of ctypes."""
+
+    def __init__(self, node, native):
+        self._node, self._native = node, native
+
+    def __getattr__(self, name):
+        if name not in CALLS:
+            raise AttributeError(name)
+        found = Function(name, self._node, getattr(self._native, name))
+        setattr(self, name, found)
+        return found
+
+
+def stand_in(real, both):
+    """What takes the place of ctypes.CDLL: the library is `both`, and other libraries are as before."""
+
+    class Library(real):
+        def __new__(cls, name=None, *more, **words):
+            return both if name and "libdimacs" in os.path.basename(str(name)) else super().__new__(cls)
+
+    return Library
+
+
+def run_script(script, words):
+    """Whether the test passes, and its output."""
+    sys.argv = [script, *words]
+    sys.path.insert(0, os.path.dirname(os.path.abspath(script)))
+    output = io.StringIO()
+    with contextlib.redirect_stdout(output), contextlib.redirect_stderr(output):
+        try:
+            runpy.run_path(script, run_name="__main__")
+            status = 0
+        except Exception:  # it is counted as failed, as one that ends by a status
+            traceback.print_exc()
+            status = 1
+        except SystemExit as ended:
+            status = ended.code
+    return not status, output.getvalue()
+
+
+def main():
+    module, library, script, *words = sys.argv[1:]
+    how = {"stdin": subprocess.PIPE, "stdout": subprocess.PIPE, "text": True, "bufsize": 1}
+    with subprocess.Popen(["node", f"{HERE}/calls.mjs", module], **how) as node:
+        ctypes.CDLL = stand_in(ctypes.CDLL, Both(node, ctypes.CDLL(library)))
+        passes, output = run_script(script, words)
+        node.stdin.close()
+    if Function.differing or not passes:
+        print(output)
+    print(f"{Function.same} passed, {Function.differing + (not passes)} failed")
+    return 1 if Function.differing or not passes or not Function.same else 0
+
+
+if __name__ == "__main__":
+    sys.exit(main())

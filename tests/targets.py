@@ -1,0 +1,338 @@
+#!/usr/bin/env python3
+"""Tests what is built for other systems: tests/targets.py [--build FOLDER] [--all] [PART..]
+
+FOLDER is where `make` built the library and the program for this one: build, or build/quick for those that aren't proved.
+What a part tests is built by make first. The parts:
+  module    the module that is kept is the one of which clang made the archive
+  wasm      in node the library's tests, with each call compared with the library for this system, and 5,000 random
+            instances; the layer for JavaScript; and the package, as npm installs it
+  command   the command in node: its statuses, output and files are those of the program
+  page      the page in Chromium: answers, marked lines, downloads, refused requests
+  aarch64   under qemu the library's tests in C, and the program, compared as the command
+With --all there are more instances and all runs over the examples, and two parts more:
+  windows   under wine the library's tests in C
+  firefox   the page in Firefox
+
+What needs a tool that isn't there is left out, and named. The last line counts what passed and what failed.
+"""
+import argparse
+import glob
+import itertools
+import os
+import re
+import shutil
+import subprocess
+import sys
+import tempfile
+
+TOP = os.path.dirname(os.path.dirname(os.path.abspath(__file__)))
+TEST, JS = f"{TOP}/lib/test", f"{TOP}/tests/js"
+PROVED = b"rattle logic="
+QEMU = ["qemu-aarch64", "-L", "/usr/aarch64-linux-gnu"]
+WRAPPED = ["-Wl,--wrap=malloc", "-Wl,--wrap=realloc", "-Wl,--wrap=free"]
+WARN = ["-O1", "-Wall", "-Wextra", "-Werror", f"-I{TOP}/lib/include"]
+
+
+def run(*words, **how):
+    """Runs a command and keeps its output."""
+    return subprocess.run(words, capture_output=True, text=True, errors="replace", check=False, **how)
+
+
+class Tests:
+    """What is tested, and what passed and failed of it."""
+
+    def __init__(self, build, is_all, room):
+        self.build, self.is_all, self.room = build, is_all, room
+        self.passed = self.failed = 0
+
+    def add(self, name, passed, failed, output=""):
+        self.passed += passed
+        self.failed += failed
+        if failed:
+            print(f"== {name}\n{output.strip()[-3000:]}", flush=True)
+
+    def counted(self, name, ran):
+        """Adds a run that ends with a line of counts. One without it has failed."""
+        line = re.search(r"^(\d+) passed, (\d+) failed\n?\Z", ran.stdout, re.MULTILINE)
+        passed, failed = map(int, line.groups()) if line else (0, 1)
+        self.add(name, passed, max(failed, int(ran.returncode != 0)), ran.stdout + ran.stderr)
+
+    def ended(self, name, ran, holds=True):
+        """Adds a run whose status is 0 if it passes."""
+        is_fine = ran.returncode == 0 and holds
+        self.add(name, int(is_fine), int(not is_fine), ran.stdout + ran.stderr)
+
+    def made(self, *names):
+        """Whether make built these files of the folder."""
+        files = [f"{os.path.relpath(self.build, TOP)}/{it}" for it in names]
+        unproved = ["UNPROVED=1"] if os.path.basename(self.build) == "quick" else []
+        ran = run("make", "--no-print-directory", *unproved, *files, cwd=TOP)
+        if ran.returncode:
+            self.add(f"make {' '.join(files)}", 0, 1, ran.stdout + ran.stderr)
+        return ran.returncode == 0
+
+
+# ---- the module
+
+
+def test_module(tests):
+    with open(f"{tests.build}/dimacs_c.a", "rb") as it:
+        is_proved = PROVED in it.read()
+    if not is_proved and not os.path.exists(f"{tests.build}/dimacs_c.words"):
+        return  # the words of clang are kept for what is proved alone
+    kit = run(f"{TOP}/tools/kit.py").stdout.strip()
+    shutil.copy(f"{tests.build}/dimacs_c.bc", f"{tests.room}/module.bc")
+    with open(f"{tests.build}/dimacs_c.words", encoding="utf-8") as it:
+        words = it.read().split("\n")[:-1]
+    compiled = run(f"{kit}/toolchain/bin/clang", *words, cwd=tests.room)
+    with open(f"{tests.room}/archived.o", "wb") as it:
+        subprocess.run(["ar", "p", f"{tests.build}/dimacs_c.a"], stdout=it, check=False)
+    made = next(it for word, it in itertools.pairwise(words) if word == "-o")
+    tests.ended("the module that is kept", compiled)
+    tests.ended("the archive is made of it", run("cmp", f"{tests.room}/{made}", f"{tests.room}/archived.o"))
+
+
+# ---- WebAssembly
+
+
+def python_environment(build):
+    found = {"PYTHONPATH": f"{TOP}/lib/python:{TOP}/tests", "DIMACS_LIBRARY": f"{build}/libdimacs.so"}
+    return {**os.environ, **found, "PYTHONDONTWRITEBYTECODE": "1"}
+
+
+def test_wasm(tests):
+    if not tests.made("wasm/dimacs.wasm", "npm/dimacs.tgz", "libdimacs.so", "dimacs"):
+        return
+    module, library = f"{tests.build}/wasm/dimacs.wasm", f"{tests.build}/libdimacs.so"
+    instances = ["--instances", "50000" if tests.is_all else "5000", "--runs", "1", "--program", f"{tests.build}/dimacs"]
+    for name, words in (("agree", instances), ("test_texts", []), ("test_arrays", []), ("test_solving", [])):
+        words = [sys.executable, f"{JS}/through.py", module, library, f"{TEST}/{name}.py", *words]
+        tests.counted(f"{name}.py through node", run(*words, env=python_environment(tests.build)))
+    environment = {**os.environ, "DIMACS_WASM": module}
+    tests.counted("test_js.mjs", run("node", f"{TEST}/test_js.mjs", env=environment))
+    test_package(tests)
+
+
+def test_package(tests):
+    """Installs the package without the network, and runs its command."""
+    if not shutil.which("npm"):
+        print("left out: the package for node: no npm")
+        return
+    place = f"{tests.room}/installed"
+    os.mkdir(place)
+    words = ["--offline", "--no-audit", "--no-fund", "--prefix", place]
+    tests.ended("npm install", run("npm", "install", *words, f"{tests.build}/npm/dimacs.tgz", cwd=place))
+    ran = run("npx", "--offline", "dimacs", "show", "gr", f"{TOP}/examples/road.gr", cwd=place)
+    tests.ended("npx dimacs", ran, ran.stdout == "i sp 6 13\n")
+    call = "import {show} from 'dimacs'; process.stdout.write(show('cut', 'p cut 4 1\\nu 1\\n'))"
+    ran = run("node", "--input-type=module", "-e", call, cwd=place)
+    tests.ended("import of the package", ran, ran.stdout == "i cut 4 1\n")
+
+
+# ---- the command
+
+
+def examples():
+    """The examples by their kinds."""
+    found = {}
+    for path in sorted(glob.glob(f"{TOP}/examples/*.*")):
+        found.setdefault(path.rpartition(".")[2], []).append(f"examples/{os.path.basename(path)}")
+    return found
+
+
+def runs_over_examples():
+    """Each command over all examples that fit it, and over some that don't."""
+    by, found = examples(), []
+    for kind in ("max", "min", "gr", "query", "solution", "cut", "pot", "dist", "distances"):
+        found += [[verb, kind, it] for it in by[kind] for verb in ("convert", "show")]
+        found.append(["show", kind, by["md"][0]])
+    files = {"judge-max": "max solution cut", "judge-min": "min solution pot", "judge-infeasible": "min cut"}
+    files |= {"judge-paths": "gr query dist", "certify-max": "max solution OUT", "certify-min": "min solution OUT"}
+    files |= {"certify-infeasible": "min OUT", "certify-paths": "gr distances OUT", "spread-max": "max solution OUT"}
+    files |= {"spread-min": "min solution OUT", "solve-max": "max OUT OUT2", "solve-min": "min OUT OUT2"}
+    files |= {"solve-paths": "gr query OUT"}
+    for verb, kinds in files.items():
+        found += [[verb, *it] for it in itertools.product(*(by.get(kind, [kind]) for kind in kinds.split()))]
+    return found
+
+
+# What no example shows: a line for each, with the words of the command.
+SPECIAL = """
+
+frobnicate
+show gr
+show graph examples/road.gr
+convert gr examples/missing.gr
+convert gr examples
+certify-max examples/pipes.max examples/pipes.solution
+certify-max examples/pipes.max examples/pipes.solution missing/out
+certify-max examples/pipes.max examples/pipes-careless.solution examples/missing/out
+certify-min examples/freight.min examples
+certify-paths examples/road-faulty.gr examples out
+judge-max examples/pipes.max examples/road.gr examples
+judge-max examples/pipes.max examples examples/pipes.cut
+judge-infeasible examples/shortage.min examples
+solve-max examples/pipes.max out cut --limit 0
+solve-max examples/pipes.max out cut --limit +1000
+solve-max examples/pipes.max out cut --limit 1000000001
+solve-max examples/pipes.max out cut --limit -1
+solve-max examples/pipes.max out cut --limit
+solve-min examples/freight.min out pot --limit 2
+solve-min examples/freight.min out out
+solve-max examples/missing.max out cut
+solve-max examples/pipes.max out missing/cut
+solve-paths examples/road.gr examples/road.query labels --limit 5
+"""
+
+
+def outcome(words, room):
+    """The status, output and files of a command, and the first line of its complaint."""
+    place = tempfile.mkdtemp(dir=room)
+    os.symlink(f"{TOP}/examples", f"{place}/examples")
+    ran = subprocess.run(words, cwd=place, capture_output=True, check=False)
+    files = {}
+    for name in set(os.listdir(place)) - {"examples"}:
+        with open(f"{place}/{name}", "rb") as it:
+            files[name] = it.read()
+    return ran.returncode, ran.stdout, files, ran.stderr.partition(b"\n")[0]
+
+
+def compare_commands(tests, name, words):
+    """Runs another command as the program for this system, over the examples."""
+    over_examples = runs_over_examples()
+    every = 1 if tests.is_all else max(1, len(over_examples) // 40)
+    special = [line.split() for line in SPECIAL.split("\n")[1:-1]]
+    for it in [*over_examples[::every], *special]:
+        wanted, found = outcome([f"{tests.build}/dimacs", *it], tests.room), outcome([*words, *it], tests.room)
+        tests.add(f"{name} {' '.join(it)}", int(found == wanted), int(found != wanted), f"{found}\nand not {wanted}")
+
+
+def test_command(tests):
+    if tests.made("npm/dimacs.tgz", "dimacs"):
+        compare_commands(tests, "npx dimacs", ["node", f"{tests.build}/npm/package/cli.js"])
+
+
+# ---- the page
+
+
+def test_page(tests):
+    if tests.made("page/dimacs.html"):
+        words = ["node", f"{JS}/page.mjs", f"{tests.build}/page/dimacs.html", "chromium", "chromium"]
+        tests.counted("the page in Chromium", run(*words))
+        test_reasons(tests)
+
+
+def test_reasons(tests):
+    """The page has words for each reason that the pages on judging and on texts name."""
+    with open(f"{TOP}/lib/page/words.js", encoding="utf-8") as it:
+        found = set(re.findall(r"^    (\w+): \"[A-Z]", it.read(), re.MULTILINE))
+    wanted = set()
+    for page in ("TEXTS", "JUDGING"):
+        with open(f"{TOP}/docs/{page}.md", encoding="utf-8") as it:
+            text = it.read()
+        wanted |= set(re.findall(r"^\| \d+ \| (\w+) \|", text, re.MULTILINE))
+        wanted |= set(re.findall(r"`x (?:arc|node|\w+) [\w ]*?([A-Z][a-z]\w+)`", text))
+    tests.add("words for reasons", int(wanted == found), int(wanted != found), f"{wanted ^ found}")
+
+
+def test_firefox(tests):
+    flags = next((it for it in ([], ["--experimental-websocket"]) if has_socket(it)), None)
+    if flags is None:
+        print("left out: firefox: no node with WebSocket")
+    elif tests.made("page/dimacs.html"):
+        words = ["node", *flags, f"{JS}/page.mjs", f"{tests.build}/page/dimacs.html", "firefox", "firefox-esr"]
+        tests.counted("the page in Firefox", run(*words))
+
+
+def has_socket(flags):
+    return run("node", *flags, "-e", "process.exit(globalThis.WebSocket ? 0 : 1)").returncode == 0
+
+
+# ---- aarch64 Linux, and Windows
+
+
+def test_in_c(tests, system, compiler, flags, libraries, by):
+    """The library's tests in C, each linked with the library that is named."""
+    for name, library in libraries:
+        made = f"{tests.room}/{system}-{name}.exe"
+        built = run(compiler, *WARN, *flags, "-o", made, f"{TEST}/{name}.c", *library)
+        tests.counted(f"{name}.c on {system}", run(*by, made, cwd=tests.room) if built.returncode == 0 else built)
+
+
+def test_aarch64(tests):
+    if not tests.made(*(f"aarch64/{it}" for it in ("dimacs", "libdimacs.a", "libdimacs.so"))):
+        return
+    folder = f"{tests.build}/aarch64"
+    static, shared = [f"{folder}/libdimacs.a"], [f"-L{folder}", f"-Wl,-rpath,{folder}", "-ldimacs"]
+    libraries = [("texts", static), ("arrays", shared), ("refused", [*static, *WRAPPED])]
+    test_in_c(tests, "aarch64", "aarch64-linux-gnu-gcc", ["-g"], libraries, QEMU)
+    compare_commands(tests, "dimacs on aarch64", [*QEMU, f"{folder}/dimacs"])
+    if tests.is_all:
+        test_scripts(tests, f"{folder}/dimacs")
+
+
+def test_scripts(tests, program):
+    """Scripts that test the program, over that for aarch64."""
+    by_qemu = f"{tests.room}/dimacs-by-qemu"
+    with open(by_qemu, "w", encoding="utf-8") as it:
+        it.write(f'#!/bin/sh\nexec {" ".join(QEMU)} {program} "$@"\n')
+    os.chmod(by_qemu, 0o755)
+    for name, words in (("shown_runs", []), ("certify_trials", ["300", "1"]), ("solve_min_trials", ["300", "1"])):
+        tests.counted(f"{name}.py on aarch64", run(f"{TOP}/tests/{name}.py", *words, by_qemu, cwd=TOP))
+
+
+def test_windows(tests):
+    if not tests.made("windows/dimacs.dll"):
+        return
+    folder = f"{tests.build}/windows"
+    shutil.copy(f"{folder}/dimacs.dll", tests.room)
+    os.environ |= {"WINEPREFIX": f"{tests.room}/wine", "WINEDEBUG": "-all"}
+    linked, objects = [f"{folder}/libdimacs.dll.a"], [f"{folder}/calls.o", f"{folder}/heap.o"]
+    libraries = [("texts", linked), ("arrays", linked), ("refused", [*objects, *WRAPPED])]
+    test_in_c(tests, "windows", "x86_64-w64-mingw32-gcc", [f"-I{TEST}/windows"], libraries, [WINE])
+
+
+# ---- all of them
+
+WINE = shutil.which("wine64") or "/usr/lib/wine/wine64"
+
+# Each part: what tests it, and the tools that it needs.
+PARTS = {
+    "module": (test_module, ["rt", "ar", "cmp"]),
+    "wasm": (test_wasm, ["node"]),
+    "command": (test_command, ["node"]),
+    "page": (test_page, ["node", "chromium"]),
+    "aarch64": (test_aarch64, ["aarch64-linux-gnu-gcc", "qemu-aarch64"]),
+}
+MORE_PARTS = {
+    "windows": (test_windows, ["x86_64-w64-mingw32-gcc", WINE]),
+    "firefox": (test_firefox, ["node", "firefox-esr"]),
+}
+
+
+def main():
+    words = argparse.ArgumentParser(description="Tests what is built for other systems.")
+    words.add_argument("--build", default=f"{TOP}/build", help="the folder of what is built for this system")
+    words.add_argument("--all", action="store_true", help="with larger sets, Windows and Firefox")
+    words.add_argument("parts", nargs="*", choices=[[], *PARTS, *MORE_PARTS])
+    asked = words.parse_args()
+    parts = PARTS | MORE_PARTS
+    chosen = asked.parts or (parts if asked.all else PARTS)
+    passed = failed = 0
+    for name in chosen:
+        test, tools = parts[name]
+        lacking = [it for it in tools if not shutil.which(it)]
+        if lacking:
+            print(f"left out: {name}: no {', '.join(lacking)}")
+            continue
+        with tempfile.TemporaryDirectory() as room:
+            tests = Tests(os.path.abspath(asked.build), asked.all, room)
+            test(tests)
+        print(f"{name}: {tests.passed} passed, {tests.failed} failed", flush=True)
+        passed, failed = passed + tests.passed, failed + tests.failed
+    print(f"{passed} passed, {failed} failed")
+    return 1 if failed or not passed else 0
+
+
+if __name__ == "__main__":
+    sys.exit(main())

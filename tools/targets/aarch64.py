@@ -1,0 +1,36 @@
+#!/usr/bin/env python3
+"""Proves and compiles the library and the program for aarch64 Linux: tools/targets/aarch64.py FOLDER
+
+The crates below them are proved already, by `make` or by rt ci. The two are proved over these for the kit's own target
+aarch64-unknown-linux-gnu, and compiled: FOLDER gets dimacs_c.a and main.o, which the Makefile links.
+"""
+import os
+import subprocess
+import sys
+
+TOP = os.path.dirname(os.path.dirname(os.path.dirname(os.path.abspath(__file__))))
+sys.path.insert(0, f"{TOP}/tools")
+import kit as kits  # noqa: E402  (the folder isn't a package of this one)
+import proved_build  # noqa: E402
+
+TARGET = "aarch64-unknown-linux-gnu"
+
+# What is made, of which crate, and its root.
+MADE = {
+    "dimacs_c.a": ("dimacs_c", ["src/lib.rt", "--crate-type", "staticlib"]),
+    "main.o": ("dimacs", ["src/main.rt"]),
+}
+
+
+def main():
+    folder = os.path.abspath(sys.argv[1])
+    kit, listed = kits.folder("bin/rattle"), kits.crates()
+    os.makedirs(folder, exist_ok=True)
+    for name, (crate, root) in MADE.items():
+        words = [*proved_build.crate_words(kit, listed, crate), *root, "--target", TARGET]
+        words += ["--toolchain", f"{kit}/toolchain", "-o", f"{folder}/{name}"]
+        subprocess.run(words, cwd=f"{kits.TOP}/crates/{crate}", check=True)
+
+
+if __name__ == "__main__":
+    main()

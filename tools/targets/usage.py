@@ -1,0 +1,35 @@
+#!/usr/bin/env python3
+"""Notes what the program prints of its use, for the command in node: tools/targets/usage.py PROGRAM OUT.json
+
+OUT gets an object: the usage text of all commands under "", and that of each command under its name.
+"""
+import json
+import re
+import subprocess
+import sys
+
+
+def printed(*words):
+    """What the program prints if it is done, else what it complains."""
+    ran = subprocess.run(words, capture_output=True, text=True, check=False)
+    return ran.stdout if ran.returncode == 0 else ran.stderr.removeprefix("dimacs: usage\n")
+
+
+def without_explain(text):
+    """The command in node doesn't explain refusals."""
+    return re.sub(r"^ +explain .*\n", "", text, flags=re.MULTILINE)
+
+
+def main():
+    program, out = sys.argv[1:]
+    texts = {"": without_explain(printed(program, "help"))}
+    for name in re.findall(r"^ +([a-z]+-?[a-z]*) [A-Z]", texts[""], re.MULTILINE):
+        text = printed(program, "help", name)
+        if text.partition("\n")[0] != texts[""].partition("\n")[0]:
+            texts[name] = text
+    with open(out, "w", encoding="utf-8") as it:
+        json.dump(texts, it, indent=1)
+
+
+if __name__ == "__main__":
+    main()
