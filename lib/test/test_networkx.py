@@ -335,6 +335,16 @@ class Distances(Networkx):
             self.assertEqual((it.arc, it.node, it.reason), wanted)
 
 
+    def test_a_distance_at_the_limit(self):
+        """A node that isn't reached has no entry, or inf: no number stands for that."""
+        graph = networkx.DiGraph([("a", "b")])
+        graph.add_node("alone")
+        graph.edges["a", "b"]["weight"] = 2**63 - 1
+        for distances in ({"a": 0, "b": 1, "alone": 2**63 - 1}, {"a": 0, "b": 2**63 - 1}):
+            it = self.refused(ValueError, dimacs.certify_networkx_paths, graph, "a", distances)
+            self.assertIn("9223372036854775807", str(it))
+
+
 class Misuse(Networkx):
     def test_what_does_not_belong_to_the_graph(self):
         graph = pipes()

@@ -24,6 +24,9 @@ from .buffers import LIMIT, NUMBERS, converted, is_bool, number_of, unlabelled
 #: there were no limit, and so it is as good as it would be then.
 _UNLIMITED = 2**63 - 1
 
+#: A distance is less than the number that arrays have for a node that isn't reached.
+_DISTANCES = NUMBERS._replace(greatest=UNREACHED - 1)
+
 #: A demand is a supply negated.
 _DEMANDS = NUMBERS._replace(least=-NUMBERS.greatest, greatest=-NUMBERS.least)
 
@@ -88,6 +91,11 @@ class _Graph:
         for node in values:
             self.number(node)
         return [values.get(node, missing) for node in self.nodes]
+
+    def distances(self, claimed: Any) -> list[int]:
+        """The distance of each node. Whether a node is reached is said by an entry: a number never says that it isn't."""
+        found = self.by_node(claimed, math.inf, "distances")
+        return [UNREACHED if it == math.inf else number_of(it, _DISTANCES, "distances") for it in found]
 
     def inside(self, side: Any) -> list[bool]:
         """Whether each node is on this side: one of these nodes, or one that a dict maps to True."""
@@ -250,11 +258,12 @@ def certify_networkx_paths(graph: Any, source: Any, distances: Any) -> Certified
     """Decides whether these are the distances from a source, a dict by node. Returns a dict of predecessors.
 
     A node that isn't in the dict, or has inf there, is claimed to be unreachable. The predecessor of each node that is
-    reached is on a shortest path to it; that of the source is None. Raises Refused if a distance isn't true.
+    reached is on a shortest path to it; that of the source is None. Raises Refused if a distance isn't true, and ValueError
+    if one isn't below 2^63 - 1.
     """
     given = _Graph(graph)
     weights = given.weights(1)
-    by_node = given.by_node(distances, UNREACHED, "distances")
+    by_node = given.distances(distances)
     with given.names():
         words = len(given.nodes), given.tails, given.heads, weights, given.number(source), by_node
         predecessors = arrays.certify_paths_arrays(*words).predecessors
