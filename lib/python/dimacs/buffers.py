@@ -230,6 +230,12 @@ def array_of(numbers: Any, items: Items, name: str) -> Buffer:
     return _from_view(view, items)
 
 
+def list_of(numbers: Any, items: Items, name: str) -> list[int]:
+    """The items of an array as ints."""
+    buffer = array_of(numbers, items, name)
+    return array.array(items.code, ctypes.string_at(buffer.address, buffer.length * items.width)).tolist()
+
+
 def number_of(number: Any, items: Items, name: str) -> int:
     """A single number."""
     whole = number if type(number) is int else _whole(number, items, name)
