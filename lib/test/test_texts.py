@@ -178,9 +178,9 @@ class Spreads(unittest.TestCase):
     def test_forms_of_arrays(self):
         numbers = (ctypes.c_int64 * 3)(3, 5, 4)
         self.assertEqual(dimacs.spread_max_arrays(2.0, 1.0, 2, [1, 1, 2], [2, 2, 1], numbers, [1.0], [2], [6]), [3, 3, 0])
-        with self.assertRaisesRegex(TypeError, "nodes has '2'"):
+        with self.assertRaisesRegex(TypeError, "nodes is '2', not a number"):
             dimacs.spread_max_arrays("2", 1, 2, [], [], [], [], [], [])
-        with self.assertRaisesRegex(ValueError, "sink has 4294967296"):
+        with self.assertRaisesRegex(ValueError, "sink is 4294967296, not"):
             dimacs.spread_max_arrays(2, 1, 2**32, [], [], [], [], [], [])
 
     def test_limits_of_arrays(self):

@@ -11,7 +11,7 @@ from typing import Any, Iterator
 
 from . import texts
 from .answers import PastLimit, Refused
-from .arrays import MOST_NODES
+from .given import MOST_NODES
 from .buffers import IDS, NUMBERS, Items, Room, list_of, number_of
 
 _MAX_ARCS = ("tails", IDS), ("heads", IDS), ("caps", NUMBERS)

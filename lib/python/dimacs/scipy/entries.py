@@ -7,25 +7,24 @@ from typing import Any, Callable, NamedTuple
 import numpy as np
 from scipy import sparse
 
+from ..buffers import whole_floats
+
 
 def whole(values: Any, rows: Any, columns: Any) -> Any:
     """Values as integers of 64 bits. Raises ValueError that names the place of the first that is none."""
     kind = values.dtype.kind
     if kind == "f":
-        values = values.astype(np.result_type(values.dtype, np.float64), copy=False)  # float16 has no 2^63
-        # The ends of the range are exact as floats, but the last number in it isn't.
-        fits = (values >= -(2.0**63)) & (values < 2.0**63) & (values == np.floor(values))
-    elif kind == "u":
-        fits = values <= np.uint64(2**63 - 1)
-    elif kind in "ib":
-        return values.astype(np.int64)
+        found, fits = whole_floats(np, values)
+    elif kind in "uib":
+        found = values.astype(np.int64)
+        fits = found >= 0 if kind == "u" else np.ones(len(values), bool)
     else:
         raise TypeError(f"the graph has entries of {values.dtype}, which are no numbers")
     if not fits.all():
         entry = int(np.argmin(fits))
         place = int(rows[entry]), int(columns[entry])
-        raise ValueError(f"the entry at {place} is {values[entry]}, and has to be a whole number of 64 bits")
-    return values.astype(np.int64)
+        raise ValueError(f"the entry at {place} is {values[entry]}, not a whole number of 64 bits")
+    return found
 
 
 class Sums(NamedTuple):

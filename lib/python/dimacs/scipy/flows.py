@@ -3,17 +3,21 @@
 from __future__ import annotations
 
 import operator
-from contextlib import contextmanager
-from typing import Any, Iterator
+from dataclasses import dataclass
+from typing import Any
 
 import numpy as np
+from numpy.typing import NDArray
 from scipy import sparse
 
-from ..answers import Certified, GaveUp, NotOptimal, PastLimit, Refused
-from ..arrays import certify_max_arrays, solve_max_arrays
-from .entries import Places, entries_of, matrix_of, numbers_of, whole
+from .. import calls, library
+from ..answers import Certified, GaveUp, NotOptimal, Refused
+from ..buffers import LIMIT, LIMITS
+from ..given import FLOWS, INSIDE, MAX, Given, Names
+from .entries import Places, entries_of, matrix_of, whole
 
 
+@dataclass(repr=False)
 class MaximumFlowResult:
     """A maximum flow as SciPy returns it, with a cut that shows it.
 
@@ -21,13 +25,23 @@ class MaximumFlowResult:
     from j to i, and inside has for each vertex whether it is on the source's side of the cut.
     """
 
-    def __init__(self, flow_value: Any, flow: Any, inside: Any) -> None:
-        self.flow_value = flow_value
-        self.flow = flow
-        self.inside = inside
+    flow_value: Any
+    flow: Any
+    inside: NDArray[np.bool_]
 
     def __repr__(self) -> str:
         return f"MaximumFlowResult with value of {self.flow_value}"
+
+
+class _EntryNames(Names):
+    """Vertices by their numbers, from 0, and an arc by its two."""
+
+    def __init__(self, tails: Any, heads: Any) -> None:
+        super().__init__(0)
+        self._ends = tails, heads
+
+    def arc(self, place: int) -> Any:
+        return tuple(int(it[place]) for it in self._ends)
 
 
 class _Network:
@@ -54,10 +68,10 @@ class _Network:
             arc = int(np.argmax(self.caps < 0))
             raise ValueError(f"the capacity from {self.tails[arc]} to {self.heads[arc]} is {self.caps[arc]}")
 
-    def words(self) -> tuple[Any, ...]:
-        """The arguments of calls over arrays, whose vertices are numbered from 1."""
-        ends = self.source + 1, self.sink + 1, numbers_of(self.tails), numbers_of(self.heads)
-        return self.vertices, *ends, self.caps
+    def given(self) -> Given:
+        """The arguments of calls over arrays."""
+        names = _EntryNames(self.tails, self.heads)
+        return Given(MAX, self.vertices, self.source, self.sink, self.tails, self.heads, self.caps, names=names)
 
     def matrix(self, flows: Any) -> Any:
         """A flow as SciPy has it: of 32 bits if all capacities and all of its sums fit those."""
@@ -69,19 +83,6 @@ class _Network:
         kind = np.int32 if most <= np.iinfo(np.int32).max else np.int64
         return self.form(matrix_of(places, amounts.astype(kind), self.vertices))
 
-    @contextmanager
-    def names(self) -> Iterator[None]:
-        """Exceptions raised inside name vertices as the matrix does, and edges by the two."""
-        try:
-            yield
-        except NotOptimal as it:
-            raise NotOptimal(it.reason, self.matrix(it.better), text=it.text, line=it.line, field=it.field) from None
-        except (Refused, PastLimit) as it:
-            if it.arc is not None:
-                arc = it.arc - 1
-                raise type(it)(it.reason, arc=(int(self.tails[arc]), int(self.heads[arc]))) from None
-            raise type(it)(it.reason, node=None if it.node is None else it.node - 1) from None
-
 
 def maximum_flow(csgraph: Any, source: int, sink: int, *, method: str = "dinic") -> MaximumFlowResult:
     """A maximum flow between two vertices, as scipy.sparse.csgraph.maximum_flow returns it, judged by a cut.
@@ -92,8 +93,7 @@ def maximum_flow(csgraph: Any, source: int, sink: int, *, method: str = "dinic")
     given = _Network(csgraph, source, sink)
     if method not in ("edmonds_karp", "dinic"):
         raise ValueError(f"{method} method is not supported yet.")
-    with given.names():
-        value, flows, inside = solve_max_arrays(*given.words())
+    value, flows, inside = calls.solve_max(given.given().add_number("limit", LIMIT, LIMITS), given.caps)
     shown = np.int64(value) if value <= np.iinfo(np.int64).max else value
     return MaximumFlowResult(shown, given.matrix(flows), inside)
 
@@ -108,10 +108,15 @@ def certify_maximum_flow(csgraph: Any, source: int, sink: int, flow: Any) -> Cer
     """
     given = _Network(csgraph, source, sink)
     given.tails, given.heads, given.caps, flows = _by_pair(given, getattr(flow, "flow", flow))
-    with given.names():
-        value, inside = certify_max_arrays(*given.words(), flows)
-    if getattr(flow, "flow_value", value) != value:
-        raise Refused("ValueDiffers", text="solution", line=0, field=0)
+    try:
+        value, inside = calls.certify(library.certify_max_arrays, given.given().add(FLOWS, flows), flows, INSIDE, FLOWS)
+    except NotOptimal as it:
+        it.better = given.matrix(it.better)
+        raise
+    claimed = getattr(flow, "flow_value", value)
+    if claimed != value:
+        numbers = {"claimed": claimed, "value": value}
+        raise Refused("ValueDiffers", text="solution", line=0, field=0, numbers=numbers)
     return Certified(value, inside)
 
 
