@@ -69,7 +69,12 @@ def solve_min(given: Given, came: Any) -> Solved:
     limitless = given.limitless()
     if limitless:
         given.bound_limitless()
-    found, (flows, prices, inside) = _solve(library.solve_min_arrays, given, words, FLOWS, POTENTIALS, INSIDE)
+    try:
+        found, (flows, prices, inside) = _solve(library.solve_min_arrays, given, words, FLOWS, POTENTIALS, INSIDE)
+    except GaveUp:
+        if limitless:
+            _test_bounded_min(given)
+        raise
     if found.kind == "infeasible":
         raise Infeasible(_found_set(given, inside, came))
     costs, potentials = given.column(COSTS), prices.items()
