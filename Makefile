@@ -32,9 +32,13 @@ check: quick
 	@tools/kit.py >/dev/null
 	@tests/check.py build/quick
 
-## make prove: the gate: proves all from nothing, has wrong bodies refused, and runs the tests over what is proved
+## make prove: the gate: proves all from nothing, has a tenth of the wrong bodies refused, and runs the tests over it
 prove:
 	.ci/gate
+
+## make prove-all: the same with all wrong bodies
+prove-all:
+	.ci/gate all
 
 # These leave what was built of the same sources as it is (tools/sources.py), which times alone don't show.
 build/quick/dimacs build/quick/dimacs.bc &: FORCE
@@ -121,4 +125,4 @@ include targets.mk
 
 # Of these, what a failed proof leaves is whole, and of the sources that are noted beside it.
 .PRECIOUS: build/dimacs build/dimacs_c.a build/dimacs_c.bc %/dimacs.o %/libdimacs.so.0
-.PHONY: all help quick check prove proved-by-ci install dist proved-only bench clean FORCE
+.PHONY: all help quick check prove prove-all proved-by-ci install dist proved-only bench clean FORCE

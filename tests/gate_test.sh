@@ -157,6 +157,24 @@ printf '#!/bin/sh\necho installed\n' >"$room/debian/dpkg-query"
 printf '#!/bin/sh\nexit 1\n' >"$room/debian/apt-get"
 prints OK env PATH="$room/debian:$PATH" "$one/.ci/run"
 
+# How a check names the function of an impl, and a tenth of 31 wrong bodies, which is the same for a seed.
+python '
+import types, more_must_fail as it
+owners = {
+    "impl NodeTable {": "NodeTable",
+    "impl MinInstance<PlainArcs<ArcView>> {": "MinInstance+PlainArcs+ArcView",
+    "impl<\x27a> Files for SystemFiles<\x27a> {": "SystemFilesFiles",
+    "impl<T: Copy> Items<T> for Vec<T> {": "VecItems",
+    "impl<S: Short, L: Items<S::Long>> Items<S::Long> for List<S, L> {": "ListItemsLong",
+    "impl OfCostArcs for PlainArcs<ArcView> {": "PlainArcsArcViewOfCostArcs",
+    "impl From<io::Error> for Memory {": "MemoryFromError",
+    "pub trait Network {": "Network",
+}
+assert {block: it.owner_of(block) for block in owners} == owners
+every = [types.SimpleNamespace(name=str(n), functions=[n], result=None) for n in range(31)]
+first, again, other = (it.tenth_of(list(every), seed) for seed in ("a", "a", "b"))
+print("OK" if len(first) == 4 and first == again != other else [first, again, other])'
+
 # What was built is that of the sources only as long as none of them changes, whatever its time.
 kit=$room/kit
 mkdir -p "$kit/bin" "$kit/c"

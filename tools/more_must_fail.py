@@ -1,27 +1,30 @@
 #!/usr/bin/env python3
-"""Tries the edits that the gate leaves out for want of time: tools/more_must_fail.py [--apply] [--kept] [CRATE..]
+"""Has wrong bodies refused: tools/more_must_fail.py [--apply] [--tenth SEED] [--over-ci] [CRATE..]
 
-They stand in crates/CRATE/more-must-fail, and all must be refused. Without a crate's name all of them are tried.
+They are mistakes made on purpose, and a contract has to refuse each. Without a crate's name those of all are tried. With
+--tenth it is a tenth of each crate's, which SEED picks, without those that take a proof of the whole crate.
 
-Most edits are tried on a twin: the function stays as it is, and after it, under another name, comes one with its
-contract, its proof files and the edited body. So one check of a copy of the crate tries many edits, and reports for
-each twin if it is proved. A method of a trait can have no twin: it is edited in place, each method once in a check.
-An edit that such a check doesn't report is tried alone, as is one that doesn't lie in the body of one function.
+One check of a copy of a crate tries many. Most are tried on a twin: the function stays as it is, and after it, under
+another name, comes one with its contract, its proof files and the wrong body. A method of a trait can have no twin, nor
+can several functions: they are edited in place, each function once in a check. The check asks for the twins and for
+what was edited alone. What lies outside of functions is tried by a check of the whole crate, as is what the first check
+doesn't report.
 
-An edit is refused if the proof of the function that it changes fails. It fails this script if it is proved, and
-where it is bad: it can't be applied or compiled, or the proof fails only since a proof file names what the edit took
-away.
+A wrong body is refused if the proof of the function fails. It fails this script if it is proved, and where it is bad: it
+can't be applied or compiled, or the proof fails only since a proof file names what the edit took away.
 
-The checks go over what rt check keeps of a crate, which is run first; with --kept they go over what is there. What they
-print is kept in crates/CRATE/out/more-must-fail.
+The checks go over the libraries below, which rt check builds if they aren't there; with --over-ci over those that rt ci
+left. What they print is kept in crates/CRATE/out/wrong-bodies.
 
-With --apply nothing is tried. These edits, and those in must-fail, are applied: each old text has to stand once in its
-file.
+With --apply nothing is tried, and what shows nothing is refused: its old text doesn't stand once in the file, or it
+doesn't parse, or changes no code.
 """
+import argparse
 import collections
 import concurrent.futures
 import functools
 import glob
+import hashlib
 import os
 import re
 import shutil
@@ -34,9 +37,12 @@ import kit as kits
 
 TOP = os.path.dirname(os.path.dirname(os.path.abspath(__file__)))
 
-# The checks that run at once, and the twins in one of them.
-JOBS = 2
-TWINS = 48
+# How the folders of the trials are named, for tools/gate_times.py.
+ROOM = "wrong-bodies-"
+
+# The checks that run at once, and the edits in one of them.
+JOBS = os.cpu_count()
+EDITS = 48
 
 REFUSED, PROVED, BAD = "refused", "proved", "bad"
 
@@ -82,24 +88,53 @@ def functions(lines):
                 yield Function(head, first, last, name, block if indent else "")
 
 
-def type_of(block):
-    """The type that an impl is for."""
-    while "<" in block:
-        block, before = re.sub(r"<[^<>]*>", "", block.replace("->", "")), block
-        if block == before:
+def parted(block):
+    """The parameters of an impl, and what stands after them, without lifetimes and the modules of names."""
+    text = re.sub(r"^(?:unsafe )?impl|\{$", "", re.sub(r"\w+::|&|'\w+", "", block.partition(" where ")[0]))
+    depth = 0
+    for at, char in enumerate(text):
+        depth += (char == "<") - (char == ">")
+        if depth == 0:
             break
-    return re.sub(r".*\bfor\b|\bimpl\b|\{.*", "", block).split(" where ")[0].strip().split("::")[-1]
+    given, rest = text[1:at], text[at:] if at == 0 else text[at + 1 :]
+    while re.search(r"<[^<>]*>", given):
+        given = re.sub(r"<[^<>]*>", "", given)
+    return {re.sub(r"^const ", "", it.strip()).partition(":")[0] for it in given.split(",")}, rest
+
+
+def owner_of(block):
+    """What a check names an impl or a trait: `Trait`, `Type+Its+Types`, or `TypeItsTypesTraitItsTypes`."""
+    trait = re.match(r"(?:pub )?(?:unsafe )?trait (\w+)", block)
+    if trait:
+        return trait[1]
+    parameters, rest = parted(block)
+    head, is_of_trait, kind = rest.partition(" for ")
+    names = [[it[0].upper() + it[1:] for it in re.findall(r"\w+", text) if it not in parameters] for text in (kind, head)]
+    return "".join(names[0] + names[1]) if is_of_trait else "+".join(names[1])
+
+
+class Place(collections.namedtuple("Place", "file function")):
+    """A function in a file of a crate."""
+
+    def is_of_trait(self):
+        return bool(re.search(r"\bfor\b|\btrait\b", re.sub(r"for<", "", self.function.block)))
+
+    def path(self, name):
+        """The function under this name, as a check names it: of a method, whose type may be of another module, the end."""
+        parts = self.file[len("src/") : -len(".rt")].split("/")
+        owner = owner_of(self.function.block) if self.function.block else ""
+        return [owner, name] if owner else [*([] if parts == ["lib"] else parts), name]
 
 
 class Edit:
-    """A wrong body: what it makes of the crate's files, and the function that it changes, if it is one."""
+    """A wrong body: what it makes of the crate's files, and the functions that it changes, if it changes nothing else."""
 
     def __init__(self, crate, body):
         self.crate, self.body, self.name = crate, body, body.name
-        self.function = self.file = self.result = self.why = None
+        self.functions, self.result, self.why = [], None, None
         try:
             self.texts = body.applied(f"{TOP}/crates/{crate}")
-            self.find_function()
+            self.find_functions()
         except bodies.Fault as fault:
             self.settle(BAD, str(fault))
 
@@ -108,45 +143,36 @@ class Edit:
 
     def log(self):
         """A new file for the output of a check."""
-        return f"{TOP}/crates/{self.crate}/out/more-must-fail/{self.name}.{os.urandom(2).hex()}.txt"
+        return f"{TOP}/crates/{self.crate}/out/wrong-bodies/{self.name}.{os.urandom(2).hex()}.txt"
 
     def lines_of(self, file):
         """The lines of a file as they are, and as the edit makes them: as many, since each of its texts is one line."""
         return text_of(f"{TOP}/crates/{self.crate}/{file}").split("\n"), self.texts[file].split("\n")
 
-    def find_function(self):
+    def find_functions(self):
         found = set()
         for file in self.texts:
             was, now = self.lines_of(file)
             every = list(functions(was))
             for number, line in enumerate(was):
                 if line != now[number]:
-                    around = [it for it in every if it.first <= number <= it.last]
-                    found.add((file, around[-1]) if around else None)
-        if len(found) == 1 and None not in found:
-            self.file, self.function = found.pop()
+                    around = [Place(file, it) for it in every if it.first <= number <= it.last]
+                    found.add(around[-1] if around else None)
+        if None not in found:
+            self.functions = sorted(found)
 
-    def is_trait(self):
-        return bool(re.search(r"\bfor\b|\btrait\b", re.sub(r"for<", "", self.function.block)))
-
-    def module(self):
-        """The module of the function, as a list."""
-        parts = self.file[len("src/") : -len(".rt")].split("/")
-        return [] if parts == ["lib"] else parts
-
-    def path_of(self, name):
-        """The path of the function, under this name, as the folders of proofs have it."""
-        kind = type_of(self.function.block)
-        return [*self.module(), *([kind] if kind else []), name]
+    def may_have_twin(self):
+        """Whether it changes one function alone, of no trait."""
+        return len(self.functions) == 1 and not self.functions[0].is_of_trait()
 
 
 class Trial:
-    """A copy of a crate with some edits in it: what each edit's function is named there, and which lines it has."""
+    """A copy of a crate with some edits in it: the paths of what each changed there, and where it stands."""
 
     def __init__(self, crate, room):
         self.crate, self.room = crate, room
         self.folder = f"{TOP}/crates/{crate}"
-        self.names, self.places = {}, {}
+        self.paths, self.lines = {}, {}
         for part in ("src", "specs", "proofs"):
             if os.path.isdir(f"{self.folder}/{part}"):
                 shutil.copytree(f"{self.folder}/{part}", f"{room}/{part}")
@@ -156,67 +182,64 @@ class Trial:
             write(f"{self.room}/{file}", text)
 
     def put_in_place(self, edit):
-        """Gives the edited function its new body."""
-        own, file = edit.function, f"{self.room}/{edit.file}"
-        lines, edited = text_of(file).split("\n"), edit.lines_of(edit.file)[1]
-        lines[own.first : own.last] = edited[own.first : own.last]
-        write(file, "\n".join(lines))
-        self.names[edit], self.places[edit] = own.name, range(own.head + 1, own.last + 2)
+        """Gives the edited functions their new bodies."""
+        for file, own in edit.functions:
+            lines, edited = text_of(f"{self.room}/{file}").split("\n"), edit.lines_of(file)[1]
+            lines[own.first : own.last] = edited[own.first : own.last]
+            write(f"{self.room}/{file}", "\n".join(lines))
+        self.paths[edit] = [it.path(it.function.name) for it in edit.functions]
 
     def put_twins(self, edits):
         """Puts a twin of each edited function right after it."""
         for number, edit in enumerate(edits):
-            self.names[edit] = f"{edit.function.name}_edit_{number}"
-            self.copy_proofs(edit)
-        for file in {it.file for it in edits}:
-            here, lines = [it for it in edits if it.file == file], []
+            (place,) = edit.functions
+            name = f"{place.function.name}_edit_{number}"
+            self.paths[edit] = [place.path(name)]
+            self.copy_proofs(place, name)
+        for file in {it.functions[0].file for it in edits}:
+            here, lines = [it for it in edits if it.functions[0].file == file], []
             for number, line in enumerate(text_of(f"{self.room}/{file}").split("\n")):
                 lines.append(line)
-                for edit in (it for it in here if it.function.last == number):
+                for edit in (it for it in here if it.functions[0].function.last == number):
                     first = len(lines) + 1
-                    lines += twin_of(edit, self.names[edit])
-                    self.places[edit] = range(first, len(lines) + 1)
+                    lines += twin_of(edit, self.paths[edit][0][-1])
+                    self.lines[edit] = file, range(first, len(lines) + 1)
             write(f"{self.room}/{file}", "\n".join(lines))
 
-    def copy_proofs(self, edit):
+    def copy_proofs(self, place, name):
         """Gives a twin the proof files of its function."""
-        own, twin = edit.path_of(edit.function.name), edit.path_of(self.names[edit])
-        folder = "/".join([self.folder, "proofs", *own])
-        for file in glob.glob(f"{folder}/**/*.antt", recursive=True):
-            text = text_of(file).replace(f".proofs.{'.'.join(own)}.", f".proofs.{'.'.join(twin)}.")
-            write("/".join([self.room, "proofs", *twin, os.path.relpath(file, folder)]), text)
+        end, proofs = "/".join(place.path(place.function.name)), f"{self.folder}/proofs"
+        for folder in glob.glob(f"{proofs}/**/{end}", recursive=True):
+            own = os.path.relpath(folder, proofs)
+            twin = f"{os.path.dirname(own)}/{name}"
+            modules = [f".proofs.{it.replace('/', '.')}." for it in (own, twin)]
+            for file in glob.glob(f"{folder}/**/*.antt", recursive=True):
+                write(f"{self.room}/proofs/{twin}/{os.path.relpath(file, folder)}", text_of(file).replace(*modules))
 
-    def is_at(self, edit, file, line):
-        return edit.file == file and line in self.places[edit]
+    def edits_at(self, file, line):
+        """The edits that an error there may be of: a twin, or what is edited in place in that file."""
+        twins = [it for it, (its_file, lines) in self.lines.items() if its_file == file and line in lines]
+        others = [it for it in self.paths if it not in self.lines]
+        return twins or [it for it in others if file in {place.file for place in it.functions}]
 
     def check(self, log):
-        """Checks the copy over what was kept of the crate."""
-        kept = f"{self.folder}/out/incremental"
-        shutil.copytree(kept, f"{self.room}/kept", copy_function=link)
-        words = [*check_words(self.crate), "--incremental", f"{self.room}/kept", "--jobs", "1"]
+        """Checks what is edited in the copy, or all of it."""
+        words = [*check_words(self.crate), "--jobs", "1"]
+        for path in (it for paths in self.paths.values() for it in paths):
+            words += ["--only", "::".join(path)]
         write(log, "")
         with open(log, "w", encoding="utf-8") as out:
             started = subprocess.Popen(words, cwd=self.room, stdin=subprocess.DEVNULL, stdout=out, stderr=out)
             _, status, used = os.wait4(started.pid, 0)
-        started.returncode = status
+        started.returncode = os.waitstatus_to_exitcode(status)
         minutes = collections.Counter({self.crate: (used.ru_utime + used.ru_stime) / 60})
-        return Report(status, text_of(log), minutes)
-
-
-def link(one, other):
-    """Copies a file that a check kept. It replaces such a file, and changes none."""
-    if one.endswith(".oantt"):
-        try:
-            return os.link(one, other)
-        except OSError:  # the folder of the trials is on another file system
-            pass
-    return shutil.copy2(one, other)
+        return Report(started.returncode, text_of(log), minutes)
 
 
 def twin_of(edit, name):
     """The lines of the edited function under another name, with the attributes above it."""
-    _, lines = edit.lines_of(edit.file)
-    own = edit.function
+    file, own = edit.functions[0]
+    _, lines = edit.lines_of(file)
     above = own.head
     while lines[above - 1].strip().startswith("#["):
         above -= 1
@@ -224,38 +247,34 @@ def twin_of(edit, name):
     return ["", *lines[above : own.head], head, *lines[own.head + 1 : own.last + 1]]
 
 
-def uses():
-    """The libraries that each crate uses, by crates.txt."""
-    lines = [it.partition(":") for it in text_of(f"{TOP}/crates.txt").splitlines() if ":" in it]
-    return {name.split()[0]: (used.split(), "staticlib" in name) for name, _, used in lines}
-
-
 def check_words(crate):
     """The command that checks a crate in the current folder, over the libraries of this checkout."""
-    kit = os.path.dirname(subprocess.run(["rt", "doc"], stdout=subprocess.PIPE, text=True, check=True).stdout.strip())
-    used, is_static = uses()[crate]
-    words = [f"{kit}/bin/rattle", "check", "--crate-name", crate, "src/lib.rt", "-L", f"dependency={kit}/rlibs"]
-    for name in ["std", *used]:
-        folder = f"{TOP}/crates/{name}/out/rlib" if name in uses() else f"{kit}/rlibs"
+    kit, listed = kits.folder("bin/rattle"), kits.crates()
+    root = "src/main.rt" if os.path.exists(f"{TOP}/crates/{crate}/src/main.rt") else "src/lib.rt"
+    words = [f"{kit}/bin/rattle", "check", "--crate-name", crate, root, "-L", f"dependency={kit}/rlibs"]
+    for name in ["std", *listed[crate]]:
+        folder = f"{TOP}/crates/{name}/out/rlib" if name in listed else f"{kit}/rlibs"
         words += ["--extern", f"{name}={folder}/{name}.rlib"]
-    for name in uses():
+    for name in kits.below(listed, crate):
         words += ["-L", f"dependency={TOP}/crates/{name}/out/rlib"]
-    words += ["--crate-type", "staticlib"] if is_static else []
+    words += ["--crate-type", "staticlib"] if re.search(rf"^{crate} staticlib", text_of(f"{TOP}/crates.txt"), re.M) else []
     return words + ["--antt-project", f"{kit}/rattle/logic/antt-project.json", "--logic-built", f"{kit}/logic_built"]
 
 
-def judge(edit, name, report):
-    """Settles an edit by what a check reports of the function that it changed, under the name that this has there."""
-    *above, _ = edit.path_of(name)
-    ends = r"\w*" if edit.is_trait() else ""
-    verdicts = re.findall(rf"^fn {'::'.join([edit.crate, *above])}{ends}::{name}: (.*)", report.text, re.M)
-    if verdicts == ["proved"]:
+def judge(edit, paths, report):
+    """Settles an edit by what a check reports of the functions that it changed, at the paths that these have there."""
+    verdicts, errors = [], []
+    for path in paths:
+        found = re.findall(rf"^fn \S*::{re.escape('::'.join(path))}: (.*)", report.text, re.M)
+        verdicts += found if len(found) == 1 else [""]
+        errors += [why for file, why in PROOF_ERROR.findall(report.text) if f"/{'/'.join(path)}/" in file]
+    without = [it for it in verdicts if it.startswith("no proof: expected answers in")]
+    if without:
+        edit.settle(REFUSED, without[0])
+    elif any(it.startswith("not proved") for it in verdicts):
+        judge_errors(edit, errors)
+    elif all(it == "proved" for it in verdicts):
         edit.settle(PROVED)
-    elif len(verdicts) == 1 and verdicts[0].startswith("no proof: expected answers in"):
-        edit.settle(REFUSED, verdicts[0])
-    elif len(verdicts) == 1 and verdicts[0].startswith("not proved"):
-        folder = f"proofs/{'/'.join(above)}{ends}/{name}/"
-        judge_errors(edit, [why for file, why in PROOF_ERROR.findall(report.text) if re.match(folder, file)])
 
 
 def judge_errors(edit, errors):
@@ -267,35 +286,35 @@ def judge_errors(edit, errors):
         edit.settle(BAD, f"a proof file names what it took away{errors[0]}")
 
 
-def try_together(edits, are_twins):
-    """Tries edits of one function each by one check, and answers the minutes by crate. It may leave some unsettled."""
+def try_together(edits):
+    """Tries edits of functions by one check, and answers the minutes by crate. It may leave some unsettled."""
     crate = edits[0].crate
-    with tempfile.TemporaryDirectory() as room:
+    with tempfile.TemporaryDirectory(prefix=ROOM) as room:
         trial = Trial(crate, room)
-        if are_twins:
-            trial.put_twins(edits)
-        for edit in [] if are_twins else edits:
+        for edit in (it for it in edits if not it.may_have_twin()):
             trial.put_in_place(edit)
+        trial.put_twins([it for it in edits if it.may_have_twin()])
         report = trial.check(edits[0].log())
     for file, line, why in CODE_ERROR.findall(report.text):
-        for edit in (it for it in edits if trial.is_at(it, file, int(line))):
+        for edit in trial.edits_at(file, int(line)):
             edit.settle(BAD, f"error{why}")
     rest = [it for it in edits if it.result is None]
     if len(rest) == len(edits):
         for edit in edits:
-            judge(edit, trial.names[edit], report)
+            judge(edit, trial.paths[edit], report)
     elif rest:
-        return report.minutes + try_together(rest, are_twins)
+        return report.minutes + try_together(rest)
     return report.minutes
 
 
 def try_alone(edit):
     """Tries one edit by a check of the crate with it, and answers the minutes by crate."""
-    with tempfile.TemporaryDirectory() as room:
+    with tempfile.TemporaryDirectory(prefix=ROOM) as room:
         trial = Trial(edit.crate, room)
         trial.put_whole(edit)
         report = trial.check(edit.log())
     without = NO_PROOF.findall(report.text)
+    edit.settle(None)
     if report.status == 0:
         edit.settle(PROVED)
     elif without:
@@ -303,21 +322,24 @@ def try_alone(edit):
     else:
         judge_errors(edit, [why for _, why in PROOF_ERROR.findall(report.text)])
     if edit.result is None:
-        edit.settle(BAD, report.text[:300])
+        edit.settle(BAD, report.text[-300:])
     return report.minutes
 
 
 def groups_of(edits):
-    """The edits of a crate that are tried by one check each: (edits, whether they are twins)."""
-    twins = [it for it in edits if it.function and not it.is_trait()]
-    for at in range(0, len(twins), TWINS):
-        yield twins[at : at + TWINS], True
-    placed = collections.defaultdict(list)
-    for edit in edits:
-        if edit.function and edit.is_trait():
-            placed[edit.file, edit.function.head].append(edit)
-    while any(placed.values()):
-        yield [its.pop() for its in placed.values() if its], False
+    """The edits of a crate that are tried by one check each: those that have no twin change different functions."""
+    twins = [it for it in edits if it.may_have_twin()]
+    others = [it for it in edits if it.functions and not it.may_have_twin()]
+    while twins or others:
+        changed, group = set(), []
+        for edit in others[:]:
+            if changed.isdisjoint(edit.functions) and len(group) < EDITS:
+                changed |= set(edit.functions)
+                group.append(edit)
+                others.remove(edit)
+        room = EDITS - len(group)
+        group, twins = group + twins[:room], twins[room:]
+        yield group
 
 
 def run(trials):
@@ -328,9 +350,9 @@ def run(trials):
 
 def try_all(edits):
     """Tries edits, and answers the minutes by crate."""
-    crates = sorted({it.crate for it in edits})
+    crates = dict.fromkeys(it.crate for it in edits)
     left = {crate: [it for it in edits if it.crate == crate and not it.result] for crate in crates}
-    minutes = run(functools.partial(try_together, *it) for crate in crates for it in groups_of(left[crate]))
+    minutes = run(functools.partial(try_together, it) for crate in crates for it in groups_of(left[crate]))
     return minutes + run(functools.partial(try_alone, it) for it in edits if not it.result)
 
 
@@ -340,7 +362,7 @@ def print_results(edits, minutes):
         if it.result != REFUSED:
             print(f"{it.crate}: {it.name}: {it.result.upper()}{': ' + it.why if it.why else ''}")
     print(f"{'crate':20} edits  refused  proved  bad  minutes")
-    for crate in sorted({it.crate for it in edits}):
+    for crate in dict.fromkeys(it.crate for it in edits):
         count = collections.Counter(it.result for it in edits if it.crate == crate)
         counts = f"{count.total():5}  {count[REFUSED]:7}  {count[PROVED]:6}  {count[BAD]:3}"
         print(f"{crate:20} {counts}  {minutes[crate]:7.1f}")
@@ -365,22 +387,34 @@ def apply(crates):
     return len(faults) + (not read)
 
 
-def attempt(crates, is_kept):
+def tenth_of(edits, seed):
+    """A tenth of a crate's edits, and one at least: those whose names come first in an order that the seed gives."""
+    quick = [it for it in edits if it.functions or it.result]
+    quick.sort(key=lambda it: hashlib.sha256(f"{seed} {it.name}".encode()).digest())
+    return quick[: -(-len(edits) // 10)]
+
+
+def attempt(crates, seed, is_over_ci):
     """Tries the edits of these crates, and answers how many aren't refused."""
-    edits = [Edit(crate, it) for crate in crates for it in bodies_of(crate)]
-    for crate in [] if is_kept else sorted({it.crate for it in edits}):
+    of_crates = {crate: [Edit(crate, it) for it in bodies_of(crate)] for crate in crates}
+    if seed:
+        print(f"--tenth {seed} tries these again")
+        of_crates = {crate: tenth_of(edits, seed) for crate, edits in of_crates.items()}
+    for crate in [] if is_over_ci else crates:
         subprocess.run(["rt", "check"], cwd=f"{TOP}/crates/{crate}", check=True)
+    edits = [it for edits in of_crates.values() for it in edits]
     return print_results(edits, try_all(edits))
 
 
 def main():
-    flags = {it for it in sys.argv[1:] if it.startswith("--")}
-    if not flags <= {"--apply", "--kept"}:
-        print(__doc__)
-        return 2
-    named = [it for it in sys.argv[1:] if it not in flags]
-    crates = named or [it for it in kits.crates() if bodies_of(it)]
-    failed = apply(crates) if "--apply" in flags else attempt(crates, "--kept" in flags)
+    words = argparse.ArgumentParser(description="Has wrong bodies refused.")
+    words.add_argument("--apply", action="store_true", help="only apply them")
+    words.add_argument("--tenth", metavar="SEED", help="try a tenth of them")
+    words.add_argument("--over-ci", action="store_true", help="over the libraries that rt ci left")
+    words.add_argument("crates", nargs="*", metavar="CRATE")
+    asked = words.parse_args()
+    crates = asked.crates or [it for it in kits.crates() if bodies_of(it)]
+    failed = apply(crates) if asked.apply else attempt(crates, asked.tenth, asked.over_ci)
     return 1 if failed else 0
 
 
