@@ -13,6 +13,8 @@ sys.path.insert(0, os.path.join(os.path.dirname(os.path.abspath(__file__)), "../
 
 from referee import JUDGES, KINDS, RANGE  # noqa: E402
 
+NODE_FIELDS = ["ID", "TAIL", "HEAD", "FROM", "TO", "SOURCE", "PRED"]
+
 # How much numbers are multiplied by.
 SCALES = [1, 1, 1, 1, 2**31, 10**15, 2**60]
 
@@ -23,6 +25,11 @@ def rows(*lines):
 
 def mixed(rng, items):
     return rng.sample(items, len(items))
+
+
+def some_nodes(rng, least):
+    """A number of nodes: mostly few."""
+    return rng.randint(least, rng.choice([7] * 30 + [80]))
 
 
 # ---- right answers
@@ -49,14 +56,14 @@ def cut_rows(rng, nodes, inside):
 def crossing_flow(rng, inside, outside):
     """Paths that cross the cut once, and arcs without flow; now and then a cycle, which enters the cut too."""
     scale, arcs, flow, value = rng.choice(SCALES), [], [], 0
-    for _ in range(rng.randint(0, 3)):
+    for _ in range(rng.randint(0, 3 + len(inside) // 4)):
         path = inside[:1] + rng.sample(inside[1:], rng.randint(0, len(inside) - 1))
         path += rng.sample(outside[:-1], rng.randint(0, len(outside) - 1)) + outside[-1:]
         amount = rng.randint(0, 2) * scale
         value += amount
         arcs += zip(path, path[1:])
         flow += [amount] * (len(path) - 1)
-    for _ in range(rng.randint(0, 4)):
+    for _ in range(rng.randint(0, 4 + len(inside))):
         arcs.append((rng.choice(inside + outside), rng.choice(inside + outside)))
         flow.append(rng.randint(0, 2) if arcs[-1][0] == arcs[-1][1] else 0)
     if rng.random() < 0.1:
@@ -68,7 +75,7 @@ def crossing_flow(rng, inside, outside):
 
 
 def max_texts(rng):
-    nodes = rng.randint(2, 7)
+    nodes = some_nodes(rng, 2)
     order, split = mixed(rng, range(1, nodes + 1)), rng.randint(1, nodes - 1)
     inside, outside = order[:split], order[split:]
     arcs, flow, value = crossing_flow(rng, inside, outside)
@@ -87,11 +94,11 @@ def min_rows(rng, nodes, supplies, arcs):
 
 def min_texts(rng):
     """Bounds about a flow, so that complementary slackness holds; but for a few, with a potential that is off by 1."""
-    nodes, scale = rng.randint(1, 6), rng.choice(SCALES)
+    nodes, scale = some_nodes(rng, 1), rng.choice(SCALES)
     most_cost, most_y = rng.choice([3, 3, 10**15, 2**63 - 1]), rng.choice([3, 3, 2**63, 10**30])
     y = [rng.choice([0, rng.randint(-most_y, most_y)]) for _ in range(nodes + 1)]
     arcs, flow, supplies = [], [], [0] * (nodes + 1)
-    for _ in range(rng.randint(0, 6)):
+    for _ in range(rng.randint(0, 6 if nodes < 8 else 4 * nodes)):
         tail, head = rng.randint(1, nodes), rng.randint(1, nodes)
         costs = [y[tail] - y[head] + rng.randint(-1, 1), most_cost, -most_cost, rng.randint(-most_cost, most_cost)]
         cost = rng.choice([cost for cost in costs if abs(cost) < 2**63])
@@ -112,10 +119,10 @@ def min_texts(rng):
 
 def infeasible_texts(rng):
     """A set whose supply is at a bound of what can flow out of it, or one past it."""
-    nodes, scale, arcs, least, most = rng.randint(1, 6), rng.choice(SCALES), [], 0, 0
+    nodes, scale, arcs, least, most = some_nodes(rng, 1), rng.choice(SCALES), [], 0, 0
     inside = [v for v in range(1, nodes + 1) if rng.random() < 0.5]
     supplies = [rng.randint(-3, 3) * rng.choice([0, scale]) for _ in range(nodes + 1)]
-    for _ in range(rng.randint(0, 5)):
+    for _ in range(rng.randint(0, 5 if nodes < 8 else 4 * nodes)):
         tail, head, low = rng.randint(1, nodes), rng.randint(1, nodes), rng.randint(0, 2) * rng.choice([0, scale])
         cap = low + rng.randint(0, 3)
         arcs.append((tail, head, low, cap, rng.randint(-2, 2)))
@@ -156,11 +163,11 @@ def query_rows(rng, nodes, sources):
 
 def paths_texts(rng):
     """No cycle has a negative weight; no arc, if a block has a radius, but for a few."""
-    nodes, scale = rng.randint(1, 7), rng.choice([1, 1, 1, 2**31, 2**58])
+    nodes, scale = some_nodes(rng, 1), rng.choice([1, 1, 1, 2**31, 2**58])
     radius = rng.random() < 0.5
     heights = [0 if radius and rng.random() < 0.9 else rng.choice([0, rng.randint(0, 3)]) for _ in range(nodes + 1)]
     arcs = []
-    for _ in range(rng.randint(0, 10)):
+    for _ in range(rng.randint(0, 10 if nodes < 8 else 4 * nodes)):
         tail, head = rng.randint(1, nodes), rng.randint(1, nodes)
         arcs.append((tail, head, (rng.randint(0, 4) + heights[tail] - heights[head]) * scale))
     sources = rng.sample(range(1, nodes + 1), rng.randint(0, min(3, nodes)))
@@ -169,6 +176,22 @@ def paths_texts(rng):
     graph = rows(f"p sp {nodes} {len(arcs)}", *("a " + " ".join(map(str, arc)) for arc in arcs))
     labels = rows(f"p dist {nodes} {len(blocks)}", *(" ".join(line) for block in blocks for line in block))
     return [graph, query_rows(rng, nodes, sources), labels]
+
+
+def renumber(rng, kinds, texts):
+    """Gives the nodes IDs in any order and far apart, some of them near each other. A judge of flows tests each node."""
+    most, ids = rng.choice([2**12] * 30 + [2**18] * 8 + [2**27]), {}
+    bases = [rng.randint(0, most - 64) for _ in range(3)]
+    for kind, lines in zip(kinds, texts):
+        for line in lines:
+            form = next(it.split() for it in KINDS[kind][1] if (it[0], len(it.split())) == (line[0], len(line)))
+            for place, name in enumerate(form):
+                if name == "NODES":
+                    line[place] = str(most)
+                if name in NODE_FIELDS:
+                    free = [most, rng.randint(1, most), rng.choice(bases) + rng.randint(1, 64), *range(1, 99)]
+                    free = [v for v in free[rng.randrange(3) :] if v not in ids.values()]
+                    line[place] = str(ids.setdefault(line[place], free[0]))
 
 
 MAKERS = {"max": max_texts, "min": min_texts, "infeasible": infeasible_texts, "paths": paths_texts}
@@ -331,6 +354,8 @@ def judged_texts(command, seed):
     """The texts of a case, each a str with a character for each byte."""
     rng = random.Random(seed)
     texts = MAKERS[command](rng)
+    if rng.random() < 0.1:
+        renumber(rng, JUDGES[command][1], texts)
     edits, recounted = rng.choice([(SLIPS, 0.9), (FAULTS, 0.3)])
     for _ in range(rng.choice([0, 1, 1, 1, 1, 1, 1, 2, 2, 3])):
         at = rng.choice([0, 1, 2]) % len(texts)
