@@ -110,6 +110,7 @@ def test_wasm(tests):
         words = [sys.executable, f"{JS}/through.py", module, library, f"{TEST}/{name}.py", *words]
         tests.counted(f"{name}.py through node", run(*words, env=python_environment(tests.build)))
     tests.counted("heap.mjs", run("node", f"{JS}/heap.mjs", module))
+    test_in_c(tests, "this system", os.environ.get("CC", "cc"), [], [("int128", [])], [])
     environment = {**os.environ, "DIMACS_WASM": module}
     tests.counted("test_js.mjs", run("node", f"{TEST}/test_js.mjs", env=environment))
     test_package(tests)
@@ -301,7 +302,7 @@ WINE = shutil.which("wine64") or "/usr/lib/wine/wine64"
 # Each part: what tests it, and the tools that it needs.
 PARTS = {
     "module": (test_module, ["rt", "ar", "cmp"]),
-    "wasm": (test_wasm, ["node"]),
+    "wasm": (test_wasm, ["node", "cc"]),
     "command": (test_command, ["node"]),
     "page": (test_page, ["node", "chromium"]),
     "aarch64": (test_aarch64, ["aarch64-linux-gnu-gcc", "qemu-aarch64"]),
