@@ -10,13 +10,13 @@ wasm: $(FROM)/wasm/dimacs.wasm
 WASM_CC = $(TOOLCHAIN)/clang --target=wasm64-unknown-unknown -mcpu=lime1 -O2 -fwrapv -ffreestanding -nostdinc \
     -fno-builtin-malloc --no-default-config -mllvm -expand-div-rem-bits=64
 WASM_LINK = $(TOOLCHAIN)/ld.lld -flavor wasm -mwasm64 --no-entry --stack-first -z stack-size=1048576 \
-    --max-memory=4294901760 --gc-sections --strip-all --compress-relocations -O2 --export=malloc --export=free
+    --max-memory=4294901760 --gc-sections --strip-all --compress-relocations -O2 --export=malloc --export=realloc --export=free
 
 %/wasm/dimacs.o: %/dimacs_c.bc tools/targets/compile.py
 	mkdir -p $(@D)
 	tools/targets/compile.py wasm $< $@
 
-%/wasm/dimacs64.wasm: %/wasm/dimacs.o lib/glue/wasm_heap.c lib/glue/wasm_int128.c lib/include/dimacs.h
+%/wasm/dimacs64.wasm: %/wasm/dimacs.o lib/glue/wasm_heap.c lib/glue/wasm_int128.c lib/include/dimacs.h targets.mk
 	$(WASM_CC) -c lib/glue/wasm_heap.c -o $(@D)/heap.o
 	$(WASM_CC) -c lib/glue/wasm_int128.c -o $(@D)/int128.o
 	$(WASM_LINK) $(CALLS:%=--export=%) $< $(@D)/heap.o $(@D)/int128.o -o $@

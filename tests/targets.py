@@ -5,7 +5,8 @@ FOLDER is where `make` built the library and the program for this one: build, or
 What a part tests is built by make first. The parts:
   module    the module that is kept is the one of which clang made the archive
   wasm      in node the library's tests, with each call compared with the library for this system, and 5,000 random
-            instances; the layer for JavaScript; and the package, as npm installs it
+            instances; its heap, up to the end of 32-bit addresses; the layer for JavaScript; and the package, as npm
+            installs it
   command   the command in node: its statuses, output and files are those of the program
   page      the page in Chromium: answers, marked lines, downloads, refused requests
   aarch64   under qemu the library's tests in C, and the program, compared as the command
@@ -108,6 +109,8 @@ def test_wasm(tests):
     for name, words in (("agree", instances), ("test_texts", []), ("test_arrays", []), ("test_solving", [])):
         words = [sys.executable, f"{JS}/through.py", module, library, f"{TEST}/{name}.py", *words]
         tests.counted(f"{name}.py through node", run(*words, env=python_environment(tests.build)))
+    tests.counted("heap.mjs", run("node", f"{JS}/heap.mjs", module))
+    test_in_c(tests, "this system", os.environ.get("CC", "cc"), [], [("int128", [])], [])
     environment = {**os.environ, "DIMACS_WASM": module}
     tests.counted("test_js.mjs", run("node", f"{TEST}/test_js.mjs", env=environment))
     test_package(tests)
@@ -299,7 +302,7 @@ WINE = shutil.which("wine64") or "/usr/lib/wine/wine64"
 # Each part: what tests it, and the tools that it needs.
 PARTS = {
     "module": (test_module, ["rt", "ar", "cmp"]),
-    "wasm": (test_wasm, ["node"]),
+    "wasm": (test_wasm, ["node", "cc"]),
     "command": (test_command, ["node"]),
     "page": (test_page, ["node", "chromium"]),
     "aarch64": (test_aarch64, ["aarch64-linux-gnu-gcc", "qemu-aarch64"]),
