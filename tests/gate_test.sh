@@ -66,7 +66,6 @@ expect "0 passed, 8 failed" 1 "exec '$room/tests/shown_runs.py' /bin/true"
 one=$room/one
 mkdir -p "$one/crates/dimacs/src" "$one/crates/dimacs_c/src" "$one/crates/dimacs_c/specs" "$one/build"
 cp -r lib tests tools Makefile targets.mk README.md HANDLES VERSION "$one"
-rm -rf "$one/tests/must_fail"
 printf 'dimacs:\ndimacs_c:\n' >"$one/crates.txt"
 printf 'pub fn one() -> u8 {\n    1 // one\n}\n' >"$one/crates/dimacs/src/lib.rt"
 cp "$one/crates/dimacs/src/lib.rt" "$one/crates/dimacs_c/src/lib.rt"
@@ -75,7 +74,7 @@ echo 'pub mod One' | tee "$one/crates/dimacs_c/specs/Lib.antt" >"$one/crates/dim
 # An edit of one line that shows nothing: why, its old text and its new one.
 shows_nothing() {
     printf 'name: edit\nfile: %s\nold: %s\nnew: %s\n' src/lib.rt "$2" "$3" >"$one/crates/dimacs/wrong-bodies"
-    prints "edits: 1, showing nothing: 1" "$one/tools/more_must_fail.py" --apply dimacs
+    prints "edits: 1, showing nothing: 1" "$one/tools/try_bodies.py" --apply dimacs
     printf 'name: edit\nfile: %s\nold: %s\nnew: %s\nrun: version.py\nfails: it\n' crates/dimacs/src/lib.rt "$2" "$3" \
         >"$one/tests/wrong-bodies"
     prints "edits: 1, showing nothing: 1" "$one/tests/wrong_bodies.py" --apply
@@ -135,7 +134,7 @@ print("OK")'
 
 # A proof that fails only since it names what an edit renamed.
 python '
-import types, more_must_fail as it
+import types, try_bodies as it
 edit = it.Edit.__new__(it.Edit)
 edit.settle(None)
 it.judge_errors(edit, [": `goal-3` is not in scope", ": the record has no field `goal-4`"])
@@ -159,7 +158,7 @@ prints OK env PATH="$room/debian:$PATH" "$one/.ci/run"
 
 # How a check names the function of an impl, and a tenth of 31 wrong bodies, which is the same for a seed.
 python '
-import types, more_must_fail as it
+import types, try_bodies as it
 owners = {
     "impl NodeTable {": "NodeTable",
     "impl MinInstance<PlainArcs<ArcView>> {": "MinInstance+PlainArcs+ArcView",

@@ -1,7 +1,7 @@
 #!/usr/bin/env python3
 """Has wrong bodies refused that keep their contracts: tests/wrong_bodies.py [--apply] [--quick] [NAME..]
 
-Each edit in tests/must_fail makes a function give up above some size, forget a reason, or let what is printed land in a
+Each edit in tests/wrong-bodies makes a function give up above some size, forget a reason, or let what is printed land in a
 file. No clause refuses it, so a run has to: the edit's line `run` names the script, or the test in C, and its line
 `fails` what has to fail in it. The program, or the library, is proved and built with each edit in turn, in a copy of
 the repository, and the script runs over it. A copy without an edit is built first. With NAME only the edits of these
@@ -11,7 +11,6 @@ It isn't part of the gate, since each edit takes minutes, and more if it is prov
 runs is built as by `make quick`. With --apply nothing is tried, and each edit is refused that shows nothing.
 """
 import argparse
-import glob
 import os
 import shutil
 import subprocess
@@ -123,9 +122,7 @@ def main():
     words.add_argument("--quick", action="store_true", help="build without proofs")
     words.add_argument("names", nargs="*", metavar="NAME", help="the edits that are tried")
     asked = words.parse_args()
-    paths = [*sorted(glob.glob(f"{HERE}/must_fail/*.edit")), f"{HERE}/wrong-bodies"]
-    edits = [it for path in paths for it in bodies.edits_in(path, WORDS)]
-    edits = [it for it in edits if not asked.names or it.name in asked.names]
+    edits = [it for it in bodies.edits_in(f"{HERE}/wrong-bodies", WORDS) if not asked.names or it.name in asked.names]
     faults = list(faults_of(edits))
     for edit, fault in faults:
         print(f"{edit.name}: {fault}")

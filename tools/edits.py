@@ -2,8 +2,7 @@
 """Reads wrong bodies, which are mistakes made on purpose, for the scripts that have them refused.
 
 A file of them has for each a line `name: NAME`, a line `file: PATH`, and lines `old: TEXT` and `new: TEXT`, each TEXT one
-line. Further pairs apply to what the earlier ones made; a line `file` may stand before each. A file NAME.edit has one of
-them, without the line `name`.
+line. Further pairs apply to what the earlier ones made; a line `file` may stand before each.
 """
 import os
 import re
@@ -73,10 +72,7 @@ def edits_in(path, others=()):
     if not os.path.exists(path):
         return []
     with open(path, encoding="utf-8") as it:
-        text = it.read()
-    if path.endswith(".edit"):
-        text = f"name: {os.path.basename(path).removesuffix('.edit')}\n{text}"
-    found = [it.splitlines() for it in re.split(r"^name: ", text, flags=re.M)]
+        found = [named.splitlines() for named in re.split(r"^name: ", it.read(), flags=re.M)]
     stray = [line for line in found[0] if line]
     named = [(lines[0], [line for line in lines[1:] if line]) for lines in found[1:]]
     return [Edit(path, name, lines, others) for name, lines in ([("", stray)] if stray else []) + named]

@@ -15,7 +15,7 @@ import signal
 import sys
 import time
 
-import more_must_fail
+import try_bodies
 
 TOP = os.path.join(os.path.dirname(os.path.abspath(__file__)), "..")
 PAGE = os.path.join(TOP, "docs/ARCHITECTURE.md")
@@ -53,7 +53,7 @@ def work_of(pid):
         place = os.readlink(f"/proc/{pid}/cwd")
     except OSError:
         place = ""
-    work = "bodies" if more_must_fail.ROOM in place else "tests" if "--test" in words else "proof"
+    work = "bodies" if try_bodies.ROOM in place else "tests" if "--test" in words else "proof"
     return words[words.index("--crate-name") + 1], work
 
 
