@@ -6,9 +6,9 @@ They are mistakes made on purpose, and a contract has to refuse each. Without a 
 
 One check of a copy of a crate tries many. Most are tried on a twin: the function stays as it is, and after it, under
 another name, comes one with its contract, its proof files and the wrong body. A method of a trait can have no twin, nor
-can several functions: they are edited in place, each function once in a check. The check asks for the twins and for
-what was edited alone. What lies outside of functions is tried by a check of the whole crate, as is what the first check
-doesn't report.
+can several functions: they are edited in place, each function once in a check. The check asks for these alone, and takes
+the other functions of a proved library by their contracts. In each check a twin without an edit has to be proved. What
+lies outside of functions is tried by a check of the whole crate, as is what such a check doesn't report.
 
 A wrong body is refused if the proof of the function fails. It fails this script if it is proved, and where it is bad: it
 can't be applied or compiled, or the proof fails only since a proof file names what the edit took away.
@@ -25,6 +25,7 @@ import concurrent.futures
 import functools
 import glob
 import hashlib
+import json
 import os
 import re
 import shutil
@@ -52,6 +53,14 @@ NO_PROOF = re.compile(r"^fn (\S+): no proof: expected answers in", re.M)
 PROOF_ERROR = re.compile(r"^(?:note: )?(?:\./)?(proofs/\S+?):\d+:\d+: error(.*(?:\n  .*)*)", re.M)
 CODE_ERROR = re.compile(r"^(?:\./)?(src/\S+?):(\d+):\d+: error(.*)", re.M)
 LOST = re.compile(r"has\s+no field|is not in scope|has\s+no `|was not admitted")
+
+# What a check reports of what is proved, or is but for functions that are taken by their contracts, and how these are.
+AS_PROVED = ("proved", "no holes", "depends on a hole")
+HOLE = """use Rattle.{module}.Statement.{{statement}}
+
+pub {name}_spec : {{M : Type 1}} → statement M
+{name}_spec = ?
+"""
 
 # A function with its body: the lines of its head, its body's brackets, and the impl or trait around it.
 Function = collections.namedtuple("Function", "head first last name block")
@@ -166,13 +175,25 @@ class Edit:
         return len(self.functions) == 1 and not self.functions[0].is_of_trait()
 
 
+class Unedited:
+    """What stands for an edit that changes nothing: if it isn't proved, the check shows nothing."""
+
+    def __init__(self, edit):
+        self.crate, self.functions = edit.crate, edit.functions
+
+    def lines_of(self, file):
+        lines = text_of(f"{TOP}/crates/{self.crate}/{file}").split("\n")
+        return lines, lines
+
+
 class Trial:
     """A copy of a crate with some edits in it: the paths of what each changed there, and where it stands."""
 
     def __init__(self, crate, room):
         self.crate, self.room = crate, room
         self.folder = f"{TOP}/crates/{crate}"
-        self.paths, self.lines = {}, {}
+        self.keys = keys_of(crate)
+        self.paths, self.lines, self.control = {}, {}, None
         for part in ("src", "specs", "proofs"):
             if os.path.isdir(f"{self.folder}/{part}"):
                 shutil.copytree(f"{self.folder}/{part}", f"{room}/{part}")
@@ -181,20 +202,39 @@ class Trial:
         for file, text in edit.texts.items():
             write(f"{self.room}/{file}", text)
 
+    def path(self, place, name):
+        """The path of a function, under this name, as a check prints it; the end of it, if that isn't known."""
+        end = place.path(place.function.name)
+        found = [it for it in self.keys if it[-len(end) :] == end]
+        return [*(found[0] if len(found) == 1 else end)[:-1], name]
+
+    def put_holes(self, edits):
+        """Takes all functions by their contracts that aren't edited in place, as rt ci has proved them."""
+        in_place = {place for edit in edits if not edit.may_have_twin() for place in edit.functions}
+        for place in set(places_in(self.folder)) - in_place:
+            path = self.path(place, place.function.name)
+            if path in self.keys:
+                shutil.rmtree(f"{self.room}/proofs/{'/'.join(path)}", ignore_errors=True)
+                text = HOLE.format(module=".".join([self.crate, "proofs", *path]), name=path[-1])
+                write(f"{self.room}/proofs/{'/'.join(path)}/Proof.antt", text)
+
     def put_in_place(self, edit):
         """Gives the edited functions their new bodies."""
         for file, own in edit.functions:
             lines, edited = text_of(f"{self.room}/{file}").split("\n"), edit.lines_of(file)[1]
             lines[own.first : own.last] = edited[own.first : own.last]
             write(f"{self.room}/{file}", "\n".join(lines))
-        self.paths[edit] = [it.path(it.function.name) for it in edit.functions]
+        self.paths[edit] = [self.path(it, it.function.name) for it in edit.functions]
 
     def put_twins(self, edits):
-        """Puts a twin of each edited function right after it."""
+        """Puts a twin of each edited function right after it, and one more of the first, without its edit."""
+        if edits:
+            self.control = Unedited(edits[0])
+            edits = [*edits, self.control]
         for number, edit in enumerate(edits):
             (place,) = edit.functions
             name = f"{place.function.name}_edit_{number}"
-            self.paths[edit] = [place.path(name)]
+            self.paths[edit] = [self.path(place, name)]
             self.copy_proofs(place, name)
         for file in {it.functions[0].file for it in edits}:
             here, lines = [it for it in edits if it.functions[0].file == file], []
@@ -220,11 +260,12 @@ class Trial:
         """The edits that an error there may be of: a twin, or what is edited in place in that file."""
         twins = [it for it, (its_file, lines) in self.lines.items() if its_file == file and line in lines]
         others = [it for it in self.paths if it not in self.lines]
-        return twins or [it for it in others if file in {place.file for place in it.functions}]
+        found = twins or [it for it in others if file in {place.file for place in it.functions}]
+        return [it for it in found if it is not self.control]
 
     def check(self, log):
         """Checks what is edited in the copy, or all of it."""
-        words = [*check_words(self.crate), "--jobs", "1"]
+        words = [*check_words(self.crate), "--jobs", "1", *(["--allow-holes"] if self.paths and self.keys else [])]
         for path in (it for paths in self.paths.values() for it in paths):
             words += ["--only", "::".join(path)]
         write(log, "")
@@ -261,19 +302,37 @@ def check_words(crate):
     return words + ["--antt-project", f"{kit}/rattle/logic/antt-project.json", "--logic-built", f"{kit}/logic_built"]
 
 
+def keys_of(crate):
+    """The paths of the functions of a library that was proved, as lists; none if it wasn't."""
+    file = f"{TOP}/crates/{crate}/out/rlib/{crate}.rlib/toolchain/mir.json"
+    listed = json.loads(text_of(file)) if os.path.exists(file) else []
+    return [key.split("::")[1:] for key, *_ in listed if "+" not in key]
+
+
+def places_in(folder):
+    """The functions of a crate's sources."""
+    for path in glob.glob(f"{folder}/src/**/*.rt", recursive=True):
+        for it in functions(text_of(path).split("\n")):
+            yield Place(os.path.relpath(path, folder), it)
+
+
+def verdict_at(path, report):
+    """What a check reports of the function at a path."""
+    found = re.findall(rf"^fn \S*::{re.escape('::'.join(path))}: (.*)", report.text, re.M)
+    return found[0] if len(found) == 1 else ""
+
+
 def judge(edit, paths, report):
     """Settles an edit by what a check reports of the functions that it changed, at the paths that these have there."""
-    verdicts, errors = [], []
-    for path in paths:
-        found = re.findall(rf"^fn \S*::{re.escape('::'.join(path))}: (.*)", report.text, re.M)
-        verdicts += found if len(found) == 1 else [""]
-        errors += [why for file, why in PROOF_ERROR.findall(report.text) if f"/{'/'.join(path)}/" in file]
+    verdicts = [verdict_at(it, report) for it in paths]
+    parts = [f"/{'/'.join(it)}/" for it in paths]
+    errors = [why for file, why in PROOF_ERROR.findall(report.text) if any(it in file for it in parts)]
     without = [it for it in verdicts if it.startswith("no proof: expected answers in")]
     if without:
         edit.settle(REFUSED, without[0])
     elif any(it.startswith("not proved") for it in verdicts):
         judge_errors(edit, errors)
-    elif all(it == "proved" for it in verdicts):
+    elif all(it.startswith(AS_PROVED) for it in verdicts):
         edit.settle(PROVED)
 
 
@@ -291,6 +350,7 @@ def try_together(edits):
     crate = edits[0].crate
     with tempfile.TemporaryDirectory(prefix=ROOM) as room:
         trial = Trial(crate, room)
+        trial.put_holes(edits)
         for edit in (it for it in edits if not it.may_have_twin()):
             trial.put_in_place(edit)
         trial.put_twins([it for it in edits if it.may_have_twin()])
@@ -299,11 +359,12 @@ def try_together(edits):
         for edit in trial.edits_at(file, int(line)):
             edit.settle(BAD, f"error{why}")
     rest = [it for it in edits if it.result is None]
-    if len(rest) == len(edits):
-        for edit in edits:
-            judge(edit, trial.paths[edit], report)
-    elif rest:
+    if 0 < len(rest) < len(edits):
         return report.minutes + try_together(rest)
+    if trial.control and not verdict_at(trial.paths[trial.control][0], report).startswith(AS_PROVED):
+        return report.minutes
+    for edit in rest:
+        judge(edit, trial.paths[edit], report)
     return report.minutes
 
 
