@@ -219,6 +219,9 @@ const CERTIFICATES = {max: "cut", min: "pot", infeasible: "cut", paths: "dist"};
 
 function checked(kind, claimed) {
     const {instance, claim, certificate} = held;
+    if (kind !== "infeasible" && !claim.length) {
+        throw new Unreadable("There is nothing to check yet: give a claim beside the instance, or press Solve.");
+    }
     if (kind === "paths" && claimed === "query" && !certificate.length) {
         throw new Unreadable("Queries are judged by labels: give them as the certificate, or press Solve to make them.");
     }
@@ -228,8 +231,11 @@ function checked(kind, claimed) {
     return {...answer, names: [answer.status === 0 ? CERTIFICATES[kind] : "solution"]};
 }
 
-function solved(claimed) {
-    const kind = claimed === "infeasible" ? "min" : claimed;
+function solved(claim, claimed) {
+    if (claim === "paths" && claimed !== "query") {
+        throw new Unreadable("Solve answers queries: give some beside the graph, as p aux sp ss 1 and s 1 on two lines.");
+    }
+    const kind = claim === "infeasible" ? "min" : claim;
     const answer = texts.solve(kind, held.instance, kind === "paths" ? held.claim : NONE, LIMIT);
     const isInfeasible = latin.decode(answer.handed[0]).startsWith("v infeasible");
     return {...answer, names: ["solution", isInfeasible ? "cut" : CERTIFICATES[kind]]};
@@ -255,7 +261,7 @@ const ASKED = {
 
     async run({what, kind, claimed}) {
         const begun = performance.now();
-        const {status, handed: [printed, ...made], names} = what === "solve" ? solved(kind) : checked(kind, claimed);
+        const {status, handed: [printed, ...made], names} = what === "solve" ? solved(kind, claimed) : checked(kind, claimed);
         const took = performance.now() - begun, output = latin.decode(printed.subarray(0, MOST_SHOWN));
         const line = output.split("\n", 1)[0];
         const all = names.map((name, i) => ({name, bytes: made[i], ...shown(made[i])}));

@@ -154,6 +154,14 @@ const TESTS = {
         assert.equal(line, "x solution 2 0 SolutionMissing");
         assert.match(meaning, /no line s VALUE/);
     },
+    "nothing to check, and nothing to solve": async (person) => {
+        await person.write("instance", MAX);
+        await person.write("claim", "");
+        assert.match((await person.ask("Check")).verdict, /^There is nothing to check yet/);
+        assert.equal((await person.ask("Solve")).line, "v max 4");
+        await person.example("distances");
+        assert.match((await person.ask("Solve")).verdict, /^Solve answers queries/);
+    },
     "least cost, solved": async (person) => {
         await person.example("a flow of least cost");
         assert.equal((await person.ask("Check")).line, "v min 55");
