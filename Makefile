@@ -17,10 +17,6 @@ FROM = build$(if $(UNPROVED),/quick)
 IN = $(DESTDIR)$(PREFIX)
 MAN = $(if $(wildcard tools/man_pages.py),build/man)
 
-CODE := crates.txt $(shell find crates -path '*/out' -prune -o -path '*_tests' -prune -o -path '*/src/*.rt' -print)
-PROOFS := $(shell find crates -path '*/out' -prune -o -path '*_tests' -prune -o -name '*.antt' -print)
-TOOLS = tools/kit.py tools/quick_build.py
-
 ## make: proves the program and the library, and builds build/dimacs, build/libdimacs.a and build/libdimacs.so
 all: build/dimacs $(LIBRARY:%=build/%)
 
@@ -36,18 +32,23 @@ check: quick
 	@tools/kit.py >/dev/null
 	@tests/check.py build/quick
 
-## make prove: the gate: proves all from nothing, has wrong bodies refused, and runs the tests over what is proved
+## make prove: the gate: proves all from nothing, has a tenth of the wrong bodies refused, and runs the tests over it
 prove:
 	.ci/gate
 
-build/quick/dimacs build/quick/dimacs.bc &: $(CODE) $(TOOLS)
-	tools/quick_build.py program build/quick/dimacs
+## make prove-all: the same with all wrong bodies
+prove-all:
+	.ci/gate all
 
-build/quick/dimacs_c.a build/quick/dimacs_c.bc &: $(CODE) $(TOOLS)
-	tools/quick_build.py library build/quick/dimacs_c.a
+# These leave what was built of the same sources as it is (tools/sources.py), which times alone don't show.
+build/quick/dimacs build/quick/dimacs.bc &: FORCE
+	@tools/quick_build.py program build/quick/dimacs
 
-build/dimacs build/dimacs_c.a build/dimacs_c.bc &: $(CODE) $(PROOFS)
-	tools/proved_build.py build
+build/quick/dimacs_c.a build/quick/dimacs_c.bc &: FORCE
+	@tools/quick_build.py library build/quick/dimacs_c.a
+
+build/dimacs build/dimacs_c.a build/dimacs_c.bc &: FORCE
+	@tools/proved_build.py build
 
 # What the gate runs over: what rt ci proved, put in build/ without a proof made again.
 proved-by-ci:
@@ -73,9 +74,10 @@ proved-by-ci:
 
 ## make install: installs what is proved, into PREFIX=/usr/local below DESTDIR=; UNPROVED=1 takes what isn't proved
 install: $(if $(UNPROVED),quick,all) $(MAN)
-	install -d $(IN)/bin $(IN)/include $(IN)/lib/pkgconfig $(IN)/lib/cmake/dimacs
+	install -d $(IN)/bin $(IN)/include/dimacs $(IN)/lib/pkgconfig $(IN)/lib/cmake/dimacs
 	install -m 755 $(FROM)/dimacs $(wildcard tools/dimacs-batch) $(IN)/bin
 	install -m 644 lib/include/dimacs.h lib/include/dimacs.hpp $(IN)/include
+	install -m 644 lib/include/dimacs/*.hpp $(IN)/include/dimacs
 	install -m 644 $(FROM)/libdimacs.a $(IN)/lib
 	install -m 644 $(FROM)/libdimacs.so.0 $(IN)/lib/libdimacs.so.$(VERSION)
 	ln -sf libdimacs.so.$(VERSION) $(IN)/lib/libdimacs.so.0
@@ -121,5 +123,6 @@ clean:
 
 include targets.mk
 
-.PRECIOUS: %/dimacs.o %/libdimacs.so.0
-.PHONY: all help quick check prove proved-by-ci install dist proved-only bench clean
+# Of these, what a failed proof leaves is whole, and of the sources that are noted beside it.
+.PRECIOUS: build/dimacs build/dimacs_c.a build/dimacs_c.bc %/dimacs.o %/libdimacs.so.0
+.PHONY: all help quick check prove prove-all proved-by-ci install dist proved-only bench clean FORCE

@@ -3,11 +3,10 @@
 // Reads INSTANCE, writes SOLUTION, and runs `dimacs certify-max` on the two, which writes CUT; DIMACS names the judge.
 //
 //     g++ -O2 -std=c++17 -o boost_max boost_max.cpp
-#include <unistd.h>
+#include "command.hpp"
 
 #include <boost/graph/adjacency_list.hpp>
 #include <boost/graph/push_relabel_max_flow.hpp>
-#include <cstdlib>
 #include <fstream>
 #include <iostream>
 #include <string>
@@ -31,6 +30,7 @@ Edge add(Graph& graph, int tail, int head, long long capacity) {
 
 int main(int count, char** words) {
     if (count != 4) return std::cerr << "boost_max INSTANCE SOLUTION CUT\n", 2;
+    if (const int status = test("max", words[1])) return status;
     Graph graph;
     std::vector<Edge> arcs;  // in the text's order
     int source = 0, sink = 0, nodes = 0, tail, head;
@@ -50,7 +50,5 @@ int main(int count, char** words) {
         solution << "f " << arc.m_source << ' ' << arc.m_target << ' ' << graph[arc].capacity - graph[arc].left << '\n';
     solution.close();
 
-    const char* judge = std::getenv("DIMACS") ? std::getenv("DIMACS") : "dimacs";
-    execlp(judge, judge, "certify-max", words[1], words[2], words[3], nullptr);
-    return std::cerr << "can't run " << judge << '\n', 3;
+    return run({"certify-max", words[1], words[2], words[3]});
 }

@@ -1,7 +1,8 @@
 #!/bin/bash
 # Runs the recipes whose packages are there on the examples and on generated instances. Fails if a verdict isn't the
-# expected one, if an answer that is spoiled on purpose isn't refused as it should be, or if a flow of LEMON in another
-# order isn't certified once it is spread.
+# expected one, if an answer that is spoiled on purpose isn't refused as it should be, if a flow of LEMON in another
+# order isn't certified once it is spread, or if a recipe doesn't say that a text has a fault, that arguments are
+# missing, or that dimacs isn't there.
 #
 #   recipes/check.sh [BINARY]
 #
@@ -14,8 +15,8 @@
 #   BUILD    the folder where make built the library; build
 #   ONLY     run only the recipes whose names match this pattern, as 'lemon|glpsol'
 #
-# The last lines name what was left out, and count the answers that were accepted, spread, refused and judged
-# unexpectedly.
+# The last lines name what was left out, and count the answers that were accepted, spread and refused, the runs that ended
+# with a message, and what failed.
 set -eu
 
 here=$(cd "$(dirname "$0")" && pwd)
@@ -97,6 +98,7 @@ beyond=' scipy_max.py:wide.max scipy_min.py:wide.min glpsol_min.sh:wide.min '
 accepted=0
 refused=0
 spread=0
+ended=0
 failed=0
 
 fail() {
@@ -132,7 +134,7 @@ build() {
     case $1 in
         lemon_scaling.cpp) sed 's/NetworkSimplex</CostScaling</' "$here/lemon_min.cpp" ;;
         *) cat "$here/$1" ;;
-    esac | "${CXX:-g++}" -O2 -std=c++17 -I"$lib/include" -o "$dir/${1%.cpp}" -x c++ - "${linked[@]}"
+    esac | "${CXX:-g++}" -O2 -std=c++17 -I"$lib/include" -I"$here" -o "$dir/${1%.cpp}" -x c++ - "${linked[@]}"
 }
 
 # The same with a program to run it: solve RECIPE TEXT..
@@ -194,6 +196,32 @@ try() {
     fi
 }
 
+# A run that ends with a status, and prints a line like this first: ends RECIPE STATUS LINE TEXT..
+ends() {
+    local status=0
+    solve "$1" "${@:4}" >"$dir/log" 2>&1 || status=$?
+    if [ "$status" = "$2" ] && head -n 1 "$dir/log" | grep -q -x -e "$3"; then
+        ended=$((ended + 1))
+    else
+        fail "$1 ${*:4}: wanted status $2 and '$3', got status $status and '$(head -n 1 "$dir/log")'"
+    fi
+}
+
+# A text with an arc from node 0, one argument too many, and a path without dimacs: try_ends RECIPE RUN
+try_ends() {
+    local texts written=("$dir/written" "$dir/written.2") name=${1%.cpp}
+    case $2 in
+        *-max) texts=("$dir/zero.max") ;;
+        *-min) texts=("$dir/zero.min") ;;
+        *-infeasible) texts=("$dir/zero.min") written=("$dir/written") ;;
+        *-paths) texts=("$dir/zero.gr" "$examples/road.query") written=("$dir/written") ;;
+    esac
+    is_in_process "$1" || texts+=("${written[@]}")
+    ends "$1" 1 "x instance [0-9]* 2 NumberRange" "${texts[@]}"
+    ends "$1" 2 ".*${name/scaling/min} [A-Z ]*" "${texts[@]}" more
+    is_in_process "$1" || DIMACS=$dir/bin/dimacs ends "$1" 3 "can't run $dir/bin/dimacs.*" "${texts[@]}"
+}
+
 # All instances of a recipe's run: try_all RECIPE RUN
 try_all() {
     local run texts verdict name
@@ -236,10 +264,12 @@ while read -r recipe run kind need; do
         fail "$recipe: it isn't built"
     else
         echo "$recipe"
+        try_ends "$recipe" "$run"
         try_all "$recipe" "$run"
     fi
 done <<<"$recipes"
 try_batch
 [ -z "$left_out" ] || printf 'left out:\n%s' "$left_out"
-echo "$accepted answers accepted, $spread reordered ones spread and certified, $refused wrong answers refused, $failed failed"
+echo "$accepted answers accepted, $spread reordered ones spread and certified, $refused wrong answers refused," \
+    "$ended runs ended with a message, $failed failed"
 [ "$failed" = 0 ] && [ "$accepted" -gt 0 ]

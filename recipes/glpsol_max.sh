@@ -4,6 +4,10 @@
 # Reads INSTANCE, writes SOLUTION and CUT, and runs `dimacs judge-max` on the three; DIMACS names the judge.
 # glpsol computes in floating point and prints 15 digits: greater numbers come out wrong, and are refused.
 set -eu
+[ $# = 3 ] || { echo "glpsol_max.sh INSTANCE SOLUTION CUT" >&2; exit 2; }
+DIMACS=${DIMACS:-dimacs}
+command -v "$DIMACS" >/dev/null || { echo "can't run $DIMACS. Put dimacs on the path, or name it by DIMACS" >&2; exit 3; }
+"$DIMACS" show max "$1" >/dev/null 2>&1 || exec "$DIMACS" explain show max "$1"
 dir=$(mktemp -d)
 trap 'rm -rf "$dir"' EXIT
 glpsol --maxflow "$1" --write "$dir/raw" >"$dir/log" || { cat "$dir/log" >&2; exit 3; }
@@ -26,4 +30,4 @@ awk -v solution="$2" -v cut="$3" '
             if (node == source || dual[node] < dual[source] - 0.5) { size++; side = side "u " node "\n" }
         printf "p cut %d %d\n%s", nodes, size, side >cut
     }' "$1" "$dir/raw"
-"${DIMACS:-dimacs}" judge-max "$1" "$2" "$3"
+"$DIMACS" judge-max "$1" "$2" "$3"

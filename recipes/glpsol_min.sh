@@ -4,6 +4,10 @@
 # Reads INSTANCE, writes SOLUTION and POTENTIALS, and runs `dimacs judge-min` on the three; DIMACS names the judge.
 # glpsol computes in floating point and prints 15 digits: greater numbers come out wrong, and are refused.
 set -eu
+[ $# = 3 ] || { echo "glpsol_min.sh INSTANCE SOLUTION POTENTIALS" >&2; exit 2; }
+DIMACS=${DIMACS:-dimacs}
+command -v "$DIMACS" >/dev/null || { echo "can't run $DIMACS. Put dimacs on the path, or name it by DIMACS" >&2; exit 3; }
+"$DIMACS" show min "$1" >/dev/null 2>&1 || exec "$DIMACS" explain show min "$1"
 dir=$(mktemp -d)
 trap 'rm -rf "$dir"' EXIT
 glpsol --mincost "$1" --write "$dir/raw" >"$dir/log" || { cat "$dir/log" >&2; exit 3; }
@@ -26,4 +30,4 @@ awk -v solution="$2" -v potentials="$3" '
         printf "p pot %d %d\n", nodes, nodes >potentials
         for (node = 1; node <= nodes; node++) printf "y %d %.0f\n", node, dual[node] >potentials
     }' "$1" "$dir/raw" || { echo "glpsol found no feasible flow" >&2; exit 1; }
-"${DIMACS:-dimacs}" judge-min "$1" "$2" "$3"
+"$DIMACS" judge-min "$1" "$2" "$3"

@@ -4,11 +4,11 @@
 Reads INSTANCE, writes SOLUTION and CUT, and runs `dimacs judge-max` on the three. The variable DIMACS names the judge.
 igraph's flows are floating point numbers (`4.0`): they are exact below 2^53.
 """
-import os
-import subprocess
 import sys
 
 import igraph
+
+import command
 
 
 def read(path):
@@ -41,12 +41,13 @@ def write(path, lines):
 
 
 def main():
-    instance, solution, cut = sys.argv[1:]
+    instance, solution, cut = command.arguments(__doc__)
+    command.test("max", instance)
     nodes, source, sink, arcs = read(instance)
     value, flows, side = solve(nodes, source, sink, arcs)
     write(solution, [f"s {value}", *(f"f {tail} {head} {flow}" for (tail, head, _), flow in zip(arcs, flows))])
     write(cut, [f"p cut {nodes} {len(side)}", *(f"u {node}" for node in side)])
-    return subprocess.call([os.environ.get("DIMACS", "dimacs"), "judge-max", instance, solution, cut])
+    return command.run("judge-max", instance, solution, cut)
 
 
 if __name__ == "__main__":

@@ -6,11 +6,11 @@ and runs `dimacs certify-paths`, which needs no predecessors. The variable DIMAC
 are floating point numbers: they are exact below 2^53.
 """
 import math
-import os
-import subprocess
 import sys
 
 import igraph
+
+import command
 
 
 def read_graph(path):
@@ -44,14 +44,16 @@ def block(graph, weights, source):
 
 
 def main():
-    graph_path, query, distances = sys.argv[1:]
+    graph_path, query, distances = command.arguments(__doc__)
+    command.test("gr", graph_path)
+    command.test("query", query)
     graph, weights = read_graph(graph_path)
     sources = read_sources(query)
     with open(distances, "w", encoding="ascii") as text:
         text.write(f"p distances {graph.vcount()} {len(sources)}\n")
         for source in sources:
             text.writelines(f"{line}\n" for line in block(graph, weights, source))
-    return subprocess.call([os.environ.get("DIMACS", "dimacs"), "certify-paths", graph_path, distances])
+    return command.run("certify-paths", graph_path, distances)
 
 
 if __name__ == "__main__":

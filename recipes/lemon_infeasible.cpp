@@ -4,11 +4,11 @@
 // certificate: it decides whether that is so, and writes SET, which shows it. DIMACS names the judge.
 //
 //     g++ -O2 -std=c++17 -o lemon_infeasible lemon_infeasible.cpp
+#include "command.hpp"
+
 #include <lemon/circulation.h>
 #include <lemon/smart_graph.h>
-#include <unistd.h>
 
-#include <cstdlib>
 #include <fstream>
 #include <iostream>
 #include <string>
@@ -47,13 +47,12 @@ struct Instance {
 
 int main(int count, char** words) {
     if (count != 3) return std::cerr << "lemon_infeasible INSTANCE SET\n", 2;
+    if (const int status = test("min", words[1])) return status;
     const Instance instance(words[1]);
     lemon::Circulation<Graph, Arcs, Arcs, Nodes> circulation(instance.graph, instance.low, instance.capacity,
                                                              instance.supply);
     // LEMON takes supplies as what leaves a node at least: if they don't sum to 0, its flow isn't one of the instance.
     if (circulation.run() && instance.total == 0) return std::cerr << "there is a feasible flow\n", 1;
 
-    const char* judge = std::getenv("DIMACS") ? std::getenv("DIMACS") : "dimacs";
-    execlp(judge, judge, "certify-infeasible", words[1], words[2], nullptr);
-    return std::cerr << "can't run " << judge << '\n', 3;
+    return run({"certify-infeasible", words[1], words[2]});
 }

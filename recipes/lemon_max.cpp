@@ -5,11 +5,11 @@
 // other order, or of one sum for each pair of nodes.
 //
 //     g++ -O2 -std=c++17 -o lemon_max lemon_max.cpp
+#include "command.hpp"
+
 #include <lemon/preflow.h>
 #include <lemon/smart_graph.h>
-#include <unistd.h>
 
-#include <cstdlib>
 #include <fstream>
 #include <iostream>
 #include <string>
@@ -52,6 +52,7 @@ struct Instance {
 
 int main(int count, char** words) {
     if (count != 4) return std::cerr << "lemon_max INSTANCE SOLUTION CUT\n", 2;
+    if (const int status = test("max", words[1])) return status;
     const Instance instance(words[1]);
     const Graph& graph = instance.graph;
     lemon::Preflow<Graph, Numbers> preflow(graph, instance.capacity, instance.source, instance.sink);
@@ -72,7 +73,5 @@ int main(int count, char** words) {
     for (const int node : side) cut << "u " << node << '\n';
     cut.close();
 
-    const char* judge = std::getenv("DIMACS") ? std::getenv("DIMACS") : "dimacs";
-    execlp(judge, judge, "judge-max", words[1], words[2], words[3], nullptr);
-    return std::cerr << "can't run " << judge << '\n', 3;
+    return run({"judge-max", words[1], words[2], words[3]});
 }

@@ -5,12 +5,12 @@
 // other order, or of one sum for each pair of nodes.
 //
 //     g++ -O2 -std=c++17 -o lemon_min lemon_min.cpp
+#include "command.hpp"
+
 #include <lemon/cost_scaling.h>
 #include <lemon/network_simplex.h>
 #include <lemon/smart_graph.h>
-#include <unistd.h>
 
-#include <cstdlib>
 #include <fstream>
 #include <iostream>
 #include <string>
@@ -54,6 +54,7 @@ std::string decimal(__int128 value) {
 
 int main(int count, char** words) {
     if (count != 4) return std::cerr << "lemon_min INSTANCE SOLUTION POTENTIALS\n", 2;
+    if (const int status = test("min", words[1])) return status;
     const Instance it(words[1]);
     const Graph& graph = it.graph;
     Solver solver(graph);
@@ -73,7 +74,5 @@ int main(int count, char** words) {
         potentials << "y " << node + 1 << ' ' << -solver.potential(graph.nodeFromId(node)) << '\n';
     solution.close(), potentials.close();
 
-    const char* judge = std::getenv("DIMACS") ? std::getenv("DIMACS") : "dimacs";
-    execlp(judge, judge, "judge-min", words[1], words[2], words[3], nullptr);
-    return std::cerr << "can't run " << judge << '\n', 3;
+    return run({"judge-min", words[1], words[2], words[3]});
 }

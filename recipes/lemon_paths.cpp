@@ -4,11 +4,11 @@
 // QUERY, and runs `dimacs certify-paths`, which needs no predecessors. The variable DIMACS names the judge.
 //
 //     g++ -O2 -std=c++17 -o lemon_paths lemon_paths.cpp
+#include "command.hpp"
+
 #include <lemon/dijkstra.h>
 #include <lemon/smart_graph.h>
-#include <unistd.h>
 
-#include <cstdlib>
 #include <fstream>
 #include <iostream>
 #include <set>
@@ -45,10 +45,14 @@ std::set<int> read_sources(const char* path) {
 
 int main(int count, char** words) {
     if (count != 4) return std::cerr << "lemon_paths GRAPH QUERY DISTANCES\n", 2;
+    if (const int status = test("gr", words[1])) return status;
+    if (const int status = test("query", words[2])) return status;
     Graph graph;
     Weights weight(graph);
     read_graph(words[1], graph, weight);
     const std::set<int> sources = read_sources(words[2]);
+    for (const int source : sources)
+        if (source > graph.nodeNum()) return std::cerr << "node " << source << " isn't in " << words[1] << '\n', 1;
 
     std::ofstream distances(words[3]);
     distances << "p distances " << graph.nodeNum() << ' ' << sources.size() << '\n';
@@ -63,7 +67,5 @@ int main(int count, char** words) {
     }
     distances.close();
 
-    const char* judge = std::getenv("DIMACS") ? std::getenv("DIMACS") : "dimacs";
-    execlp(judge, judge, "certify-paths", words[1], words[3], nullptr);
-    return std::cerr << "can't run " << judge << '\n', 3;
+    return run({"certify-paths", words[1], words[3]});
 }

@@ -5,11 +5,11 @@ Reads INSTANCE (least cost flow) and asks networkx for a flow. If networkx finds
 no certificate: it decides whether that is so, and writes SET, which shows it. The variable DIMACS names the judge. If
 networkx finds a flow, this ends with a message.
 """
-import os
-import subprocess
 import sys
 
 import networkx as nx
+
+import command
 
 
 def read(path):
@@ -31,12 +31,12 @@ def read(path):
 
 
 def main():
-    instance, certificate = sys.argv[1:]
+    instance, certificate = command.arguments(__doc__)
+    command.test("min", instance)
     try:
         nx.network_simplex(read(instance))
     except nx.NetworkXUnfeasible:
-        judge = os.environ.get("DIMACS", "dimacs")
-        return subprocess.call([judge, "certify-infeasible", instance, certificate])
+        return command.run("certify-infeasible", instance, certificate)
     return "there is a feasible flow"
 
 

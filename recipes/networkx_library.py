@@ -11,6 +11,8 @@ import sys
 import dimacs
 import networkx as nx
 
+import command
+
 
 def read(path):
     """The graph, the source and the sink."""
@@ -33,10 +35,12 @@ def read(path):
 
 
 def main():
-    (instance,) = sys.argv[1:]
-    graph, source, sink = read(instance)
-    _, flow = nx.maximum_flow(graph, source, sink)
+    (instance,) = command.arguments(__doc__)
     try:
+        with open(instance, "rb") as text:
+            dimacs.show("max", text.read())
+        graph, source, sink = read(instance)
+        _, flow = nx.maximum_flow(graph, source, sink)
         value, _cut = dimacs.certify_networkx_max(graph, source, sink, flow)
     except dimacs.Refused as refused:
         print("x", refused)

@@ -4,11 +4,11 @@
 Reads GRAPH (.gr, no negative weights) and QUERY (.ss or .p2p), writes DISTANCES with a block for each source in QUERY,
 and runs `dimacs certify-paths`, which needs no predecessors. The variable DIMACS names the judge.
 """
-import os
-import subprocess
 import sys
 
 import networkx as nx
+
+import command
 
 
 def read_graph(path):
@@ -43,14 +43,16 @@ def block(graph, source):
 
 
 def main():
-    graph_path, query, distances = sys.argv[1:]
+    graph_path, query, distances = command.arguments(__doc__)
+    command.test("gr", graph_path)
+    command.test("query", query)
     graph = read_graph(graph_path)
     sources = read_sources(query)
     with open(distances, "w", encoding="ascii") as text:
         text.write(f"p distances {len(graph)} {len(sources)}\n")
         for source in sources:
             text.writelines(f"{line}\n" for line in block(graph, source))
-    return subprocess.call([os.environ.get("DIMACS", "dimacs"), "certify-paths", graph_path, distances])
+    return command.run("certify-paths", graph_path, distances)
 
 
 if __name__ == "__main__":

@@ -5,11 +5,11 @@ NOT RUN YET: written after the documentation of OR-Tools 9, since no package of 
 
 Reads INSTANCE, writes SOLUTION and CUT, and runs `dimacs judge-max` on the three. The variable DIMACS names the judge.
 """
-import os
-import subprocess
 import sys
 
 from ortools.graph.python import max_flow
+
+import command
 
 
 def read(path):
@@ -45,13 +45,14 @@ def write(path, lines):
 
 
 def main():
-    instance, solution, cut = sys.argv[1:]
+    instance, solution, cut = command.arguments(__doc__)
+    command.test("max", instance)
     nodes, source, sink, arcs = read(instance)
     flows, side = solve(source, sink, arcs)
     value = sum(flow * ((arc[0] == source) - (arc[1] == source)) for arc, flow in zip(arcs, flows))
     write(solution, [f"s {value}", *(f"f {arc[0]} {arc[1]} {flow}" for arc, flow in zip(arcs, flows))])
     write(cut, [f"p cut {nodes} {len(side)}", *(f"u {node}" for node in side)])
-    return subprocess.call([os.environ.get("DIMACS", "dimacs"), "judge-max", instance, solution, cut])
+    return command.run("judge-max", instance, solution, cut)
 
 
 if __name__ == "__main__":

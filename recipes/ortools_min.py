@@ -6,11 +6,11 @@ NOT RUN YET: written after the documentation of OR-Tools 9, since no package of 
 Reads INSTANCE, writes SOLUTION, and runs `dimacs certify-min` on the two, which writes POTENTIALS. The variable DIMACS
 names the judge. An instance without a feasible flow ends it with a message: networkx_infeasible.py shows that there is none.
 """
-import os
-import subprocess
 import sys
 
 from ortools.graph.python import min_cost_flow
+
+import command
 
 
 def read(path):
@@ -49,12 +49,13 @@ def write(path, lines):
 
 
 def main():
-    instance, solution, potentials = sys.argv[1:]
+    instance, solution, potentials = command.arguments(__doc__)
+    command.test("min", instance)
     supply, arcs = read(instance)
     flows = solve(supply, arcs)
     cost = sum(arc[4] * flow for arc, flow in zip(arcs, flows))
     write(solution, [f"s {cost}", *(f"f {arc[0]} {arc[1]} {flow}" for arc, flow in zip(arcs, flows))])
-    return subprocess.call([os.environ.get("DIMACS", "dimacs"), "certify-min", instance, solution, potentials])
+    return command.run("certify-min", instance, solution, potentials)
 
 
 if __name__ == "__main__":

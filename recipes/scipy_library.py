@@ -14,6 +14,8 @@ import numpy as np
 from scipy.sparse import csr_matrix
 from scipy.sparse.csgraph import dijkstra
 
+import command
+
 
 def read_graph(path):
     """The number of nodes, and the tails, heads and weights of the arcs."""
@@ -46,18 +48,31 @@ def read_queries(path):
     return [list(map(int, word[1:])) for word in words if word and word[0] in ("s", "q")]
 
 
+def test(kind, path):
+    """Raises if a text has a fault."""
+    with open(path, "rb") as text:
+        dimacs.show(kind, text.read())
+
+
+def certify(graph, weights, source):
+    """SciPy's distances from a source. Raises if they are wrong."""
+    distances = dijkstra(weights, indices=source - 1)
+    dimacs.certify_paths_arrays(*graph, source, distances)
+    return distances
+
+
 def main():
-    graph_path, query = sys.argv[1:]
-    graph = read_graph(graph_path)
-    weights, queries = matrix(*graph), read_queries(query)
-    distances = {}
-    for source in dict.fromkeys(nodes[0] for nodes in queries):
-        distances[source] = dijkstra(weights, indices=source - 1)
-        try:
-            dimacs.certify_paths_arrays(*graph, source, distances[source])
-        except dimacs.Refused as refused:
-            print("x", refused)
-            return 1
+    graph_path, query = command.arguments(__doc__)
+    try:
+        test("gr", graph_path)
+        test("query", query)
+        graph, queries = read_graph(graph_path), read_queries(query)
+        weights = matrix(*graph)
+        sources = dict.fromkeys(nodes[0] for nodes in queries)
+        distances = {source: certify(graph, weights, source) for source in sources}
+    except dimacs.Refused as refused:
+        print("x", refused)
+        return 1
     if queries and len(queries[0]) == 1:
         print("v sp ss", len(queries))
     for source, *target in queries:

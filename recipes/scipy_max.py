@@ -5,12 +5,12 @@ Reads INSTANCE, writes what flows between each pair of nodes as SOLUTION, has `d
 arcs, and runs `dimacs certify-max` on the two, which writes CUT. The variable DIMACS names the program. SciPy's capacities
 have 32 bits; a greater one ends it with a message.
 """
-import os
-import subprocess
 import sys
 
 from scipy.sparse import csr_matrix
 from scipy.sparse.csgraph import maximum_flow
+
+import command
 
 
 def read(path):
@@ -51,14 +51,14 @@ def write(path, lines):
 
 
 def main():
-    instance, solution, cut = sys.argv[1:]
+    instance, solution, cut = command.arguments(__doc__)
+    command.test("max", instance)
     nodes, source, sink, arcs = read(instance)
     flow = solve(nodes, source, sink, arcs)
     value = sum(amount * ((tail == source) - (head == source)) for (tail, head), amount in flow.items())
     write(solution, [f"s {value}", *(f"f {tail} {head} {amount}" for (tail, head), amount in flow.items())])
-    dimacs = os.environ.get("DIMACS", "dimacs")
-    spread = subprocess.call([dimacs, "spread-max", instance, solution, solution])
-    return spread or subprocess.call([dimacs, "certify-max", instance, solution, cut])
+    spread = command.run("spread-max", instance, solution, solution)
+    return spread or command.run("certify-max", instance, solution, cut)
 
 
 if __name__ == "__main__":

@@ -4,12 +4,12 @@
 Reads INSTANCE, writes SOLUTION and POTENTIALS, and runs `dimacs judge-min` on the three. The variable DIMACS names the
 judge. HiGHS computes in floating point: numbers beyond 2^53 come out rounded, and are refused.
 """
-import os
-import subprocess
 import sys
 
 from scipy.optimize import linprog
 from scipy.sparse import coo_matrix
+
+import command
 
 
 def read(path):
@@ -48,13 +48,14 @@ def write(path, lines):
 
 
 def main():
-    instance, solution, certificate = sys.argv[1:]
+    instance, solution, certificate = command.arguments(__doc__)
+    command.test("min", instance)
     supply, arcs = read(instance)
     flows, prices = solve(supply, arcs)
     cost = sum(arc[4] * flow for arc, flow in zip(arcs, flows))
     write(solution, [f"s {cost}", *(f"f {arc[0]} {arc[1]} {flow}" for arc, flow in zip(arcs, flows))])
     write(certificate, [f"p pot {len(supply)} {len(prices)}", *(f"y {node} {y}" for node, y in enumerate(prices, 1))])
-    return subprocess.call([os.environ.get("DIMACS", "dimacs"), "judge-min", instance, solution, certificate])
+    return command.run("judge-min", instance, solution, certificate)
 
 
 if __name__ == "__main__":

@@ -5,13 +5,13 @@ Reads GRAPH (.gr, no negative weights) and QUERY (.ss or .p2p), writes DISTANCES
 and runs `dimacs certify-paths`, which needs no predecessors. The variable DIMACS names the judge. SciPy's distances are
 floating point numbers: they are exact below 2^53.
 """
-import os
-import subprocess
 import sys
 
 import numpy as np
 from scipy.sparse import csr_matrix
 from scipy.sparse.csgraph import dijkstra
+
+import command
 
 
 def read_graph(path):
@@ -47,14 +47,16 @@ def block(graph, source):
 
 
 def main():
-    graph_path, query, distances = sys.argv[1:]
+    graph_path, query, distances = command.arguments(__doc__)
+    command.test("gr", graph_path)
+    command.test("query", query)
     graph = read_graph(graph_path)
     sources = read_sources(query)
     with open(distances, "w", encoding="ascii") as text:
         text.write(f"p distances {graph.shape[0]} {len(sources)}\n")
         for source in sources:
             text.writelines(f"{line}\n" for line in block(graph, source))
-    return subprocess.call([os.environ.get("DIMACS", "dimacs"), "certify-paths", graph_path, distances])
+    return command.run("certify-paths", graph_path, distances)
 
 
 if __name__ == "__main__":

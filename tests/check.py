@@ -26,6 +26,7 @@ SLOW = r"^test (\S+) \.\.\. FAILED\n *checked: no-answer: the program did not en
 SCRIPTS = {
     "library": ["--build", "{build}"],
     "malicious": ["{build}/dimacs"],
+    "referee": ["{build}/dimacs"],
     "refusals": ["{build}/dimacs"],
     "large_runs": ["{build}/dimacs"],
     "batch": ["{build}/dimacs"],
@@ -49,7 +50,9 @@ def run_command(words, folder=TOP):
 
 
 def run_script(name, build):
-    """Runs a script."""
+    """Runs a script. One that isn't there has failed."""
+    if not os.path.exists(f"{TOP}/tests/{name}.py"):
+        return f"there is no tests/{name}.py\n", 0, 1
     return run_command([f"tests/{name}.py", *(it.format(build=build) for it in SCRIPTS[name])])
 
 
@@ -80,8 +83,7 @@ def jobs():
     """How each crate and each script is run. The crate whose name comes last takes longest."""
     with open(f"{TOP}/crates.txt", encoding="utf-8") as it:
         crates = re.findall(r"^(\w+_tests)\b.*:", it.read(), re.MULTILINE)
-    scripts = [it for it in SCRIPTS if os.path.exists(f"{TOP}/tests/{it}.py")]
-    return [(run_crate, it) for it in reversed(crates)] + [(run_script, it) for it in scripts]
+    return [(run_crate, it) for it in reversed(crates)] + [(run_script, it) for it in SCRIPTS]
 
 
 def main():

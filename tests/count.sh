@@ -11,7 +11,8 @@ fail() {
 }
 
 # count LEAST COMMAND..: runs a command whose last line is 'N passed, M failed', and adds these up. It has failed too if
-# it has no such line, if fewer than LEAST passed, or if its status isn't that of its line: 0 if M is 0.
+# it has no such line, if fewer than LEAST passed, or if its status isn't that of its line: 0 if M is 0. Where ALL_TOOLS is
+# set, as .ci/run does, it has failed if it leaves something out.
 count() {
     least=$1
     shift
@@ -37,6 +38,9 @@ count() {
     fi
     if [ "$status" -eq 0 ] && [ "$its_failed" -ne 0 ]; then
         fail "$1 ended with status 0 after a failure"
+    fi
+    if [ -n "${ALL_TOOLS-}" ] && grep -q '^left out: ' "$room/output"; then
+        fail "$1 left something out, and all tools have to be there"
     fi
 }
 

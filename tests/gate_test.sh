@@ -1,11 +1,13 @@
 #!/bin/sh
 # Tests that the gate refuses what has to fail in it: tests/gate_test.sh
 #
-# Stand-ins for scripts end in each way in which a script can, and the pages are read without the runs that they show.
-# Nothing is built for it.
+# Stand-ins for scripts end in each way in which a script can, and the pages are read without the runs that they show. In a
+# repository of one crate, with stand-ins for the kit, edits show nothing, scripts are gone, and sources change after they
+# were built. Nothing is built for it.
 set -u
 cd "$(dirname "$0")/.."
 . tests/count.sh
+unset ALL_TOOLS
 
 # What count adds up of a stand-in, a line of sh, of which at least so many have to pass.
 added() {
@@ -23,6 +25,19 @@ expect() {
     fi
 }
 
+# prints WANTED COMMAND..: tests the last line that a command prints, and that its status is 0 if that is OK, else 1.
+prints() {
+    wanted=$1
+    shift
+    "$@" >"$room/printed" 2>&1
+    status=$?
+    if [ "$(tail -n 1 "$room/printed")" = "$wanted" ] && [ "$status" = "$([ "$wanted" = OK ]; echo $?)" ]; then
+        passed=$((passed + 1))
+    else
+        fail "$* prints, and not $wanted: $(cat "$room/printed")"
+    fi
+}
+
 expect "5 passed, 0 failed" 5 'echo a line; echo "5 passed, 0 failed"'
 expect "5 passed, 0 failed" 5 'echo "5 passed, 0 failed (and more)"'
 expect "5 passed, 1 failed" 5 'echo "5 passed, 0 failed"; exit 1'
@@ -34,12 +49,180 @@ expect "5 passed, 3 failed" 5 'echo "5 passed, 2 failed"'
 expect "0 passed, 1 failed" 1 'echo "5 passed, 0 failed"; echo a line'
 expect "0 passed, 1 failed" 1 'true'
 expect "0 passed, 1 failed" 1 'echo "5 passed, 0 failed, but"; no-such-command'
+expect "5 passed, 0 failed" 5 'echo "left out: a tool"; echo "5 passed, 0 failed"'
+ALL_TOOLS=yes expect "5 passed, 1 failed" 5 'echo "left out: a tool"; echo "5 passed, 0 failed"'
 
-# The pages without their runs.
-mkdir "$room/docs" "$room/man"
+# The pages without their runs, and two pages that aren't read and have one.
+mkdir "$room/docs" "$room/man" "$room/referee"
 cp -r examples tests "$room"
-for page in README.md examples/README.md docs/*.md man/*.md; do
-    sed 's/^\$ dimacs /$ another /' "$page" >"$room/$page"
+for page in README.md examples/README.md docs/*.md man/*.md referee/README.md; do
+    sed -E 's/^\$ (dimacs|referee\S+) /$ another /' "$page" >"$room/$page"
 done
-expect "0 passed, 5 failed" 1 "exec '$room/tests/shown_runs.py' /bin/true"
+printf '```console\n$ dimacs show gr road.gr\n```\n' >"$room/docs/console.md"
+printf 'A run:\n\n    $ dimacs show gr road.gr\n' >"$room/docs/indented.md"
+expect "0 passed, 8 failed" 1 "exec '$room/tests/shown_runs.py' /bin/true"
+
+# The repository of one crate.
+one=$room/one
+mkdir -p "$one/crates/dimacs/src" "$one/crates/dimacs_c/src" "$one/crates/dimacs_c/specs" "$one/build"
+cp -r lib tests tools Makefile targets.mk README.md HANDLES VERSION "$one"
+printf 'dimacs:\ndimacs_c:\n' >"$one/crates.txt"
+printf 'pub fn one() -> u8 {\n    1 // one\n}\n' >"$one/crates/dimacs/src/lib.rt"
+cp "$one/crates/dimacs/src/lib.rt" "$one/crates/dimacs_c/src/lib.rt"
+echo 'pub mod One' | tee "$one/crates/dimacs_c/specs/Lib.antt" >"$one/crates/dimacs_c/specs/One.antt"
+
+# An edit of one line that shows nothing: why, its old text and its new one.
+shows_nothing() {
+    printf 'name: edit\nfile: %s\nold: %s\nnew: %s\n' src/lib.rt "$2" "$3" >"$one/crates/dimacs/wrong-bodies"
+    prints "edits: 1, showing nothing: 1" "$one/tools/try_bodies.py" --apply dimacs
+    printf 'name: edit\nfile: %s\nold: %s\nnew: %s\nrun: version.py\nfails: it\n' crates/dimacs/src/lib.rt "$2" "$3" \
+        >"$one/tests/wrong-bodies"
+    prints "edits: 1, showing nothing: 1" "$one/tests/wrong_bodies.py" --apply
+    grep -q "$1" "$room/printed" || fail "$1 isn't printed of: $2, $3"
+}
+
+shows_nothing "it changes no code" "    1" "    1"
+shows_nothing "it changes no code" "// one" "// 2"
+shows_nothing "it doesn't parse" "    1 " "    1; ) "
+shows_nothing "stands 2 times" "one" "two"
+shows_nothing "stands 0 times" "three" "two"
+
+# How an edit can't be read, or its script found.
+unread() {
+    printf "$1" >"$one/tests/wrong-bodies"
+    prints "edits: 1, showing nothing: 1" "$one/tests/wrong_bodies.py" --apply
+}
+
+file='name: edit\nfile: crates/dimacs/src/lib.rt\n'
+unread "${file}old: 1\nnew: 2\nrun: gone.py\nfails: it\n"
+unread "${file}old: 1\nnew: 2\nrun: version.py\n"
+unread "${file}old: 1\nrun: version.py\nfails: it\n"
+unread "${file}new: 2\nrun: version.py\nfails: it\n"
+unread "${file}old: 1\nnew: 2\nand more\nrun: version.py\nfails: it\n"
+
+# What can't be built refuses no edit.
+mkdir "$room/no_make"
+printf '#!/bin/sh\nexit 2\n' >"$room/no_make/make"
+chmod +x "$room/no_make/make"
+printf "${file}old: 1\nnew: 2\nrun: version.py\nfails: it\n" >"$one/tests/wrong-bodies"
+prints "0 passed, 1 failed" env PATH="$room/no_make:$PATH" "$one/tests/wrong_bodies.py"
+
+# python CODE: runs lines over the scripts of that repository.
+python() {
+    prints OK env PYTHONPATH="$one/tests:$one/tools" python3 -B -c "$1"
+}
+
+python '
+import check
+check.SCRIPTS = {"gone": []}
+print("OK" if [run(name, "")[1:] for run, name in check.jobs() if name == "gone"] == [(0, 1)] else "left out")'
+python '
+import believed
+named = believed.imports("use M.{x as y, z};\nghost use N.{◌≤◌ as ◌≡◌};")
+print("OK" if named == {"y": ("M", "x"), "z": ("M", "z"), "◌≡◌": ("N", "◌≤◌")} else named)'
+
+# A layer of the library of which too little passes, with nothing left out, with a tool left out, and with one that
+# Debian lacks.
+python '
+import library
+for failed, left_out in (1, []), (0, ["it: no tool"]), (1, ["it: no OR-Tools"]):
+    counts = library.Counts()
+    counts.passed, counts.left_out = 4, left_out
+    counts.end("layer", 5)
+    assert counts.failed == failed, left_out
+print("OK")'
+
+# A proof that fails only since it names what an edit renamed.
+python '
+import types, try_bodies as it
+edit = it.Edit.__new__(it.Edit)
+edit.settle(None)
+it.judge_errors(edit, [": `goal-3` is not in scope", ": the record has no field `goal-4`"])
+print("OK" if edit.result == it.BAD else edit.result)'
+
+# .ci/run installs what isn't there, and runs the gate, where nothing may be left out, only if that is there then.
+mkdir "$room/debian"
+cp -r .ci "$one"
+printf '#!/bin/sh\n[ "${ALL_TOOLS-}" = yes ] && echo OK\n' >"$one/.ci/gate"
+for it in dpkg-query apt-get; do
+    printf '#!/bin/sh\nexit 1\n' >"$room/debian/$it"
+    chmod +x "$room/debian/$it"
+done
+prints "0 passed, 1 failed" env PATH="$room/debian:$PATH" "$one/.ci/run"
+printf '#!/bin/sh\necho "$*" >>%s\n' "$room/asked" >"$room/debian/apt-get"
+prints OK env PATH="$room/debian:$PATH" "$one/.ci/run"
+grep -q 'install .* valgrind ' "$room/asked" || fail ".ci/run asks for $(cat "$room/asked")"
+printf '#!/bin/sh\necho installed\n' >"$room/debian/dpkg-query"
+printf '#!/bin/sh\nexit 1\n' >"$room/debian/apt-get"
+prints OK env PATH="$room/debian:$PATH" "$one/.ci/run"
+
+# How a check names the function of an impl, and a tenth of 31 wrong bodies, which is the same for a seed.
+python '
+import types, try_bodies as it
+owners = {
+    "impl NodeTable {": "NodeTable",
+    "impl MinInstance<PlainArcs<ArcView>> {": "MinInstance+PlainArcs+ArcView",
+    "impl<\x27a> Files for SystemFiles<\x27a> {": "SystemFilesFiles",
+    "impl<T: Copy> Items<T> for Vec<T> {": "VecItems",
+    "impl<S: Short, L: Items<S::Long>> Items<S::Long> for List<S, L> {": "ListItemsLong",
+    "impl OfCostArcs for PlainArcs<ArcView> {": "PlainArcsArcViewOfCostArcs",
+    "impl From<io::Error> for Memory {": "MemoryFromError",
+    "pub trait Network {": "Network",
+}
+assert {block: it.owner_of(block) for block in owners} == owners
+every = [types.SimpleNamespace(name=str(n), functions=[n], result=None) for n in range(31)]
+first, again, other = (it.tenth_of(list(every), seed) for seed in ("a", "a", "b"))
+print("OK" if len(first) == 4 and first == again != other else [first, again, other])'
+
+# What was built is that of the sources only as long as none of them changes, whatever its time.
+kit=$room/kit
+mkdir -p "$kit/bin" "$kit/c"
+touch "$kit/bin/rattle" "$kit/c/liblibc_c.a"
+printf '#!/bin/sh\n[ "$1" = version ] && cat "$(dirname "$0")/../version"\n' >"$kit/bin/rt"
+chmod +x "$kit/bin/rt"
+echo 'a kit' >"$kit/version"
+here="env PATH=$kit/bin:$PATH make --no-print-directory -C $one"
+built=$(cd "$one/tools" && python3 -B -c "import proved_build as it; print(*(f'$one/build/{name}' for name in it.BUILT))")
+# shellcheck disable=SC2086  # they are paths without blanks
+touch $built
+# shellcheck disable=SC2086
+PATH="$kit/bin:$PATH" "$one/tools/sources.py" $built >/dev/null
+
+# stale PATH COMMAND..: tests that make and tools/dist.py refuse the build after a command on that path, which is undone.
+stale() {
+    cp -r "$1" "$room/kept"
+    path=$1
+    shift
+    "$@"
+    touch -d '10 years ago' "$path" 2>/dev/null
+    if $here build/dimacs >"$room/printed" 2>&1; then
+        fail "make calls a build of other sources up to date after $*"
+    elif ! env PATH="$kit/bin:$PATH" "$one/tools/dist.py" 2>&1 | grep -q "isn't of these sources"; then
+        fail "tools/dist.py packs a build of other sources after $*"
+    else
+        passed=$((passed + 1))
+    fi
+    rm -rf "$path"
+    mv "$room/kept" "$path"
+    $here build/dimacs >"$room/printed" 2>&1 || fail "a build is made again: $(cat "$room/printed")"
+}
+
+stale "$one/crates/dimacs/src/lib.rt" sed -i 's/1/2/' "$one/crates/dimacs/src/lib.rt"
+stale "$one/crates/dimacs_c/specs" rm "$one/crates/dimacs_c/specs/One.antt"
+stale "$one/HANDLES" sed -i 's/none/Net/' "$one/HANDLES"
+stale "$one/VERSION" sed -i 's/^/1/' "$one/VERSION"
+stale "$one/crates.txt" sed -i 's/dimacs:/dimacs: clap/' "$one/crates.txt"
+stale "$kit/version" sed -i 's/^/another /' "$kit/version"
+stale "$one/build/dimacs" cp README.md "$one/build/dimacs"
+
+# What rt ci proved is that of the sources too.
+mkdir "$one/crates/dimacs/out"
+touch "$one/crates/dimacs/out/dimacs"
+PATH="$kit/bin:$PATH" "$one/tools/sources.py" "$one/crates/dimacs/out/dimacs" >/dev/null
+sed -i 's/1/2/' "$one/crates/dimacs/src/lib.rt"
+if $here proved-by-ci 2>&1 | grep -q "isn't what rt ci proved"; then
+    passed=$((passed + 1))
+else
+    fail "make proved-by-ci takes a program of other sources"
+fi
 finish

@@ -10,16 +10,20 @@ the backend of it answers. N random small instances in arrays are compared with 
 of which go through the program: `--runs 20000` has all of them do so, which takes some minutes. Then it installs the
 wheel and calls it, and builds and runs what docs/LIBRARY.md shows.
 
-What needs a tool that isn't there is left out, and named. The last line counts what passed and what failed.
+What needs a tool that isn't there is left out, and named; what Debian doesn't have apart. Each layer has a least number
+that has to pass in it if nothing of it is left out. The last line counts what passed and what failed.
 """
 import argparse
 import collections
+import functools
 import os
 import re
 import shutil
 import subprocess
 import sys
 import tempfile
+
+from pages import commands
 
 TOP = os.path.dirname(os.path.dirname(os.path.abspath(__file__)))
 LIB = os.path.join(TOP, "lib")
@@ -40,50 +44,60 @@ C_TESTS = [
     ("large_arrays", "nothing", []),
 ]
 
-# Each test in C++: its file, the standard of the language, and a library's header that it needs. What LEMON and Boost have
-# in templates takes long to compile with -O1, and gets warnings then.
+# Each test in C++: its file, the standard of the language, and a library's header that it needs. Compilers take gnu++17
+# if none is named; in c++17 their integers of 128 bits aren't integers. What LEMON and Boost have in templates takes long
+# to compile with -O1, and gets warnings then.
 CPP_WARN = ["-O0", "-g", "-Wall", "-Wextra", "-Wpedantic", "-Werror", f"-I{LIB}/include"]
 CPP_TESTS = [
     ("hpp", "c++17", None),
+    ("hpp", "gnu++17", None),
     ("hpp", "c++20", None),
     ("lemon", "c++17", ("LEMON", "lemon/core.h")),
+    ("lemon", "gnu++17", ("LEMON", "lemon/core.h")),
     ("boost", "c++17", ("Boost", "boost/graph/adjacency_list.hpp")),
+    ("boost", "gnu++17", ("Boost", "boost/graph/adjacency_list.hpp")),
 ]
+
+
+# How the needs end that Debian doesn't have.
+NOT_OF_DEBIAN = ("OR-Tools", "networkx 3.3", "these tests need 3.3")
 
 
 def by_count(name, ran):
     """What passed and what failed by the last line of a program: `N passed, M failed`."""
     last = ran.stdout.strip().rpartition("\n")[2]
     counted = re.fullmatch(r"(\d+) passed, (\d+) failed", last)
-    return (int(counted[1]), int(counted[2]), []) if counted else (0, 0, [])
+    return (int(counted[1]), int(counted[2])) if counted else (0, 0)
 
 
 def by_unittest(name, ran):
-    """The same by the output of unittest, and what it left out."""
+    """The same by the output of unittest; what it skipped is neither."""
     tests = re.findall(r"^Ran (\d+) tests? in ", ran.stderr, re.M)
     result = " ".join(re.findall(r"^(?:OK|FAILED) .*", ran.stderr, re.M)[-1:])
     failed = sum(map(int, re.findall(r"(?<!expected )(?:failures|errors|unexpected successes)=(\d+)", result)))
     skipped = sum(map(int, re.findall(r"skipped=(\d+)", result)))
-    reasons = collections.Counter(re.findall(r"\.\.\. skipped [\"'](.*)[\"']$", ran.stderr, re.M))
-    reasons["no reason is printed"] += max(0, skipped - sum(reasons.values()))
-    left_out = [f"{count} tests of {name}: {reason}" for reason, count in reasons.items() if count]
     passed = int(tests[-1]) - failed - skipped if tests else 0
-    return max(0, passed), failed, left_out
+    return max(0, passed), failed + abs(skipped - len(skipped_in(ran)))
+
+
+def skipped_in(ran):
+    """Why unittest skipped tests, by their names."""
+    return dict(re.findall(r"^(.*) \.\.\. skipped [\"'](.*)[\"']$", ran.stderr, re.M))
 
 
 def by_cargo(name, ran):
     """The same by the lines of cargo test."""
     counted = re.findall(r"^test result: \w+\. (\d+) passed; (\d+) failed", ran.stdout, re.M)
-    return sum(int(it[0]) for it in counted), sum(int(it[1]) for it in counted), []
+    return sum(int(it[0]) for it in counted), sum(int(it[1]) for it in counted)
 
 
 def by_status(name, ran):
     """The same by the status alone."""
-    return int(ran.returncode == 0), int(ran.returncode != 0), []
+    return int(ran.returncode == 0), int(ran.returncode != 0)
 
 
 class Counts:
-    """What passed, what failed, and what was left out."""
+    """What passed, what failed, and what was left out, of a layer."""
 
     def __init__(self):
         self.passed = self.failed = 0
@@ -91,10 +105,9 @@ class Counts:
 
     def add(self, name, ran, read):
         """Counts a run by its output, as `read` reads it. One without a count there has failed."""
-        passed, failed, left_out = read(name, ran)
+        passed, failed = read(name, ran)
         if not failed and (ran.returncode or not passed):
             failed = 1
-        self.left_out += left_out
         self.passed += passed
         self.failed += failed
         if failed:
@@ -103,6 +116,16 @@ class Counts:
 
     def leave_out(self, name, need):
         self.left_out.append(f"{name}: no {need}")
+
+    def end(self, layer, least):
+        """Ends a layer. If nothing of it is left out that Debian has, so many have to pass in it."""
+        lacking = [it for it in self.left_out if not it.endswith(NOT_OF_DEBIAN)]
+        for it in self.left_out:
+            print(f"{'left out' if it in lacking else 'Debian has none'}: {it}")
+        if self.passed < least and not lacking:
+            self.failed += 1
+            print(f"== {layer}: at least {least} have to pass")
+        print(f"{layer}: {self.passed} passed, {self.failed} failed", flush=True)
 
 
 def run(*words, **how):
@@ -191,7 +214,7 @@ def test_cargo(counts, build, place):
             counts.add(f"cargo {tool}", run("cargo", tool, *manifest, *words, env=environment), by_status)
 
 
-def test_exports(counts, build):
+def test_exports(counts, build, place):
     """The shared library exports the calls of the header, and nothing else."""
     with open(f"{LIB}/include/dimacs.h", encoding="ascii") as it:
         declared = set(re.findall(r"^uint32_t (\w+)\(", it.read(), re.M))
@@ -225,24 +248,32 @@ def installed_package(counts, build, place):
 
 
 def test_python(counts, build, place):
-    environment = installed_package(counts, build, place)
+    """The tests in Python. One is left out if no Python has what it needs."""
+    environment, skipped = installed_package(counts, build, place), []
     for python in pythons():
-        words = [python, "-m", "unittest", "discover", "-v", "-s", TEST]
-        counts.add(f"unittest by {python}", run(*words, cwd=TEST, env=environment), by_unittest)
-        test_networkx(counts, python, environment, place)
+        ran = run(python, "-m", "unittest", "discover", "-v", "-s", TEST, cwd=TEST, env=environment)
+        counts.add(f"unittest by {python}", ran, by_unittest)
+        skipped.append(skipped_in(ran))
+    by_none = [skipped[-1][it] for it in skipped[-1] if all(it in of_another for of_another in skipped)]
+    counts.left_out += [f"{count} tests in Python: {why}" for why, count in collections.Counter(by_none).items()]
+    test_networkx(counts, environment, place)
 
 
-def test_networkx(counts, python, environment, place):
-    """networkx' own tests, with the backend in place."""
-    ran, name = run(python, f"{TEST}/networkx_tests.py", cwd=place, env=environment), f"networkx' own tests by {python}"
-    lacks = re.fullmatch(r"left out: no (.*)\n", ran.stdout)
-    if lacks:
-        counts.leave_out(name, lacks[1])
-    else:
-        counts.add(name, ran, by_count)
+def test_networkx(counts, environment, place):
+    """networkx' own tests, with the backend in place, by each Python that has what they need."""
+    lacking = []
+    for python in pythons():
+        ran = run(python, f"{TEST}/networkx_tests.py", cwd=place, env=environment)
+        lacks = re.fullmatch(r"left out: no (.*)\n", ran.stdout)
+        if lacks:
+            lacking.append(lacks[1])
+        else:
+            counts.add(f"networkx' own tests by {python}", ran, by_count)
+    if len(lacking) == len(pythons()):
+        counts.leave_out("networkx' own tests", lacking[-1])
 
 
-def test_agreement(counts, build, instances, runs):
+def test_agreement(counts, build, place, instances, runs):
     """Arrays and the same as texts."""
     words = [pythons()[0], f"{TEST}/agree.py", "--instances", str(instances), "--runs", str(runs)]
     words += ["--program", f"{build}/dimacs"]
@@ -269,15 +300,6 @@ def test_wheel(counts, build, place):
     counts.add("the wheel", ran, by_status)
 
 
-def shown():
-    """Yields each command that docs/LIBRARY.md shows, and the lines under it."""
-    with open(f"{TOP}/docs/LIBRARY.md", encoding="utf-8") as it:
-        blocks = re.findall(r"^```\n(.*?)^```", it.read(), re.DOTALL | re.MULTILINE)
-    for block in blocks:
-        for command, lines in re.findall(r"^\$ (.*)\n((?:(?!\$ ).*\n)*)", block, re.MULTILINE):
-            yield command, lines
-
-
 def lacking_for(program, lacks):
     """The tool that isn't there and that a program is, or would have been made by."""
     if program.startswith("./"):
@@ -289,11 +311,11 @@ def test_page(counts, build, place):
     """The commands of docs/LIBRARY.md, in a folder that has lib and examples, and as build the one that is tested."""
     for name, at in (("lib", LIB), ("examples", f"{TOP}/examples"), ("build", build)):
         os.symlink(at, os.path.join(place, name))
-    commands, environment = list(shown()), package(build) | cargo_environment(build, place)
-    if not commands:
+    shown, environment = list(commands(f"{TOP}/docs/LIBRARY.md")), package(build) | cargo_environment(build, place)
+    if not shown:
         counts.add("docs/LIBRARY.md", subprocess.CompletedProcess([], 1, "it shows no command", ""), by_status)
     lacks = {}  # by the programs that commands make
-    for command, lines in commands:
+    for command, lines in shown:
         made = [f"./{it}" for it in re.findall(r" -o (\S+)", command)]
         for it in made:  # what a command before it made isn't taken for it
             if os.path.exists(os.path.join(place, it)):
@@ -319,26 +341,35 @@ def wanted_status(lines):
     return int(lines.startswith("x ") and "\nv " not in lines)
 
 
+# The layers: what tests each, and the least that passes in it.
+LAYERS = {
+    "C": (test_c, 2600),
+    "C++": (test_cpp, 460),
+    "Rust": (test_cargo, 37),
+    "exports": (test_exports, 1),
+    "Python": (test_python, 115),
+    "wheel": (test_wheel, 1),
+    "docs/LIBRARY.md": (test_page, 16),
+}
+
+
 def main():
     words = argparse.ArgumentParser(description="Tests the library for C, C++, Python and Rust.")
     words.add_argument("--build", default=f"{TOP}/build", help="the folder of the library and the program")
     words.add_argument("--instances", type=int, default=20_000, help="how many are compared in arrays and as texts")
     words.add_argument("--runs", type=int, default=300, help="how many of their texts go through the program")
     asked = words.parse_args()
-    counts, build = Counts(), os.path.abspath(asked.build)
-    with tempfile.TemporaryDirectory() as place:
-        test_c(counts, build, place)
-        test_cpp(counts, build, place)
-        test_cargo(counts, build, place)
-        test_exports(counts, build)
-        test_python(counts, build, place)
-        test_agreement(counts, build, asked.instances, asked.runs)
-        test_wheel(counts, build, place)
-        test_page(counts, build, place)
-    for it in counts.left_out:
-        print(f"left out: {it}")
-    print(f"{counts.passed} passed, {counts.failed} failed")
-    return 1 if counts.failed or not counts.passed else 0
+    agree = functools.partial(test_agreement, instances=asked.instances, runs=asked.runs)
+    layers = {**LAYERS, "arrays and texts": (agree, asked.instances)}
+    passed = failed = 0
+    for layer, (test, least) in layers.items():
+        with tempfile.TemporaryDirectory() as place:
+            counts = Counts()
+            test(counts, os.path.abspath(asked.build), place)
+        counts.end(layer, least)
+        passed, failed = passed + counts.passed, failed + counts.failed
+    print(f"{passed} passed, {failed} failed")
+    return 1 if failed or not passed else 0
 
 
 if __name__ == "__main__":

@@ -60,9 +60,11 @@ def warnings(file):
     }
     width = {**os.environ, "LC_ALL": "C.UTF-8", "MANROFFSEQ": "", "MANWIDTH": "80"}
     for name, command in commands.items():
-        if shutil.which(name):
-            ran = subprocess.run(command, capture_output=True, text=True, check=False, env=width)
-            yield name, ran.stderr + (ran.stdout if name == "mandoc" else "")
+        if not shutil.which(name):
+            print(f"left out: the warnings of {name}")
+            continue
+        ran = subprocess.run(command, capture_output=True, text=True, check=False, env=width)
+        yield name, ran.stderr + (ran.stdout if name == "mandoc" else "")
 
 
 def main():

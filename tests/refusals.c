@@ -4,7 +4,7 @@
  * start of the program's own code. Writes to the standard error aren't counted, and never fail.
  *
  *   REFUSE_GROWTH, REFUSE_READ, REFUSE_WRITE, REFUSE_OPENING   the number of the call that fails, once
- *   INTERRUPT   where it is set, a read or write that fails was interrupted by a signal
+ *   INTERRUPT   so many reads or writes in a row, from the one that fails on, are interrupted by a signal
  *   AT_MOST     the most bytes that one read or write moves
  *   COUNTS      the file that is written at the end: a line of the four counts, the most memory that was held at once, in
  *               kB, and how many bytes the growths asked for; and where a call failed, a line that names it and
@@ -37,7 +37,8 @@ enum { MOST_FILES = 64, MOST_NAME = 256 };
 static long counts[CALLS], refused[CALLS];
 static size_t bytes;
 static size_t at_most = (size_t)-1;
-static int is_interrupt, counting;
+static long interrupts;
+static int counting;
 
 /* The names of the open files, and the line about the call that failed. */
 static char names[MOST_FILES][MOST_NAME] = {"standard input", "standard output"};
@@ -57,7 +58,7 @@ __attribute__((constructor)) static void start(void)
     refused[OPENING] = number("REFUSE_OPENING");
     if (number("AT_MOST") > 0)
         at_most = number("AT_MOST");
-    is_interrupt = getenv("INTERRUPT") != NULL;
+    interrupts = number("INTERRUPT");
     counting = 1;
 }
 
@@ -92,7 +93,8 @@ static int fails(enum call call, int error, const char *done, const char *name)
     if (!counting)
         return 0;
     counts[call] += 1;
-    if (counts[call] != refused[call])
+    long after = counts[call] - refused[call];
+    if (refused[call] == 0 || after < 0 || after > 0 && after >= interrupts)
         return 0;
     snprintf(failed, sizeof failed, "%s %s\n", done, name);
     errno = error;
@@ -149,7 +151,7 @@ int posix_memalign(void **place, size_t alignment, size_t size)
 
 ssize_t read(int file, void *into, size_t size)
 {
-    int error = is_interrupt ? EINTR : EIO;
+    int error = interrupts ? EINTR : EIO;
     return fails(READ, error, "read", name_of(file)) ? -1 : __read(file, into, shortened(size));
 }
 
@@ -157,7 +159,7 @@ ssize_t write(int file, const void *from, size_t size)
 {
     if (file == 2)
         return __write(file, from, size);
-    int error = is_interrupt ? EINTR : ENOSPC;
+    int error = interrupts ? EINTR : ENOSPC;
     return fails(WRITE, error, "written", name_of(file)) ? -1 : __write(file, from, shortened(size));
 }
 

@@ -4,14 +4,15 @@
 Each run below is made again with its Nth growth of memory refused, N counting up until a run meets no refusal; the same
 with the Nth read, write and opening, and with reads and writes of one byte. Each run has to give its own answer, or
 the status and the complaint of its error, with the file, the call and the system's own reason: then nothing was written
-if a growth, a read or an opening failed, and a beginning of what was to be written if a write did. A call that a
-signal interrupts is made again. Each run has to meet the calls that it can't do without: it opens each of its files,
-reads each byte, writes each byte, and takes memory for its words and files. Before each run the files that it writes
-hold an old text, longer than the new one.
+if a growth, a read or an opening failed, and a beginning of what was to be written if a write did. A call that signals
+interrupt, a hundred times in a row, is made again. Each run has to meet the calls that it can't do without: it opens
+each of its files, reads each byte, writes each byte, and takes memory for its words and files. Before each run the
+files that it writes hold an old text, longer than the new one.
 
-Runs are made too with the standard devices closed: what is meant for these never lands in a file. Then texts are read
-that declare the greatest counts, which has to take as many growths, and of as many bytes, as the least ones do. Tiny
-texts with the greatest counts and IDs are judged and solved in little memory.
+Runs are made too with the standard devices closed: what is meant for these never lands in a file. What a pipe gave is
+explained without reading it again, and an argument that isn't UTF-8 names no run. Then texts are read that declare the
+greatest counts, which has to take as many growths, and of as many bytes, as the least ones do. Tiny texts with the
+greatest counts and IDs are judged and solved in little memory.
 
 BINARY is the built program, crates/dimacs/out/dimacs by default. TESTS is crates/dimacs_tests as `rt test` builds it:
 its tests of refused growths run with each growth refused. They are left out if neither is given and TESTS isn't there.
@@ -25,6 +26,7 @@ import re
 import subprocess
 import sys
 import tempfile
+import threading
 
 HERE = os.path.dirname(os.path.abspath(__file__))
 
@@ -200,8 +202,8 @@ KINDS = [
     Kind("write", "write", {}, 3),
     Kind("read of a byte", "read", {"AT_MOST": "1"}, 3),
     Kind("write of a byte", "write", {"AT_MOST": "1"}, 3),
-    Kind("interrupted read", "read", {"INTERRUPT": "1"}, None),
-    Kind("interrupted write", "write", {"INTERRUPT": "1"}, None),
+    Kind("interrupted read", "read", {"INTERRUPT": "100"}, None),
+    Kind("interrupted write", "write", {"INTERRUPT": "100"}, None),
 ]
 
 # The system's error of a refused call.
@@ -631,6 +633,29 @@ def run_closed(runs, words, closed, status, error):
         yield f"dimacs {words} {closed}: complains {ran.complaint!r}"
 
 
+def explain_pipe(runs):
+    """Explains a refusal of what a pipe gave, which is empty the second time. Yields what is wrong."""
+    os.mkfifo(runs.path("pipe"))
+    threading.Thread(target=runs.write, args=("pipe", "p sp 1 1\ne 1 1 0\n")).start()
+    words = [runs.binary, *"explain show gr pipe".split()]
+    runs.runs += 1
+    try:
+        ran = subprocess.run(words, capture_output=True, text=True, cwd=runs.folder, timeout=20, check=False)
+    except subprocess.TimeoutExpired:
+        yield "dimacs explain show gr pipe: doesn't end"
+        return
+    if ran.returncode != 1 or not ran.stdout.startswith("x instance 2 1 UnknownLine\n"):
+        yield f"dimacs explain show gr pipe: status {ran.returncode}, prints {ran.stdout!r}"
+
+
+def give_bytes(runs):
+    """Gives an argument that isn't UTF-8. Yields what is wrong."""
+    runs.runs += 1
+    ran = subprocess.run([runs.binary, "show", "gr", b"\xff"], capture_output=True, cwd=runs.folder, check=False)
+    if ran.returncode != 2 or ran.stdout or not ran.stderr.startswith(NO_TEXT.encode()):
+        yield f"dimacs show gr \\xff: status {ran.returncode}, prints {ran.stdout!r} and {ran.stderr[:100]!r}"
+
+
 def miss(runs, call):
     """Refuses calls by a library that doesn't see this one. Yields a fault if no run fails by that."""
     blind = Runs(runs.binary, build(runs.folder, call), runs.folder)
@@ -715,6 +740,8 @@ def main():
             cases.count(refuse_all(runs, *run, KINDS[:1]))
         for closed in CLOSED:
             cases.count(run_closed(runs, *closed))
+        cases.count(explain_pipe(runs))
+        cases.count(give_bytes(runs))
         for call in UNSEEN:
             cases.count(miss(runs, call))
         for texts in DECLARED:

@@ -1,10 +1,10 @@
 #!/usr/bin/env python3
 """Repeats the runs that the pages show: tests/shown_runs.py [BINARY]
 
-Each line '$ dimacs WORDS' in a page's block of code is run beside a copy of the examples, where it may write files, and
-what it prints is compared with the lines under it, up to a line '...' and without remarks, which begin with '  # '. Its
-exit status is compared with what these lines mean; the standard error has to stay empty. A page that shows no run has
-failed, and so has one that does and isn't read here.
+Each line '$ dimacs WORDS' or '$ referee/referee.py WORDS' in a page's block of code is run beside a copy of the
+examples, where it may write files. What it prints is compared with the lines under it, up to a line '...' and without
+remarks, which begin with '  # '. Its exit status is compared with what these lines mean; the standard error has to stay
+empty. A page that shows no run has failed, and so has one that does and isn't read here.
 BINARY is the built program; crates/dimacs/out/dimacs by default.
 """
 import glob
@@ -15,16 +15,18 @@ import subprocess
 import sys
 import tempfile
 
-PAGES = ["README.md", "examples/README.md", "docs/JUDGING.md", "man/dimacs.1.md"]
+from pages import commands
+
+PAGES = ["README.md", "examples/README.md", "docs/JUDGING.md", "man/dimacs.1.md", "referee/README.md"]
+REFEREE = "referee/referee.py"
 
 
 def shown(page):
-    """Yields the words of each run that the page shows, and the lines under it."""
-    with open(page, encoding="utf-8") as it:
-        blocks = re.findall(r"^```\n(.*?)^```", it.read(), re.DOTALL | re.MULTILINE)
-    for block in blocks:
-        for run in re.findall(r"^\$ dimacs (.*)\n((?:(?!\$ ).*\n)*)", block, re.MULTILINE):
-            yield run[0].split(), re.sub(r" {2,}# .*", "", run[1]).rstrip("\n").split("\n")
+    """Yields the program and the words of each run that the page shows, and the lines under it."""
+    for command, lines in commands(page):
+        program, *words = command.split()
+        if program in ("dimacs", REFEREE):
+            yield program, words, re.sub(r" {2,}# .*", "", lines).rstrip("\n").split("\n")
 
 
 def wrong_pages():
@@ -57,6 +59,7 @@ def main():
     built = sys.argv[1] if len(sys.argv) > 1 else os.path.join(top, "crates/dimacs/out/dimacs")
     binary = os.path.abspath(built)
     os.chdir(top)
+    programs = {"dimacs": binary, REFEREE: os.path.abspath(REFEREE)}
     failed = passed = 0
     with tempfile.TemporaryDirectory() as place:
         shutil.copytree("examples", os.path.join(place, "examples"))
@@ -64,9 +67,9 @@ def main():
             failed += 1
             print(fault)
         for page in PAGES:
-            for words, lines in shown(page):
+            for program, words, lines in shown(page):
                 ran = subprocess.run(
-                    [binary, *words], capture_output=True, text=True, check=False, cwd=place
+                    [programs[program], *words], capture_output=True, text=True, check=False, cwd=place
                 )
                 printed = ran.stdout.rstrip("\n").split("\n")
                 result = (ran.returncode, ran.stderr)
@@ -74,7 +77,7 @@ def main():
                     passed += 1
                 else:
                     failed += 1
-                    print(f"{page}: dimacs {' '.join(words)}: status {ran.returncode}, prints\n{ran.stdout}{ran.stderr}")
+                    print(f"{page}: {program} {' '.join(words)}: status {ran.returncode}, prints\n{ran.stdout}{ran.stderr}")
     print(f"{passed} passed, {failed} failed")
     return 1 if failed or not passed else 0
 

@@ -1,17 +1,16 @@
 #!/usr/bin/env python3
 """Has wrong bodies refused that keep their contracts: tests/wrong_bodies.py [--apply] [--quick] [NAME..]
 
-Each edit in tests/must_fail makes a function give up above some size, forget a reason, or let what is printed land in a
+Each edit in tests/wrong-bodies makes a function give up above some size, forget a reason, or let what is printed land in a
 file. No clause refuses it, so a run has to: the edit's line `run` names the script, or the test in C, and its line
 `fails` what has to fail in it. The program, or the library, is proved and built with each edit in turn, in a copy of
-the repository, and the script runs over it. An edit that is no longer proved is refused too. With NAME only the edits
-of these names are tried.
+the repository, and the script runs over it. A copy without an edit is built first. With NAME only the edits of these
+names are tried. An edit that is no longer proved is refused too, and counted apart.
 
 It isn't part of the gate, since each edit takes minutes, and more if it is proved. With --quick nothing is: what
-runs is built as by `make quick`. With --apply nothing is tried: each old text has to stand once in its file.
+runs is built as by `make quick`. With --apply nothing is tried, and each edit is refused that shows nothing.
 """
 import argparse
-import glob
 import os
 import shutil
 import subprocess
@@ -20,41 +19,26 @@ import tempfile
 
 HERE = os.path.dirname(os.path.abspath(__file__))
 TOP = os.path.dirname(HERE)
+sys.path.insert(0, os.path.join(TOP, "tools"))
+sys.dont_write_bytecode = True
+import edits as bodies  # noqa: E402
+import kit as kits  # noqa: E402
+
+# The lines that an edit has here beside its pairs.
+WORDS = ("run", "fails")
+
+# What rt prints of a crate that it checked and didn't prove.
+NOT_PROVED = "logic=not-proved"
 
 
-class Edit:
-    """A wrong body, and the run that refuses it."""
+def place_of(edit):
+    """The script that has to refuse an edit, or the test in C."""
+    return os.path.join(TOP, "lib/test" if edit.words["run"].endswith(".c") else "tests", edit.words["run"])
 
-    def __init__(self, path):
-        self.name = os.path.basename(path).removesuffix(".edit")
-        self.pairs, file = [], None
-        self.run = self.fails = old = None
-        with open(path, encoding="utf-8") as it:
-            for line in it.read().splitlines():
-                word, _, text = line.partition(": ")
-                if word == "file":
-                    file = text
-                elif word == "old":
-                    old = text
-                elif word == "new":
-                    self.pairs.append((file, old, text))
-                elif word in ("run", "fails"):
-                    setattr(self, word, text)
 
-    def is_of_library(self):
-        return self.run.endswith(".c")
-
-    def apply(self, top):
-        """Puts the wrong body into a copy of the repository, and answers what is wrong with that."""
-        for file, old, new in self.pairs:
-            path = os.path.join(top, file)
-            with open(path, encoding="utf-8") as it:
-                text = it.read()
-            if text.count(old) != 1:
-                return f"{old!r} stands {text.count(old)} times in {file}"
-            with open(path, "w", encoding="utf-8") as it:
-                it.write(text.replace(old, new))
-        return None if self.pairs and self.run and self.fails else "it changes nothing, or names no run"
+def product_of(edit, is_quick):
+    """What is built for an edit's run."""
+    return f"build/{'quick/' * is_quick}{'libdimacs.a' if edit.words['run'].endswith('.c') else 'dimacs'}"
 
 
 def copy(top):
@@ -62,51 +46,74 @@ def copy(top):
     shutil.copytree(TOP, top, ignore=shutil.ignore_patterns(".git", "out", "build", "dist", "__pycache__"), symlinks=True)
 
 
-def build(top, edit, is_quick):
-    """Builds what the edit's run needs, and answers its path; none if it isn't proved."""
-    made = f"build/{'quick/' * is_quick}{'libdimacs.a' if edit.is_of_library() else 'dimacs'}"
-    built = subprocess.run(["make", "-C", top, made], check=is_quick)
-    return os.path.join(top, made) if built.returncode == 0 else None
+def build(top, product):
+    """Builds a product in a copy, and answers the status and the output."""
+    how = {"stdin": subprocess.DEVNULL, "stdout": subprocess.PIPE, "stderr": subprocess.STDOUT}
+    ran = subprocess.run(["make", "-C", top, product], text=True, errors="replace", check=False, **how)
+    return ran.returncode, ran.stdout
 
 
 def run(edit, top, made):
     """Runs the edit's script, or its test in C, over what was built."""
-    words = [os.path.join(HERE, edit.run), made]
-    if edit.is_of_library():
+    words = [place_of(edit), made]
+    if made.endswith(".a"):
         test = os.path.join(top, "test")
-        source = os.path.join(TOP, "lib/test", edit.run)
-        subprocess.run(["cc", "-O1", f"-I{TOP}/lib/include", "-o", test, source, made], check=True)
+        subprocess.run(["cc", "-O1", f"-I{TOP}/lib/include", "-o", test, place_of(edit), made], check=True)
         words = [test]
     return subprocess.run(words, capture_output=True, text=True, errors="replace", check=False)
 
 
-def fault_of(edit, is_quick):
-    """What is wrong with an edit: it can't be applied, or its run doesn't refuse it."""
+def unbuilt(products):
+    """Yields each product that can't be built without an edit, and why."""
     with tempfile.TemporaryDirectory() as folder:
         top = os.path.join(folder, "dimacs")
         copy(top)
-        fault = edit.apply(top)
-        if fault:
-            return fault
-        made = build(top, edit, is_quick)
-        if made is None:
-            print(f"{edit.name}: not proved", flush=True)
-            return None
-        ran = run(edit, top, made)
-    complaints = [line for line in ran.stdout.splitlines() if edit.fails + ":" in line]
-    if ran.returncode == 0 or not complaints:
-        return f"{edit.run} ends with {ran.returncode}, and doesn't report that {edit.fails!r} fails"
-    print(f"{edit.name}: refused: {complaints[0]}", flush=True)
-    return None
+        for it in products:
+            status, output = build(top, it)
+            if status:
+                yield f"without an edit {it} isn't built: make ended with status {status}\n{output[-1000:]}"
 
 
-def unapplied(edit):
-    """What is wrong with applying an edit."""
+def tried(edit, is_quick):
+    """Tries an edit: whether it is refused by the run, by a proof, or by neither, and what shows it."""
     with tempfile.TemporaryDirectory() as folder:
-        for file in {file for file, _, _ in edit.pairs}:
-            os.makedirs(os.path.dirname(os.path.join(folder, file)), exist_ok=True)
-            shutil.copy(os.path.join(TOP, file), os.path.join(folder, file))
-        return edit.apply(folder)
+        top = os.path.join(folder, "dimacs")
+        copy(top)
+        for file, text in edit.applied(top).items():
+            bodies.written(os.path.join(top, file), text)
+        product = product_of(edit, is_quick)
+        status, output = build(top, product)
+        if status and NOT_PROVED in output:
+            return "not proved", ""
+        if status:
+            return "failed", f"make ended with status {status}\n{output[-1000:]}"
+        ran = run(edit, top, os.path.join(top, product))
+    complaints = [line for line in ran.stdout.splitlines() if edit.words["fails"] + ":" in line]
+    if ran.returncode == 0 or not complaints:
+        its = edit.words
+        return "failed", f"{its['run']} ends with {ran.returncode}, and doesn't report that {its['fails']!r} fails"
+    return "refused", complaints[0]
+
+
+def faults_of(edits):
+    """Yields each edit that shows nothing, and why."""
+    yield from bodies.showing_nothing(kits.folder(), edits, lambda _: TOP)
+    for edit in edits:
+        if "run" in edit.words and not os.path.exists(place_of(edit)):
+            yield edit, f"there is no {os.path.relpath(place_of(edit), TOP)}"
+
+
+def try_all(edits, is_quick):
+    """Tries the edits, and answers how many the runs refused, how many a proof, and how many neither."""
+    counts = {"refused": 0, "not proved": 0, "failed": 0}
+    for fault in unbuilt(sorted({product_of(it, is_quick) for it in edits})):
+        print(fault, flush=True)
+        counts["failed"] += 1
+    for edit in [] if counts["failed"] else edits:
+        how, why = tried(edit, is_quick)
+        print(f"{edit.name}: {how}{': ' if why else ''}{why}", flush=True)
+        counts[how] += 1
+    return counts.values()
 
 
 def main():
@@ -115,17 +122,18 @@ def main():
     words.add_argument("--quick", action="store_true", help="build without proofs")
     words.add_argument("names", nargs="*", metavar="NAME", help="the edits that are tried")
     asked = words.parse_args()
-    edits = [Edit(it) for it in sorted(glob.glob(f"{HERE}/must_fail/*.edit"))]
-    edits = [it for it in edits if not asked.names or it.name in asked.names]
-    passed = failed = 0
-    for edit in edits:
-        fault = unapplied(edit) if asked.apply else fault_of(edit, asked.quick)
-        if fault:
-            print(f"{edit.name}: {fault}", flush=True)
-        failed += bool(fault)
-        passed += not fault
-    print(f"{passed} passed, {failed} failed")
-    return 1 if failed or not passed else 0
+    edits = [it for it in bodies.edits_in(f"{HERE}/wrong-bodies", WORDS) if not asked.names or it.name in asked.names]
+    faults = list(faults_of(edits))
+    for edit, fault in faults:
+        print(f"{edit.name}: {fault}")
+    if asked.apply or faults or not edits:
+        print(f"edits: {len(edits)}, showing nothing: {len({edit for edit, _ in faults})}")
+        return 1 if faults or not edits else 0
+    refused, not_proved, failed = try_all(edits, asked.quick)
+    if not_proved:
+        print(f"{not_proved} are not proved, and run by nobody")
+    print(f"{refused} passed, {failed} failed")
+    return 1 if failed or not refused + not_proved else 0
 
 
 if __name__ == "__main__":

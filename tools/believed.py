@@ -48,8 +48,8 @@ def imports(text):
     named = {}
     for module, names, alias in re.findall(r"^ *(?:ghost )?use ([\w.+«»]+?)(?:\.\{([^}]*)\})?(?: as (\w+))?;?$", text, re.M):
         if names:
-            for name in (it.strip() for it in names.split(",")):
-                named[name] = (module, name)
+            for name, renamed in re.findall(r"([^\s,]+)(?:\s+as\s+([^\s,]+))?", names):
+                named[renamed or name] = (module, name)
         else:
             named[alias or module.rpartition(".")[2]] = (module, None)
     return named

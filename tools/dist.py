@@ -2,8 +2,8 @@
 """Makes the packages: tools/dist.py
 
 Of what `make` proved, in build/, it makes in dist/ a tarball with all that `make install` installs, a package for Debian
-(where dpkg-deb is), a wheel for Python, and SHA256SUMS. What doesn't have the mark of what is proved it refuses, with
-the status 2. The same files give the same packages.
+(where dpkg-deb is), a wheel for Python, and SHA256SUMS. What is of other sources, or doesn't have the mark of what is
+proved, it refuses, with the status 2. The same files give the same packages.
 """
 import hashlib
 import os
@@ -12,6 +12,9 @@ import subprocess
 import sys
 import tarfile
 import tempfile
+
+import proved_build
+import sources
 
 TOP = os.path.dirname(os.path.dirname(os.path.abspath(__file__)))
 DIST = f"{TOP}/dist"
@@ -44,7 +47,10 @@ def content(path):
 
 
 def test_proved():
-    """Refuses what isn't proved."""
+    """Refuses what isn't built of what stands here, or isn't proved."""
+    if not sources.is_current(f"{TOP}/build/sources", sources.PROVED, [f"{TOP}/build/{it}" for it in proved_build.BUILT]):
+        print("build isn't of these sources: make proves and builds them", file=sys.stderr)
+        sys.exit(2)
     for it in BUILT:
         if build_wheel.PROVED not in content(f"{TOP}/build/{it}"):
             print(f"build/{it} isn't proved, and packages are made of what is proved alone", file=sys.stderr)

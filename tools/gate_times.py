@@ -5,8 +5,8 @@
     tools/gate_times.py table LOG        writes the table in docs/ARCHITECTURE.md from the log of a gate
 
 .ci/gate watches itself, and so its log has a line 'time CRATE WORK SECONDS' for each crate: WORK is proof, bodies (the
-wrong bodies that the gate tries, and the check that they begin with) or tests. A check shorter than a second may be
-missed. The log should be of a gate that proved everything in it: what was kept from an earlier run takes no time.
+wrong bodies that the gate tries) or tests. A check shorter than a second may be missed. The log should be of a gate that
+proved everything in it: what was kept from an earlier run takes no time.
 """
 import collections
 import os
@@ -14,6 +14,8 @@ import re
 import signal
 import sys
 import time
+
+import try_bodies
 
 TOP = os.path.join(os.path.dirname(os.path.abspath(__file__)), "..")
 PAGE = os.path.join(TOP, "docs/ARCHITECTURE.md")
@@ -51,8 +53,7 @@ def work_of(pid):
         place = os.readlink(f"/proc/{pid}/cwd")
     except OSError:
         place = ""
-    is_edit = any("/rt-edit" in word for word in [place, *words])
-    work = "bodies" if is_edit else "tests" if "--test" in words else "proof"
+    work = "bodies" if try_bodies.ROOM in place else "tests" if "--test" in words else "proof"
     return words[words.index("--crate-name") + 1], work
 
 
@@ -124,7 +125,7 @@ def table_of(log):
         sys.exit("the log has no times: .ci/gate prints them")
     day, took, processors = head.groups()
     functions = functions_of(log)
-    bodies = collections.Counter(re.findall(r"must-fail (\w+)/\S+: refused", log))
+    bodies = dict(re.findall(r"^(\w+) +\d+ +(\d+) +\d+ +\d+ +[\d.]+$", log, re.MULTILINE))
     whole = sum(times.values()) / 60
     clock = f"{int(took) / 60:.0f} by the clock on {processors} processors"
     yield f"The gate of {day}: {whole:.0f} processor minutes, {clock}.\n\n"

@@ -3,10 +3,12 @@
 
 Proves the crates one by one, lowest first, if they aren't proved yet, with a line each minute that names the one at
 work and how many are left; and puts the program `dimacs` and the archive `dimacs_c.a`, which the Makefile links, into
-the folder. Beside that it keeps `dimacs_c.bc`, the LLVM module of which clang made the archive, and `dimacs_c.words`,
-clang's words: builds for other systems are made of the module. With --by-ci it takes what rt ci proved: its program, and
-for the library the crates below, over which dimacs_c is proved again. rt lib takes none of these, since they hold
-statements alone, and would prove them all again.
+the folder, with a file of what they were made of. What is there already of the same sources is left as it is. Beside
+that it keeps `dimacs_c.bc`, the LLVM module of which clang made the archive, and `dimacs_c.words`, clang's words: builds
+for other systems are made of the module. With --by-ci it takes what rt ci proved: its program, and for the library the
+crates below, over which dimacs_c is proved again. rt lib takes none of these, since they hold statements alone, and would
+prove them all again. What was proved by rt ci has to be what stands here now: .ci/gate writes down, after rt ci, what it
+was.
 """
 import argparse
 import os
@@ -18,9 +20,14 @@ import time
 
 import kit as kits
 import quick_build
+import sources
 
 CRATES = f"{kits.TOP}/crates"
+BUILT = ["dimacs", "dimacs_c.a", "dimacs_c.bc", "dimacs_c.words"]
 PROGRAM, ARCHIVE = f"{CRATES}/dimacs/out/dimacs", f"{CRATES}/dimacs_c/out/libdimacs_c.a"
+
+# What the program that rt ci built was made of: rt ci removes this file as it begins.
+BY_CI = f"{CRATES}/dimacs/out/sources"
 
 # Stands for clang: keeps the module that it compiles, and the words that came with it.
 CLANG = """#!/bin/sh
@@ -87,19 +94,23 @@ def main():
     words.add_argument("--by-ci", action="store_true", help="take what rt ci proved")
     words.add_argument("folder")
     asked = words.parse_args()
+    noted, built = f"{asked.folder}/sources", [f"{asked.folder}/{it}" for it in BUILT]
+    if not asked.by_ci and sources.is_current(noted, sources.PROVED, built):
+        return
     kit, listed = kits.folder("bin/rattle", "c/liblibc_c.a"), kits.crates()
+    if asked.by_ci and not sources.is_current(BY_CI, sources.PROVED, [PROGRAM]):
+        sys.exit("crates/dimacs/out/dimacs isn't what rt ci proved of these sources: .ci/gate proves and builds it")
     os.makedirs(f"{CRATES}/dimacs_c/out", exist_ok=True)
+    os.makedirs(asked.folder, exist_ok=True)
     with tempfile.TemporaryDirectory() as room:
         calls = calls_words(kit, listed, room)
         if asked.by_ci:
             subprocess.run(calls, cwd=f"{CRATES}/dimacs_c", check=True)
         else:
             prove_all(listed, calls)
-        os.makedirs(asked.folder, exist_ok=True)
-        shutil.copy(PROGRAM, f"{asked.folder}/dimacs")
-        shutil.copy(ARCHIVE, f"{asked.folder}/dimacs_c.a")
-        for it in ("dimacs_c.bc", "dimacs_c.words"):
-            shutil.copy(f"{room}/{it}", asked.folder)
+        for made, kept in zip([PROGRAM, ARCHIVE, f"{room}/dimacs_c.bc", f"{room}/dimacs_c.words"], built):
+            shutil.copy(made, kept)
+    sources.note(noted, sources.PROVED, built)
 
 
 if __name__ == "__main__":

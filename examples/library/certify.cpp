@@ -18,7 +18,7 @@ int main(int count, char **words) {
     }
     const auto answer = dimacs::certify_max(read_text(words[1]), read_text(words[2]));
     if (answer) {
-        std::cout << "v max " << answer->value.str() << '\n' << answer->certificate;
+        std::cout << "v max " << answer->value << '\n' << answer->certificate;
         return 0;
     }
     std::cout << answer.message() << '\n';

@@ -100,9 +100,9 @@ uint32_t dimacs_certify(uint32_t kind, const uint8_t *instance, size_t instance_
 /* Deals a claimed flow out to parallel arcs: DIMACS_MAX or DIMACS_MIN. Adds up the entries with the same tail and
  * head, in any order. Each sum goes to the arcs with these ends: within their bounds if possible, and for DIMACS_MIN
  * at the least cost. Hands out no line, and to `solution` a solution with the claimed value and an entry for every
- * arc, in the order of the instance. Or it hands out no solution, and a line: a text's fault,
- * `x solution LINE 0 UnknownArc`, or, if no 64-bit numbers on the arcs add up to a sum, `x arc K AboveCap` or
- * `BelowLow`. */
+ * arc, in the order of the instance. If the bounds can't hold a sum, the first arc with these ends gets what is too
+ * much or too little. Or it hands out no solution, and a line: a text's fault, `x solution LINE 0 UnknownArc`, or, if
+ * the amount of that first arc K doesn't fit in 64 bits, `x arc K AboveCap` or `x arc K BelowLow`. */
 uint32_t dimacs_spread(uint32_t kind, const uint8_t *instance, size_t instance_length, const uint8_t *claim,
                        size_t claim_length, uint8_t *out, size_t room, size_t *needed, uint8_t *solution,
                        size_t solution_room, size_t *solution_needed);

@@ -11,8 +11,11 @@
 //     }
 //
 // If the claim stays undecided, a call throws: std::bad_alloc if it is out of memory, WrongLength if an array has a
-// wrong length, and PastLimit, which has the arc or the node, if a number of the instance is past its limit. All calls
-// have the strong guarantee, keep nothing, and may run in several threads at once.
+// wrong length, PastLimit, which has the arc or the node, if a number of the instance is past its limit, and
+// UnknownAnswer if the library is of another version. All calls have the strong guarantee, keep nothing, and may run in
+// several threads at once.
+//
+// The graphs of LEMON and Boost are judged by dimacs/lemon.hpp and dimacs/boost.hpp.
 //
 // The caller answers for the memory of a span: it exists, and nothing writes it during the call. Nothing here is
 // proved: it is a layer over calls that are. See docs/LIBRARY.md.
@@ -22,16 +25,15 @@
 #include "dimacs.h"
 
 #include <algorithm>
-#include <array>
 #include <charconv>
 #include <cstddef>
 #include <cstdint>
+#include <initializer_list>
 #include <iterator>
-#include <limits>
-#include <map>
 #include <memory>
 #include <new>
 #include <optional>
+#include <ostream>
 #include <stdexcept>
 #include <string>
 #include <string_view>
@@ -47,21 +49,20 @@
 #include <span>
 #endif
 
-// LEMON's type of INVALID. Neither LEMON nor Boost is included here.
-namespace lemon {
-struct Invalid;
-}
+// Parts of a program with std::span and parts without it get different names, and can be linked together.
+#ifdef __cpp_lib_span
+#define DIMACS_SPAN with_std_span
+#else
+#define DIMACS_SPAN with_own_span
+#endif
 
 namespace dimacs {
 
-// Parts of a program with std::span and parts without it get different names, and can be linked together.
-#ifdef __cpp_lib_span
-inline namespace with_std_span {
+inline namespace DIMACS_SPAN {
 
+#ifdef __cpp_lib_span
 using std::span;
 #else
-inline namespace with_own_span {
-
 // The address and number of items: std::span for C++17.
 template <class T>
 class span {
@@ -142,10 +143,58 @@ enum class Text : std::uint32_t {
 
 // ---- What is answered: a yes ----
 
+namespace detail {
+
+// Whether a type is one of integers. Compilers have them of 128 bits that aren't, by -std=c++17.
+template <class Number>
+inline constexpr bool is_integer = std::is_integral_v<Number>;
+template <class Number>
+inline constexpr bool is_signed = std::is_signed_v<Number>;
+#ifdef __SIZEOF_INT128__
+__extension__ typedef __int128 Int128;
+__extension__ typedef unsigned __int128 UInt128;
+template <>
+inline constexpr bool is_integer<Int128> = true;
+template <>
+inline constexpr bool is_integer<UInt128> = true;
+template <>
+inline constexpr bool is_signed<Int128> = true;
+template <>
+inline constexpr bool is_signed<UInt128> = false;
+#endif
+
+template <class Number>
+constexpr bool is_negative(Number number) noexcept {
+    if constexpr (is_signed<Number>) {
+        return number < 0;
+    } else {
+        return false;
+    }
+}
+
+// An integer in decimal digits.
+template <class Number>
+std::string decimal(Number number) {
+    const bool has_sign = is_negative(number);
+    std::string digits;
+    do {
+        const int last = static_cast<int>(number % 10);
+        digits += static_cast<char>('0' + (last < 0 ? -last : last));
+        number = static_cast<Number>(number / 10);
+    } while (number != 0);
+    if (has_sign) digits += '-';
+    std::reverse(digits.begin(), digits.end());
+    return digits;
+}
+
+}  // namespace detail
+
 // A whole number that may have more than 64 bits: the value of a flow, a cost, or a distance in a text.
 class Value {
   public:
-    Value(std::int64_t number) : digits_(std::to_string(number)) {}
+    // From any type of integers. Nothing else converts.
+    template <class Number, class = std::enable_if_t<detail::is_integer<Number>>>
+    Value(Number number) : digits_(detail::decimal(number)) {}
 
     // From a number as the library writes it.
     static Value of(std::string_view digits) {
@@ -166,6 +215,7 @@ class Value {
 
     friend bool operator==(const Value &one, const Value &other) noexcept { return one.digits_ == other.digits_; }
     friend bool operator!=(const Value &one, const Value &other) noexcept { return !(one == other); }
+    friend std::ostream &operator<<(std::ostream &out, const Value &it) { return out << it.digits_; }
 
   private:
     std::string digits_;
@@ -176,9 +226,12 @@ using Inside = std::vector<std::uint8_t>;         // a byte for each node, 1 ins
 using Potentials = std::vector<std::int64_t>;     // a number for each node
 using Predecessors = std::vector<std::uint32_t>;  // a node for each node, or 0
 
-// The claim is true. The value is that of the flow, or its cost; other claims have none.
-struct Judged {
-    std::optional<Value> value;
+// The claim is true.
+struct Judged {};
+
+// The same of a flow; value is that of the flow, or its cost.
+struct JudgedFlow {
+    Value value;
 };
 
 // The flow is maximum, as the cut shows.
@@ -288,16 +341,6 @@ struct Refused {
     const std::string &message() const noexcept { return line; }
 };
 
-// The same over a graph of another library: the arc or the node is that library's own.
-template <class Node, class Arc>
-struct RefusedAt {
-    std::string reason;
-    std::optional<Node> node;
-    std::optional<Arc> arc;
-
-    std::string message() const { return (arc ? "arc: " : node ? "node: " : "") + reason; }
-};
-
 // The flow is feasible and has the claimed value, but there is a better one.
 template <class Flow>
 struct NotOptimal {
@@ -345,27 +388,28 @@ class WrongLength : public std::invalid_argument {
 // The first number of an instance that is past its limit. Nothing was judged.
 class PastLimit : public std::invalid_argument {
   public:
-    explicit PastLimit(const Refused &refused)
-        : std::invalid_argument(refused.line), refused_(std::make_shared<const Refused>(refused)) {}
+    explicit PastLimit(const Refused &refused) : PastLimit(refused, refused.line) {}
+
+    // Copied, and not moved: what was moved from would have nothing to refer to.
+    PastLimit(const PastLimit &) = default;
+    PastLimit &operator=(const PastLimit &) = default;
 
     // The arc or the node, and the reason.
     const Refused &refused() const noexcept { return *refused_; }
+
+  protected:
+    PastLimit(const Refused &refused, const std::string &line)
+        : std::invalid_argument(line), refused_(std::make_shared<const Refused>(refused)) {}
 
   private:
     std::shared_ptr<const Refused> refused_;
 };
 
-// The same over a graph of another library.
-template <class Node, class Arc>
-class PastLimitAt : public PastLimit {
+// The library answers what this header doesn't know: it is of another version. The claim is undecided.
+class UnknownAnswer : public std::logic_error {
   public:
-    PastLimitAt(const Refused &refused, RefusedAt<Node, Arc> at)
-        : PastLimit(refused), at_(std::make_shared<const RefusedAt<Node, Arc>>(std::move(at))) {}
-
-    const RefusedAt<Node, Arc> &at() const noexcept { return *at_; }
-
-  private:
-    std::shared_ptr<const RefusedAt<Node, Arc>> at_;
+    explicit UnknownAnswer(std::string_view answer)
+        : std::logic_error("libdimacs answers what dimacs.hpp doesn't know: " + std::string(answer)) {}
 };
 
 // Answer::value() was called on a no.
@@ -443,59 +487,74 @@ inline std::vector<std::string_view> words_of(std::string_view line) {
     return words;
 }
 
-inline std::uint64_t number_of(std::string_view digits) {
-    std::uint64_t number = 0;
-    std::from_chars(digits.data(), digits.data() + digits.size(), number);
+// The words of a line that has so many, and begins with these.
+inline std::vector<std::string_view> words_of(std::string_view line, std::size_t count,
+                                              std::initializer_list<std::string_view> first) {
+    auto words = words_of(line);
+    if (words.size() != count || !std::equal(first.begin(), first.end(), words.begin())) throw UnknownAnswer(line);
+    return words;
+}
+
+// The number of a word of a line.
+template <class Number = std::uint64_t>
+Number number_of(std::string_view word, std::string_view line) {
+    Number number = 0;
+    const char *end = word.data() + word.size();
+    const auto read = std::from_chars(word.data(), end, number);
+    if (read.ec != std::errc() || read.ptr != end) throw UnknownAnswer(line);
     return number;
+}
+
+// The same of any length.
+inline Value wide_number_of(std::string_view word, std::string_view line) {
+    const std::string_view digits = word.substr(word.substr(0, 1) == "-" ? 1 : 0);
+    if (digits.empty() || digits.find_first_not_of("0123456789") != std::string_view::npos) throw UnknownAnswer(line);
+    return Value::of(word);
 }
 
 // The fields of a line that begins with x.
 inline Refused refused(std::string_view line) {
     const auto words = words_of(line);
+    const std::string_view place = words.size() < 2 ? "" : words[1];
+    const bool is_item = place == "arc" || place == "node";
+    const auto fields = words_of(line, is_item ? 4 : 5, {"x"});
     Refused it;
     it.line = line.substr(0, line.find('\n'));
-    if (words.size() < 4) return it;
-    it.reason = words.back();
-    if (words[1] == "arc") {
-        it.arc = number_of(words[2]);
-    } else if (words[1] == "node") {
-        it.node = number_of(words[2]);
+    it.reason = fields.back();
+    if (is_item) {
+        (place == "arc" ? it.arc : it.node) = number_of(fields[2], line);
     } else {
-        it.text = InText{std::string(words[1]), number_of(words[2]), number_of(words[3])};
+        it.text = InText{std::string(place), number_of(fields[2], line), number_of(fields[3], line)};
     }
     return it;
 }
 
-// The number of `v max VALUE` and `v min COST`.
-inline Value value_of(std::string_view line) {
-    const auto words = words_of(line);
-    return Value::of(words.size() == 3 ? words[2] : "0");
-}
+// The number of `v max VALUE` or `v min COST`.
+inline Value value_of(std::string_view line) { return wide_number_of(words_of(line, 3, {"v"})[2], line); }
+
+// The number of `v sp ss COUNT` or `v sp distances COUNT`.
+inline std::uint64_t sources_of(std::string_view line) { return number_of(words_of(line, 4, {"v", "sp"})[3], line); }
+
+inline bool is_infeasible(std::string_view line) { return line == "v infeasible\n"; }
 
 // One line of the answers to queries for pairs.
 inline Pair pair_of(std::string_view line) {
-    const auto words = words_of(line);
+    const bool is_beyond = words_of(line).size() == 5;
+    const auto words = words_of(line, is_beyond ? 5 : 4, {"v"});
     Pair it;
-    if (words.size() < 4) return it;
-    it.source = static_cast<std::uint32_t>(number_of(words[1]));
-    it.target = static_cast<std::uint32_t>(number_of(words[2]));
+    it.source = number_of<std::uint32_t>(words[1], line);
+    it.target = number_of<std::uint32_t>(words[2], line);
+    if (is_beyond && words[3] != "more") throw UnknownAnswer(line);
     if (words[3] == "unreachable") return it;
-    it.kind = words.size() == 5 ? Pair::Kind::beyond : Pair::Kind::distance;
-    it.number = Value::of(words.back());
+    it.kind = is_beyond ? Pair::Kind::beyond : Pair::Kind::distance;
+    it.number = wide_number_of(words.back(), line);
     return it;
-}
-
-// The number of `v sp ss COUNT` and `v sp distances COUNT`.
-inline std::uint64_t sources_of(std::string_view line) {
-    const auto words = words_of(line);
-    return words.size() == 4 ? number_of(words[3]) : 0;
 }
 
 // The fields of the lines of `judge-paths`.
 inline JudgedPaths paths_of(std::string_view lines) {
     JudgedPaths it;
-    const auto words = words_of(lines);
-    if (words.size() == 4 && words[1] == "sp") {
+    if (lines.substr(0, 5) == "v sp ") {
         it.sources = sources_of(lines);
         return it;
     }
@@ -561,7 +620,7 @@ inline void throw_for(std::uint32_t status, std::string_view line) {
     if (status == DIMACS_MISUSED && line.empty()) throw WrongLength();
     if (status == DIMACS_MISUSED) throw PastLimit(refused(line));
     if (status != DIMACS_DONE && status != DIMACS_REFUSED && status != DIMACS_GAVE_UP) {
-        throw std::logic_error("libdimacs answers a status that dimacs.hpp doesn't know");
+        throw UnknownAnswer("the status " + std::to_string(status));
     }
 }
 
@@ -633,11 +692,11 @@ inline std::variant<std::string, Refused> judge(std::uint32_t kind, std::string_
     return refused(line.text());
 }
 
-inline Answer<Judged, Refused> judge_flow(std::uint32_t kind, std::string_view instance, std::string_view solution,
-                                          std::string_view certificate) {
+inline Answer<JudgedFlow, Refused> judge_flow(std::uint32_t kind, std::string_view instance, std::string_view solution,
+                                              std::string_view certificate) {
     auto it = judge(kind, instance, solution, certificate);
     if (auto *no = std::get_if<Refused>(&it)) return std::move(*no);
-    return Judged{value_of(std::get<std::string>(it))};
+    return JudgedFlow{value_of(std::get<std::string>(it))};
 }
 
 // What dimacs_certify hands out: the line, and the certificate or the better solution.
@@ -707,17 +766,18 @@ Answer<std::string, Refused> make_text(const Call &function, Text kind, std::str
 
 // Judges that a solution's flow is maximum, as the cut shows. Refused for the fault of the first text that has one,
 // else for the first test that fails.
-inline Answer<Judged, Refused> judge_max(std::string_view instance, std::string_view solution, std::string_view cut) {
+inline Answer<JudgedFlow, Refused> judge_max(std::string_view instance, std::string_view solution,
+                                             std::string_view cut) {
     return detail::judge_flow(DIMACS_MAX, instance, solution, cut);
 }
 
 // Judges that a solution's flow costs least, as the potentials show. Refused as judge_max.
-inline Answer<Judged, Refused> judge_min(std::string_view instance, std::string_view solution,
-                                         std::string_view potentials) {
+inline Answer<JudgedFlow, Refused> judge_min(std::string_view instance, std::string_view solution,
+                                             std::string_view potentials) {
     return detail::judge_flow(DIMACS_MIN, instance, solution, potentials);
 }
 
-// Judges that an instance has no feasible flow, as the set shows. The yes has no value. Refused as judge_max.
+// Judges that an instance has no feasible flow, as the set shows. Refused as judge_max.
 inline Answer<Judged, Refused> judge_infeasible(std::string_view instance, std::string_view set) {
     auto it = detail::judge(DIMACS_INFEASIBLE, instance, {}, set);
     if (auto *no = std::get_if<Refused>(&it)) return std::move(*no);
@@ -766,7 +826,8 @@ inline Answer<CertifiedPathsText, Refused> certify_paths(std::string_view graph,
 
 // Deals a solution out to parallel arcs: adds up the entries with the same ends, and gives each arc with these ends its
 // share, within its bounds if possible. A yes is the text of a solution with the claimed value and an entry for every
-// arc. Refused if a text has a fault, for an entry without an arc, or for a sum that 64-bit amounts can't reach.
+// arc. Refused if a text has a fault, for an entry without an arc, or if the first arc with the same ends, which gets
+// what is too much or too little, would carry more than 64 bits.
 inline Answer<std::string, Refused> spread_max(std::string_view instance, std::string_view solution) {
     return detail::spread(DIMACS_MAX, instance, solution);
 }
@@ -793,7 +854,7 @@ inline Answer<SolvedText, Infeasible<std::string>, GaveUp, Refused> solve_min(st
     auto it = detail::solve(DIMACS_MIN, instance, {}, limit);
     if (it.status == DIMACS_GAVE_UP) return GaveUp{};
     if (it.status == DIMACS_REFUSED) return detail::refused(it.lines);
-    if (detail::words_of(it.lines).back() == "infeasible") return Infeasible<std::string>{std::move(it.certificate)};
+    if (detail::is_infeasible(it.lines)) return Infeasible<std::string>{std::move(it.certificate)};
     return SolvedText{detail::value_of(it.lines), std::move(it.solution), std::move(it.certificate)};
 }
 
@@ -820,19 +881,19 @@ inline Answer<std::string, Refused> show(Text kind, std::string_view text) {
 
 // Judges that a flow, by arc, is maximum, by the cut of the nodes whose byte in `inside` isn't 0. Refused for the
 // first test that fails; dimacs.h lists them. Each call over arrays throws WrongLength and PastLimit.
-inline Answer<Judged, Refused> judge_max(const MaxInstance &instance, Numbers flows, Marks inside) {
+inline Answer<JudgedFlow, Refused> judge_max(const MaxInstance &instance, Numbers flows, Marks inside) {
     const dimacs_max arrays = detail::arrays(instance);
     detail::TextRoom line;
     const auto call = [&](auto... rooms) {
         return dimacs_judge_max_arrays(&arrays, flows.data(), flows.size(), inside.data(), inside.size(), rooms...);
     };
     if (detail::call_for_items(call, line) == DIMACS_REFUSED) return detail::refused(line.text());
-    return Judged{detail::value_of(line.text())};
+    return JudgedFlow{detail::value_of(line.text())};
 }
 
 // Judges that a flow, by arc, costs least, by potentials of the nodes. The reduced cost of an arc is its cost, minus
 // the potential of its tail, plus that of its head. Refused for the first test that fails.
-inline Answer<Judged, Refused> judge_min(const MinInstance &instance, Numbers flows, Numbers potentials) {
+inline Answer<JudgedFlow, Refused> judge_min(const MinInstance &instance, Numbers flows, Numbers potentials) {
     const dimacs_min arrays = detail::arrays(instance);
     detail::TextRoom line;
     const auto call = [&](auto... rooms) {
@@ -840,12 +901,11 @@ inline Answer<Judged, Refused> judge_min(const MinInstance &instance, Numbers fl
                                        rooms...);
     };
     if (detail::call_for_items(call, line) == DIMACS_REFUSED) return detail::refused(line.text());
-    return Judged{detail::value_of(line.text())};
+    return JudgedFlow{detail::value_of(line.text())};
 }
 
-// Judges that an instance has no feasible flow, by the set of the nodes whose byte in `inside` isn't 0. The yes has no
-// value. If it is refused by `x certificate 0 0 NotViolated`, there may be no feasible flow all the same, by another
-// set.
+// Judges that an instance has no feasible flow, by the set of the nodes whose byte in `inside` isn't 0. If it is
+// refused by `x certificate 0 0 NotViolated`, there may be no feasible flow all the same, by another set.
 inline Answer<Judged, Refused> judge_infeasible(const MinInstance &instance, Marks inside) {
     const dimacs_min arrays = detail::arrays(instance);
     detail::TextRoom line;
@@ -857,7 +917,7 @@ inline Answer<Judged, Refused> judge_infeasible(const MinInstance &instance, Mar
 }
 
 // Judges that the distances from the source, by node, are the least weights of walks, by the predecessors of the
-// nodes. The yes has no value. Refused for the first test that fails.
+// nodes. Refused for the first test that fails.
 inline Answer<Judged, Refused> judge_paths(const Graph &graph, std::uint32_t source, Numbers distances,
                                            Nodes predecessors) {
     const dimacs_graph arrays = detail::arrays(graph);
@@ -961,7 +1021,7 @@ inline Answer<SolvedMin<Flows, Potentials>, Infeasible<Inside>, GaveUp> solve_mi
     const auto call = [&](auto... rooms) { return dimacs_solve_min_arrays(&arrays, limit, rooms...); };
     const std::uint32_t status = detail::call_for_items(call, line, flows, potentials, inside);
     if (status == DIMACS_GAVE_UP) return GaveUp{};
-    if (detail::words_of(line.text()).back() == "infeasible") return Infeasible<Inside>{inside.take()};
+    if (detail::is_infeasible(line.text())) return Infeasible<Inside>{inside.take()};
     return SolvedMin<Flows, Potentials>{detail::value_of(line.text()), flows.take(), potentials.take()};
 }
 
@@ -979,548 +1039,7 @@ inline Answer<SolvedPaths, GaveUp, Refused> solve_paths(const Graph &graph, std:
     return SolvedPaths{distances.take(), predecessors.take()};
 }
 
-// ---- Graphs of other libraries ----
-//
-// An index of a graph has its arcs as arrays, and for each number of an arc or a node the library's own. If a number is
-// past its limit, calls over graphs throw PastLimitAt, which has that arc or node.
-
-namespace detail {
-
-// A number of nodes. One of more than 32 bits is past its limit too.
-inline std::uint32_t node_count(std::size_t count) noexcept {
-    return static_cast<std::uint32_t>(std::min<std::size_t>(count, std::numeric_limits<std::uint32_t>::max()));
-}
-
-// A number of a map. Types that aren't integers don't compile.
-template <class Number>
-std::int64_t whole(Number number) {
-    static_assert(std::is_integral_v<Number>, "whole numbers are judged: the values of the map have to be integers");
-    if constexpr (std::is_unsigned_v<Number> && sizeof(Number) >= sizeof(std::int64_t)) {
-        if (number > static_cast<Number>(std::numeric_limits<std::int64_t>::max())) {
-            throw std::out_of_range("a number of a map takes more than 64 bits with its sign");
-        }
-    }
-    return static_cast<std::int64_t>(number);
-}
-
-template <class Index>
-using RefusedOver = RefusedAt<typename Index::Node, typename Index::Arc>;
-
-template <class Index>
-RefusedOver<Index> refused_over(const Index &index, const Refused &no) {
-    RefusedOver<Index> it{no.reason, std::nullopt, std::nullopt};
-    if (no.arc && *no.arc - 1 < index.arcs().size()) it.arc = index.arcs()[*no.arc - 1];
-    if (no.node && *no.node - 1 < index.nodes().size()) it.node = index.nodes()[*no.node - 1];
-    return it;
-}
-
-// Makes a call over arrays. What it throws names the graph's own arc or node.
-template <class Index, class Call>
-auto over(const Index &index, const Call &call) {
-    try {
-        return call();
-    } catch (const PastLimit &it) {
-        throw PastLimitAt<typename Index::Node, typename Index::Arc>(it.refused(), refused_over(index, it.refused()));
-    }
-}
-
-template <class Index>
-MaxInstance max_over(const Index &index, std::uint32_t source, std::uint32_t sink, Numbers caps) {
-    return {index.size(), source, sink, index.tails(), index.heads(), caps};
-}
-
-template <class Index>
-using CertifiedMaxOver =
-    Answer<CertifiedMax<typename Index::Marked>, NotOptimal<typename Index::Flow>, RefusedOver<Index>>;
-
-template <class Index>
-CertifiedMaxOver<Index> certify_max_over(const Index &index, const MaxInstance &instance, Numbers flows) {
-    const auto answer = over(index, [&] { return certify_max(instance, flows); });
-    if (answer) return CertifiedMax<typename Index::Marked>{answer->value, index.marked(answer->inside)};
-    if (auto *no = answer.template get_if<NotOptimal<Flows>>()) {
-        return NotOptimal<typename Index::Flow>{no->line, index.flow(no->better)};
-    }
-    return refused_over(index, *answer.template get_if<Refused>());
-}
-
-template <class Index>
-using CertifiedMinOver =
-    Answer<CertifiedMin<typename Index::Potential>, NotOptimal<typename Index::Flow>, GaveUp, RefusedOver<Index>>;
-
-template <class Index>
-CertifiedMinOver<Index> certify_min_over(const Index &index, const MinInstance &instance, Numbers flows) {
-    const auto answer = over(index, [&] { return certify_min(instance, flows); });
-    if (answer) {
-        auto potentials = index.potential(answer->potentials);
-        if (!potentials) return GaveUp{};
-        return CertifiedMin<typename Index::Potential>{answer->cost, *std::move(potentials)};
-    }
-    if (auto *no = answer.template get_if<NotOptimal<Flows>>()) {
-        return NotOptimal<typename Index::Flow>{no->line, index.flow(no->better)};
-    }
-    if (answer.template get_if<GaveUp>()) return GaveUp{};
-    return refused_over(index, *answer.template get_if<Refused>());
-}
-
-template <class Index>
-using CertifiedInfeasibleOver = Answer<CertifiedInfeasible<typename Index::Marked>, Feasible<typename Index::Flow>>;
-
-template <class Index>
-CertifiedInfeasibleOver<Index> certify_infeasible_over(const Index &index, const MinInstance &instance) {
-    const auto answer = over(index, [&] { return certify_infeasible(instance); });
-    if (answer) return CertifiedInfeasible<typename Index::Marked>{index.marked(answer->inside)};
-    return Feasible<typename Index::Flow>{index.flow(answer.template get_if<Feasible<Flows>>()->flow)};
-}
-
-template <class Index>
-using JudgedOver = Answer<Judged, RefusedOver<Index>>;
-
-template <class Index, class Call>
-JudgedOver<Index> judge_over(const Index &index, const Call &call) {
-    const Answer<Judged, Refused> answer = over(index, call);
-    if (answer) return *answer;
-    return refused_over(index, *answer.get_if<Refused>());
-}
-
-template <class Index>
-using CertifiedPathsOver = Answer<Judged, RefusedOver<Index>>;
-
-template <class Index>
-CertifiedPathsOver<Index> certify_paths_over(const Index &index, std::uint32_t source, Numbers weights,
-                                             Numbers distances) {
-    const Graph graph{index.size(), index.tails(), index.heads(), weights};
-    const auto answer = over(index, [&] { return certify_paths(graph, source, distances); });
-    if (answer) return Judged{};
-    return refused_over(index, *answer.template get_if<Refused>());
-}
-
-}  // namespace detail
-
-// Over the graphs and maps of LEMON. Flows, bounds, costs and lengths are maps by arc, supplies and potentials maps by
-// node, of any type that LEMON reads; their values have to be integers. An edge of an undirected graph is two arcs, as
-// in LEMON. What is handed out are maps too, which refer to the graph.
-namespace lemon {
-
-// Numbers by node or by arc, by the graph's IDs, that LEMON reads as a map.
-template <class Graph, class Item, class Number>
-class Map {
-  public:
-    using Key = Item;
-    using Value = Number;
-
-    explicit Map(const Graph &graph, std::size_t size) : graph_(&graph), numbers_(size) {}
-
-    Value operator[](const Key &item) const { return numbers_[static_cast<std::size_t>(graph_->id(item))]; }
-    void set(const Key &item, Value number) { numbers_[static_cast<std::size_t>(graph_->id(item))] = number; }
-
-  private:
-    const Graph *graph_;
-    std::vector<Number> numbers_;
-};
-
-// The arcs and nodes of a graph, in the order in which LEMON goes over them.
-template <class G, class Invalid = ::lemon::Invalid>
-class Index {
-  public:
-    using Node = typename G::Node;
-    using Arc = typename G::Arc;
-    using Marked = Map<G, Node, bool>;
-    using Potential = Map<G, Node, std::int64_t>;
-    using Flow = Map<G, Arc, std::int64_t>;
-
-    explicit Index(const G &graph) : graph_(&graph), numbers_(static_cast<std::size_t>(graph.maxNodeId() + 1)) {
-        Node node;
-        for (graph.first(node); node != Invalid(); graph.next(node)) {
-            nodes_.push_back(node);
-            numbers_[static_cast<std::size_t>(graph.id(node))] = size();
-        }
-        Arc arc;
-        for (graph.first(arc); arc != Invalid(); graph.next(arc)) {
-            arcs_.push_back(arc);
-            tails_.push_back(number(graph.source(arc)));
-            heads_.push_back(number(graph.target(arc)));
-        }
-    }
-
-    std::uint32_t size() const { return detail::node_count(nodes_.size()); }
-    std::uint32_t number(const Node &node) const { return numbers_[static_cast<std::size_t>(graph_->id(node))]; }
-    const std::vector<Node> &nodes() const { return nodes_; }
-    const std::vector<Arc> &arcs() const { return arcs_; }
-    const std::vector<std::uint32_t> &tails() const { return tails_; }
-    const std::vector<std::uint32_t> &heads() const { return heads_; }
-
-    // The numbers of a map, in the order of its items.
-    template <class Item, class Values>
-    static std::vector<std::int64_t> of(const std::vector<Item> &items, const Values &map) {
-        std::vector<std::int64_t> numbers;
-        numbers.reserve(items.size());
-        for (const Item &it : items) numbers.push_back(detail::whole<std::decay_t<decltype(map[it])>>(map[it]));
-        return numbers;
-    }
-
-    // A byte for each node, from a map of truth values.
-    template <class Values>
-    std::vector<std::uint8_t> marks(const Values &map) const {
-        std::vector<std::uint8_t> marks;
-        for (const Node &it : nodes_) marks.push_back(map[it] ? 1 : 0);
-        return marks;
-    }
-
-    // LEMON adds the potential of the tail to a cost; here it is subtracted. None if the result doesn't fit in 64 bits.
-    static std::optional<std::vector<std::int64_t>> turned(std::vector<std::int64_t> potentials) {
-        const auto least = std::numeric_limits<std::int64_t>::min(), most = std::numeric_limits<std::int64_t>::max();
-        const auto has = [&](std::int64_t it) {
-            return std::find(potentials.begin(), potentials.end(), it) != potentials.end();
-        };
-        const std::int64_t more = has(least) ? 1 : 0;  // all potentials may be moved by one number
-        if (more != 0 && has(most)) return std::nullopt;
-        for (std::int64_t &it : potentials) it = -(it + more);
-        return potentials;
-    }
-
-    Flow flow(const std::vector<std::int64_t> &numbers) const {
-        Flow map(*graph_, static_cast<std::size_t>(graph_->maxArcId() + 1));
-        for (std::size_t k = 0; k < arcs_.size(); k++) map.set(arcs_[k], numbers[k]);
-        return map;
-    }
-
-    Marked marked(const std::vector<std::uint8_t> &marks) const {
-        Marked map(*graph_, numbers_.size());
-        for (std::size_t k = 0; k < nodes_.size(); k++) map.set(nodes_[k], marks[k] != 0);
-        return map;
-    }
-
-    std::optional<Potential> potential(const std::vector<std::int64_t> &found) const {
-        const auto numbers = turned(found);
-        if (!numbers) return std::nullopt;
-        Potential map(*graph_, numbers_.size());
-        for (std::size_t k = 0; k < nodes_.size(); k++) map.set(nodes_[k], (*numbers)[k]);
-        return map;
-    }
-
-  private:
-    const G *graph_;
-    std::vector<std::uint32_t> numbers_, tails_, heads_;
-    std::vector<Node> nodes_;
-    std::vector<Arc> arcs_;
-};
-
-// The arrays of a minimum cost flow instance.
-template <class G>
-struct MinArrays {
-    template <class Lower, class Upper, class Cost, class Supply>
-    MinArrays(const G &graph, const Lower &lower, const Upper &upper, const Cost &cost, const Supply &supply)
-        : index(graph),
-          lows(index.of(index.arcs(), lower)),
-          caps(index.of(index.arcs(), upper)),
-          costs(index.of(index.arcs(), cost)),
-          supplies(index.of(index.nodes(), supply)) {}
-
-    MinInstance instance() const { return {index.size(), index.tails(), index.heads(), lows, caps, costs, supplies}; }
-
-    Index<G> index;
-    std::vector<std::int64_t> lows, caps, costs, supplies;
-};
-
-// Decides whether a flow, for example Preflow's flowMap(), is maximum. A yes has a cut, as minCutMap fills one in.
-// NotOptimal has a better flow. RefusedAt has the arc that carries too much or less than 0, or the node out of balance.
-template <class G, class Capacity, class Flow>
-detail::CertifiedMaxOver<Index<G>> certify_max(const G &graph, const Capacity &capacity, typename G::Node source,
-                                               typename G::Node target, const Flow &flow) {
-    const Index<G> index(graph);
-    const auto caps = index.of(index.arcs(), capacity), flows = index.of(index.arcs(), flow);
-    return detail::certify_max_over(index, detail::max_over(index, index.number(source), index.number(target), caps),
-                                    flows);
-}
-
-// Judges that a flow is maximum, by a cut: a map by node that is true on the source's side.
-template <class G, class Capacity, class Flow, class Cut>
-detail::JudgedOver<Index<G>> judge_max(const G &graph, const Capacity &capacity, typename G::Node source,
-                                       typename G::Node target, const Flow &flow, const Cut &cut) {
-    const Index<G> index(graph);
-    const auto caps = index.of(index.arcs(), capacity), flows = index.of(index.arcs(), flow);
-    const auto instance = detail::max_over(index, index.number(source), index.number(target), caps);
-    return detail::judge_over(index, [&] { return dimacs::judge_max(instance, flows, index.marks(cut)); });
-}
-
-// Decides whether a flow, as NetworkSimplex' flowMap fills one in, costs least. A yes has potentials, as its
-// potentialMap fills them in. NotOptimal has a cheaper flow. RefusedAt as in certify_max. A node's outflow minus its
-// inflow has to be its supply, so the supplies sum to 0.
-template <class G, class Lower, class Upper, class Cost, class Supply, class Flow>
-detail::CertifiedMinOver<Index<G>> certify_min(const G &graph, const Lower &lower, const Upper &upper, const Cost &cost,
-                                               const Supply &supply, const Flow &flow) {
-    const MinArrays<G> arrays(graph, lower, upper, cost, supply);
-    const auto flows = arrays.index.of(arrays.index.arcs(), flow);
-    return detail::certify_min_over(arrays.index, arrays.instance(), flows);
-}
-
-// Decides whether no flow is feasible, as after INFEASIBLE of NetworkSimplex. A yes has a map that is true in a set of
-// nodes whose supply can't be met. Feasible has a feasible flow.
-template <class G, class Lower, class Upper, class Supply>
-detail::CertifiedInfeasibleOver<Index<G>> certify_infeasible(const G &graph, const Lower &lower, const Upper &upper,
-                                                             const Supply &supply) {
-    const Index<G> index(graph);
-    const auto lows = index.of(index.arcs(), lower), caps = index.of(index.arcs(), upper);
-    const auto supplies = index.of(index.nodes(), supply);
-    const std::vector<std::int64_t> costs(index.arcs().size());
-    const MinInstance instance{index.size(), index.tails(), index.heads(), lows, caps, costs, supplies};
-    return detail::certify_infeasible_over(index, instance);
-}
-
-// Judges that a flow costs least, by LEMON's potentials: an arc's reduced cost is its cost, plus the potential of its
-// source, minus that of its target. Throws std::out_of_range for potentials that don't fit in 64 bits with the other
-// sign.
-template <class G, class Lower, class Upper, class Cost, class Supply, class Flow, class Potential>
-detail::JudgedOver<Index<G>> judge_min(const G &graph, const Lower &lower, const Upper &upper, const Cost &cost,
-                                       const Supply &supply, const Flow &flow, const Potential &potential) {
-    const MinArrays<G> arrays(graph, lower, upper, cost, supply);
-    const Index<G> &index = arrays.index;
-    const auto flows = index.of(index.arcs(), flow);
-    const auto potentials = index.turned(index.of(index.nodes(), potential));
-    if (!potentials) throw std::out_of_range("the potentials take more than 64 bits");
-    return detail::judge_over(index, [&] { return dimacs::judge_min(arrays.instance(), flows, *potentials); });
-}
-
-// Decides whether the distances that a search found, as Dijkstra, BellmanFord or Bfs with the lengths 1, are right:
-// reached(v) is whether there is a walk to v, and dist(v) its length. RefusedAt has the arc or the node at which they
-// are wrong.
-template <class G, class Length, class Search>
-detail::CertifiedPathsOver<Index<G>> certify_paths(const G &graph, const Length &length, typename G::Node source,
-                                                   const Search &search) {
-    const Index<G> index(graph);
-    std::vector<std::int64_t> distances;
-    for (const auto &it : index.nodes()) {
-        distances.push_back(search.reached(it) ? detail::whole<std::decay_t<decltype(search.dist(it))>>(search.dist(it))
-                                               : unreached);
-    }
-    const auto weights = index.of(index.arcs(), length);
-    return detail::certify_paths_over(index, index.number(source), weights, distances);
-}
-
-}  // namespace lemon
-
-// Over the graphs and property maps of Boost, for graphs with edges(). What is handed out doesn't refer to the graph.
-namespace boost {
-
-namespace detail {
-
-// The number of each vertex, by the vertex itself if it is a number, else by a map.
-template <class Vertex>
-class Numbering {
-  public:
-    void add(const Vertex &vertex, std::uint32_t number) {
-        if constexpr (std::is_integral_v<Vertex>) {
-            if (static_cast<std::size_t>(vertex) >= numbers_.size())
-                numbers_.resize(static_cast<std::size_t>(vertex) + 1);
-            numbers_[static_cast<std::size_t>(vertex)] = number;
-        } else {
-            numbers_[vertex] = number;
-        }
-    }
-
-    std::uint32_t operator[](const Vertex &vertex) const {
-        if constexpr (std::is_integral_v<Vertex>) {
-            return numbers_.at(static_cast<std::size_t>(vertex));
-        } else {
-            return numbers_.at(vertex);
-        }
-    }
-
-  private:
-    std::conditional_t<std::is_integral_v<Vertex>, std::vector<std::uint32_t>, std::map<Vertex, std::uint32_t>>
-        numbers_;
-};
-
-// The value of a property map, which may be a pointer.
-template <class Values, class Key>
-auto value_at(const Values &map, const Key &key) {
-    if constexpr (std::is_pointer_v<Values>) {
-        return map[key];
-    } else {
-        return get(map, key);
-    }
-}
-
-template <class Values, class Key>
-std::int64_t whole_at(const Values &map, const Key &key) {
-    return dimacs::detail::whole(value_at(map, key));
-}
-
-}  // namespace detail
-
-// Numbers by vertex, that Boost reads as a property map.
-template <class Vertex, class Number>
-class VertexMap {
-  public:
-    using key_type = Vertex;
-    using value_type = Number;
-    using reference = Number;
-
-    VertexMap(std::shared_ptr<const detail::Numbering<Vertex>> numbering, std::vector<Number> numbers)
-        : numbering_(std::move(numbering)), numbers_(std::move(numbers)) {}
-
-    Number operator[](const Vertex &vertex) const { return numbers_[(*numbering_)[vertex] - 1]; }
-    friend Number get(const VertexMap &map, const Vertex &vertex) { return map[vertex]; }
-
-  private:
-    std::shared_ptr<const detail::Numbering<Vertex>> numbering_;
-    std::vector<Number> numbers_;
-};
-
-// The edges and vertices of a graph, in the order in which Boost goes over them. An edge of an undirected graph is an
-// arc from its source to its target, and then one back.
-template <class G>
-class Index {
-  public:
-    using Node = std::decay_t<decltype(*vertices(std::declval<const G &>()).first)>;
-    using Arc = std::decay_t<decltype(*edges(std::declval<const G &>()).first)>;
-    using Marked = VertexMap<Node, bool>;
-    using Potential = VertexMap<Node, std::int64_t>;
-    using Flow = std::vector<std::pair<Arc, std::int64_t>>;
-
-    explicit Index(const G &graph) {
-        auto numbering = std::make_shared<detail::Numbering<Node>>();
-        for (auto range = vertices(graph); range.first != range.second; ++range.first) {
-            nodes_.push_back(*range.first);
-            numbering->add(*range.first, size());
-        }
-        numbering_ = std::move(numbering);
-        for (auto range = edges(graph); range.first != range.second; ++range.first) {
-            const Arc arc = *range.first;
-            add(arc, source(arc, graph), target(arc, graph));
-            if (!is_directed(graph)) add(arc, target(arc, graph), source(arc, graph));
-        }
-    }
-
-    std::uint32_t size() const { return dimacs::detail::node_count(nodes_.size()); }
-    std::uint32_t number(const Node &node) const { return (*numbering_)[node]; }
-    const std::vector<Node> &nodes() const { return nodes_; }
-    const std::vector<Arc> &arcs() const { return arcs_; }
-    const std::vector<std::uint32_t> &tails() const { return tails_; }
-    const std::vector<std::uint32_t> &heads() const { return heads_; }
-
-    // The numbers of a property map, in the order of the arcs.
-    template <class Values>
-    std::vector<std::int64_t> of(const Values &map) const {
-        std::vector<std::int64_t> numbers;
-        numbers.reserve(arcs_.size());
-        for (const Arc &it : arcs_) numbers.push_back(detail::whole_at(map, it));
-        return numbers;
-    }
-
-    Flow flow(const std::vector<std::int64_t> &numbers) const {
-        Flow flow;
-        for (std::size_t k = 0; k < arcs_.size(); k++) flow.emplace_back(arcs_[k], numbers[k]);
-        return flow;
-    }
-
-    Marked marked(const std::vector<std::uint8_t> &marks) const { return {numbering_, {marks.begin(), marks.end()}}; }
-    std::optional<Potential> potential(const std::vector<std::int64_t> &it) const { return Potential{numbering_, it}; }
-
-  private:
-    void add(const Arc &arc, const Node &tail, const Node &head) {
-        arcs_.push_back(arc);
-        tails_.push_back(number(tail));
-        heads_.push_back(number(head));
-    }
-
-    std::shared_ptr<const detail::Numbering<Node>> numbering_;
-    std::vector<std::uint32_t> tails_, heads_;
-    std::vector<Node> nodes_;
-    std::vector<Arc> arcs_;
-};
-
-namespace detail {
-
-__extension__ typedef __int128 Wide;
-
-// A number that fits in 64 bits, or std::out_of_range.
-inline std::int64_t narrow(Wide number) {
-    const auto it = static_cast<std::int64_t>(number);
-    if (it != number) throw std::out_of_range("a flow takes more than 64 bits");
-    return it;
-}
-
-// What each edge carries: its capacity minus its residual capacity, or nothing if that is below 0, as on the reverse of
-// an edge with flow. The residual capacities of an edge and its reverse aren't compared: some of Boost's searches don't
-// update that of the reverse.
-template <class G, class Capacity, class Residual>
-std::vector<std::int64_t> flows_of(const Index<G> &index, const Capacity &capacity, const Residual &residual) {
-    std::vector<std::int64_t> flows;
-    flows.reserve(index.arcs().size());
-    for (const auto &arc : index.arcs()) {
-        flows.push_back(std::max<std::int64_t>(0, narrow(Wide(whole_at(capacity, arc)) - whole_at(residual, arc))));
-    }
-    return flows;
-}
-
-// A node's outflow minus its inflow.
-template <class G>
-std::int64_t net(const Index<G> &index, std::uint32_t node, const std::vector<std::int64_t> &flows) {
-    Wide sum = 0;
-    for (std::size_t k = 0; k < flows.size(); k++) {
-        if (index.tails()[k] == node) sum += flows[k];
-        if (index.heads()[k] == node) sum -= flows[k];
-    }
-    return narrow(sum);
-}
-
-}  // namespace detail
-
-// Decides whether the flow that push_relabel_max_flow or another search left in `residual` is maximum. The maps are
-// those of the search: an edge carries its capacity minus its residual capacity, or nothing if that is below 0. A yes
-// has a cut. NotOptimal has a better flow, by edge. RefusedAt has an edge that carries more than its capacity, or a
-// vertex out of balance. Throws std::out_of_range if an edge would carry more than 64 bits.
-template <class G, class Capacity, class Residual>
-dimacs::detail::CertifiedMaxOver<Index<G>> certify_max(const G &graph, const typename Index<G>::Node &source_vertex,
-                                                       const typename Index<G>::Node &target_vertex,
-                                                       const Capacity &capacity, const Residual &residual) {
-    const Index<G> index(graph);
-    const auto caps = index.of(capacity), flows = detail::flows_of(index, capacity, residual);
-    const auto from = index.number(source_vertex), to = index.number(target_vertex);
-    return dimacs::detail::certify_max_over(index, dimacs::detail::max_over(index, from, to, caps), flows);
-}
-
-// Decides whether that flow costs least of all flows of its value, as successive_shortest_path_nonnegative_weights and
-// cycle_canceling make one. A yes has potentials: the reduced cost of an edge is its weight, minus the potential of its
-// source, plus that of its target. The noes are those of certify_max.
-template <class G, class Capacity, class Residual, class Weight>
-dimacs::detail::CertifiedMinOver<Index<G>> certify_min(const G &graph, const typename Index<G>::Node &source_vertex,
-                                                       const typename Index<G>::Node &target_vertex,
-                                                       const Capacity &capacity, const Residual &residual,
-                                                       const Weight &weight) {
-    const Index<G> index(graph);
-    const auto caps = index.of(capacity), costs = index.of(weight), flows = detail::flows_of(index, capacity, residual);
-    const std::vector<std::int64_t> lows(flows.size());
-    std::vector<std::int64_t> supplies(index.size());
-    const auto from = index.number(source_vertex), to = index.number(target_vertex);
-    const std::int64_t value = detail::net(index, from, flows);
-    supplies[from - 1] += value;
-    supplies[to - 1] -= value;
-    const MinInstance instance{index.size(), index.tails(), index.heads(), lows, caps, costs, supplies};
-    return dimacs::detail::certify_min_over(index, instance, flows);
-}
-
-// Decides whether distances, as dijkstra_shortest_paths and bellman_ford_shortest_paths leave them in a map, are right.
-// The greatest number of its type is the distance of a vertex that isn't reached. RefusedAt has the edge or the vertex
-// at which they are wrong.
-template <class G, class Weight, class Distance>
-dimacs::detail::CertifiedPathsOver<Index<G>> certify_paths(const G &graph, const typename Index<G>::Node &source_vertex,
-                                                           const Weight &weight, const Distance &distance) {
-    const Index<G> index(graph);
-    std::vector<std::int64_t> distances;
-    for (const auto &it : index.nodes()) {
-        const auto found = detail::value_at(distance, it);
-        const bool is_reached = found != std::numeric_limits<std::decay_t<decltype(found)>>::max();
-        distances.push_back(is_reached ? dimacs::detail::whole(found) : unreached);
-    }
-    const auto weights = index.of(weight);
-    return dimacs::detail::certify_paths_over(index, index.number(source_vertex), weights, distances);
-}
-
-}  // namespace boost
-
-}  // inline namespace
+}  // namespace DIMACS_SPAN
 
 }  // namespace dimacs
 

@@ -1,6 +1,6 @@
 /* What Boost's searches leave in property maps, certified over Boost's own graphs, and spoiled. */
-#include "check.h"
-#include "dimacs.hpp"
+#include "check.hpp"
+#include "dimacs/boost.hpp"
 #include <boost/graph/adjacency_list.hpp>
 #include <boost/graph/bellman_ford_shortest_paths.hpp>
 #include <boost/graph/boykov_kolmogorov_max_flow.hpp>
@@ -8,8 +8,10 @@
 #include <boost/graph/cycle_canceling.hpp>
 #include <boost/graph/dijkstra_shortest_paths.hpp>
 #include <boost/graph/edmonds_karp_max_flow.hpp>
+#include <boost/graph/filtered_graph.hpp>
 #include <boost/graph/push_relabel_max_flow.hpp>
 #include <boost/graph/successive_shortest_path_nonnegative_weights.hpp>
+#include <boost/property_map/transform_value_property_map.hpp>
 #include <climits>
 #include <random>
 
@@ -30,6 +32,10 @@ using Better = dimacs::NotOptimal<std::vector<std::pair<Edge, std::int64_t>>>;
 using Refused = dimacs::RefusedAt<Vertex, Edge>;
 
 enum { NODES = 300, EDGES = 3000, FEW_NODES = 30, FEW_EDGES = 150 };
+
+static std::string line_of(const Graph &graph, Edge edge, const char *reason) {
+    return "x arc (" + std::to_string(source(edge, graph)) + "," + std::to_string(target(edge, graph)) + ") " + reason;
+}
 
 /* An edge and its reverse, which carries nothing by itself. */
 static Edge add(Graph &graph, Vertex from, Vertex to, long capacity, long weight) {
@@ -87,24 +93,20 @@ static void maximum_flow(Graph &graph) {
     }
     graph[full].residual = -1;
     const auto refused = certify_max(graph, from, to);
-    check_that("too much on an edge", refused.message() == "arc: AboveCap" && refused.get_if<Refused>()->arc == full);
+    check_that("too much on an edge",
+               refused.message() == line_of(graph, full, "AboveCap") && refused.get_if<Refused>()->arc == full);
     graph[full].residual = graph[full].capacity;
-    check_that("a vertex that keeps some", certify_max(graph, from, to).message() == "node: Balance");
+    const auto kept = certify_max(graph, from, to);
+    check_that("a vertex that keeps some", kept.get_if<Refused>() && kept.get_if<Refused>()->node);
+    is("by its number", kept.message(), "x node " + std::to_string(*kept.get_if<Refused>()->node) + " Balance");
     graph[full].residual = LONG_MIN;
-    try {
-        (void)certify_max(graph, from, to);
-        check_that("an amount past 64 bits", 0);
-    } catch (const std::out_of_range &) {
-        check_that("an amount past 64 bits", 1);
-    }
+    throws<std::out_of_range>(
+        "an amount past 64 bits", [&] { return certify_max(graph, from, to); }, line_of(graph, full, "NumberRange"));
     graph[full].capacity = -1;
     graph[full].residual = -1;
-    try {
-        (void)certify_max(graph, from, to);
-        check_that("a capacity below 0", 0);
-    } catch (const dimacs::PastLimitAt<Vertex, Edge> &it) {
-        check_that("a capacity below 0", it.at().arc == full && it.at().reason == "BoundOrder");
-    }
+    throws<dimacs::PastLimitAt<Vertex, Edge>>(
+        "a capacity below 0", [&] { return certify_max(graph, from, to); }, line_of(graph, full, "BoundOrder"),
+        [&](const auto &it) { check_that("its edge", it.at().arc == full && it.at().reason == "BoundOrder"); });
     graph[full].capacity = 5;
 
     for (auto range = edges(graph); range.first != range.second; ++range.first) {
@@ -206,7 +208,132 @@ static void other_graphs() {
         far[third] == 9 && dimacs::boost::certify_paths(graph, one, weight, boost::make_assoc_property_map(far)));
     far[third] = 10;
     const auto no = dimacs::boost::certify_paths(graph, one, weight, boost::make_assoc_property_map(far));
-    check_that("refused at an edge", !no && no.message() == "arc: NotShortest");
+    is("refused at an edge", no.message(), "x arc (1,2) NotShortest");
+}
+
+/* Flows of least cost whose values don't fit in 64 bits, with the sign that one of their ends needs. */
+static void values_past_64_bits() {
+    const auto flow_between = [](long most, long other, long weight) {
+        Graph graph(3);
+        for (const long capacity : {most, other}) graph[add(graph, 1, 0, capacity, weight)].residual = 0;
+        add(graph, 2, 1, 0, 0);
+        return graph;
+    };
+    const Graph least = flow_between(LONG_MAX, 1, 1);
+    is("the value -2^63", certify_min(least, 0, 1)->cost.str(), "9223372036854775808");
+    is("2^63", certify_min(least, 1, 0)->cost.str(), "9223372036854775808");
+    const Graph wide = flow_between(LONG_MAX, LONG_MAX, 1);
+    is("-2^64 + 2", certify_min(wide, 0, 1)->cost.str(), "18446744073709551614");
+    is("2^64 - 2", certify_min(wide, 1, 0)->cost.str(), "18446744073709551614");
+
+    Graph dear = flow_between(LONG_MAX, LONG_MAX, 1);
+    const Edge cheap = add(dear, 1, 0, 3, 0);
+    dear[cheap].residual = 3;
+    const auto no = certify_min(dear, 0, 1);
+    is("a flow that costs more", no.message(), "x solution 0 0 NotLeast");
+    const auto &better = no.get_if<Better>()->better;
+    check_that("a better one has the edges alone", better.size() == num_edges(dear));
+    check_that("and what is cheap",
+               better[num_edges(dear) - 2].first == cheap && better[num_edges(dear) - 2].second == 3);
+    is("a sink that isn't the other end", certify_min(least, 0, 2).message(), "x node 1 Balance");
+}
+
+/* A graph of which a vertex is hidden, and what is asked of that vertex. */
+struct IsSeen {
+    Vertex hidden = 0;
+    bool operator()(Vertex vertex) const { return vertex != hidden; }
+};
+
+static void hidden_vertices() {
+    Graph graph(3);
+    add(graph, 0, 1, 5, 0);
+    add(graph, 1, 2, 5, 0);
+    using Part = boost::filtered_graph<Graph, boost::keep_all, IsSeen>;
+    const Part part(graph, boost::keep_all(), IsSeen{2});
+    const auto capacity = get(&Street::capacity, graph), left = get(&Street::residual, graph);
+    const auto weight = get(&Street::weight, graph);
+    using Past = dimacs::PastLimitAt<Vertex, Edge>;
+    for (const Vertex none : {Vertex(2), Vertex(3), Vertex(-1)}) {
+        const std::string line = "x node " + std::to_string(none) + " NodeRange";
+        const auto names_it = [&](const auto &it) { check_that("its vertex", it.at().node == none); };
+        throws<Past>(
+            "a hidden source", [&] { return dimacs::boost::certify_max(part, none, 1, capacity, left); }, line,
+            names_it);
+        throws<Past>(
+            "of least cost", [&] { return dimacs::boost::certify_min(part, none, 1, capacity, left, weight); }, line,
+            names_it);
+        throws<Past>(
+            "a hidden sink", [&] { return dimacs::boost::certify_min(part, 0, none, capacity, left, weight); }, line,
+            names_it);
+        throws<Past>(
+            "of paths", [&] { return dimacs::boost::certify_paths(part, none, weight, get(&Place::far, graph)); }, line,
+            names_it);
+    }
+    const auto cut = dimacs::boost::certify_max(part, 0, 1, capacity, left);
+    const auto least = dimacs::boost::certify_min(part, 0, 1, capacity, left, weight);
+    check_that("a part of a graph", cut && cut->inside[0] && !cut->inside[1] && least && least->cost == 0);
+    for (const Vertex none : {Vertex(2), Vertex(3)}) {
+        throws<std::out_of_range>("its mark", [&] { return cut->inside[none]; });
+        throws<std::out_of_range>("its potential", [&] { return get(least->potentials, none); });
+    }
+    using Marked = std::decay_t<decltype(cut->inside)>;
+    BOOST_CONCEPT_ASSERT((boost::ReadablePropertyMapConcept<Marked, Vertex>));
+    const auto outside = boost::make_transform_value_property_map([](bool it) { return !it; }, cut->inside);
+    check_that("a property map over another", !get(outside, Vertex(0)) && get(outside, Vertex(1)));
+}
+
+/* The numbers that end what 64 bits hold, in types of 8 to 128. */
+template <class Number>
+static void distances_in(const char *name, Number one, Number most) {
+    Graph graph(3);
+    graph[add(graph, 0, 1, 0, 0)].weight = long(one);
+    const auto certify = [&](Number other, Number alone) {
+        const std::vector<Number> far{0, other, alone};
+        return dimacs::boost::certify_paths(graph, 0, get(&Street::weight, graph), far.data());
+    };
+    check_that(name, certify(one, most).has_value());
+    is(name, certify(Number(one - 1), most).message(), "x node 1 NoTightArc");
+    if constexpr (sizeof(Number) == 16 || Number(-1) > 0) {
+        if (sizeof(Number) < 8) return;
+        throws<std::out_of_range>(
+            name, [&] { return certify(one, Number(INT64_MAX)); }, "x node 2 NumberRange");
+        throws<std::out_of_range>(
+            name, [&] { return certify(Number(most - 1), most); }, "x node 1 NumberRange");
+    }
+}
+
+static void limits() {
+    __extension__ typedef __int128 Wide;
+    __extension__ typedef unsigned __int128 UnsignedWide;
+    distances_in<signed char>("8 bits", 126, 127);
+    distances_in<unsigned char>("8 bits without a sign", 254, 255);
+    distances_in<short>("16 bits", 32766, 32767);
+    distances_in<int>("32 bits", INT32_MAX - 1, INT32_MAX);
+    distances_in<unsigned>("32 bits without a sign", UINT32_MAX - 1, UINT32_MAX);
+    distances_in<long>("64 bits", INT64_MAX - 1, INT64_MAX);
+    distances_in<unsigned long>("64 bits without a sign", INT64_MAX - 1, UINT64_MAX);
+    distances_in<Wide>("128 bits", INT64_MAX - 1, Wide(~UnsignedWide(0) >> 1));
+    distances_in<UnsignedWide>("128 bits without a sign", INT64_MAX - 1, ~UnsignedWide(0));
+
+    Graph graph(2);
+    const Edge edge = add(graph, 0, 1, 0, 0);
+    const auto certify = [&](Wide capacity, Wide residual) {
+        const std::map<Edge, Wide> caps{{edge, capacity}, {graph[edge].reverse, 0}};
+        const std::map<Edge, Wide> left{{edge, residual}, {graph[edge].reverse, 0}};
+        return dimacs::boost::certify_max(graph, 0, 1, boost::make_assoc_property_map(caps),
+                                          boost::make_assoc_property_map(left));
+    };
+    const Wide bits = Wide(1) << 64;
+    throws<std::out_of_range>(
+        "a capacity of 2^64", [&] { return certify(bits, 0); }, "x arc (0,1) NumberRange");
+    throws<std::out_of_range>(
+        "a residual one", [&] { return certify(5, bits); }, "x arc (0,1) NumberRange");
+    throws<std::out_of_range>(
+        "below", [&] { return certify(5, -bits); }, "x arc (0,1) NumberRange");
+    throws<std::out_of_range>(
+        "a flow of 2^63", [&] { return certify(INT64_MAX, -1); }, "x arc (0,1) NumberRange");
+    is("2^63 - 1", certify(INT64_MAX, 0)->value.str(), "9223372036854775807");
+    is("an edge that carries nothing", certify(0, INT64_MAX)->value.str(), "0");
 }
 
 int main() {
@@ -219,5 +346,8 @@ int main() {
     least_cost(small);
     distances(graph);
     other_graphs();
+    values_past_64_bits();
+    hidden_vertices();
+    limits();
     return count();
 }

@@ -1,7 +1,13 @@
 /* dimacs.hpp over texts and arrays: each answer and each exception of each call. */
-#include "check.h"
+#include "check.hpp"
 #include "dimacs.hpp"
 #include <array>
+#include <sstream>
+
+/* Whoever includes dimacs.hpp alone sees neither LEMON's part nor Boost's: their names are free in it. */
+namespace dimacs {
+static const bool lemon = true, boost = true;
+}
 
 using dimacs::Flows;
 using dimacs::Inside;
@@ -11,30 +17,14 @@ using dimacs::Text;
 using Ids = std::vector<std::uint32_t>;
 using Amounts = std::vector<std::int64_t>;
 
-static void is(const char *name, const std::string &got, const std::string &wanted) {
-    check_that(name, got == wanted);
-    if (got != wanted) printf("%s: wanted '%s', got '%s'\n", name, wanted.c_str(), got.c_str());
-}
-
 template <class Call>
 static void throws_length(const char *name, const Call &call) {
-    try {
-        (void)call();
-        check_that(name, 0);
-    } catch (const dimacs::WrongLength &) {
-        check_that(name, 1);
-    }
+    throws<dimacs::WrongLength>(name, call, "an array has another length than it has to have");
 }
 
 template <class Call>
 static void throws_limit(const char *name, const Call &call, const std::string &line) {
-    try {
-        (void)call();
-        check_that(name, 0);
-    } catch (const dimacs::PastLimit &it) {
-        is(name, it.what(), line);
-        is(name, it.refused().line, line);
-    }
+    throws<dimacs::PastLimit>(name, call, line, [&](const auto &it) { is(name, it.refused().line, line); });
 }
 
 /* 1 to 4; a maximum flow has the value 6, and four units cost 14 at least. */
@@ -55,9 +45,9 @@ static const std::string surplus = "p min 2 1\nn 1 1\na 1 2 0 5 1\n";
 static const std::string both = "p cut 2 2\nu 1\nu 2\n";
 
 static void judges_texts() {
-    is("maximum", dimacs::judge_max(max, flow, cut).value().value->str(), "6");
-    is("least", dimacs::judge_min(min, least, pot).value().value->str(), "14");
-    check_that("no flow", dimacs::judge_infeasible(surplus, both) && !dimacs::judge_infeasible(surplus, both)->value);
+    is("maximum", dimacs::judge_max(max, flow, cut).value().value.str(), "6");
+    is("least", dimacs::judge_min(min, least, pot).value().value.str(), "14");
+    check_that("no flow", dimacs::judge_infeasible(surplus, both).has_value());
     check_that("all distances", dimacs::judge_paths(graph, source, dist)->sources == 1);
     const auto answer = dimacs::judge_paths(graph, pairs, dist);
     check_that("two pairs", answer && answer->sources == 0 && answer->pairs.size() == 2);
@@ -146,9 +136,12 @@ static void makes_texts() {
     const std::string parallel = "p max 2 2\nn 1 s\nn 2 t\na 1 2 3\na 1 2 5\n";
     is("spread", dimacs::spread_max(parallel, "s 6\nf 1 2 4\nf 1 2 2\n").value(), "s 6\nf 1 2 3\nf 1 2 3\n");
     is("of no arc", dimacs::spread_max(parallel, "s 6\nf 2 1 6\n").message(), "x solution 2 0 UnknownArc");
-    is("spread by costs",
-       dimacs::spread_min("p min 2 2\na 1 2 0 3 9\na 1 2 0 5 1\n", "s 0\nf 1 2 6\n").value(),
+    is("spread by costs", dimacs::spread_min("p min 2 2\na 1 2 0 3 9\na 1 2 0 5 1\n", "s 0\nf 1 2 6\n").value(),
        "s 0\nf 1 2 1\nf 1 2 5\n");
+    const std::string most = "9223372036854775807", sum = "s 0\nf 1 2 " + most + "\nf 1 2 1\n";
+    is("a sum of 2^63", dimacs::spread_max("p max 2 2\nn 1 s\nn 2 t\na 1 2 0\na 1 2 1\n", sum).value(), sum);
+    is("of which the first arc carries all",
+       dimacs::spread_max("p max 2 2\nn 1 s\nn 2 t\na 1 2 0\na 1 2 0\n", sum).message(), "x arc 1 AboveCap");
     std::string queries = "p aux sp p2p 900\n";
     for (int k = 0; k < 900; k++) queries += "q 1 4\n";
     const auto many = dimacs::judge_paths(graph, queries, dist);
@@ -168,7 +161,7 @@ static void maximum_flows() {
     const Amounts flows{4, 2, 1, 3, 3}, few{3, 2, 0, 3, 2}, lost{4, 2, 2, 3, 3};
     const auto yes = dimacs::certify_max(network, flows);
     check_that("a maximum flow in arrays", yes && yes->value == 6 && yes->inside == Inside({1, 0, 0, 0}));
-    is("judged by its cut", dimacs::judge_max(network, flows, yes->inside).value().value->str(), "6");
+    is("judged by its cut", dimacs::judge_max(network, flows, yes->inside).value().value.str(), "6");
     const auto no = dimacs::certify_max(network, few);
     const auto *better = no.get_if<NotOptimal<Flows>>();
     check_that("a better flow", better && better->better.size() == 5 && no.message() == "x solution 0 0 NotMaximum");
@@ -272,6 +265,68 @@ static void distances() {
         dimacs::solve_paths({3, Ids{1, 2}, Ids{2, 3}, Amounts{INT64_MAX, 1}}, 1).get_if<dimacs::GaveUp>() != nullptr);
 }
 
+/* What converts to a value, and is the same number. */
+__extension__ typedef __int128 Wide;
+__extension__ typedef unsigned __int128 UnsignedWide;
+template <class Number>
+static constexpr bool converts =
+    std::is_constructible_v<dimacs::Value, Number> || std::is_convertible_v<Number, dimacs::Value>;
+
+static void values() {
+    using dimacs::Value;
+    static_assert(!converts<double> && !converts<float> && !converts<const char *> && !converts<std::nullptr_t>);
+    check_that("a sign isn't lost", Value(-1) != ~0ULL && Value(-1) == -1LL);
+    is("the least of 64 bits", Value(INT64_MIN).str(), "-9223372036854775808");
+    is("the greatest", Value(UINT64_MAX).str(), "18446744073709551615");
+    is("of 8 bits", Value(static_cast<signed char>(-128)).str(), "-128");
+    is("the least of 128 bits", Value(Wide(1) << 127).str(), "-170141183460469231731687303715884105728");
+    is("the greatest of 128", Value(~UnsignedWide(0)).str(), "340282366920938463463374607431768211455");
+    check_that("2^64 isn't 0", Value(Wide(1) << 64) != 0 && Value(Wide(1) << 64) == (UnsignedWide(1) << 64));
+    std::ostringstream out;
+    out << dimacs::judge_max(max, flow, cut)->value << ' ' << dimacs::certify_min(min, least)->value << ' '
+        << dimacs::solve_paths(graph, pairs)->pairs[0].number;
+    is("printed", out.str(), "6 14 5");
+}
+
+/* What no library of this version answers. */
+static void unknown_answers() {
+    using dimacs::UnknownAnswer;
+    using namespace dimacs::detail;
+    const std::string known = "libdimacs answers what dimacs.hpp doesn't know: ";
+    for (const char *line : {"", "x", "x arc 3", "x arc three AboveCap", "x arc 3 Above Cap", "y arc 3 AboveCap",
+                             "x arc -3 AboveCap", "x arc 18446744073709551616 AboveCap", "x node  Balance",
+                             "x solution 2 NotMaximum", "x solution 2 two NotMaximum", "v max 3"}) {
+        throws<UnknownAnswer>(
+            line, [&] { return refused(line); }, known + line);
+    }
+    for (const char *line : {"", "v max", "v max six", "v max 6.0", "v max -", "v max 6 7", "x max 6"}) {
+        throws<UnknownAnswer>(
+            line, [&] { return value_of(line); }, known + line);
+    }
+    for (const char *line :
+         {"v 1 2", "v 1 2 far", "v 1 2 more", "v 1 2 less 3", "v 1 x 3", "v sp ss", "v sp ss x", "v 1 4294967297 3"}) {
+        throws<UnknownAnswer>(
+            line, [&] { return paths_of(line); }, known + line);
+    }
+    throws<UnknownAnswer>(
+        "an empty line", [] { return paths_of("v 1 2 3\n\nv 1 3 4\n"); }, known);
+    throws<UnknownAnswer>(
+        "a status", [] { return throw_for(9, ""), 0; }, known + "the status 9");
+    check_that("its own lines are known", refused("x query 1 0 ProblemMissing\n").text->text == "query" &&
+                                              value_of("v min -1000000000000000000000000000000\n") != 0 &&
+                                              paths_of("v sp ss 18446744073709551615\n").sources == UINT64_MAX);
+}
+
+/* An exception that was moved from has what it had. */
+static void moved_exceptions() {
+    dimacs::PastLimit one(dimacs::detail::refused("x arc 4 NodeRange"));
+    const dimacs::PastLimit other(std::move(one));
+    is("moved", other.refused().line, "x arc 4 NodeRange");
+    is("moved from", one.refused().line, "x arc 4 NodeRange");
+    one = dimacs::PastLimit(dimacs::detail::refused("x node 1 NodeTwice"));
+    is("assigned", one.refused().line + one.what(), "x node 1 NodeTwicex node 1 NodeTwice");
+}
+
 static void takes_what_has_items() {
     const std::array<std::uint32_t, 1> tail{1};
     const std::uint32_t head[] = {2};
@@ -302,5 +357,9 @@ int main() {
     least_costs();
     distances();
     takes_what_has_items();
+    values();
+    unknown_answers();
+    moved_exceptions();
+    check_that("LEMON's part and Boost's aren't seen", dimacs::lemon && dimacs::boost);
     return count();
 }

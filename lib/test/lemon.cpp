@@ -1,6 +1,7 @@
 /* What LEMON's solvers answer, judged and certified over LEMON's own graphs and maps, and spoiled. */
-#include "check.h"
-#include "dimacs.hpp"
+#include "check.hpp"
+#include "dimacs/lemon.hpp"
+#include <lemon/adaptors.h>
 #include <lemon/bellman_ford.h>
 #include <lemon/bfs.h>
 #include <lemon/dijkstra.h>
@@ -20,6 +21,14 @@ using Better = dimacs::NotOptimal<dimacs::lemon::Map<Graph, Arc, std::int64_t>>;
 using Refused = dimacs::RefusedAt<Node, Arc>;
 
 enum { NODES = 2000, ARCS = 20000 };
+
+static std::string arc_line(const Graph &graph, Arc arc, const char *reason) {
+    return "x arc " + std::to_string(graph.id(arc)) + " " + reason;
+}
+
+static std::string node_line(const Graph &graph, Node node, const char *reason) {
+    return "x node " + std::to_string(graph.id(node)) + " " + reason;
+}
 
 /* Random arcs, and a ring along which any supply can flow. */
 static void make(Graph &graph, Numbers &capacity, Numbers &cost) {
@@ -62,11 +71,12 @@ static void maximum_flow(const Graph &graph, const Numbers &capacity) {
     flow[full] = capacity[full] + 1;
     const auto refused = dimacs::lemon::judge_max(graph, capacity, source, sink, flow, cut);
     check_that("too much on an arc", refused.get_if<Refused>() && refused.get_if<Refused>()->arc == full &&
-                                         refused.message() == "arc: AboveCap");
+                                         refused.message() == arc_line(graph, full, "AboveCap"));
     flow[full] = 0;
     const auto lost = dimacs::lemon::certify_max(graph, capacity, source, sink, flow);
     check_that("a node that loses some",
-               lost.get_if<Refused>() && lost.get_if<Refused>()->node && lost.message() == "node: Balance");
+               lost.get_if<Refused>() && lost.get_if<Refused>()->node &&
+                   lost.message() == node_line(graph, *lost.get_if<Refused>()->node, "Balance"));
 }
 
 static void least_cost(const Graph &graph, const Numbers &capacity, const Numbers &cost) {
@@ -105,21 +115,117 @@ static void least_cost(const Graph &graph, const Numbers &capacity, const Number
     const auto refused = dimacs::lemon::certify_min(graph, lower, capacity, cost, supply, flow);
     check_that("another supply", refused.get_if<Refused>() && refused.get_if<Refused>()->node == graph.nodeFromId(3));
 
-    potential[graph.nodeFromId(0)] = INT64_MIN;
-    potential[graph.nodeFromId(1)] = INT64_MAX;
-    try {
-        (void)dimacs::lemon::judge_min(graph, lower, capacity, cost, supply, flow, potential);
-        check_that("potentials that can't be turned", 0);
-    } catch (const std::out_of_range &) {
-        check_that("potentials that can't be turned", 1);
-    }
-    Numbers below(graph, -1);
-    try {
-        (void)dimacs::lemon::certify_min(graph, lower, below, cost, supply, flow);
-        check_that("a capacity below 0", 0);
-    } catch (const dimacs::PastLimitAt<Node, Arc> &it) {
-        check_that("a capacity below 0", it.at().arc && it.at().reason == "BoundOrder");
-    }
+    Numbers below(graph, 0);
+    below[graph.arcFromId(7)] = -1;
+    throws<dimacs::PastLimitAt<Node, Arc>>(
+        "a capacity below 0", [&] { return dimacs::lemon::certify_min(graph, lower, below, cost, supply, flow); },
+        "x arc 7 BoundOrder",
+        [&](const auto &it) {
+            check_that("its arc", it.at().arc == graph.arcFromId(7) && it.at().reason == "BoundOrder");
+        });
+}
+
+/* A search that answers what it was made with: less than 0 for a node that isn't reached. */
+template <class Number>
+struct Made {
+    std::vector<Number> distances;
+
+    bool reached(Node node) const { return distances[static_cast<std::size_t>(Graph::id(node))] >= 0; }
+    Number dist(Node node) const { return distances[static_cast<std::size_t>(Graph::id(node))]; }
+};
+
+/* The numbers that end what 64 bits hold, in maps of 64 and more. */
+__extension__ typedef __int128 Wide;
+
+static void limits() {
+    using dimacs::lemon::certify_paths;
+    Graph graph;
+    const Node from = graph.addNode(), to = graph.addNode(), alone = graph.addNode();
+    const Arc arc = graph.addArc(from, to);
+    Numbers length(graph, INT64_MAX), zero(graph, 0), five(graph, 5);
+    lemon::Dijkstra<Graph, Numbers> solver(graph, length);
+    solver.run(from);
+    throws<std::out_of_range>(
+        "the distance 2^63 - 1", [&] { return certify_paths(graph, length, from, solver); }, "x node 1 NumberRange");
+    throws<std::out_of_range>(
+        "the same of a node that isn't reached",
+        [&] {
+            return certify_paths(graph, five, from, Made<long long>{{0, 5, INT64_MAX}});
+        },
+        "x node 2 NumberRange");
+    length[arc] -= 1;
+    solver.run(from);
+    check_that("the distance 2^63 - 2", certify_paths(graph, length, from, solver).has_value());
+    is("less 1", certify_paths(graph, length, from, Made<long long>{{0, INT64_MAX - 2, -1}}).message(),
+       "x node 1 NoTightArc");
+    is("in 128 bits", certify_paths(graph, length, from, Made<Wide>{{0, INT64_MAX - 1, -1}}).message(), "");
+    throws<std::out_of_range>(
+        "more by 2^64",
+        [&] {
+            return certify_paths(graph, length, from, Made<Wide>{{0, (Wide(1) << 64) + INT64_MAX - 1, -1}});
+        },
+        "x node 1 NumberRange");
+
+    Graph::ArcMap<Wide> wide(graph, Wide(1) << 64);
+    lemon::Preflow<Graph, Graph::ArcMap<Wide>> preflow(graph, wide, from, to);
+    preflow.run();
+    throws<std::out_of_range>(
+        "a capacity of 2^64", [&] { return dimacs::lemon::certify_max(graph, wide, from, to, preflow.flowMap()); },
+        "x arc 0 NumberRange");
+    wide[arc] = INT64_MAX;
+    preflow.run();
+    const auto most = dimacs::lemon::certify_max(graph, wide, from, to, preflow.flowMap());
+    check_that("one of 2^63 - 1 in 128 bits", most && most->value == INT64_MAX);
+    const lemon::ConstMap<Arc, unsigned long long> unsigned_wide(1ULL << 63);
+    throws<std::out_of_range>(
+        "2^63 without a sign", [&] { return dimacs::lemon::certify_max(graph, unsigned_wide, from, to, zero); },
+        "x arc 0 NumberRange");
+    const lemon::ConstMap<Arc, Wide> below(-(Wide(1) << 63) - 1);
+    throws<std::out_of_range>(
+        "-2^63 - 1", [&] { return dimacs::lemon::certify_max(graph, five, from, to, below); }, "x arc 0 NumberRange");
+
+    Supplies potential(graph, 0), supply(graph, 0);
+    supply[from] = 5, supply[to] = -5;
+    potential[from] = INT64_MIN, potential[to] = INT64_MAX;
+    is("potentials of -2^63 and 2^63 - 1",
+       dimacs::lemon::judge_min(graph, zero, five, five, supply, five, potential).value().value.str(), "25");
+    potential[alone] = 1;
+    std::swap(potential[from], potential[to]);
+    is("exchanged", dimacs::lemon::judge_min(graph, zero, five, five, supply, five, potential).message(),
+       "x arc 0 NotTight");
+}
+
+/* Nodes that a graph doesn't have: none at all, and one that is hidden. */
+static void missing_nodes() {
+    using dimacs::PastLimitAt;
+    Graph graph;
+    const Node from = graph.addNode(), to = graph.addNode(), hidden = graph.addNode();
+    graph.addArc(from, to);
+    graph.addArc(to, hidden);
+    const Numbers three(graph, 3);
+    const Node none = lemon::INVALID;
+    const char *said = "x node -1 NodeRange";
+    const auto names_it = [&](const auto &it) { check_that("its node", it.at().node == none && !it.at().arc); };
+    throws<PastLimitAt<Node, Arc>>(
+        "no source", [&] { return dimacs::lemon::certify_max(graph, three, none, to, three); }, said, names_it);
+    throws<PastLimitAt<Node, Arc>>(
+        "no sink", [&] { return dimacs::lemon::certify_max(graph, three, from, none, three); }, said, names_it);
+    const Graph::NodeMap<bool> cut(graph, false);
+    throws<PastLimitAt<Node, Arc>>(
+        "to be judged", [&] { return dimacs::lemon::judge_max(graph, three, none, to, three, cut); }, said, names_it);
+    const Made<long long> made{{0, 3, 6}};
+    throws<PastLimitAt<Node, Arc>>(
+        "of paths", [&] { return dimacs::lemon::certify_paths(graph, three, none, made); }, said, names_it);
+
+    Graph::NodeMap<bool> is_seen(graph, true);
+    is_seen[hidden] = false;
+    const lemon::FilterNodes<const Graph, Graph::NodeMap<bool>> part(graph, is_seen);
+    throws<PastLimitAt<Node, Arc>>(
+        "a hidden source", [&] { return dimacs::lemon::certify_max(part, three, hidden, to, three); },
+        "x node 2 NodeRange");
+    const auto yes = dimacs::lemon::certify_max(part, three, from, to, three);
+    check_that("a part of a graph", yes && yes->value == 3 && yes->inside[from] && !yes->inside[to]);
+    throws<std::out_of_range>("no node's mark", [&] { return yes->inside[none]; });
 }
 
 /* A search, of whose distances one is less by 1. */
@@ -183,5 +289,7 @@ int main() {
     least_cost(graph, capacity, cost);
     distances(graph, cost);
     other_graphs();
+    limits();
+    missing_nodes();
     return count();
 }

@@ -11,7 +11,7 @@ from pathlib import Path
 from unittest import mock
 
 import dimacs
-from dimacs import arrays, buffers, library
+from dimacs import buffers, given, library
 
 try:
     import numpy
@@ -204,7 +204,7 @@ class Rooms(unittest.TestCase):
             (dimacs.certify_max_arrays, MAX, SLOW, FLOW),
             (dimacs.certify_min_arrays, MIN, DEAR, LEAST),
         ]:
-            with mock.patch.object(arrays, "MOST_NODES", 4), self.assertRaises(dimacs.NotOptimal) as caught:
+            with mock.patch.object(given, "MOST_NODES", 4), self.assertRaises(dimacs.NotOptimal) as caught:
                 certify(*instance, claim)
             self.assertEqual(len(caught.exception.better), len(better))
 
@@ -222,7 +222,7 @@ class Rooms(unittest.TestCase):
                 dimacs.certify_max_arrays(*MAX, FLOW)
 
     def test_more_nodes_than_there_may_be(self):
-        with mock.patch.object(arrays, "MOST_NODES", 3), self.assertRaises(RuntimeError):
+        with mock.patch.object(given, "MOST_NODES", 3), self.assertRaises(RuntimeError):
             dimacs.certify_max_arrays(*MAX, FLOW)
 
 
@@ -244,17 +244,17 @@ class Misuse(unittest.TestCase):
 
     def test_limits(self):
         cases = [
-            (dimacs.judge_max_arrays, (4, 0, *MAX[2:], FLOW, CUT), "node 0 NodeRange"),
-            (dimacs.judge_max_arrays, (4, 1, 5, *MAX[3:], FLOW, CUT), "node 5 NodeRange"),
-            (dimacs.judge_max_arrays, (4, 1, 1, *MAX[3:], FLOW, CUT), "node 1 NodeTwice"),
-            (dimacs.judge_max_arrays, (4, 1, 4, [1, 5], [2, 1], [1, 1], [0, 0], CUT), "arc 2 NodeRange"),
-            (dimacs.judge_max_arrays, (4, 1, 4, [1, 0], [2, 1], [1, 1], [0, 0], CUT), "arc 2 NodeRange"),
-            (dimacs.judge_max_arrays, (4, 1, 4, [1], [2], [-1], [0], CUT), "arc 1 BoundOrder"),
-            (dimacs.certify_min_arrays, (2, [1], [2], [3], [2], [0], [0, 0], [0]), "arc 1 BoundOrder"),
-            (dimacs.certify_min_arrays, (2, [1], [2], [-3], [2], [0], [0, 0], [0]), "arc 1 BoundOrder"),
-            (dimacs.certify_infeasible_arrays, (2, [1], [2], [3], [2], [0], [0, 0]), "arc 1 BoundOrder"),
-            (dimacs.judge_paths_arrays, (*GRAPH, 5, DISTANCES, PREDECESSORS), "node 5 NodeRange"),
-            (dimacs.certify_max_arrays, (2**32 - 1, *MAX[1:], FLOW), "node 134217729 NumberRange"),
+            (dimacs.judge_max_arrays, (4, 0, *MAX[2:], FLOW, CUT), "node 0 NodeRange: nodes are numbered from 1, and there are 4; base=0 numbers them from 0"),
+            (dimacs.judge_max_arrays, (4, 1, 5, *MAX[3:], FLOW, CUT), "node 5 NodeRange: nodes are numbered from 1, and there are 4"),
+            (dimacs.judge_max_arrays, (4, 1, 1, *MAX[3:], FLOW, CUT), "node 1 NodeTwice: it is the source and the sink"),
+            (dimacs.judge_max_arrays, (4, 1, 4, [1, 5], [2, 1], [1, 1], [0, 0], CUT), "arc 2 NodeRange: it goes from 5 to 1; nodes are numbered from 1, and there are 4"),
+            (dimacs.judge_max_arrays, (4, 1, 4, [1, 0], [2, 1], [1, 1], [0, 0], CUT), "arc 2 NodeRange: it goes from 0 to 1; nodes are numbered from 1, and there are 4; base=0 numbers them from 0"),
+            (dimacs.judge_max_arrays, (4, 1, 4, [1], [2], [-1], [0], CUT), "arc 1 BoundOrder: its lower bound is 0, its capacity -1"),
+            (dimacs.certify_min_arrays, (2, [1], [2], [3], [2], [0], [0, 0], [0]), "arc 1 BoundOrder: its lower bound is 3, its capacity 2"),
+            (dimacs.certify_min_arrays, (2, [1], [2], [-3], [2], [0], [0, 0], [0]), "arc 1 BoundOrder: its lower bound is -3, its capacity 2"),
+            (dimacs.certify_infeasible_arrays, (2, [1], [2], [3], [2], [0], [0, 0]), "arc 1 BoundOrder: its lower bound is 3, its capacity 2"),
+            (dimacs.judge_paths_arrays, (*GRAPH, 5, DISTANCES, PREDECESSORS), "node 5 NodeRange: nodes are numbered from 1, and there are 4"),
+            (dimacs.certify_max_arrays, (2**32 - 1, *MAX[1:], FLOW), "node 134217729 NumberRange: at most 134217728 nodes"),
         ]
         for call, words, message in cases:
             with self.subTest(message), self.assertRaises(dimacs.PastLimit) as caught:
@@ -281,9 +281,9 @@ class Misuse(unittest.TestCase):
 
     def test_the_number_is_named(self):
         for flows, message in [
-            ([4, 2, 1, 3, 2**63], "flows has 9223372036854775808, which isn't a whole number in its range"),
-            ([4, 2, 1, 3.0, -(2**63) - 1], "flows has -9223372036854775809, which isn't a whole number in its range"),
-            ([4, 2, 1, 3, 2.5], "flows has 2.5, which isn't a whole number in its range"),
+            ([4, 2, 1, 3, 2**63], "flows[4] is 9223372036854775808, not a whole number of 64 bits"),
+            ([4, 2, 1, 3.0, -(2**63) - 1], "flows[4] is -9223372036854775809, not a whole number of 64 bits"),
+            ([4, 2, 1, 3, 2.5], "flows[4] is 2.5, not a whole number"),
         ]:
             with self.subTest(message), self.assertRaises(ValueError) as caught:
                 dimacs.judge_max_arrays(*MAX, flows, CUT)

@@ -1,10 +1,15 @@
-"""The backend of networkx, next to networkx' own answers."""
+"""The backend of networkx, next to networkx' own answers, over random graphs: test_backend.py [--graphs N]
+
+Each test of random graphs draws a few hundred, or N. All are drawn by a seed."""
 
 import importlib.metadata
 import inspect
+import itertools
 import math
 import random
+import sys
 import unittest
+import unittest.mock
 import warnings
 
 import dimacs
@@ -28,13 +33,18 @@ def lacks():
 
 
 LACKS = lacks()
+GRAPHS = 0  # by the argument
+
+
+def rounds(count):
+    return range(GRAPHS or count)
 
 
 def answer_of(function, words, backend):
     """What is answered, or the kind and the text of what is raised."""
     try:
         return "answer", function(*words, backend=backend)
-    except (networkx.NetworkXException, KeyError, TypeError) as it:
+    except (networkx.NetworkXException, KeyError, TypeError, ValueError) as it:
         return type(it).__name__, str(it)
 
 
@@ -91,19 +101,19 @@ class Backend(unittest.TestCase):
             self.assertEqual(both[1], both[0])
 
     def refused(self, name, *words, **more):
-        """The reason that can_run returns."""
-        from dimacs import backend
+        """The reason with which the backend declines a call, which networkx answers then."""
+        with self.assertRaises(NotImplementedError) as caught:
+            getattr(networkx, name)(*words, backend="dimacs", **more)
+        from dimacs.backend import Unable
 
-        reason = backend.can_run(name, words, more)
-        self.assertFalse(reason)
-        self.assertIsInstance(reason, str)
-        return str(reason)
+        self.assertIsInstance(caught.exception.__cause__, Unable)
+        return str(caught.exception.__cause__)
 
 
 class Flows(Backend):
     def test_what_networkx_finds(self):
         chance = random.Random(1)
-        for _ in range(300):
+        for _ in rounds(300):
             draw = lambda: chance.choice([chance.randrange(10), 0, -1, 100, math.inf])
             graph = drawn(chance.choice([networkx.DiGraph, networkx.Graph]), chance, 20, capacity=draw)
             ends = chance.randrange(len(graph) + 1), chance.choice(list(graph))
@@ -209,6 +219,20 @@ class Flows(Backend):
                 graph["s"]["a"]["capacity"] = capacity
                 self.assertEqual(networkx.maximum_flow_value(graph, "s", "t", backend="dimacs"), capacity + 2)
 
+    def test_trees_of_cuts(self):
+        chance = random.Random(6)
+        for _ in rounds(100):
+            graph = drawn(networkx.Graph, chance, 20, capacity=lambda: chance.randrange(9))
+            networkx.set_edge_attributes(graph, {it: 3 for it in graph.edges if "capacity" not in graph.edges[it]}, "capacity")
+            tree = networkx.gomory_hu_tree(graph, backend="dimacs")
+            self.assertTrue(networkx.is_tree(tree) and set(tree) == set(graph))
+            for one, other in itertools.combinations(graph, 2):
+                path = networkx.shortest_path(tree, one, other)
+                lightest = min(tree[tail][head]["weight"] for tail, head in zip(path, path[1:]))
+                self.assertEqual(lightest, networkx.maximum_flow_value(graph, one, other))
+        self.assertIsNone(self.compared(networkx.gomory_hu_tree, networkx.Graph()))
+        self.assertIsNone(self.compared(networkx.gomory_hu_tree, networkx.DiGraph()))
+
     def test_views(self):
         graph = pipes()
         for view in graph.subgraph("sat"), graph.reverse(copy=False), graph.to_undirected(as_view=True):
@@ -220,7 +244,7 @@ class Flows(Backend):
 class Costs(Backend):
     def test_what_networkx_finds(self):
         chance = random.Random(2)
-        for _ in range(400):
+        for _ in rounds(400):
             draws = {
                 "capacity": lambda: chance.choice([0, 1, 2, 5, 9, math.inf]),
                 "weight": lambda: chance.randrange(-2, 9),
@@ -234,9 +258,29 @@ class Costs(Backend):
                 self.assertEqual(dimacs.certify_networkx_min(graph, flow).value, cost)
                 self.assertEqual(networkx.min_cost_flow_cost(graph, backend="dimacs"), cost)
 
+    def test_capacity_scaling(self):
+        chance = random.Random(7)
+        for _ in rounds(300):
+            draws = {
+                "capacity": lambda: chance.choice([0, 1, 2, 5, 9, -1, math.inf]),
+                "weight": lambda: chance.randrange(-2, 9),
+            }
+            graph = drawn(chance.choice([networkx.DiGraph, networkx.MultiDiGraph]), chance, 14, **draws)
+            bring(chance, graph)
+            if not any(tail != head and cap > 0 for tail, head, cap in graph.edges(data="capacity", default=math.inf)):
+                continue  # networkx finds nothing wrong with demands then
+            both = self.compared(networkx.capacity_scaling, graph)
+            if both:
+                (cost, _), (ours, flow) = both
+                self.assertEqual(ours, cost)
+                for *_, data in graph.edges(data=True):
+                    data["capacity"] = max(0, data.get("capacity", math.inf))
+                self.assertEqual(dimacs.certify_networkx_min(graph, flow).value, cost)
+        self.assertIsNone(self.compared(networkx.capacity_scaling, pipes("Graph")))
+
     def test_least_cost_among_maximum_flows(self):
         chance = random.Random(3)
-        for _ in range(200):
+        for _ in rounds(200):
             draws = {
                 "capacity": lambda: chance.choice([0, 1, 2, 5, 9, math.inf]),
                 "weight": lambda: chance.randrange(9),
@@ -325,7 +369,7 @@ class Paths(Backend):
     def test_what_networkx_finds(self):
         chance = random.Random(4)
         kinds = networkx.DiGraph, networkx.MultiDiGraph, networkx.Graph, networkx.MultiGraph
-        for _ in range(300):
+        for _ in rounds(300):
             graph = drawn(chance.choice(kinds), chance, 20, weight=lambda: chance.randrange(9))
             source, target = chance.randrange(len(graph) + 1), chance.randrange(len(graph) + 1)
             cutoff, weight = chance.choice([None, 0, 3, 7.5, -1]), chance.choice(["weight", None])
@@ -341,9 +385,84 @@ class Paths(Backend):
                 (length, _), (ours, path) = both
                 self.assertEqual((ours, length_of(graph, path, weight)), (length, length))
 
+    def test_other_forms(self):
+        """The same distances by all functions that have them, and paths of these lengths."""
+        chance = random.Random(8)
+        kinds = networkx.DiGraph, networkx.MultiDiGraph, networkx.Graph, networkx.MultiGraph
+        for _ in rounds(200):
+            graph = drawn(chance.choice(kinds), chance, 20, weight=lambda: chance.randrange(9))
+            nodes = range(len(graph) + 1)
+            source, target, cutoff = chance.choice(nodes), chance.choice(nodes), chance.choice([None, 0, 3, 7.5])
+            weight, method = chance.choice(["weight", None]), chance.choice(["dijkstra", "bellman-ford", "other"])
+            sources = chance.sample(nodes, chance.randrange(3))
+            for function, *words in [
+                (networkx.shortest_path_length, graph, source, target, weight, method),
+                (networkx.shortest_path_length, graph, None, target, weight, method),
+                (networkx.shortest_path_length, graph, source, None, weight, method),
+                (networkx.bellman_ford_path_length, graph, source, target, weight),
+                (networkx.multi_source_dijkstra_path_length, graph, sources, cutoff, weight),
+                (networkx.single_source_shortest_path_length, graph, source, cutoff),
+                (networkx.has_path, graph, source, target),
+            ]:
+                both = self.compared_kinds(function, *words)
+                if both:
+                    self.assertEqual(both[1], both[0])
+            for function, *words in [
+                (networkx.all_pairs_dijkstra_path_length, graph, cutoff, weight),
+                (networkx.shortest_path_length, graph, None, None, weight),
+            ]:
+                self.assertEqual(dict(function(*words, backend="dimacs")), dict(function(*words)))
+            self.paths_between(graph, source, target, sources, cutoff, weight, method)
+
+    def compared_kinds(self, function, *words):
+        """What both answer; None if both raise the same kind."""
+        theirs, ours = (answer_of(function, words, backend) for backend in ("networkx", "dimacs"))
+        self.assertEqual(ours[0], theirs[0], (function, words, ours, theirs))
+        return (theirs[1], ours[1]) if theirs[0] == "answer" else None
+
+    def paths_between(self, graph, source, target, sources, cutoff, weight, method):
+        for function, *words in [
+            (networkx.shortest_path, graph, source, None, weight, method),
+            (networkx.shortest_path, graph, None, target, weight, method),
+            (networkx.multi_source_dijkstra_path, graph, sources, cutoff, weight),
+            (networkx.single_source_shortest_path, graph, source, cutoff),
+        ]:
+            unit = weight if len(words) > 3 or function is networkx.multi_source_dijkstra_path else None
+            both = self.compared_kinds(function, *words)
+            if both:
+                lengths = [{node: length_of(graph, it, unit) for node, it in paths.items()} for paths in both]
+                self.assertEqual(lengths[1], lengths[0])
+        for function, *words in [
+            (networkx.shortest_path, graph, source, target, weight, method),
+            (networkx.dijkstra_path, graph, source, target, weight),
+            (networkx.bellman_ford_path, graph, source, target, weight),
+        ]:
+            both = self.compared_kinds(function, *words)
+            if both:
+                self.assertEqual(*(length_of(graph, it, weight) for it in both))
+        both = self.compared_kinds(networkx.multi_source_dijkstra, graph, sources, target, cutoff, weight)
+        if both:
+            self.assertEqual(both[1][0], both[0][0])
+        pairs = dict(networkx.all_pairs_dijkstra(graph, cutoff, weight, backend="dimacs"))
+        self.assertEqual({node: it[0] for node, it in pairs.items()}, dict(networkx.all_pairs_dijkstra_path_length(graph, cutoff, weight)))
+        paths = dict(networkx.all_pairs_dijkstra_path(graph, cutoff, weight, backend="dimacs"))
+        self.assertEqual({node: it[1] for node, it in pairs.items()}, paths)
+        both = [dict(networkx.shortest_path(graph, weight=weight, backend=it)) for it in ("networkx", "dimacs")]
+        self.assertEqual(*({at: {to: length_of(graph, path, weight) for to, path in it.items()} for at, it in some.items()} for some in both))
+
+    def test_cycles(self):
+        chance = random.Random(9)
+        found = {True: 0, False: 0}
+        for _ in rounds(300):
+            graph = drawn(chance.choice([networkx.DiGraph, networkx.MultiDiGraph]), chance, 16, weight=lambda: chance.randrange(-2, 9))
+            theirs = networkx.negative_edge_cycle(graph.copy())
+            self.assertEqual(networkx.negative_edge_cycle(graph, backend="dimacs"), theirs)
+            found[theirs] += 1
+        self.assertGreater(min(found.values()), 50)
+
     def test_negative_weights(self):
         chance = random.Random(5)
-        for _ in range(300):
+        for _ in rounds(300):
             kind = chance.choice([networkx.DiGraph, networkx.MultiDiGraph, networkx.Graph])
             graph = drawn(kind, chance, 16, weight=lambda: chance.choice([-2, -1, 0, 2, 3, 5, 8, 9]))
             source, target = chance.randrange(len(graph) + 1), chance.randrange(len(graph) + 1)
@@ -412,7 +531,7 @@ class Registered(Backend):
 
         dispatched = set(networkx.utils.backends._registered_algorithms)
         self.assertEqual(set(dir(backend)) & dispatched, set(info.FUNCTIONS))
-        self.assertEqual(set(backend.__all__), {*info.FUNCTIONS, "can_run", "convert_from_nx", "convert_to_nx"})
+        self.assertEqual(set(backend.__all__), {*info.FUNCTIONS, "Unable", "can_run", "convert_from_nx", "convert_to_nx"})
         self.assertIn("certificate", networkx.minimum_cut.__doc__)
 
     def test_arguments(self):
@@ -425,10 +544,24 @@ class Registered(Backend):
             words = [inspect.signature(it).parameters.values() for it in (theirs, getattr(backend, name))]
             self.assertEqual(*([str(it.replace(annotation=it.empty)) for it in some] for some in words))
 
+    def test_before_networkx_goes_on(self):
+        """Before networkx 3.4 a call that isn't answered has to be known before it is made."""
+        from dimacs.backend import running
+
+        graph = pipes()
+        with unittest.mock.patch.object(running, "_GOES_ON", False):
+            self.assertTrue(running.can_run("maximum_flow", (graph, "s", "t"), {}))
+            self.assertTrue(running.can_run("maximum_flow", (graph, "s"), {}))
+            graph.edges["s", "a"]["capacity"] = 0.5
+            self.assertFalse(running.can_run("maximum_flow", (graph, "s", "t"), {}))
+
     def test_wrong_arguments(self):
         with self.assertRaises(TypeError):
             networkx.maximum_flow(pipes(), "s", backend="dimacs")
 
 
 if __name__ == "__main__":
+    if sys.argv[1:2] == ["--graphs"]:
+        GRAPHS = int(sys.argv[2])
+        del sys.argv[1:3]
     unittest.main()

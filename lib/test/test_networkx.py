@@ -112,7 +112,7 @@ class MaximumFlow(Networkx):
         it = self.refused(dimacs.Refused, dimacs.judge_networkx_max, graph, *ends, flow, {"spring"})
         self.assertEqual((it.arc[0], it.node, it.reason), ("spring", None, "NotSaturated"))
         it = self.refused(dimacs.Refused, dimacs.judge_networkx_max, graph, *ends, flow, ["town"])
-        self.assertEqual((it.arc, it.node, str(it)), (None, "spring", "node spring SourceOutside"))
+        self.assertEqual((it.arc, it.node, str(it)), (None, "spring", "node 'spring' SourceOutside"))
         flow["mill"]["farm"] += 1
         it = self.refused(dimacs.Refused, dimacs.certify_networkx_max, graph, *ends, flow)
         self.assertIn((it.node, it.arc), [("mill", None), (None, ("mill", "farm"))])
@@ -259,7 +259,7 @@ class NoFlow(Networkx):
         graph.add_edge("d", "e")
         for call in (dimacs.certify_networkx_infeasible, dimacs.solve_networkx_min):
             it = self.refused(dimacs.GaveUp, call, graph)
-            self.assertIn("without a capacity", str(it))
+            self.assertIn("arcs without a limit", str(it))
 
 
 class Demands(Networkx):
@@ -290,7 +290,7 @@ class Demands(Networkx):
             it = self.refused(dimacs.Refused, self.certified, leaves, 1, 1)
             self.assertEqual((it.node, it.reason), ("a", "Balance"))
         it = self.refused(ValueError, self.certified, numpy.uint64(2**64 - 1), 1, 1)
-        self.assertIn("demand has 18446744073709551615", str(it))
+        self.assertIn("demand of node 'a' is 18446744073709551615, not", str(it))
 
     def test_ends(self):
         for leaves, enters in ((-(2**63) + 1, 2**63 - 1), (0, 2**63)):
@@ -298,7 +298,7 @@ class Demands(Networkx):
             self.assertEqual((it.node, it.reason), ("a", "Balance"))
         for demand in (-(2**63), 2**63 + 1):
             it = self.refused(ValueError, self.certified, demand, 0, 1)
-            self.assertIn(f"demand has {demand}", str(it))
+            self.assertIn(f"demand of node 'a' is {demand}, not", str(it))
 
 
 class Distances(Networkx):
@@ -333,6 +333,16 @@ class Distances(Networkx):
         ]:
             it = self.refused(dimacs.Refused, dimacs.certify_networkx_paths, graph, "a", distances)
             self.assertEqual((it.arc, it.node, it.reason), wanted)
+
+
+    def test_a_distance_at_the_limit(self):
+        """A node that isn't reached has no entry, or inf: no number stands for that."""
+        graph = networkx.DiGraph([("a", "b")])
+        graph.add_node("alone")
+        graph.edges["a", "b"]["weight"] = 2**63 - 1
+        for distances in ({"a": 0, "b": 1, "alone": 2**63 - 1}, {"a": 0, "b": 2**63 - 1}):
+            it = self.refused(ValueError, dimacs.certify_networkx_paths, graph, "a", distances)
+            self.assertIn("9223372036854775807", str(it))
 
 
 class Misuse(Networkx):
@@ -381,13 +391,13 @@ class Misuse(Networkx):
 
         half, none = {"a": {"b": 0.5}}, {}
         for call, words, message in [
-            (dimacs.certify_networkx_max, (graph(capacity=2**63), "a", "b", none), f"capacity has {2**63},"),
-            (dimacs.certify_networkx_max, (graph(capacity=1.5), "a", "b", none), "capacity has 1.5,"),
-            (dimacs.certify_networkx_max, (graph(), "a", "b", half), "flow has 0.5,"),
-            (dimacs.certify_networkx_min, (graph(weight=0.5), none), "weight has 0.5,"),
-            (dimacs.certify_networkx_min, (graph(demand=2**64), none), f"demand has {2**64},"),
-            (dimacs.certify_networkx_paths, (graph(weight=float("inf")), "a", {"a": 0}), "weight has inf,"),
-            (dimacs.certify_networkx_paths, (graph(), "a", {"a": 0, "b": 0.5}), "distances has 0.5,"),
+            (dimacs.certify_networkx_max, (graph(capacity=2**63), "a", "b", none), f"capacity of edge ('a', 'b') is {2**63}, not a whole number of 64 bits"),
+            (dimacs.certify_networkx_max, (graph(capacity=1.5), "a", "b", none), "capacity of edge ('a', 'b') is 1.5, not a whole number"),
+            (dimacs.certify_networkx_max, (graph(), "a", "b", half), "flow of edge ('a', 'b') is 0.5, not a whole number"),
+            (dimacs.certify_networkx_min, (graph(weight=0.5), none), "weight of edge ('a', 'b') is 0.5, not a whole number"),
+            (dimacs.certify_networkx_min, (graph(demand=2**64), none), f"demand of node 'b' is {2**64}, not a whole number"),
+            (dimacs.certify_networkx_paths, (graph(weight=float("inf")), "a", {"a": 0}), "weight of edge ('a', 'b') is inf, not a whole number"),
+            (dimacs.certify_networkx_paths, (graph(), "a", {"a": 0, "b": 0.5}), "distance of node 'b' is 0.5, not a whole number"),
         ]:
             it = self.refused(ValueError, call, *words)
             self.assertIn(message, str(it))

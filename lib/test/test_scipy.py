@@ -110,6 +110,26 @@ class MaximumFlow(Scipy):
         self.assertEqual((found.flow_value, found.flow.toarray().tolist()), (3, [[0, 3], [-3, 0]]))
         self.assertEqual(ours.certify_maximum_flow(graph, 0, 1, found).value, 3)
 
+    def test_sums_at_one_place_past_64_bits(self):
+        ends, last = ([1] * 4, [0, 4, 4]), 2**63 - 1
+        wide = stored([2**63 - 1024, 511, 511, 511], *ends)
+        nothing = sparse.csr_matrix((2, 2), dtype="int64")
+        message = r"the capacity at \(0, 1\) is 9223372036854776317, which has more than 64 bits"
+        self.raises(ValueError, message, ours.certify_maximum_flow, wide, 0, 1, nothing)
+        flow = sparse.coo_matrix(([last, 1, -(2**63)], ([0, 0, 1], [1, 1, 0])), shape=(2, 2))
+        message = r"the flow at \(0, 1\) is 9223372036854775808, which has more than 64 bits"
+        self.raises(ValueError, message, ours.certify_maximum_flow, nothing, 0, 1, flow)
+        twice = stored([last, last], [1, 1], [0, 2, 2])
+        message = r"the flow at \(0, 1\) is 18446744073709551614, which has more than 64 bits"
+        self.raises(dimacs.GaveUp, message, ours.maximum_flow, twice, 0, 1)
+
+    def test_sums_at_one_place_near_the_ends(self):
+        for kind, amount in ("int32", 2**31 - 1), ("uint32", 2**32 - 1), ("int8", 127):
+            found = ours.maximum_flow(stored(numpy.array([amount, 5], kind), [1, 1], [0, 2, 2]), 0, 1)
+            self.assertEqual(found.flow.toarray().tolist(), [[0, amount + 5], [-amount - 5, 0]])
+        one = stored([2**63 - 1], [1], [0, 1, 1])
+        self.assertEqual(ours.certify_maximum_flow(one, 0, 1, ours.maximum_flow(one, 0, 1)).value, 2**63 - 1)
+
     def test_no_edges(self):
         found = ours.maximum_flow(sparse.csr_matrix((3, 3), dtype="int32"), 0, 2)
         self.assertEqual((found.flow_value, found.flow.nnz), (0, 0))
@@ -200,6 +220,19 @@ class ShortestPath(Scipy):
             self.same(graph)
             self.same(graph, unweighted=True)
             self.same(graph, directed=False)
+
+    def test_sums_of_entries(self):
+        """Where SciPy adds entries up, in their own type, the sum is exact here."""
+        narrow = sparse.coo_matrix((numpy.array([100, 100], "int8"), ([0, 0], [1, 1])), shape=(2, 2))
+        self.assertEqual(ours.shortest_path(narrow).tolist(), [[0, 200], [numpy.inf, 0]])
+        wide = sparse.coo_matrix(([2**63 - 1, 1], ([0, 0], [1, 1])), shape=(2, 2))
+        self.raises(ValueError, r"the weight at \(0, 1\) is 9223372036854775808,", ours.shortest_path, wide)
+        infinite = sparse.coo_matrix(([numpy.inf, 1, 3], ([0, 0, 1], [1, 1, 0])), shape=(2, 2))
+        self.same(infinite, method="D")
+
+    def test_a_distance_that_is_the_number_of_no_distance(self):
+        graph = sparse.csr_matrix(numpy.array([[0, 2**63 - 1], [-(2**61), 0]]))
+        self.raises(dimacs.GaveUp, "out of range", ours.shortest_path, graph)
 
     def test_what_is_refused(self):
         call = ours.shortest_path

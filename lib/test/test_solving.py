@@ -177,7 +177,7 @@ class Graphs(unittest.TestCase):
 
     def test_an_edge_without_end(self):
         self.graph.add_edge("a", "d")
-        with self.assertRaises(dimacs.GaveUp):
+        with self.assertRaises(networkx.NetworkXUnbounded):
             dimacs.solve_networkx_max(self.graph, "a", "d")
         del self.graph.edges["a", "b"]["capacity"]
         self.graph.remove_edge("a", "d")

@@ -1,6 +1,7 @@
 """The calls over texts, from Python."""
 
 import array
+import ctypes
 import mmap
 import tempfile
 import unittest
@@ -173,6 +174,32 @@ class Spreads(unittest.TestCase):
         self.assertEqual(dimacs.spread_max_arrays(2, 1, 2, *arcs, [1], [2], given), array.array("q", [3, 3, 0]))
         with self.assertRaises(dimacs.Refused):
             dimacs.spread_max_arrays(3, 1, 2, *arcs, [3], [1], [6])
+
+    def test_forms_of_arrays(self):
+        numbers = (ctypes.c_int64 * 3)(3, 5, 4)
+        self.assertEqual(dimacs.spread_max_arrays(2.0, 1.0, 2, [1, 1, 2], [2, 2, 1], numbers, [1.0], [2], [6]), [3, 3, 0])
+        with self.assertRaisesRegex(TypeError, "nodes is '2', not a number"):
+            dimacs.spread_max_arrays("2", 1, 2, [], [], [], [], [], [])
+        with self.assertRaisesRegex(ValueError, "sink is 4294967296, not"):
+            dimacs.spread_max_arrays(2, 1, 2**32, [], [], [], [], [], [])
+
+    def test_limits_of_arrays(self):
+        none = [[]] * 3
+        for call, words, message in [
+            (dimacs.spread_max_arrays, (2, 0, 2, *none, *none), "node 0 NodeRange"),
+            (dimacs.spread_max_arrays, (2, 1, 3, *none, *none), "node 3 NodeRange"),
+            (dimacs.spread_max_arrays, (2, 1, 1, *none, *none), "node 1 NodeTwice"),
+            (dimacs.spread_max_arrays, (2**27 + 1, 1, 2, *none, *none), "node 134217729 NumberRange"),
+            (dimacs.spread_max_arrays, (2, 1, 2, [1, 0], [2, 1], [1, 1], *none), "arc 2 NodeRange"),
+            (dimacs.spread_max_arrays, (2, 1, 2, [1], [2], [-1], *none), "arc 1 BoundOrder"),
+            (dimacs.spread_min_arrays, (2, [1, 1], [2, 2], [0, 3], [1, 2], [1, 1], *none), "arc 2 BoundOrder"),
+        ]:
+            with self.subTest(message), self.assertRaises(dimacs.PastLimit) as caught:
+                call(*words)
+            self.assertEqual(str(caught.exception), message)
+
+    def test_pairs_of_different_lengths(self):
+        arcs = [1, 1, 2], [2, 2, 1], [3, 5, 4]
         with self.assertRaises(ValueError):
             dimacs.spread_max_arrays(2, 1, 2, *arcs, [1], [2, 1], [6])
 

@@ -95,6 +95,11 @@ def write_grid(name, side):
     write(f"{name}.ss", f"p aux sp ss {len(asked)}", [("s", start) for _, start, _ in asked])
 
 
+def write_zero(kind, *lines):
+    """A text with an arc from node 0."""
+    write(f"zero.{kind}", *([line.split()] if k else line for k, line in enumerate(lines)))
+
+
 def main():
     write_max("random.max", 60, 300, 100)
     write_layers("layers.max", 20, 30)
@@ -111,6 +116,9 @@ def main():
     write_unmet("deficit.min", 20, 80, 0, 7)
     write_grid("grid", 20)
     write_grid("hamlet", 4)
+    write_zero("max", "p max 2 1", "n 1 s", "n 2 t", "a 0 2 5")
+    write_zero("min", "p min 2 1", "a 0 2 0 5 1")
+    write_zero("gr", "p sp 2 1", "a 0 2 5")
 
 
 if __name__ == "__main__":

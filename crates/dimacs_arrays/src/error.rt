@@ -4,6 +4,8 @@ use crate::limits::PastLimit;
 use dimacs_judge::{JudgeError, Where};
 use dimacs_lines::Memory;
 use dimacs_records::Reason;
+use std::fmt;
+use thiserror::Error;
 
 /// An array whose length a call tests. The length of `tails` is the number of arcs.
 #[derive(Clone, Copy, Debug, PartialEq, Eq)]
@@ -21,16 +23,38 @@ pub enum Array {
     Predecessors,
 }
 
+impl fmt::Display for Array {
+    fn fmt<W: fmt::Write>(&self, f: &mut fmt::Formatter<W>) -> fmt::Result {
+        f.write_str(match self {
+            Array::Heads => "heads",
+            Array::Lows => "lows",
+            Array::Caps => "caps",
+            Array::Costs => "costs",
+            Array::Weights => "weights",
+            Array::Supplies => "supplies",
+            Array::Flows => "flows",
+            Array::Inside => "inside",
+            Array::Potentials => "potentials",
+            Array::Distances => "distances",
+            Array::Predecessors => "predecessors",
+        })
+    }
+}
+
 /// Why a call over arrays fails, or answers no.
-#[derive(Clone, Copy, Debug, PartialEq, Eq)]
+#[derive(Clone, Copy, Debug, PartialEq, Eq, Error)]
 pub enum ArrayError {
     /// The length of this array isn't the number of arcs, or of nodes.
+    #[error("the length of {0}")]
     Length(Array),
     /// The first number past the limits of instances, with the reason why a text with it is refused.
+    #[error("{0}: {1}")]
     Limit(Where, Reason),
     /// The first test of the claim that fails; of `solve_paths_arrays` the first arc of negative weight.
+    #[error("{0}: {1}")]
     Refused(Where, Reason),
     /// Out of memory.
+    #[error("out of memory")]
     Memory,
 }
 

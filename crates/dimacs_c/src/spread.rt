@@ -3,6 +3,7 @@
 ghost use Rattle.std.specs.Prelude.{◌∷◌, []};
 ghost use Rattle.dimacs_c.specs.Calls.{AnswersTexts, AnswersTextsKind, handed};
 ghost use Rattle.dimacs_c.specs.Kinds.{spread_kind};
+ghost use Rattle.dimacs_runs.specs.Outputs.{WritesAlike};
 ghost use Rattle.dimacs_runs.specs.Spread.{Spreads};
 
 use crate::answer::{end, misuse};
@@ -23,7 +24,7 @@ pub extern "C" fn dimacs_spread(
     solution: &mut [u8],
     solution_needed: &mut usize,
 ) -> u32
-    ensures { AnswersTextsKind (spread_kind kind) (λ k. Spreads k instance.now claim.now) result
+    ensures { AnswersTextsKind (spread_kind kind) (λ k. WritesAlike (Spreads k instance.now claim.now)) result
         (handed solution.old solution.new solution_needed.new ∷ handed out.old out.new needed.new ∷ []) }
 {
     match spread_of(kind) {
@@ -54,7 +55,7 @@ fn spread(
     solution: &mut [u8],
     solution_needed: &mut usize,
 ) -> u32
-    ensures { AnswersTexts (Spreads kind instance.now claim.now) result
+    ensures { AnswersTexts (WritesAlike (Spreads kind instance.now claim.now)) result
         (handed solution.old solution.new solution_needed.new ∷ handed out.old out.new needed.new ∷ []) }
 {
     let mut text = MemorySink::new(alloc);

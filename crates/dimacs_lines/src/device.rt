@@ -5,13 +5,16 @@ ghost use Rattle.dimacs_lines.specs.Devices.{before_piece, after_piece, CountsFa
 ghost use Rattle.dimacs_lines.specs.Puts.{Puts};
 
 use std::alloc::{AllocError, AllocFailed};
+use thiserror::Error;
 
 /// An I/O error: a read or a write failed, or a sink accepted nothing of some bytes.
-#[derive(Clone, Copy, Debug, PartialEq, Eq)]
+#[derive(Clone, Copy, Debug, PartialEq, Eq, Error)]
+#[error("I/O error")]
 pub struct DeviceFault;
 
 /// Out of memory: an allocation failed.
-#[derive(Clone, Copy, Debug, PartialEq, Eq)]
+#[derive(Clone, Copy, Debug, PartialEq, Eq, Error)]
+#[error("out of memory")]
 pub struct Memory;
 
 impl From<AllocError> for Memory {

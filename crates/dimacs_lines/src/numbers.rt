@@ -5,12 +5,16 @@ ghost use Rattle.std.specs.List.{All};
 ghost use Rattle.std.specs.Char.{IsAsciiDigit};
 ghost use Rattle.dimacs_lines.specs.Number.{ReadsNumber, is_negative, digits_of, place_sum};
 
+use thiserror::Error;
+
 /// Why a field isn't a number of its range.
-#[derive(Clone, Copy, Debug, PartialEq, Eq)]
+#[derive(Clone, Copy, Debug, PartialEq, Eq, Error)]
 pub enum NumberFault {
     /// It isn't an optional sign and one or more digits.
+    #[error("not a whole number")]
     BadNumber,
     /// It spells a number outside of the range.
+    #[error("a number out of range")]
     NumberRange,
 }
 

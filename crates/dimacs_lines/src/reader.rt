@@ -14,6 +14,7 @@ use crate::device::{DeviceFault, Memory, Source};
 use memchr::memchr;
 use std::alloc::Global;
 use std::marker::Model;
+use thiserror::Error;
 
 /// The most bytes of a line, without its end.
 pub const MAX_LINE: usize = 1_048_576;
@@ -28,15 +29,19 @@ pub const MAX_HELD: usize = 1_114_112;
 const PIECE: usize = 65_536;
 
 /// Why there is no next line. The number is the line's, counted from 1.
-#[derive(Clone, Copy, Debug, PartialEq, Eq)]
+#[derive(Clone, Copy, Debug, PartialEq, Eq, Error)]
 pub enum LinesError {
     /// The text has more than `MAX_LINES` lines.
+    #[error("line {0} is one too many")]
     TooMany(u64),
     /// The line has more than `MAX_LINE` bytes.
+    #[error("line {0} is too long")]
     TooLong(u64),
     /// An I/O error.
+    #[error("I/O error")]
     Device,
     /// Out of memory: the buffer couldn't grow.
+    #[error("out of memory")]
     Memory,
 }
 

@@ -21,5 +21,6 @@ pub mod PathsPassing
 mod OnePass
 pub mod MaxJudge
 pub mod MinJudge
-mod SolutionLemmas
+pub mod SolutionLemmas
+mod HubLemmas
 pub mod LeastLemmas

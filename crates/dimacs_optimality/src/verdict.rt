@@ -2,6 +2,8 @@
 
 use dimacs_lines::Memory;
 use dimacs_records::Reason;
+use std::fmt;
+use thiserror::Error;
 
 /// The place that a refusal names. Lines, arcs and nodes count from 1; field 0 is the whole line. A certificate is
 /// named as a whole.
@@ -13,12 +15,25 @@ pub enum Where {
     Node(u32),
 }
 
+impl fmt::Display for Where {
+    fn fmt<W: fmt::Write>(&self, f: &mut fmt::Formatter<W>) -> fmt::Result {
+        match self {
+            Where::Solution { line, field } => write!(f, "solution, line {line}, field {field}"),
+            Where::Certificate => f.write_str("certificate"),
+            Where::Arc(number) => write!(f, "arc {number}"),
+            Where::Node(id) => write!(f, "node {id}"),
+        }
+    }
+}
+
 /// Why a judge doesn't answer yes.
-#[derive(Clone, Copy, Debug, PartialEq, Eq)]
+#[derive(Clone, Copy, Debug, PartialEq, Eq, Error)]
 pub enum JudgeError {
     /// The first test that fails, by its place and reason.
+    #[error("{0}: {1}")]
     Refused(Where, Reason),
     /// Out of memory; it leaves the claim open.
+    #[error("out of memory")]
     Memory,
 }
 

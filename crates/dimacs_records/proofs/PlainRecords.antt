@@ -141,6 +141,27 @@ ends_stand bytes letter tail head after_tail after_head size n begins at_tail ta
   spells = ((at_tail.spelled, within_id tail tail_range.0 tail_range.1), ((at_head.spelled, within_id head head_range.0 head_range.1), ((at_n.spelled, within_whole n fits), tt)));
 }
 
+-- a node alone
+pub node_stands : (bytes : List ℕ) (letter id size : ℕ) → bytes ≡ letter ∷ 32 ∷ drop 2 bytes → StandsAt bytes 2 10 (pos id) size → (1 ≤ id) × (id < 100000000) → IsPlainLine bytes letter (Id ∷ []) (Amount (pos id) ∷ []) size
+node_stands bytes letter id size begins at_id id_range = record {
+  texts = at_id.text ∷ [];
+  begins = begins;
+  stand = at_id.ends;
+  short = All-cons IsShort at_id.text [] at_id.short (All-nil IsShort);
+  spells = ((at_id.spelled, within_id id id_range.0 id_range.1), tt);
+}
+
+-- two nodes alone
+pub pair_stands : (bytes : List ℕ) (letter tail head after_tail size : ℕ) → bytes ≡ letter ∷ 32 ∷ drop 2 bytes → StandsAt bytes 2 32 (pos tail) after_tail → (1 ≤ tail) × (tail < 100000000)
+    → StandsAt bytes after_tail 10 (pos head) size → (1 ≤ head) × (head < 100000000) → IsPlainLine bytes letter (Id ∷ Id ∷ []) (Amount (pos tail) ∷ Amount (pos head) ∷ []) size
+pair_stands bytes letter tail head after_tail size begins at_tail tail_range at_head head_range = record {
+  texts = at_tail.text ∷ at_head.text ∷ [];
+  begins = begins;
+  stand = (after_tail, at_tail.ends, at_head.ends);
+  short = All-cons IsShort at_tail.text (at_head.text ∷ []) at_tail.short (All-cons IsShort at_head.text [] at_head.short (All-nil IsShort));
+  spells = ((at_tail.spelled, within_id tail tail_range.0 tail_range.1), ((at_head.spelled, within_id head head_range.0 head_range.1), tt));
+}
+
 within_wide : (n : ℤ) → IsWithin (neg_ℤ (pos (2 ^ 63))) (pos (2 ^ 63 - 1)) n → IsWithin (neg_ℤ (pos (10 ^ 30))) (pos (10 ^ 30)) n
 within_wide n within = (omega (arith, ints, within.0), omega (arith, ints, within.1))
 

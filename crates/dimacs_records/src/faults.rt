@@ -6,9 +6,12 @@ ghost use Rattle.dimacs_records.specs.declared.faults.TakeError.TheVariants.{Ref
 use crate::reasons::Reason;
 use dimacs_lines::Memory;
 use std::alloc::AllocFailed;
+use std::fmt;
+use thiserror::Error;
 
 /// A fault of a line. Fields count from 1; 0 is the whole line.
-#[derive(Clone, Copy, Debug, PartialEq, Eq)]
+#[derive(Clone, Copy, Debug, PartialEq, Eq, Error)]
+#[error("field {field}: {reason}")]
 pub struct LineFault {
     pub field: u32,
     pub reason: Reason,
@@ -22,12 +25,20 @@ pub struct At {
     pub field: u32,
 }
 
+impl fmt::Display for At {
+    fn fmt<W: fmt::Write>(&self, f: &mut fmt::Formatter<W>) -> fmt::Result {
+        write!(f, "line {}, field {}", self.line, self.field)
+    }
+}
+
 /// Why a record isn't taken, or the records give no value.
-#[derive(Clone, Copy, Debug, PartialEq, Eq)]
+#[derive(Clone, Copy, Debug, PartialEq, Eq, Error)]
 pub enum TakeError {
     /// The record has this fault.
+    #[error("{0}")]
     Refused(LineFault),
     /// Out of memory.
+    #[error("out of memory")]
     Memory,
 }
 
@@ -61,13 +72,16 @@ impl<T: Drop> From<AllocFailed<T>> for TakeError {
 }
 
 /// Why a text couldn't be read.
-#[derive(Clone, Copy, Debug, PartialEq, Eq)]
+#[derive(Clone, Copy, Debug, PartialEq, Eq, Error)]
 pub enum ReadError {
     /// The text's first fault.
+    #[error("{0}: {1}")]
     Refused(At, Reason),
     /// I/O error: a read failed.
+    #[error("I/O error")]
     Device,
     /// Out of memory.
+    #[error("out of memory")]
     Memory,
 }
 

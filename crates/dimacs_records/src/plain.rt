@@ -2,7 +2,7 @@
 //! right after the last. `record` reads all others.
 
 ghost use Rattle.std.specs.Prelude.{◌∷◌, [], pos, IfSome};
-ghost use Rattle.dimacs_records.specs.declared.kinds.TextKind.TheVariants.{Min, Potentials, Labels, Distances};
+ghost use Rattle.dimacs_records.specs.declared.kinds.TextKind.TheVariants.{Min, Queries, Cut, Potentials, Labels, Distances};
 ghost use Rattle.dimacs_records.specs.Forms.{Id, Whole};
 ghost use Rattle.dimacs_records.specs.inside.Plain.{IsPlainLine, SpellsArc, SpellsFirst};
 ghost use Rattle.dimacs_records.specs.Spelling.{Amount};
@@ -34,6 +34,13 @@ struct NodeLine {
     number: i64,
 }
 
+/// The field of a line with a node alone.
+#[derive(Clone, Copy)]
+struct LoneNode {
+    size: usize,
+    id: u32,
+}
+
 /// Reads the first line, if it has the plain form.
 ///
 /// Each reading `R` has its own copy, in which the kind is a constant and the compiler drops the other forms.
@@ -48,7 +55,8 @@ pub(crate) fn plain_line<R: Reading>(kind: TextKind, bytes: &[u8]) -> Option<Pla
         TextKind::Potentials => potentials_line(bytes),
         TextKind::Labels => labels_line(bytes),
         TextKind::Distances => distances_line(bytes),
-        TextKind::Queries | TextKind::Cut => None,
+        TextKind::Queries => queries_line(bytes),
+        TextKind::Cut => cut_line(bytes),
     }
 }
 
@@ -61,6 +69,39 @@ fn min_line(bytes: &[u8]) -> Option<PlainLine>
     }
     let NodeLine { size, id, number } = node_line(bytes, b'n')?;
     let rec = Record::MinNode { id, supply: number };
+    Some(PlainLine { size, rec })
+}
+
+#[inline(always)]
+fn queries_line(bytes: &[u8]) -> Option<PlainLine>
+    ensures { IfSome result (λ line. SpellsFirst Queries bytes.now line.rec line.size) }
+{
+    if let Some(line) = pair_line(bytes) {
+        return Some(line);
+    }
+    let LoneNode { size, id } = lone_node(bytes, b's')?;
+    let rec = Record::SourceQuery { id };
+    Some(PlainLine { size, rec })
+}
+
+#[inline(always)]
+fn pair_line(bytes: &[u8]) -> Option<PlainLine>
+    ensures { IfSome result (λ line. SpellsFirst Queries bytes.now line.rec line.size) }
+{
+    let mut numbers = PlainNumbers::after(b'q', bytes)?;
+    let from = numbers.id(b' ')?;
+    let to = numbers.id(b'\n')?;
+    let rec = Record::PairQuery { from, to };
+    let size = numbers.at();
+    Some(PlainLine { size, rec })
+}
+
+#[inline(always)]
+fn cut_line(bytes: &[u8]) -> Option<PlainLine>
+    ensures { IfSome result (λ line. SpellsFirst Cut bytes.now line.rec line.size) }
+{
+    let LoneNode { size, id } = lone_node(bytes, b'u')?;
+    let rec = Record::CutNode { id };
     Some(PlainLine { size, rec })
 }
 
@@ -125,6 +166,16 @@ fn bounds_line(bytes: &[u8]) -> Option<PlainLine>
     };
     let size = numbers.at();
     Some(PlainLine { size, rec })
+}
+
+#[inline(always)]
+fn lone_node(bytes: &[u8], letter: u8) -> Option<LoneNode>
+    ensures { IfSome result (λ line. IsPlainLine bytes.now letter (Id ∷ []) (Amount (pos line.id) ∷ []) line.size) }
+{
+    let mut numbers = PlainNumbers::after(letter, bytes)?;
+    let id = numbers.id(b'\n')?;
+    let size = numbers.at();
+    Some(LoneNode { size, id })
 }
 
 #[inline(always)]

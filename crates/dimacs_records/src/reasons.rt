@@ -3,6 +3,8 @@
 ghost use Rattle.std.specs.Prelude.{◌≡◌};
 ghost use Rattle.dimacs_records.specs.Names.{name_of};
 
+use std::fmt;
+
 /// Why a text or a claim is refused: first the reasons for texts, then those of judges and certifiers.
 #[derive(Clone, Copy, Debug, PartialEq, Eq)]
 pub enum Reason {
@@ -96,6 +98,12 @@ pub enum Reason {
     NotLeast,
     /// A feasible flow exists.
     Feasible,
+}
+
+impl fmt::Display for Reason {
+    fn fmt<W: fmt::Write>(&self, f: &mut fmt::Formatter<W>) -> fmt::Result {
+        f.write_str(self.name())
+    }
 }
 
 impl Reason {

@@ -62,16 +62,6 @@ solving = record {
   refused = λ a o written only. (written, λ refusal h. (refl, sym (only Refused refusal h).1));
 }
 
-abbrev pub spreading : Way (List (List ℕ))
-spreading = record {
-  writes = λ writes. writes;
-  texts = unclaimed_texts;
-  alone = uncertified;
-  lines = λ report. refl;
-  carried = λ a b s o to from written. to s o written;
-  refused = λ a o written only. written;
-}
-
 -- a run ends early at a text that could not be read
 abbrev pub Stopped : Unread → Result Outcome Stop → Type 0
 Stopped unread result = IsErrAnd result (λ stop. stop ≡ unread_stop unread.kind unread.error)

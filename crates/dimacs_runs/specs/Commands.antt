@@ -113,7 +113,7 @@ MakesCertificate kind (instance ∷ claim ∷ []) = WritesAlike (Certified kind 
 MakesCertificate kind other = λ status out. ⊥
 
 abbrev pub MakesSpread : SpreadKind → Making
-MakesSpread kind (instance ∷ claim ∷ []) = Spreads kind instance claim
+MakesSpread kind (instance ∷ claim ∷ []) = WritesAlike (Spreads kind instance claim)
 MakesSpread kind other = λ status out. ⊥
 
 -- a file could not be opened: those before it were, and nothing else was done

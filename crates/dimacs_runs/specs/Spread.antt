@@ -1,5 +1,6 @@
 -- What runs that spread write: a solution with an entry for every arc, or a report. The other text is empty here.
 use Rattle.std.specs.Prelude.{ℕ, ◌≡◌, List, [], ◌∷◌, ℤ, map}
+use Rattle.dimacs_records.specs.declared.kinds.TextKind.{TextKind}
 use Rattle.dimacs_records.specs.declared.kinds.TextKind.TheVariants as kinds
 use Rattle.dimacs_records.specs.declared.reasons.Reason.{Reason}
 use Rattle.dimacs_claims.specs.declared.solution.Entry.{Entry}
@@ -8,8 +9,9 @@ use Rattle.dimacs_instance.specs.MaxTexts.{GivesMax}
 use Rattle.dimacs_instance.specs.MinTexts.{GivesMin}
 use Rattle.dimacs_optimality.specs.declared.verdict.Where.{Where}
 use Rattle.dimacs_optimality.specs.Entries.{IsSolutionOf}
+use Rattle.dimacs_optimality.specs.Tests.{AllClear, First}
 use Rattle.dimacs_network.specs.declared.network.ArcView.{ArcView}
-use Rattle.dimacs_spread.specs.Spread.{Deals, IsRefusedAt, KeepsBoundsIfAny, NoneCheaper}
+use Rattle.dimacs_spread.specs.Spread.{Deals, NoneCheaper, spread_rows}
 use Rattle.dimacs_runs.specs.declared.jobs.SpreadKind.{SpreadKind}
 use Rattle.dimacs_runs.specs.declared.jobs.SpreadKind.TheVariants.{Max, Min}
 use Rattle.dimacs_runs.specs.declared.status.Status.{Status}
@@ -19,28 +21,24 @@ use Rattle.dimacs_runs.specs.Runs.{text_of}
 use Rattle.dimacs_runs.specs.Solved.{FaultAloneOr}
 use Rattle.dimacs_runs.specs.Verdicts.{failure_line}
 
--- between any two nodes the flow carries the claimed amount; it keeps the bounds if any such flow does
-pub record SpreadsFlow (arcs : List ArcView) (s : SolutionValue) (x : List ℤ) : Type 0 where
-  pub deals : Deals arcs s.entries x
-  pub keeps_bounds : KeepsBoundsIfAny arcs s.entries x
-
 -- the solution has the claimed value, and an entry for every arc with the amount on it
 pub record IsSpreadOf (arcs : List ArcView) (s : SolutionValue) (x : List ℤ) (t : SolutionValue) : Type 0 where
   pub value : t.value ≡ s.value
   pub all_arcs : IsSolutionOf arcs t
   pub flows : map (λ (e : Entry). e.flow) t.entries ≡ x
 
--- at least cost: no flow with the same sums and within the bounds costs less
+-- at least cost, if the instance has costs
 abbrev pub IsBestOf : SpreadKind → List ArcView → SolutionValue → List ℤ → Type 0
 IsBestOf Max arcs s x = Unit {0}
 IsBestOf Min arcs s x = NoneCheaper arcs s.entries x
 
--- the text of such a solution; or the line of the first entry without an arc, or of a sum that the arcs can't carry
+-- all tests pass, and it is the text of such a solution; or the line of the first test that fails
 abbrev pub SpreadsClaim : SpreadKind → List ArcView → SolutionValue → Status → List (List ℕ) → Type 0
 SpreadsClaim kind arcs s Done out =
-    (x : List ℤ) × SpreadsFlow arcs s x × IsBestOf kind arcs s x × (t : SolutionValue) × IsSpreadOf arcs s x t × (out ≡ canonical_solution t ∷ [] ∷ [])
+    AllClear (spread_rows arcs s.entries)
+    × ((x : List ℤ) × Deals arcs s.entries x × IsBestOf kind arcs s x × (t : SolutionValue) × IsSpreadOf arcs s x t × (out ≡ canonical_solution t ∷ [] ∷ []))
 SpreadsClaim kind arcs s Refused out =
-    (place : Where) × (reason : Reason) × IsRefusedAt arcs s.entries place reason × (out ≡ uncertified (failure_line place reason))
+    (place : Where) × (reason : Reason) × First (spread_rows arcs s.entries) place reason × (out ≡ uncertified (failure_line place reason))
 SpreadsClaim kind arcs s GaveUp out = ⊥
 
 -- what is written for an instance and a claimed flow
@@ -53,3 +51,8 @@ Spreads Min instance claim =
     FaultAloneOr uncertified (text_of kinds.Min GivesMin instance) (λ i.
     FaultAloneOr uncertified (text_of kinds.Solution GivesSolution claim) (λ s.
     SpreadsClaim Min i.arcs s))
+
+-- the kind of the instance's text
+abbrev pub spread_text : SpreadKind → TextKind
+spread_text Max = kinds.Max
+spread_text Min = kinds.Min

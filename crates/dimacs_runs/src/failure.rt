@@ -5,6 +5,8 @@ ghost use Rattle.dimacs_runs.specs.Outcomes.{failed_call, failed_device};
 ghost use Rattle.dimacs_runs.specs.inside.Commands.{named};
 
 use crate::status::RunError;
+use std::fmt;
+use thiserror::Error;
 
 /// An operation on a file.
 #[derive(Clone, Copy, Debug, PartialEq, Eq)]
@@ -48,12 +50,20 @@ impl<'a> Failure<'a> {
     }
 }
 
+impl fmt::Display for Failure<'_> {
+    fn fmt<W: fmt::Write>(&self, f: &mut fmt::Formatter<W>) -> fmt::Result {
+        write!(f, "{} {}", self.device(), self.call())
+    }
+}
+
 /// Why a command did not write all of its output.
-#[derive(Clone, Copy, Debug, PartialEq, Eq)]
+#[derive(Clone, Copy, Debug, PartialEq, Eq, Error)]
 pub enum CommandError<'a> {
     /// An I/O error.
+    #[error("{0}")]
     Device(Failure<'a>),
     /// Out of memory.
+    #[error("out of memory")]
     Memory,
 }
 

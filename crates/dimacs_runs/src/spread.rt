@@ -2,14 +2,19 @@
 
 ghost use Rattle.std.specs.Prelude.{◌≡◌, ◌≢◌, ◌≤◌, ◌⊎◌, ◌∷◌, [], ℕ, List, Some, Err, IfOk, length};
 ghost use Rattle.dimacs_lines.specs.Limits.{most_count};
+ghost use Rattle.dimacs_lines.specs.Lines.{lines};
+ghost use Rattle.dimacs_records.specs.declared.kinds.TextKind.TheVariants as kinds;
+ghost use Rattle.dimacs_records.specs.declared.reasons.Reason.{Reason};
+ghost use Rattle.dimacs_records.specs.Faults.{Fault};
 ghost use Rattle.dimacs_claims.specs.SolutionTexts.{SolutionValue};
 ghost use Rattle.dimacs_runs.specs.declared.jobs.SpreadKind.{SpreadKind};
 ghost use Rattle.dimacs_runs.specs.declared.jobs.SpreadKind.TheVariants as spreads;
 ghost use Rattle.dimacs_runs.specs.declared.status.RunError.TheVariants.{Device, Memory};
 ghost use Rattle.dimacs_runs.specs.Judgings.{CountsDevices};
-ghost use Rattle.dimacs_runs.specs.Outputs.{ReportsAll};
-ghost use Rattle.dimacs_runs.specs.Spread.{Spreads, SpreadsClaim};
-ghost use Rattle.dimacs_runs.specs.inside.Outcomes.{DealsOut, IfEnds, outcome_of, unclaimed_texts};
+ghost use Rattle.dimacs_runs.specs.Outputs.{ReportsAll, WritesAlike};
+ghost use Rattle.dimacs_runs.specs.Spread.{Spreads, SpreadsClaim, spread_text};
+ghost use Rattle.dimacs_runs.specs.inside.Judgings.{HasFault};
+ghost use Rattle.dimacs_runs.specs.inside.Outcomes.{DealsOut, MayCertify, outcome_of};
 
 use crate::discard::Discard;
 use crate::jobs::SpreadKind;
@@ -30,8 +35,9 @@ use std::alloc::Global;
 /// every arc. It adds up the claimed entries with the same tail and head, and deals the sum out to the arcs with these
 /// ends: within their bounds if possible, and for a minimum cost instance at the least cost.
 ///
-/// Otherwise it writes only a report: the fault of the first text that has one, the first entry without an arc, or a
-/// sum that the arcs can't carry in 64-bit amounts. It doesn't test whether the flow is feasible.
+/// Otherwise it writes only a report: the fault of the first text that has one, the first entry without an arc, or the
+/// first arc whose amount doesn't fit 64 bits. The claim isn't read after an instance with a fault. It doesn't test
+/// whether the flow is feasible.
 pub fn run_spread<P: Source, Q: Source, C: Sink, K: Sink>(
     alloc: Global,
     kind: SpreadKind,
@@ -41,7 +47,7 @@ pub fn run_spread<P: Source, Q: Source, C: Sink, K: Sink>(
     report: &mut K,
 ) -> Result<Status, RunError>
     ensures reports { (a b : List ℕ) → P.coming instance.old ≡ Some a → Q.coming claim.old ≡ Some b
-        → ReportsAll (Spreads kind a b) result
+        → ReportsAll (WritesAlike (Spreads kind a b)) result
         ((C.seen solution_out.old).accepted ∷ (K.seen report.old).accepted ∷ [])
         ((C.seen solution_out.new).accepted ∷ (K.seen report.new).accepted ∷ []) }
     ensures faults { CountsDevices result
@@ -50,6 +56,8 @@ pub fn run_spread<P: Source, Q: Source, C: Sink, K: Sink>(
     ensures nothing_written { (P.faults instance.new ≢ P.faults instance.old) ⊎ (Q.faults claim.new ≢ Q.faults claim.old)
         → (C.seen solution_out.new ≡ C.seen solution_out.old) × (K.seen report.new ≡ K.seen report.old) }
     ensures memory { result ≡ Err Memory → (C.seen solution_out.new ≡ C.seen solution_out.old) × (K.seen report.new ≡ K.seen report.old) }
+    ensures stops_at_instance { (a : List ℕ) (l f : ℕ) (r : Reason) → P.coming instance.old ≡ Some a → Fault (spread_text kind) (lines a) l f r
+        → claim.new ≡ claim.old }
 {
     let outcome = spread_claim(alloc, kind, instance, claim);
     write_outcome(outcome, &mut Discard, solution_out, report)
@@ -63,8 +71,9 @@ pub(crate) fn spread_claim<P: Source, Q: Source>(
     claim: &mut Q,
 ) -> Result<Outcome, RunError>
     ensures spreads { (a b : List ℕ) → P.coming instance.old ≡ Some a → Q.coming claim.old ≡ Some b
-        → IfEnds unclaimed_texts (Spreads kind a b) result }
+        → MayCertify (Spreads kind a b) result }
     ensures faults { CountsDevices result (P.faults instance.old ∷ Q.faults claim.old ∷ []) (P.faults instance.new ∷ Q.faults claim.new ∷ []) }
+    ensures stops_at_instance { HasFault (spread_text kind) (P.coming instance.old) → claim.new ≡ claim.old }
 {
     outcome_of(match kind {
         SpreadKind::Max => spread_maximum(alloc, instance, claim),
@@ -78,9 +87,10 @@ fn spread_maximum<P: Source, Q: Source>(
     claim: &mut Q,
 ) -> Result<Outcome, Stop>
     ensures spreads { (a b : List ℕ) → P.coming instance.old ≡ Some a → Q.coming claim.old ≡ Some b →
-        IfEnds unclaimed_texts (Spreads spreads.Max a b) (outcome_of result) }
+        MayCertify (Spreads spreads.Max a b) (outcome_of result) }
     ensures faults { CountsDevices (outcome_of result) (P.faults instance.old ∷ Q.faults claim.old ∷ [])
         (P.faults instance.new ∷ Q.faults claim.new ∷ []) }
+    ensures stops_at_instance { HasFault kinds.Max (P.coming instance.old) → claim.new ≡ claim.old }
 {
     let (instance, claim): (MaxInstance<PlainArcs<CapacityArc>>, _) = read_two(
         alloc, instance, claim,
@@ -95,9 +105,10 @@ fn spread_least<P: Source, Q: Source>(
     claim: &mut Q,
 ) -> Result<Outcome, Stop>
     ensures spreads { (a b : List ℕ) → P.coming instance.old ≡ Some a → Q.coming claim.old ≡ Some b →
-        IfEnds unclaimed_texts (Spreads spreads.Min a b) (outcome_of result) }
+        MayCertify (Spreads spreads.Min a b) (outcome_of result) }
     ensures faults { CountsDevices (outcome_of result) (P.faults instance.old ∷ Q.faults claim.old ∷ [])
         (P.faults instance.new ∷ Q.faults claim.new ∷ []) }
+    ensures stops_at_instance { HasFault kinds.Min (P.coming instance.old) → claim.new ≡ claim.old }
 {
     let (instance, claim): (MinInstance<PlainArcs<ArcView>>, _) = read_two(alloc, instance, claim)?;
     let flow = spread_min(alloc, &instance, &claim);
@@ -114,7 +125,7 @@ fn answer_spread<N: Network>(
     requires few_arcs { length (N.list network.now) ≤ most_count }
     requires one_each { IfOk flow (λ x. length x ≡ length (N.list network.now)) }
     ensures spreads { (kind : SpreadKind) (s : SolutionValue) → value ≡ s.value → DealsOut kind (N.list network.now) s flow
-        → IfEnds unclaimed_texts (SpreadsClaim kind (N.list network.now) s) (outcome_of result) }
+        → MayCertify (SpreadsClaim kind (N.list network.now) s) (outcome_of result) }
     ensures no_device { outcome_of result ≢ Err Device }
 {
     let flow = flow?;

@@ -4,6 +4,7 @@ ghost use Rattle.std.specs.Prelude.{◌≡◌, Some, None, IfSome, IfNone};
 ghost use Rattle.dimacs_runs.specs.Outcomes.{complaint_of, status_number};
 
 use dimacs_lines::{DeviceFault, Memory};
+use thiserror::Error;
 
 /// The end of a run that had no error.
 #[derive(Clone, Copy, Debug, PartialEq, Eq)]
@@ -17,11 +18,13 @@ pub enum Status {
 }
 
 /// Why a run did not write all of its output.
-#[derive(Clone, Copy, Debug, PartialEq, Eq)]
+#[derive(Clone, Copy, Debug, PartialEq, Eq, Error)]
 pub enum RunError {
     /// An I/O error: a call of a source, a sink or a file failed.
+    #[error("I/O error")]
     Device,
     /// Out of memory.
+    #[error("out of memory")]
     Memory,
 }
 

@@ -3,15 +3,19 @@
 use dimacs_judge::Where;
 use dimacs_lines::Memory;
 use dimacs_records::Reason;
+use thiserror::Error;
 
 /// Why a solver returns no answer.
-#[derive(Clone, Copy, Debug, PartialEq, Eq)]
+#[derive(Clone, Copy, Debug, PartialEq, Eq, Error)]
 pub enum SolveError {
     /// The number of the first arc with a negative weight, from 1. Only `solve_paths` refuses it.
+    #[error("arc {0}: NegativeWeight")]
     NegativeWeight(u32),
     /// A query names a node above the number of nodes; the place is the first such node.
+    #[error("{0}: {1}")]
     Refused(Where, Reason),
     /// Out of memory.
+    #[error("out of memory")]
     Memory,
 }
 

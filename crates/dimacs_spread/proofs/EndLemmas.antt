@@ -1,9 +1,9 @@
 -- The first arc between two nodes.
-use Rattle.std.proofs.Common.{◌≡◌, inl, inr, ℕ, ◌+◌, ◌<◌, ◌≤◌, ◌==◌, true, cond, List, length, take, slice_get, count_by, Some, None, eqb-true, refl, arith}
-use Rattle.std.proofs.lemmas.Bool.{and_parts, cases_order}
+use Rattle.std.proofs.Common.{◌≡◌, ◌⊎◌, inl, inr, ℕ, zero, suc, ◌+◌, ◌<◌, ◌≤◌, ◌==◌, true, cond, List, length, take, slice_get, count_by, Some, None, eqb-true, refl, ◌∙◌, arith}
+use Rattle.std.proofs.lemmas.Bool.{and_parts, cases_Bool, cases_order}
 use Rattle.std.proofs.lemmas.Option.{get_or_from_slice_get, slice_get-get_or, slice_get_within}
-use Rattle.std.proofs.lemmas.List.{take-take}
-use Rattle.std.proofs.lemmas.List.Sums.{count_by_more_yes, sum_by-take-le}
+use Rattle.std.proofs.lemmas.List.{take_all, take-take}
+use Rattle.std.proofs.lemmas.List.Sums.{count_by_more_no, count_by_more_yes, sum_by-take-le}
 use Rattle.dimacs_claims.specs.declared.solution.Entry.{Entry}
 use Rattle.dimacs_network.specs.declared.network.ArcView.{ArcView}
 use Rattle.dimacs_network.specs.Arcs.{joins, IsKthBetween, arc_at, no_arc}
@@ -16,14 +16,14 @@ pub ends_of : (tail head : ℕ) (a : ArcView) → joins tail head a ≡ true →
 ends_of tail head a is = let both = and_parts (a.tail == tail) (a.head == head) is in (eqb-true a.tail tail both.0, eqb-true a.head head both.1)
 
 module _ (arcs : List ArcView) (tail head : ℕ) where
-  pub first_joins : (f : ℕ) → IsKthBetween arcs tail head 0 (Some f) → joins tail head (arc_at arcs f) ≡ true
-  first_joins f found = rw (slice_get-get_or arcs f no_arc found.0) at found.1
+  pub kth_joins : (k f : ℕ) → IsKthBetween arcs tail head k (Some f) → joins tail head (arc_at arcs f) ≡ true
+  kth_joins k f found = rw (slice_get-get_or arcs f no_arc found.0) at found.1
 
   pub first_ends : (f : ℕ) → IsKthBetween arcs tail head 0 (Some f) → ((arc_at arcs f).tail ≡ tail) × ((arc_at arcs f).head ≡ head)
-  first_ends f found = ends_of tail head (arc_at arcs f) (first_joins f found)
+  first_ends f found = ends_of tail head (arc_at arcs f) (kth_joins 0 f found)
 
   counted_after : (i : ℕ) → IsKthBetween arcs tail head 0 (Some i) → 1 ≤ count_by (joins tail head) (take (i + 1) arcs)
-  counted_after i found = omega (arith, found.2, count_by_more_yes (joins tail head) arcs i no_arc found.0 (first_joins i found))
+  counted_after i found = omega (arith, found.2, count_by_more_yes (joins tail head) arcs i no_arc found.0 (kth_joins 0 i found))
 
   not_before : (i j : ℕ) → IsKthBetween arcs tail head 0 (Some i) → IsKthBetween arcs tail head 0 (Some j) → ¬ (i < j)
   not_before i j found other before =
@@ -43,6 +43,30 @@ module _ (arcs : List ArcView) (tail head : ℕ) where
 
   pub known_from : (f : ℕ) → IsKthBetween arcs tail head 0 (Some f) → 1 ≤ count_by (joins tail head) arcs
   known_from f found = omega (arith, counted_after f found, sum_by-take-le (λ b. cond (joins tail head b) 1 0) arcs (f + 1))
+
+  -- if some arc joins two nodes, there is a first
+  abbrev HasFirst : Type 0
+  HasFirst = (f : ℕ) × IsKthBetween arcs tail head 0 (Some f)
+
+  first_below : (n : ℕ) → n ≤ length arcs → HasFirst ⊎ (count_by (joins tail head) (take n arcs) ≡ 0)
+  first_below zero few = inr refl
+  first_below (suc n) few = elim (first_below n (omega (arith, few))) [
+    | inl found ↦ inl found
+    | inr none ↦ elim (cases_Bool (joins tail head (arc_at arcs n))) [
+      | inl is ↦ inl (n, (omega (arith, few), rw (slice_get-get_or arcs n no_arc (omega (arith, few))) is, none))
+      | inr off ↦ (let e : suc n ≡ n + 1 = omega arith in inr (rw e (count_by_more_no (joins tail head) arcs n no_arc (omega (arith, few)) off ∙ none)))
+    ]
+  ]
+
+  pub first_between : (i : ℕ) → i < length arcs → joins tail head (arc_at arcs i) ≡ true → HasFirst
+  first_between i inside joined = elim (first_below (length arcs) (omega arith)) [
+    | inl found ↦ found
+    | inr none ↦ (
+        let all = rw (take_all (length arcs) arcs (omega arith)) at none in
+        let here = count_by_more_yes (joins tail head) arcs i no_arc inside joined in
+        absurd (omega (arith, all, here, sum_by-take-le (λ b. cond (joins tail head b) 1 0) arcs (i + 1)))
+        )
+  ]
 
 -- ---- arcs with the same ends
 module _ (arcs : List ArcView) where
@@ -73,4 +97,4 @@ module _ (arcs : List ArcView) where
 
 -- ---- entries
 pub entry_joins : (arcs : List ArcView) (e : Entry) (f tail head : ℕ) → IsKthBetween arcs e.tail e.head 0 (Some f) → joins tail head (arc_at arcs f) ≡ is_between tail head e
-entry_joins arcs e f tail head found = let same = ends_of e.tail e.head (arc_at arcs f) (first_joins arcs e.tail e.head f found) in rw (same.0, same.1) refl
+entry_joins arcs e f tail head found = let same = ends_of e.tail e.head (arc_at arcs f) (kth_joins arcs e.tail e.head 0 f found) in rw (same.0, same.1) refl

@@ -3,5 +3,6 @@ pub mod SumLemmas
 mod RestLemmas
 mod RaisedLemmas
 mod DealtLemmas
+mod RefusalLemmas
 mod OrderLemmas
 mod Cheapest

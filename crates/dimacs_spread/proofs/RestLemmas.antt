@@ -1,20 +1,22 @@
 -- Rests when sums change: by an entry, or by an amount put on an arc.
-use Rattle.std.proofs.Common.{◌≡◌, inl, inr, ℕ, ◌+◌, ◌*◌, ◌^◌, ◌<◌, Bool, true, false, List, [], ◌∷◌, ◌++◌, length, set, replicate, Some, ℤ, pos, ◌+ℤ◌, ◌-ℤ◌, w64, SFits, refl, ap, ◌∙◌, arith}
+use Rattle.std.proofs.Common.{◌≡◌, ◌≢◌, inl, inr, ℕ, ◌+◌, ◌*◌, ◌^◌, ◌<◌, Bool, true, false, List, [], ◌∷◌, ◌++◌, length, set, replicate, Some, ℤ, pos, neg_ℤ, ◌+ℤ◌, ◌-ℤ◌, w64, SFits, refl, ap, ◌∙◌, arith}
 use Rattle.std.specs.Int.{w128}
-use Rattle.std.proofs.lemmas.Int.{ints}
-use Rattle.std.proofs.lemmas.Bool.{cases_eq, cases_lt}
-use Rattle.std.proofs.lemmas.List.{length-set, length-replicate, get_or-replicate, get_or-set_other, get_or-set_same, get_or_past}
+use Rattle.std.proofs.lemmas.Int.{ints, by_lt_z}
+use Rattle.std.proofs.lemmas.Bool.{cases_eq}
+use Rattle.std.proofs.lemmas.List.{length-set, length-replicate, get_or-set_other, get_or-set_same}
 use Rattle.dimacs_claims.specs.declared.solution.Entry.{Entry}
 use Rattle.dimacs_network.specs.declared.network.ArcView.{ArcView}
 use Rattle.dimacs_network.specs.Arcs.{joins, IsKthBetween, arc_at}
+use Rattle.dimacs_records.specs.Ranges.{IsWhole}
+use Rattle.dimacs_records.specs.declared.reasons.Reason.{Reason}
 use Rattle.dimacs_optimality.specs.Claims.{is_between}
 use Rattle.dimacs_optimality.specs.Flows.{when}
 use Rattle.dimacs_optimality.specs.Rows.{amount_at}
 use Rattle.dimacs_optimality.specs.inside.Ranges.{IsOfSize}
 use Rattle.dimacs_spread.specs.Spread.{arc_sum, entry_sum}
-use Rattle.dimacs_spread.specs.inside.Rests.{AddUp, AreLows, AreRests, IsFirstParallel}
+use Rattle.dimacs_spread.specs.inside.Rests.{AddUp, AreLows, AreRests, IsFirstParallel, LeavesRange, RestFails}
 use Rattle.dimacs_spread.proofs.EndLemmas.{parallel_joins, entry_joins, first_is_parallel}
-use Rattle.dimacs_spread.proofs.SumLemmas.{arc_sum-set, arc_sum-zero}
+use Rattle.dimacs_spread.proofs.SumLemmas.{amount_zero, arc_sum-set, arc_sum-zero}
 
 -- ---- sizes
 pub fits_less : (n : ℕ) (rest low : ℤ) → n < 4294967296 → IsOfSize (n * 2 ^ 63) rest → SFits w64 low → SFits w128 rest × SFits w128 (rest -ℤ low) × IsOfSize ((n + 1) * 2 ^ 63) (rest -ℤ low)
@@ -22,13 +24,6 @@ fits_less n rest low few size fits = (omega (arith, ints), omega (arith, ints), 
 
 pub fits_more : (n : ℕ) (rest flow : ℤ) → n < 2 ^ 63 + 4294967296 → IsOfSize (n * 2 ^ 63) rest → SFits w64 flow → SFits w128 rest × SFits w128 (rest +ℤ flow) × IsOfSize ((n + 1) * 2 ^ 63) (rest +ℤ flow)
 fits_more n rest flow few size fits = (omega (arith, ints), omega (arith, ints), omega (arith, ints))
-
--- ---- one amount of many
-pub amount_zero : (n k : ℕ) → amount_at (replicate n (pos 0)) k ≡ pos 0
-amount_zero n k = elim (cases_lt k n) [
-  | inl inside ↦ get_or-replicate n k (pos 0) (pos 0) inside
-  | inr past ↦ get_or_past (replicate n (pos 0)) k (pos 0) (omega (arith, past, length-replicate {A = ℤ} n (pos 0)))
-]
 
 -- ---- rests
 pub rests_zero : (arcs : List ArcView) (rests : List ℤ) → rests ≡ replicate (length arcs) (pos 0) → AreRests arcs 0 rests
@@ -114,3 +109,21 @@ sums_more arcs entries e rests x f l found sums tail head =
     let rest : arc_sum arcs (set rests f (r +ℤ e.flow)) tail head ≡ arc_sum arcs rests tail head +ℤ when b ((r +ℤ e.flow) -ℤ r) =
     rw (← parallel) (arc_sum-set arcs rests f (r +ℤ e.flow) tail head l found.0) in
     omega (arith, ints, rest, when_grown b r e.flow, entry_sum-more entries e tail head, sums tail head)
+
+-- ---- rests that are added to amounts
+pub some_rest : (amount rest : ℤ) → SFits w64 amount → ¬ IsWhole (amount +ℤ rest) → rest ≢ pos 0
+some_rest amount rest fits wide none = wide (omega (arith, ints, none, fits), omega (arith, ints, none, fits))
+
+-- the sum of an amount and a rest that doesn't fit is too little if the rest is negative, otherwise too much
+pub leaves_range : (amount was rest : ℤ) (reason : Reason) → SFits w64 amount → amount ≡ was → ¬ IsWhole (amount +ℤ rest) → RestFails rest reason → LeavesRange (was +ℤ rest) reason
+leaves_range amount was rest reason fits same wide (inl less) = inl (less.0, by_lt_z (was +ℤ rest) (neg_ℤ (pos (2 ^ 63)))
+    (λ little. little)
+    (λ not. absurd (wide (omega (arith, ints, not, same), omega (arith, ints, same, fits, less.1)))))
+leaves_range amount was rest reason fits same wide (inr more) = inr (more.0, by_lt_z (was +ℤ rest) (pos (2 ^ 63))
+    (λ not. absurd (wide (omega (arith, ints, same, fits, more.1), omega (arith, ints, not, same))))
+    (λ much. much))
+
+-- a number of 64 bits doesn't leave their range
+pub fits_none : (sum z : ℤ) (reason : Reason) → SFits w64 sum → sum ≡ z → ¬ LeavesRange z reason
+fits_none sum z reason fits same (inl less) = omega (arith, ints, fits, same, less.1)
+fits_none sum z reason fits same (inr more) = omega (arith, ints, fits, same, more.1)

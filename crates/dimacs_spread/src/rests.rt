@@ -1,12 +1,13 @@
 //! Rests: what is still to be dealt out between two nodes, stored at the first arc between them.
 
-ghost use Rattle.std.specs.Prelude.{◌≡◌, ◌<◌, ◌+◌, ◌^◌, ◌+ℤ◌, [], ℕ, ℤ, List, pos, length, replicate, IfErr, IfNone, IfOk, IfSome, OnOk, ◌≢◌};
+ghost use Rattle.std.specs.Prelude.{◌≡◌, ◌<◌, ◌+◌, ◌^◌, ◌+ℤ◌, [], ℕ, ℤ, List, pos, length, replicate, IfNone, IfOk, IfSome, OnOk, ◌≢◌};
 ghost use Rattle.std.specs.List.{All};
 ghost use Rattle.dimacs_instance.specs.MinFlows.{HasBounds};
+ghost use Rattle.dimacs_records.specs.Ranges.{IsWhole};
 ghost use Rattle.dimacs_optimality.specs.Rows.{amount_at};
 ghost use Rattle.dimacs_optimality.specs.Tests.{TestsRow};
 ghost use Rattle.dimacs_spread.specs.Spread.{unknown_row};
-ghost use Rattle.dimacs_spread.specs.inside.Rests.{AddUp, AreLows, AreRests, IsOfRest, RestFails};
+ghost use Rattle.dimacs_spread.specs.inside.Rests.{AddUp, AreLows, AreRests, RestFails, rest_row};
 
 use crate::arcs_by_ends::ArcsByEnds;
 use dimacs_claims::Entry;
@@ -80,7 +81,7 @@ pub(crate) fn put_rests(rests: &[i128], amounts: &mut [i64]) -> Result<(), (Wher
     requires one_each { length rests.now ≡ length amounts.old }
     requires arc_limit { length amounts.old < 2 ^ 32 }
     ensures put { OnOk result ((k : ℕ) → amount_at amounts.new k ≡ amount_at amounts.old k +ℤ amount_at rests.now k) }
-    ensures refused { IfErr result (λ refusal. IsOfRest rests.now refusal.0 refusal.1) }
+    ensures fits { TestsRow (rest_row amounts.old rests.now) result }
 {
     for arc in 0..amounts.len() {
         let rest = rests[arc];
@@ -92,12 +93,13 @@ pub(crate) fn put_rests(rests: &[i128], amounts: &mut [i64]) -> Result<(), (Wher
     Ok(())
 }
 
+/// The sum of an amount and a rest, if it fits 64 bits.
 fn with_rest(amount: i64, rest: i128) -> Option<i64>
     ensures sum { IfSome result (λ sum. sum ≡ amount +ℤ rest) }
-    ensures nonzero { IfNone result (rest ≢ pos 0) }
+    ensures wide { IfNone result (¬ IsWhole (amount +ℤ rest)) }
 {
-    let rest = i64::try_from(rest).ok()?;
-    amount.checked_add(rest)
+    let sum = rest.checked_add(i128::from(amount))?;
+    i64::try_from(sum).ok()
 }
 
 /// The reason to refuse a rest other than 0.

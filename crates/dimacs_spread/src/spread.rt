@@ -3,7 +3,8 @@
 ghost use Rattle.std.specs.Prelude.{◌≡◌, ◌<◌, ◌^◌, pos, length, replicate, IfErr, IfOk, OnOk};
 ghost use Rattle.std.specs.List.{All};
 ghost use Rattle.dimacs_instance.specs.MinFlows.{HasBounds};
-ghost use Rattle.dimacs_spread.specs.Spread.{Deals, FirstArcsFail, IsRefusal, IsRefusedAt, KeepsBoundsIfAny, NoneCheaper};
+ghost use Rattle.dimacs_optimality.specs.Tests.{AllClear, FirstAlone, Refuses};
+ghost use Rattle.dimacs_spread.specs.Spread.{Deals, NoneCheaper, spread_rows};
 ghost use Rattle.dimacs_spread.specs.inside.ArcsByCost.{AreByCost};
 
 use crate::arcs_by_cost::{ArcOfCost, arcs_by_cost};
@@ -17,38 +18,36 @@ use dimacs_optimality::{Flow, JudgeError, Where};
 use dimacs_records::Reason;
 use std::alloc::Global;
 
-/// Between any two nodes, the result carries the sum of the solution's entries. It keeps all bounds if any such flow
-/// does. Parallel arcs are filled in the order of the instance.
+/// Between any two nodes, the result carries the sum of the solution's entries. Their arcs keep their bounds if they
+/// can: parallel arcs are filled in the order of the instance. Otherwise all but the first carry their lower bounds, or
+/// their capacities, and the first what is left: `judge_max` refuses the flow there.
 ///
-/// `UnknownArc` at the first entry without an arc. If the arcs between two nodes can't carry their sum within the
-/// bounds, the first gets what is too much or too little: `judge_max` refuses the flow there. If that amount doesn't
-/// fit 64 bits, it is refused here, at the same arc and for the same reason.
+/// `UnknownArc` at the first entry without an arc. Then `BelowLow` or `AboveCap` at the first arc whose amount doesn't
+/// fit 64 bits, as `judge_max` would refuse it.
 pub fn spread_max<N: Network>(
     alloc: Global,
     instance: &MaxInstance<N>,
     solution: &Solution,
 ) -> Result<Flow, JudgeError>
     ensures deals { IfOk result (λ flow. Deals instance.now.arcs solution.now.entries.items flow) }
-    ensures kept { IfOk result (λ flow. KeepsBoundsIfAny instance.now.arcs solution.now.entries.items flow) }
-    ensures failing { IfOk result (λ flow. FirstArcsFail instance.now.arcs solution.now.entries.items flow) }
-    ensures refused { IfErr result (IsRefusal instance.now.arcs solution.now.entries.items) }
+    ensures tested { IfOk result (λ flow. AllClear (spread_rows instance.now.arcs solution.now.entries.items)) }
+    ensures refused { IfErr result (Refuses (FirstAlone (spread_rows instance.now.arcs solution.now.entries.items))) }
 {
     let network = instance.network();
     spread(alloc, network, solution)
 }
 
-/// The same for a minimum cost flow. No flow with these sums and within the bounds costs less: parallel arcs are filled
-/// by cost, then in the order of the instance.
+/// The same for a minimum cost flow. Between two nodes whose arcs can keep their bounds, no amounts with this sum that
+/// keep them cost less: parallel arcs are filled by cost, then in the order of the instance.
 pub fn spread_min<N: Network>(
     alloc: Global,
     instance: &MinInstance<N>,
     solution: &Solution,
 ) -> Result<Flow, JudgeError>
     ensures deals { IfOk result (λ flow. Deals instance.now.arcs solution.now.entries.items flow) }
-    ensures kept { IfOk result (λ flow. KeepsBoundsIfAny instance.now.arcs solution.now.entries.items flow) }
     ensures least { IfOk result (λ flow. NoneCheaper instance.now.arcs solution.now.entries.items flow) }
-    ensures failing { IfOk result (λ flow. FirstArcsFail instance.now.arcs solution.now.entries.items flow) }
-    ensures refused { IfErr result (IsRefusal instance.now.arcs solution.now.entries.items) }
+    ensures tested { IfOk result (λ flow. AllClear (spread_rows instance.now.arcs solution.now.entries.items)) }
+    ensures refused { IfErr result (Refuses (FirstAlone (spread_rows instance.now.arcs solution.now.entries.items))) }
 {
     spread(alloc, instance.network(), solution)
 }
@@ -57,10 +56,9 @@ pub fn spread_min<N: Network>(
 fn spread<N: Network>(alloc: Global, network: &N, solution: &Solution) -> Result<Flow, JudgeError>
     requires { All HasBounds (N.list network.now) }
     ensures deals { IfOk result (λ flow. Deals (N.list network.now) solution.now.entries.items flow) }
-    ensures kept { IfOk result (λ flow. KeepsBoundsIfAny (N.list network.now) solution.now.entries.items flow) }
     ensures least { IfOk result (λ flow. NoneCheaper (N.list network.now) solution.now.entries.items flow) }
-    ensures failing { IfOk result (λ flow. FirstArcsFail (N.list network.now) solution.now.entries.items flow) }
-    ensures refused { IfErr result (IsRefusal (N.list network.now) solution.now.entries.items) }
+    ensures tested { IfOk result (λ flow. AllClear (spread_rows (N.list network.now) solution.now.entries.items)) }
+    ensures refused { IfErr result (Refuses (FirstAlone (spread_rows (N.list network.now) solution.now.entries.items))) }
 {
     let arcs = ArcsByEnds::of(alloc, network)?;
     let order = arcs_by_cost(alloc, network)?;
@@ -85,10 +83,9 @@ fn deal<N: Network>(
     requires no_rests { rests.old ≡ replicate (length arcs.now) (pos 0) }
     requires no_amounts { amounts.old ≡ replicate (length arcs.now) (pos 0) }
     ensures deals { OnOk result (Deals arcs.now entries.now amounts.new) }
-    ensures kept { OnOk result (KeepsBoundsIfAny arcs.now entries.now amounts.new) }
     ensures least { OnOk result (NoneCheaper arcs.now entries.now amounts.new) }
-    ensures failing { OnOk result (FirstArcsFail arcs.now entries.now amounts.new) }
-    ensures refused { IfErr result (λ refusal. IsRefusedAt arcs.now entries.now refusal.0 refusal.1) }
+    ensures tested { OnOk result (AllClear (spread_rows arcs.now entries.now)) }
+    ensures refused { IfErr result (λ refusal. FirstAlone (spread_rows arcs.now entries.now) refusal.0 refusal.1) }
 {
     put_lows(arcs, rests, amounts);
     add_entries(arcs, entries, rests)?;

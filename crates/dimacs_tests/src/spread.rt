@@ -28,6 +28,10 @@ all of it in two arcs | p max 2 2; n 1 s; n 2 t; a 1 2 9223372036854775807; a 1 
 one more | p max 3 3; n 1 s; n 2 t; a 1 3 1; a 1 2 9223372036854775807; a 1 2 9223372036854775807 | s 0; f 1 2 9223372036854775807; f 1 2 1; f 1 2 9223372036854775807 | Refused(Arc(2), AboveCap)
 less than any number | p max 2 1; n 1 s; n 2 t; a 1 2 3 | s 0; f 1 2 -9223372036854775808; f 1 2 -1 | Refused(Arc(1), BelowLow)
 the least number | p max 2 1; n 1 s; n 2 t; a 1 2 3 | s 0; f 1 2 -9223372036854775807; f 1 2 -1 | [-9223372036854775808]
+one sum too much, the other not | p max 3 4; n 1 s; n 3 t; a 1 2 5; a 2 3 4; a 1 2 5; a 2 3 4 | s 6; f 2 3 12; f 1 2 6 | [5, 8, 1, 4]
+the greatest number on the first of two | p max 2 2; n 1 s; n 2 t; a 1 2 5; a 1 2 7 | s 0; f 1 2 9223372036854775807; f 1 2 7 | [9223372036854775807, 7]
+more on the first than any number | p max 2 2; n 1 s; n 2 t; a 1 2 5; a 1 2 7 | s 0; f 1 2 9223372036854775807; f 1 2 8 | Refused(Arc(1), AboveCap)
+two such arcs | p max 3 3; n 1 s; n 3 t; a 1 2 5; a 2 3 0; a 1 2 0 | s 0; f 2 3 -9223372036854775808; f 2 3 -1; f 1 2 9223372036854775807; f 1 2 1 | Refused(Arc(1), AboveCap)
 two entries without an arc | p max 3 2; n 1 s; n 2 t; a 1 2 2; a 1 2 3 | f 1 2 1; f 2 1 0; s 1; f 3 1 1 | Refused(Solution { line: 2, field: 0 }, UnknownArc)
 an entry without an arc, and a sum without room | p max 2 1; n 1 s; n 2 t; a 1 2 2 | s 1; f 1 2 9223372036854775807; f 1 2 1; f 1 1 1 | Refused(Solution { line: 4, field: 0 }, UnknownArc)";
 
@@ -41,6 +45,10 @@ less than the lower bounds | p min 2 2; a 1 2 2 4 9; a 1 2 3 4 1 | s 0; f 1 2 4 
 no entries, and lower bounds | p min 2 2; a 1 2 2 4 9; a 1 2 3 4 1 | s 0 | [-3, 3]
 more than the capacities | p min 2 2; a 1 2 2 4 9; a 1 2 3 4 1 | s 0; f 1 2 9 | [5, 4]
 each of two pairs by itself | p min 3 4; a 1 2 0 2 8; a 2 3 0 2 1; a 1 2 0 2 3; a 2 3 0 2 0 | s 0; f 2 3 3; f 1 2 3 | [1, 1, 2, 2]
+a rest past 64 bits | p min 2 1; a 1 2 5 9 0 | s 0; f 1 2 -9223372036854775806 | [-9223372036854775806]
+the least number on the first of two | p min 2 2; a 1 2 5 9 0; a 1 2 3 4 0 | s 0; f 1 2 -9223372036854775805 | [-9223372036854775808, 3]
+less on the first than any number | p min 2 2; a 1 2 5 9 0; a 1 2 3 4 0 | s 0; f 1 2 -9223372036854775806 | Refused(Arc(1), BelowLow)
+one sum too little, the other at the least cost | p min 3 4; a 1 2 1 5 0; a 2 3 0 5 9; a 1 2 2 5 0; a 2 3 0 5 1 | s 0; f 1 2 2; f 2 3 6 | [0, 1, 2, 5]
 the least and the greatest cost | p min 2 2; a 1 2 0 5 9223372036854775807; a 1 2 0 5 -9223372036854775808 | s 0; f 1 2 6 | [1, 5]
 an entry without an arc | p min 2 1; a 1 2 0 4 7 | s 0; f 1 2 1; f 2 1 1 | Refused(Solution { line: 3, field: 0 }, UnknownArc)";
 
@@ -91,7 +99,7 @@ fn spreads_min(rt: &impl Abort, alloc: Global, line: &str) -> Result<(), Fail> {
 
 #[test]
 fn sums_of_a_maximum_flow_are_dealt_out(rt: HostRuntime) -> Result<(), Fail> {
-    for line in rows(&rt, OF_MAX, 17) {
+    for line in rows(&rt, OF_MAX, 21) {
         spreads_max(&rt, rt.alloc(), line)?;
     }
     Ok(())
@@ -99,7 +107,7 @@ fn sums_of_a_maximum_flow_are_dealt_out(rt: HostRuntime) -> Result<(), Fail> {
 
 #[test]
 fn sums_of_a_minimum_cost_flow_are_dealt_out(rt: HostRuntime) -> Result<(), Fail> {
-    for line in rows(&rt, OF_MIN, 10) {
+    for line in rows(&rt, OF_MIN, 14) {
         spreads_min(&rt, rt.alloc(), line)?;
     }
     Ok(())

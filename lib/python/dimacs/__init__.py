@@ -16,6 +16,7 @@ from .answers import (
     PastLimit,
     Refused,
     Solved,
+    Unbounded,
     Verdict,
 )
 from .arrays import (
@@ -75,6 +76,7 @@ __all__ = [
     "PastLimit",
     "Refused",
     "Solved",
+    "Unbounded",
     "Verdict",
     "certify_infeasible",
     "certify_infeasible_arrays",

@@ -2,6 +2,7 @@
 
 from __future__ import annotations
 
+import reprlib
 from dataclasses import dataclass
 from typing import Any, NamedTuple
 
@@ -32,7 +33,7 @@ class Verdict:
     """
 
     kind: str
-    value: int | None = None
+    value: Any = None
     pairs: tuple[Pair, ...] = ()
 
     def __bool__(self) -> bool:
@@ -47,7 +48,7 @@ class Certified(NamedTuple):
     potential, or a predecessor. Over a graph it is a set of nodes, or a dict by node.
     """
 
-    value: int | None
+    value: Any
     certificate: Any
 
     @property
@@ -74,7 +75,7 @@ class Solved(NamedTuple):
     pairs. The certificate is as in Certified; for queries in texts it is the text of labels.
     """
 
-    value: int | None
+    value: Any
     solution: Any
     certificate: Any
 
@@ -104,17 +105,51 @@ class Solved(NamedTuple):
         return self.certificate
 
 
-def _at(arc: Any, node: Any, reason: str) -> str:
-    return f"arc {arc} {reason}" if arc is not None else f"node {node} {reason}"
+#: What an exception says of the numbers that were compared, by its reason: the first line that has all of them.
+_SAID = {
+    "AboveCap": ["it carries {flow}, its capacity is {capacity}"],
+    "BackFlow": ["it enters the cut and carries {flow}"],
+    "Balance": ["{leaves} leaves, its supply is {supply}", "{leaves} leaves, {enters} enters"],
+    "BelowLow": ["it carries {flow}, its lower bound is {low}"],
+    "BoundOrder": ["its lower bound is {low}, its capacity {capacity}", "its capacity is {capacity}"],
+    "CostRange": ["the cost up to it is {cost}"],
+    "Escapes": ["its tail is at {tail}, its head isn't reached"],
+    "NegativeWeight": ["its weight is {weight}"],
+    "NoTightArc": ["no arc from {predecessor} gives its distance {distance}", "no arc gives its distance {distance}"],
+    "NodeRange": [
+        "its predecessor is {predecessor}, and there are {nodes} nodes",
+        "it goes from {tail} to {head}; nodes are numbered from {base}, and there are {nodes}{hint}",
+        "nodes are numbered from {base}, and there are {nodes}{hint}",
+    ],
+    "NodeTwice": ["it is the source and the sink"],
+    "NotLeast": ["it costs {value}, and a better flow {better_value}"],
+    "NotMaximum": ["its value is {value}, and that of a better flow {better_value}"],
+    "NotSaturated": ["it leaves the cut and carries {flow}, its capacity is {capacity}"],
+    "NotShortest": [
+        "{tail} and its weight {weight} are less than {head}",
+        "the source is at {distance}",
+    ],
+    "NotTight": ["its reduced cost is {reduced_cost}, and it carries {flow} of {low} to {capacity}"],
+    "NotViolated": ["the set supplies {supply}, and from {least} to {most} can leave it"],
+    "NumberRange": ["at most {most} nodes"],
+    "PredUnknown": ["its predecessors don't lead back to the source"],
+    "ValueDiffers": ["{claimed} is claimed, it is {value}"],
+}
 
 
-class Refused(Exception):
-    """A no: the fault of a text, or the first test that fails.
+def _said(reason: str, numbers: dict[str, Any]) -> str:
+    for line in _SAID.get(reason, ()) if numbers else ():
+        try:
+            return f": {line.format(**numbers)}"
+        except KeyError:
+            continue
+    return ""
 
-    A fault has its text ("instance", "query", "solution", "distances" or "certificate"), line and field, from 1; field 0 is
-    the whole line. A test has the number of an arc or the ID of a node, from 1, or over graphs the edge or the node itself.
-    What doesn't apply is None. reason is the command's word.
-    """
+
+class Placed(Exception):
+    """An exception about an arc, a node, or a field of a text, and the numbers that were compared there."""
+
+    _PLACES = ("text", "line", "field", "arc", "node", "numbers")
 
     def __init__(
         self,
@@ -125,6 +160,7 @@ class Refused(Exception):
         field: int | None = None,
         arc: Any = None,
         node: Any = None,
+        numbers: dict[str, Any] | None = None,
     ) -> None:
         super().__init__(reason)
         self.reason = reason
@@ -133,38 +169,66 @@ class Refused(Exception):
         self.field = field
         self.arc = arc
         self.node = node
+        self.numbers = numbers or {}
 
     def __str__(self) -> str:
+        place = f"arc {self.arc!r}" if self.arc is not None else f"node {self.node!r}"
         if self.text:
-            return f"{self.text} {self.line} {self.field} {self.reason}"
-        return _at(self.arc, self.node, self.reason)
+            place = f"{self.text} {self.line} {self.field}"
+        return f"{place} {self.reason}{_said(self.reason, self.numbers)}"
+
+    def __repr__(self) -> str:
+        fields = [repr(self.reason)]
+        for name, it in vars(self).items():
+            if name != "reason" and it not in (None, {}):
+                fields.append(f"{name}={it!r}" if name in self._PLACES else f"{name}={reprlib.repr(it)}")
+        return f"{type(self).__name__}({', '.join(fields)})"
 
 
-class PastLimit(ValueError):
+class Refused(Placed):
+    """A no: the fault of a text, or the first test that fails.
+
+    A fault has its text ("instance", "query", "solution", "distances" or "certificate"), line and field, from 1; field 0 is
+    the whole line. A test has the number of an arc or the ID of a node, or over graphs the edge or the node itself, and over
+    arrays and graphs the numbers that were compared. What doesn't apply is None. reason is the command's word.
+
+    >>> import dimacs
+    >>> dimacs.certify_min_arrays(2, [1], [2], [0], [9], [1], [5, -5], [4])
+    Traceback (most recent call last):
+    dimacs.answers.Refused: node 1 Balance: 4 leaves, its supply is 5
+    """
+
+
+    def is_about_value(self) -> bool:
+        """Whether a flow is feasible, and not optimal."""
+        return self.reason in ("NotMaximum", "NotLeast")
+
+
+class PastLimit(Placed, ValueError):
     """The first number of an instance in arrays, or of a graph, that is past its limit: nothing was judged.
 
     arc is the number of an arc, or node the ID of a node, as in Refused. reason is that of a text with this number.
     """
 
-    def __init__(self, reason: str, *, arc: Any = None, node: Any = None) -> None:
-        super().__init__(reason)
-        self.reason = reason
-        self.arc = arc
-        self.node = node
-
-    def __str__(self) -> str:
-        return _at(self.arc, self.node, self.reason)
-
 
 class NotOptimal(Refused):
     """The flow is feasible and has the claimed value, but there is a better one.
 
-    better is such a flow, in the form of the claimed one; None if its cost is out of the range of solutions.
+    better is such a flow, in the form of the claimed one; None if its cost is out of the range of solutions. value is the
+    value or the cost of the claimed flow, better_value that of the better one; None as better.
     """
 
     def __init__(self, reason: str, better: Any = None, **place: Any) -> None:
         super().__init__(reason, **place)
         self.better = better
+
+    @property
+    def value(self) -> Any:
+        return self.numbers.get("value")
+
+    @property
+    def better_value(self) -> Any:
+        return self.numbers.get("better_value")
 
 
 class Infeasible(Refused):
@@ -197,6 +261,11 @@ class Feasible(Refused):
 
     def __str__(self) -> str:
         return "a flow is feasible"
+
+
+class Unbounded(ValueError):
+    """An optimum would be infinite: arcs with an infinite capacity lead from the source to the sink, or around a cycle that
+    costs less than nothing. Over graphs of networkx it is a NetworkXUnbounded."""
 
 
 class GaveUp(OverflowError):

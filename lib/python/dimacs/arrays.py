@@ -1,10 +1,20 @@
 """The calls over arrays.
 
-Nodes and arcs are numbered from 1. The first items of tails, heads, caps, .. belong to arc 1, the first items of supplies,
-inside, distances, .. to node 1. An array is a list, array.array, numpy array, or anything else with a buffer or an
-iterator. It isn't copied if its items are contiguous and aligned and have the library's width: uint32 for tails, heads and
-predecessors, uint8 or bool for inside, int64 for all others; then no other thread may write to it during the call.
-Otherwise each number is copied or converted. A Series of pandas is read by its places, and not by its labels.
+Nodes and arcs are numbered from 1, or from 0 with base=0. The first items of tails, heads, caps, .. belong to the first arc,
+the first items of supplies, inside, distances, .. to the first node. An array is a list, array.array, numpy array, or
+anything else with a buffer or an iterator. It isn't copied if its items are contiguous and aligned and have the library's
+width: uint32 for tails, heads and predecessors, uint8 or bool for inside, int64 for all others; then no other thread may
+write to it during the call. Otherwise each number is copied or converted. A Series of pandas is read by its places, and not
+by its labels. An item of caps may be inf: such an arc carries any amount.
+
+With scale= numbers needn't be whole: they are multiples of a unit, and answers are Fractions (ints if the factor is 1).
+
+    scale=100                   multiples of 1/100: 12.34 is 1234 of them
+    scale=Decimal("0.01")       the same, and answers are Decimals
+    scale=(1, 100)              amounts (caps, lows, supplies, flows) are whole, costs, weights and so on aren't
+    scale="exact"               each float is the fraction that it is, and all have a common denominator
+
+A float stands for the multiple that it is nearest to, if it is the nearest float to that.
 
 ValueError is raised if a number doesn't fit or isn't whole, or if an array has a wrong length; PastLimit, which is a
 ValueError, if a number is past a limit of instances. TypeError is raised for items that are no numbers, and for a dict, a
@@ -13,261 +23,277 @@ set or a masked array.
 
 from __future__ import annotations
 
-import ctypes
-from typing import Any, Callable, NamedTuple
+from typing import Any
 
-from . import library
-from .answers import Certified, Feasible, Infeasible, Solved, Verdict
-from .buffers import DISTANCES, IDS, LIMIT, LIMITS, MARKS, NUMBERS, Buffer, Items, Room, array_of, number_of
-
-#: The greatest number of nodes.
-MOST_NODES = 2**27
-
-
-class _Array(NamedTuple):
-    """The name of an array, the type of its items, and whether there is one for each node or for each arc."""
-
-    name: str
-    items: Items
-    each: str
-
-
-_TAILS, _HEADS = (_Array(name, IDS, "arcs") for name in ("tails", "heads"))
-_LOWS, _CAPS, _COSTS = (_Array(name, NUMBERS, "arcs") for name in ("lows", "caps", "costs"))
-_WEIGHTS, _FLOWS = (_Array(name, NUMBERS, "arcs") for name in ("weights", "flows"))
-_SUPPLIES, _POTENTIALS = (_Array(name, NUMBERS, "nodes") for name in ("supplies", "potentials"))
-_INSIDE, _DISTANCES = _Array("inside", MARKS, "nodes"), _Array("distances", DISTANCES, "nodes")
-_PREDECESSORS = _Array("predecessors", IDS, "nodes")
-
-
-class _Instance:
-    """An instance in memory: its numbers, and then the address and the length of each array."""
-
-    def __init__(self, numbers: str, *arrays: _Array) -> None:
-        self.numbers = numbers.split()
-        self.arrays = arrays
-        fields: list[tuple[str, Any]] = [(name, ctypes.c_uint32) for name in self.numbers]
-        for it in arrays:
-            fields += [(it.name, ctypes.c_void_p), (f"{it.name}_length", ctypes.c_size_t)]
-        self.structure = type("Instance", (ctypes.Structure,), {"_fields_": fields})
-
-
-_MAX = _Instance("nodes source sink", _TAILS, _HEADS, _CAPS)
-_MIN = _Instance("nodes", _TAILS, _HEADS, _LOWS, _CAPS, _COSTS, _SUPPLIES)
-_GRAPH = _Instance("nodes", _TAILS, _HEADS, _WEIGHTS)
-
-
-class _Given:
-    """The arguments of a call: an instance, and those that are added. Keeps the memory of all arrays."""
-
-    def __init__(self, form: _Instance, *given: Any) -> None:
-        count = len(form.numbers)
-        self._arrays: list[tuple[_Array, Buffer]] = []
-        fields: list[Any] = [number_of(number, IDS, name) for name, number in zip(form.numbers, given)]
-        for form_of_it, numbers in zip(form.arrays, given[count:]):
-            fields += self._keep(form_of_it, numbers)
-        self._count = {"nodes": fields[0], "arcs": self._arrays[0][1].length}  # one arc for each tail
-        self._instance = form.structure(*fields)
-        self.words: list[Any] = [ctypes.byref(self._instance)]
-
-    def _keep(self, form: _Array, numbers: Any) -> tuple[Any, int]:
-        buffer = array_of(numbers, form.items, form.name)
-        self._arrays.append((form, buffer))
-        return buffer.address, buffer.length
-
-    def add_number(self, name: str, number: Any, items: Items = IDS) -> None:
-        self.words.append(number_of(number, items, name))
-
-    def add(self, form: _Array, numbers: Any) -> None:
-        self.words += self._keep(form, numbers)
-
-    def length(self, form: _Array) -> int:
-        """The number of items that an array has to have."""
-        return self._count[form.each]
-
-    def room(self, form: _Array) -> Room:
-        """Memory for an array that is handed out. If there are too many nodes, the library hands out none."""
-        return Room(form.items, min(self.length(form), MOST_NODES) if form.each == "nodes" else self.length(form))
-
-    def test_lengths(self) -> None:
-        """The library tests the lengths too, but doesn't report which one is wrong."""
-        for form, buffer in self._arrays:
-            if buffer.length != self._count[form.each]:
-                raise ValueError(f"{form.name} has {buffer.length} items, and there are {self.length(form)} {form.each}")
-
-
-def _judge(function: Callable[..., int], given: _Given) -> Verdict:
-    given.test_lengths()
-    status, line = library.call(function, *given.words)
-    if status == library.REFUSED:
-        raise library.refusal(line)
-    return library.verdict(line)
-
-
-def _certify(function: Callable[..., int], given: _Given, came: Any, *handed: _Array) -> Certified:
-    """Makes a call that certifies. It hands out the certificate, then a better flow."""
-    given.test_lengths()
-    rooms = [given.room(form) for form in handed]
-    status, line = library.call_with_rooms(function, given.words, rooms)
-    if status == library.DONE:
-        return Certified(library.verdict(line).value, rooms[0].in_form_of(came))
-    if line.rstrip().endswith(library.BETTER):
-        raise library.refusal(line, better=rooms[1].in_form_of(came))
-    raise library.refusal(line)
+from . import calls, library
+from .answers import Certified, Solved, Verdict
+from .buffers import LIMIT, LIMITS
+from .given import DISTANCES_, FLOWS, GRAPH, INSIDE, MAX, MIN, POTENTIALS, PREDECESSORS, Given, Names
 
 
 def judge_max_arrays(
-    nodes: int, source: int, sink: int, tails: Any, heads: Any, caps: Any, flows: Any, inside: Any
+    nodes: int,
+    source: int,
+    sink: int,
+    tails: Any,
+    heads: Any,
+    caps: Any,
+    flows: Any,
+    inside: Any,
+    *,
+    scale: Any = None,
+    base: int = 1,
 ) -> Verdict:
     """Judges that a flow is maximum, by the cut of the nodes inside. Raises Refused if a test fails.
 
     flows has an amount for each arc, inside a byte or bool for each node, which isn't 0 on the source's side.
+
+    >>> judge_max_arrays(3, 1, 3, [1, 2], [2, 3], [5, 4], [4, 4], [True, True, False])
+    Verdict(kind='max', value=4, pairs=())
     """
-    given = _Given(_MAX, nodes, source, sink, tails, heads, caps)
-    given.add(_FLOWS, flows)
-    given.add(_INSIDE, inside)
-    return _judge(library.judge_max_arrays, given)
+    given = Given(MAX, nodes, source, sink, tails, heads, caps, scale=scale, names=Names(base))
+    return calls.judge(library.judge_max_arrays, given.add(FLOWS, flows).add(INSIDE, inside))
 
 
 def judge_min_arrays(
-    nodes: int, tails: Any, heads: Any, lows: Any, caps: Any, costs: Any, supplies: Any, flows: Any, potentials: Any
+    nodes: int,
+    tails: Any,
+    heads: Any,
+    lows: Any,
+    caps: Any,
+    costs: Any,
+    supplies: Any,
+    flows: Any,
+    potentials: Any,
+    *,
+    scale: Any = None,
+    base: int = 1,
 ) -> Verdict:
     """Judges that a flow costs least, by potentials. Raises Refused if a test fails.
 
     A supply is what leaves a node less what enters it. The reduced cost of an arc is its cost, minus the potential of its
     tail, plus that of its head.
+
+    >>> judge_min_arrays(2, [1, 1], [2, 2], [0, 0], [5, 5], [3, 7], [6, -6], [5, 1], [7, 0])
+    Verdict(kind='min', value=22, pairs=())
     """
-    given = _Given(_MIN, nodes, tails, heads, lows, caps, costs, supplies)
-    given.add(_FLOWS, flows)
-    given.add(_POTENTIALS, potentials)
-    return _judge(library.judge_min_arrays, given)
+    given = Given(MIN, nodes, tails, heads, lows, caps, costs, supplies, scale=scale, names=Names(base))
+    return calls.judge(library.judge_min_arrays, given.add(FLOWS, flows).add(POTENTIALS, potentials))
 
 
 def judge_infeasible_arrays(
-    nodes: int, tails: Any, heads: Any, lows: Any, caps: Any, costs: Any, supplies: Any, inside: Any
+    nodes: int,
+    tails: Any,
+    heads: Any,
+    lows: Any,
+    caps: Any,
+    costs: Any,
+    supplies: Any,
+    inside: Any,
+    *,
+    scale: Any = None,
+    base: int = 1,
 ) -> Verdict:
-    """Judges that no flow is feasible, by the set of the nodes inside. Raises Refused if the set isn't violated."""
-    given = _Given(_MIN, nodes, tails, heads, lows, caps, costs, supplies)
-    given.add(_INSIDE, inside)
-    return _judge(library.judge_infeasible_arrays, given)
+    """Judges that no flow is feasible, by the set of the nodes inside. Raises Refused if the set isn't violated.
+
+    >>> judge_infeasible_arrays(2, [1], [2], [0], [5], [3], [6, -6], [True, False])
+    Verdict(kind='infeasible', value=None, pairs=())
+    """
+    given = Given(MIN, nodes, tails, heads, lows, caps, costs, supplies, scale=scale, names=Names(base))
+    return calls.judge(library.judge_infeasible_arrays, given.add(INSIDE, inside))
 
 
 def judge_paths_arrays(
-    nodes: int, tails: Any, heads: Any, weights: Any, source: int, distances: Any, predecessors: Any
+    nodes: int,
+    tails: Any,
+    heads: Any,
+    weights: Any,
+    source: int,
+    distances: Any,
+    predecessors: Any,
+    *,
+    scale: Any = None,
+    base: int = 1,
 ) -> Verdict:
     """Judges that these are the distances from the source, by predecessors. Raises Refused if a test fails.
 
-    A node that isn't reached has the distance UNREACHED, or inf in floats, and the predecessor 0, as the source has.
+    A node that isn't reached has the distance UNREACHED, or inf in floats, and the predecessor 0, as the source has; with
+    base=0 their predecessor is -1.
+
+    >>> judge_paths_arrays(3, [1, 2], [2, 3], [5, 4], 1, [0, 5, 9], [0, 1, 2])
+    Verdict(kind='sp', value=1, pairs=())
     """
-    given = _Given(_GRAPH, nodes, tails, heads, weights)
-    given.add_number("source", source)
-    given.add(_DISTANCES, distances)
-    given.add(_PREDECESSORS, predecessors)
-    return _judge(library.judge_paths_arrays, given)
+    given = Given(GRAPH, nodes, tails, heads, weights, scale=scale, names=Names(base)).add_number("source", source)
+    given.add(DISTANCES_, distances).add(PREDECESSORS, predecessors)
+    return calls.judge(library.judge_paths_arrays, given)
 
 
 def certify_max_arrays(
-    nodes: int, source: int, sink: int, tails: Any, heads: Any, caps: Any, flows: Any
+    nodes: int,
+    source: int,
+    sink: int,
+    tails: Any,
+    heads: Any,
+    caps: Any,
+    flows: Any,
+    *,
+    scale: Any = None,
+    base: int = 1,
 ) -> Certified:
     """Decides whether a flow is maximum. Returns its value, and for each node whether it is inside a cut that shows it.
 
     Raises NotOptimal with a flow of greater value if the flow is feasible, but not maximum, and Refused if it isn't feasible.
     The result is a numpy array or an array.array if flows is one, else a list.
+
+    >>> certify_max_arrays(3, 1, 3, [1, 2], [2, 3], [5, 4], [4, 4])
+    Certified(value=4, certificate=[True, True, False])
+    >>> certify_max_arrays(3, 1, 3, [1, 2], [2, 3], [0.5, 0.4], [0.4, 0.4], scale=10).value
+    Fraction(2, 5)
     """
-    given = _Given(_MAX, nodes, source, sink, tails, heads, caps)
-    given.add(_FLOWS, flows)
-    return _certify(library.certify_max_arrays, given, flows, _INSIDE, _FLOWS)
+    given = Given(MAX, nodes, source, sink, tails, heads, caps, scale=scale, names=Names(base)).add(FLOWS, flows)
+    return calls.certify(library.certify_max_arrays, given, flows, INSIDE, FLOWS)
 
 
 def certify_min_arrays(
-    nodes: int, tails: Any, heads: Any, lows: Any, caps: Any, costs: Any, supplies: Any, flows: Any
+    nodes: int,
+    tails: Any,
+    heads: Any,
+    lows: Any,
+    caps: Any,
+    costs: Any,
+    supplies: Any,
+    flows: Any,
+    *,
+    scale: Any = None,
+    base: int = 1,
 ) -> Certified:
     """Decides whether a flow costs least. Returns its cost, and potentials that show it.
 
     Raises NotOptimal with a cheaper flow if the flow is feasible, but doesn't cost least; Refused as certify_max_arrays;
     GaveUp if the flow costs least, but two of the potentials that were found are 2^64 or more apart; others may fit.
+
+    >>> certify_min_arrays(2, [1, 1], [2, 2], [0, 0], [5, 5], [3, 7], [6, -6], [5, 1]).value
+    22
+    >>> certify_min_arrays(2, [1, 1], [2, 2], [0, 0], [5, 5], [3, 7], [6, -6], [4, 2])
+    Traceback (most recent call last):
+    dimacs.answers.NotOptimal: solution 0 0 NotLeast: it costs 26, and a better flow 22
     """
-    given = _Given(_MIN, nodes, tails, heads, lows, caps, costs, supplies)
-    given.add(_FLOWS, flows)
-    return _certify(library.certify_min_arrays, given, flows, _POTENTIALS, _FLOWS)
+    given = Given(MIN, nodes, tails, heads, lows, caps, costs, supplies, scale=scale, names=Names(base))
+    return calls.certify(library.certify_min_arrays, given.add(FLOWS, flows), flows, POTENTIALS, FLOWS)
 
 
 def certify_infeasible_arrays(
-    nodes: int, tails: Any, heads: Any, lows: Any, caps: Any, costs: Any, supplies: Any
+    nodes: int,
+    tails: Any,
+    heads: Any,
+    lows: Any,
+    caps: Any,
+    costs: Any,
+    supplies: Any,
+    *,
+    scale: Any = None,
+    base: int = 1,
 ) -> Certified:
     """Decides whether no flow is feasible. Returns for each node whether it is inside a set that shows it.
 
     Raises Feasible with a flow if one is. The result has the form of caps, as in certify_max_arrays.
+
+    >>> certify_infeasible_arrays(2, [1], [2], [0], [5], [3], [6, -6]).inside
+    [True, False]
     """
-    given = _Given(_MIN, nodes, tails, heads, lows, caps, costs, supplies)
-    given.test_lengths()
-    inside, flows = rooms = [given.room(_INSIDE), given.room(_FLOWS)]
-    status, _ = library.call_with_rooms(library.certify_infeasible_arrays, given.words, rooms)
-    if status == library.REFUSED:
-        raise Feasible(flows.in_form_of(caps))
-    return Certified(None, inside.in_form_of(caps))
+    given = Given(MIN, nodes, tails, heads, lows, caps, costs, supplies, scale=scale, names=Names(base))
+    return calls.certify_infeasible(given, caps)
 
 
 def certify_paths_arrays(
-    nodes: int, tails: Any, heads: Any, weights: Any, source: int, distances: Any
+    nodes: int,
+    tails: Any,
+    heads: Any,
+    weights: Any,
+    source: int,
+    distances: Any,
+    *,
+    scale: Any = None,
+    base: int = 1,
 ) -> Certified:
     """Decides whether these are the distances from the source. Returns predecessors that show it.
 
     Raises Refused if they aren't. The result has the form of distances, as in certify_max_arrays.
+
+    >>> certify_paths_arrays(3, [1, 2], [2, 3], [5, 4], 1, [0, 5, 9]).predecessors
+    [0, 1, 2]
+    >>> certify_paths_arrays(3, [0, 1], [1, 2], [5, 4], 0, [0, 5, float("inf")], base=0)
+    Traceback (most recent call last):
+    dimacs.answers.Refused: arc 1 Escapes: its tail is at 5, its head isn't reached
     """
-    given = _Given(_GRAPH, nodes, tails, heads, weights)
-    given.add_number("source", source)
-    given.add(_DISTANCES, distances)
-    certified = _certify(library.certify_paths_arrays, given, distances, _PREDECESSORS)
-    return certified._replace(value=None)
-
-
-def _solve(function: Callable[..., int], given: _Given, *handed: _Array) -> tuple[Verdict, list[Room]]:
-    given.test_lengths()
-    rooms = [given.room(form) for form in handed]
-    status, line = library.call_with_rooms(function, given.words, rooms)
-    if status == library.REFUSED:
-        raise library.refusal(line)
-    return library.verdict(line), rooms
+    given = Given(GRAPH, nodes, tails, heads, weights, scale=scale, names=Names(base)).add_number("source", source)
+    return calls.certify(library.certify_paths_arrays, given.add(DISTANCES_, distances), distances, PREDECESSORS)
 
 
 def solve_max_arrays(
-    nodes: int, source: int, sink: int, tails: Any, heads: Any, caps: Any, limit: int = LIMIT
+    nodes: int,
+    source: int,
+    sink: int,
+    tails: Any,
+    heads: Any,
+    caps: Any,
+    limit: int = LIMIT,
+    *,
+    scale: Any = None,
+    base: int = 1,
 ) -> Solved:
     """Makes a maximum flow. Returns its value, the amounts of the arcs, and for each node whether it is inside a cut.
 
-    Raises GaveUp after `limit` flows that aren't maximum. The result has the form of caps, as in certify_max_arrays.
+    Raises GaveUp after `limit` flows that aren't maximum; Unbounded if arcs with the capacity inf lead from the source to the
+    sink. The result has the form of caps, as in certify_max_arrays.
+
+    >>> solve_max_arrays(3, 0, 2, [0, 1], [1, 2], [5, float("inf")], base=0)
+    Solved(value=5, solution=[5, 5], certificate=[True, False, False])
     """
-    given = _Given(_MAX, nodes, source, sink, tails, heads, caps)
-    given.add_number("limit", limit, LIMITS)
-    found, (flows, inside) = _solve(library.solve_max_arrays, given, _FLOWS, _INSIDE)
-    return Solved(found.value, flows.in_form_of(caps), inside.in_form_of(caps))
+    given = Given(MAX, nodes, source, sink, tails, heads, caps, scale=scale, names=Names(base))
+    return calls.solve_max(given.add_number("limit", limit, LIMITS), caps)
 
 
 def solve_min_arrays(
-    nodes: int, tails: Any, heads: Any, lows: Any, caps: Any, costs: Any, supplies: Any, limit: int = LIMIT
+    nodes: int,
+    tails: Any,
+    heads: Any,
+    lows: Any,
+    caps: Any,
+    costs: Any,
+    supplies: Any,
+    limit: int = LIMIT,
+    *,
+    scale: Any = None,
+    base: int = 1,
 ) -> Solved:
     """Makes a flow of least cost. Returns its cost, the amounts of the arcs, and potentials that show it.
 
-    Raises Infeasible if no flow is feasible, with whether each node is inside a set that shows it; GaveUp after `limit`
-    steps to better flows, if the least cost is out of range, or if two of the potentials that were found are 2^64 or more
-    apart. The result has the form of caps.
+    Raises Infeasible if no flow is feasible, with whether each node is inside a set that shows it; Unbounded if a cycle of
+    arcs with the capacity inf costs less than nothing; GaveUp after `limit` steps to better flows, if the least cost is out
+    of range, or if two of the potentials that were found are 2^64 or more apart. The result has the form of caps.
+
+    >>> solve_min_arrays(2, [1, 1], [2, 2], [0, 0], [5, 5], [3, 7], [6, -6])[:2]
+    (22, [5, 1])
+    >>> from decimal import Decimal
+    >>> solve_min_arrays(2, [1], [2], [0], [5], [0.03], [4, -4], scale=(1, Decimal("0.01")))[:2]
+    (Decimal('0.12'), [4])
     """
-    given = _Given(_MIN, nodes, tails, heads, lows, caps, costs, supplies)
-    given.add_number("limit", limit, LIMITS)
-    found, (flows, potentials, inside) = _solve(library.solve_min_arrays, given, _FLOWS, _POTENTIALS, _INSIDE)
-    if found.kind == "infeasible":
-        raise Infeasible(inside.in_form_of(caps))
-    return Solved(found.value, flows.in_form_of(caps), potentials.in_form_of(caps))
+    given = Given(MIN, nodes, tails, heads, lows, caps, costs, supplies, scale=scale, names=Names(base))
+    return calls.solve_min(given.add_number("limit", limit, LIMITS), caps)
 
 
-def solve_paths_arrays(nodes: int, tails: Any, heads: Any, weights: Any, source: int) -> Solved:
+def solve_paths_arrays(
+    nodes: int, tails: Any, heads: Any, weights: Any, source: int, *, scale: Any = None, base: int = 1
+) -> Solved:
     """Makes the distances from the source. Returns them, and predecessors that show them.
 
-    A node that isn't reached has the distance UNREACHED and the predecessor 0, as the source has. Raises Refused if a
-    weight is negative, and GaveUp if a distance is as great as UNREACHED. The result has the form of weights.
+    A node that isn't reached has the distance UNREACHED and the predecessor 0, as the source has; with scale= the distance
+    inf, and with base=0 the predecessor -1. Raises Refused if a weight is negative, and GaveUp if a distance is as great as
+    UNREACHED. The result has the form of weights.
+
+    >>> solve_paths_arrays(3, [1, 2], [2, 3], [5, 4], 1)
+    Solved(value=None, solution=[0, 5, 9], certificate=[0, 1, 2])
     """
-    given = _Given(_GRAPH, nodes, tails, heads, weights)
-    given.add_number("source", source)
-    _, (distances, predecessors) = _solve(library.solve_paths_arrays, given, _DISTANCES, _PREDECESSORS)
-    return Solved(None, distances.in_form_of(weights), predecessors.in_form_of(weights))
+    given = Given(GRAPH, nodes, tails, heads, weights, scale=scale, names=Names(base)).add_number("source", source)
+    return calls.solve_paths(given, weights)

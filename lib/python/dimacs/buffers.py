@@ -5,9 +5,13 @@ from __future__ import annotations
 import array
 import ctypes
 import math
+import os
 import sys
 from collections.abc import Mapping, Set
-from typing import Any, NamedTuple, Sequence
+from decimal import Decimal
+from numbers import Number, Rational
+from pathlib import Path
+from typing import Any, Callable, NamedTuple, Sequence, Union
 
 from .answers import UNREACHED
 
@@ -24,6 +28,10 @@ class Buffer:
 
     def words(self) -> tuple[Any, int]:
         return self.address, self.length
+
+    def listed(self, items: Items) -> list[int]:
+        """The items as ints."""
+        return array.array(items.code, ctypes.string_at(self.address, self.length * items.width)).tolist()
 
 
 class _View(ctypes.Structure):
@@ -53,16 +61,31 @@ def _address_of(view: memoryview) -> int:
     return address
 
 
-def bytes_of(text: Any) -> Buffer:
-    """The bytes of a text. A str is one of ASCII; a letter beyond that becomes bytes that no text has."""
+def bytes_of(text: Any, call: str = "this call") -> Buffer:
+    """The bytes of a text, or of the file that a Path names. A str is one of ASCII; a letter beyond that becomes bytes that
+    no text has."""
+    if isinstance(text, os.PathLike):
+        text = Path(text).read_bytes()
     if isinstance(text, str):
         text = text.encode("utf-8", "surrogatepass")
     if type(text) is bytes:
         return Buffer(text, text, len(text))
-    view = memoryview(text)
+    try:
+        view = memoryview(text)
+    except TypeError:
+        kind = type(text).__name__
+        raise TypeError(f"{call} takes texts, not {kind}: for a file pass pathlib.Path(..)") from None
     if view.ndim != 1 or view.itemsize != 1 or not view.c_contiguous:
         view = memoryview(view.tobytes())
     return Buffer(view, _address_of(view) if len(view) else 0, len(view))
+
+
+#: How an item of an array is named in an exception: by the name of the array, or by a function of its place, from 0.
+Name = Union[str, Callable[[int], str]]
+
+
+def item(name: Name, place: int) -> str:
+    return f"{name}[{place}]" if isinstance(name, str) else name(place)
 
 
 class Items(NamedTuple):
@@ -79,6 +102,10 @@ class Items(NamedTuple):
 IDS = Items("I", 4, 0, 2**32 - 1)
 NUMBERS = Items("q", 8, -(2**63), 2**63 - 1)
 MARKS = Items("B", 1, 0, 2**8 - 1)
+#: The capacity of an arc with inf. A flow has to stay below it there: then the same arcs have room left as if there were
+#: no limit, and so it is as good as it would be then.
+UNLIMITED = 2**63 - 1
+CAPACITIES = NUMBERS._replace(infinity=UNLIMITED)
 DISTANCES = NUMBERS._replace(infinity=UNREACHED)
 LIMITS = Items("Q", 8, 0, 2**64 - 1)
 
@@ -89,8 +116,12 @@ LIMIT = 1_000_000
 _SAME = {"I": ("I", "L", "=I", "@I", "<I"), "q": ("q", "l", "=q", "@q", "<q"), "B": ("B", "?", "<B", "<?")}
 
 
-def _refuse(name: str, number: Any) -> ValueError:
-    return ValueError(f"{name} has {number}, which isn't a whole number in its range")
+def _refuse(name: str, number: Any, items: Items) -> ValueError:
+    """The exception for a number out of the range, or one of numpy that isn't whole."""
+    if hasattr(number, "is_integer") and not number.is_integer():
+        return ValueError(f"{name} is {number}, not a whole number")
+    width = "64 bits" if items.least < 0 and items.greatest == 2**63 - 1 else f"{items.least} to {items.greatest}"
+    return ValueError(f"{name} is {number}, not a whole number of {width}")
 
 
 def _is_numpy_bool(number: Any) -> bool:
@@ -107,25 +138,38 @@ def _whole(number: Any, items: Items, name: str) -> int:
     if _is_numpy_bool(number):
         return int(number)
     if hasattr(number, "__index__"):
-        return number.__index__()
-    if not hasattr(number, "is_integer"):
-        raise TypeError(f"{name} has {number!r}, which isn't a number")
+        return int(number.__index__())
+    if not (hasattr(number, "is_integer") or isinstance(number, (Decimal, Rational))):
+        raise TypeError(f"{name} is {number!r}, not a number")
     if items.infinity is not None and number == math.inf:
         return items.infinity
-    if not number.is_integer():
-        raise _refuse(name, number)
+    if not _is_whole(number):
+        raise ValueError(f"{name} is {number}, not a whole number")
     return int(number)
 
 
-def converted(numbers: Sequence[Any], items: Items, name: str) -> array.array:
+def _is_whole(number: Any) -> bool:
+    if isinstance(number, Rational):
+        return bool(number.denominator == 1)
+    if isinstance(number, Decimal):
+        return number.is_finite() and number == number.to_integral_value()
+    return bool(number.is_integer())
+
+
+def converted(numbers: Sequence[Any], items: Items, name: Name) -> array.array[int]:
     """An array of numbers, each of which is converted."""
     try:
         return array.array(items.code, numbers)
     except (OverflowError, TypeError):
-        return array.array(items.code, [number_of(number, items, name) for number in numbers])
+        found = array.array(items.code, (0,)) * len(numbers)
+    for place, number in enumerate(numbers):
+        if type(number) is not int or not items.least <= number <= items.greatest:
+            number = number_of(number, items, item(name, place))
+        found[place] = number
+    return found
 
 
-def _from_numbers(numbers: Sequence[Any], items: Items, name: str) -> Buffer:
+def _from_numbers(numbers: Sequence[Any], items: Items, name: Name) -> Buffer:
     kept = converted(numbers, items, name)
     return Buffer(kept, *kept.buffer_info())
 
@@ -139,15 +183,15 @@ def _from_view(view: memoryview, items: Items) -> Buffer:
     return Buffer(kept, *kept.buffer_info())
 
 
-def _from_numpy(numpy: Any, numbers: Any, items: Items, name: str) -> Buffer:
+def _from_numpy(numpy: Any, numbers: Any, items: Items, name: Name) -> Buffer:
     """Takes a numpy array as it is if its items have the width, else converts it."""
     if isinstance(numbers, numpy.ma.MaskedArray):
-        raise TypeError(f"{name} is a masked array, and what is masked has no number")
+        raise TypeError(f"{_array(name)} is a masked array, and what is masked has no number")
     numbers = numpy.asarray(numbers)  # other subclasses have a least and a greatest item of their own
     wanted = numpy.dtype(items.code)
     kind = numbers.dtype.kind
     if numbers.ndim != 1:
-        raise ValueError(f"{name} has {numbers.ndim} dimensions, and not one")
+        raise ValueError(f"{_array(name)} has {numbers.ndim} dimensions, and not one")
     if kind == "O":
         return _from_numbers(numbers.tolist(), items, name)
     if kind == "b":
@@ -155,41 +199,50 @@ def _from_numpy(numpy: Any, numbers: Any, items: Items, name: str) -> Buffer:
     elif kind == "f":
         numbers = _whole_numpy(numpy, numbers, items, name)
     elif kind not in "iu":
-        raise TypeError(f"{name} has items of {numbers.dtype}, which are no numbers")
+        raise TypeError(f"{_array(name)} has items of {numbers.dtype}, which are no numbers")
     if numbers.dtype != wanted:
         if len(numbers) and not (items.least <= int(numbers.min()) and int(numbers.max()) <= items.greatest):
-            least = int(numbers.min())
-            raise _refuse(name, least if least < items.least else int(numbers.max()))
+            return _from_numbers(numbers.tolist(), items, name)  # raises, and names the first
         fits = numbers.dtype.itemsize == items.width and numbers.dtype.isnative
         numbers = numbers.view(wanted) if fits else numbers.astype(wanted)
     numbers = numpy.require(numbers, requirements=["C_CONTIGUOUS", "ALIGNED"])
     return Buffer(numbers, numbers.ctypes.data if len(numbers) else 0, len(numbers))
 
 
-def _whole_numpy(numpy: Any, numbers: Any, items: Items, name: str) -> Any:
-    """An array of floats as integers."""
+def whole_floats(numpy: Any, numbers: Any, items: Items = NUMBERS) -> tuple[Any, Any]:
+    """An array of floats as integers, and which of them are such integers: the others are 0."""
     # The ends of the ranges are no float16: that has inf there.
     numbers = numbers.astype(numpy.result_type(numbers.dtype, numpy.float64), copy=False)
-    infinite = numbers == math.inf if items.infinity is not None else numpy.zeros(len(numbers), bool)
-    finite = numpy.where(infinite, 0, numbers)
     # The end is exact as a float, where the greatest of 64 bits isn't.
-    fits = (finite >= items.least) & (finite < items.greatest + 1) & (finite == numpy.floor(finite))
+    fits = (numbers >= items.least) & (numbers < items.greatest + 1) & (numbers == numpy.floor(numbers))
+    return numpy.where(fits, numbers, 0).astype(items.code), fits
+
+
+def _whole_numpy(numpy: Any, numbers: Any, items: Items, name: Name) -> Any:
+    """An array of floats as integers."""
+    whole, fits = whole_floats(numpy, numbers, items)
+    if items.infinity is not None:
+        infinite = numbers == math.inf
+        whole[infinite], fits = items.infinity, fits | infinite
     if not fits.all():
-        raise _refuse(name, finite[~fits][0])
-    whole = finite.astype(items.code)
-    if infinite.any():
-        whole[infinite] = items.infinity
+        place = int(numpy.argmin(fits))
+        raise _refuse(item(name, place), numbers[place], items)
     return whole
 
 
-def _gone_through(numbers: Any, name: str) -> list[Any]:
+def _array(name: Name) -> str:
+    """The name of an array itself."""
+    return name if isinstance(name, str) else "an array"
+
+
+def _gone_through(numbers: Any, name: Name) -> list[Any]:
     """The items of an object without a buffer."""
     if isinstance(numbers, (Mapping, Set)):
-        raise TypeError(f"{name} is a {type(numbers).__name__}, whose items have no places as those of an array")
+        raise TypeError(f"{_array(name)} is a {type(numbers).__name__}, whose items have no places as those of an array")
     return list(numbers)
 
 
-def _items_of(numbers: Any, view: memoryview, name: str) -> list[Any]:
+def _items_of(numbers: Any, view: memoryview, name: Name) -> list[Any]:
     """The items of an object with a buffer. A view can't read each format, but the object may."""
     try:
         return view.tolist()
@@ -198,7 +251,17 @@ def _items_of(numbers: Any, view: memoryview, name: str) -> list[Any]:
     try:
         return list(numbers)
     except NotImplementedError:
-        raise TypeError(f"{name} has items of the format {view.format}, which Python doesn't read") from None
+        raise TypeError(f"{_array(name)} has items of the format {view.format}, which Python doesn't read") from None
+
+
+def is_numpy(given: Any) -> bool:
+    numpy = sys.modules.get("numpy")
+    return numpy is not None and isinstance(given, numpy.ndarray)
+
+
+def is_single(given: Any) -> bool:
+    """Whether this is one number, or nothing, where there has to be an array."""
+    return given is None or isinstance(given, Number) or is_numpy(given) and given.ndim == 0
 
 
 def unlabelled(given: Any) -> Any:
@@ -206,7 +269,7 @@ def unlabelled(given: Any) -> Any:
     return given.to_numpy() if hasattr(given, "to_numpy") else given
 
 
-def array_of(numbers: Any, items: Items, name: str) -> Buffer:
+def array_of(numbers: Any, items: Items, name: Name) -> Buffer:
     """The items of an array: as they lie in memory if a buffer has them so, else converted.
 
     Raises ValueError if one doesn't fit or isn't whole, and TypeError if they aren't numbers.
@@ -222,7 +285,7 @@ def array_of(numbers: Any, items: Items, name: str) -> Buffer:
     except TypeError:
         return _from_numbers(_gone_through(numbers, name), items, name)
     if view.ndim != 1:
-        raise ValueError(f"{name} has {view.ndim} dimensions, and not one")
+        raise ValueError(f"{_array(name)} has {view.ndim} dimensions, and not one")
     if view.format not in _SAME[items.code] or view.itemsize != items.width or not view.c_contiguous:
         return _from_numbers(_items_of(numbers, view, name), items, name)
     if isinstance(numbers, array.array):
@@ -230,11 +293,16 @@ def array_of(numbers: Any, items: Items, name: str) -> Buffer:
     return _from_view(view, items)
 
 
+def list_of(numbers: Any, items: Items, name: Name) -> list[int]:
+    """The items of an array as ints."""
+    return array_of(numbers, items, name).listed(items)
+
+
 def number_of(number: Any, items: Items, name: str) -> int:
     """A single number."""
     whole = number if type(number) is int else _whole(number, items, name)
     if not items.least <= whole <= items.greatest:
-        raise _refuse(name, number)
+        raise _refuse(name, number, items)
     return whole
 
 
@@ -261,15 +329,19 @@ class Room:
         address, length = self._kept.buffer_info()
         return address, length, ctypes.byref(self._needed)
 
+    def items(self) -> array.array[int]:
+        """All items."""
+        if self._needed.value != len(self._kept):
+            raise RuntimeError(f"the library handed out {self._needed.value} items, and there is room for {len(self._kept)}")
+        return self._kept
+
     def in_form_of(self, came: Any) -> Any:
         """All items: a numpy array or an array.array if the argument is one, else a list. Marks are bools, and
         in array.array bytes that aren't 0 if they are true."""
-        if self._needed.value != len(self._kept):
-            raise RuntimeError(f"the library handed out {self._needed.value} items, and there is room for {len(self._kept)}")
-        numpy = sys.modules.get("numpy")
-        if numpy is not None and isinstance(came, numpy.ndarray):
-            found = numpy.frombuffer(self._kept, self._items.code)
+        kept = self.items()
+        if is_numpy(came):
+            found = sys.modules["numpy"].frombuffer(kept, self._items.code)
             return found != 0 if self._items is MARKS else found
         if isinstance(came, array.array):
-            return self._kept
-        return list(map(bool, self._kept)) if self._items is MARKS else self._kept.tolist()
+            return kept
+        return list(map(bool, kept)) if self._items is MARKS else kept.tolist()

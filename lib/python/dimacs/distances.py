@@ -62,9 +62,10 @@ def _with_negative(
         raise GaveUp("a reduced weight is out of range")
     _, found, predecessors = solve_paths_arrays(nodes, tails, heads, reduced, source)
     start = potentials[source - 1]
-    distances = [it if it == UNREACHED else it + start - own for it, own in zip(found, potentials)]
-    if not all(NUMBERS.least <= it <= UNREACHED for it in distances):
+    reached = {node: it + start - own for node, (it, own) in enumerate(zip(found, potentials)) if it != UNREACHED}
+    if not all(NUMBERS.least <= it < UNREACHED for it in reached.values()):
         raise GaveUp("a distance is out of range")
+    distances = [reached.get(node, UNREACHED) for node in range(nodes)]
     judge_paths_arrays(nodes, tails, heads, weights, source, distances, predecessors)
     return Distances(distances, list(predecessors))
 

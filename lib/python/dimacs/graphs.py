@@ -2,7 +2,8 @@
 
 The attributes of edges and nodes have the names and the defaults of networkx: without a capacity, or with inf, an edge
 carries any amount; without a weight it costs 0, but is 1 long; without a demand a node has 0. Flows are dicts, as networkx
-returns them: flow[u][v], of a MultiDiGraph flow[u][v][key]; an edge without an entry carries 0. Numbers may be whole floats.
+returns them: flow[u][v], of a MultiDiGraph flow[u][v][key]; an edge without an entry carries 0. Numbers may be whole floats;
+with scale= (see dimacs.arrays) they are multiples of a unit.
 
 Refused and PastLimit name nodes and edges as the graph does: an edge is (u, v), of a MultiDiGraph (u, v, key). ValueError
 is raised if an argument doesn't belong to the graph, and TypeError if it has another shape.
@@ -11,21 +12,39 @@ is raised if an argument doesn't belong to the graph, and TypeError if it has an
 from __future__ import annotations
 
 import math
-from array import array
 from collections.abc import Mapping, Set
 from contextlib import contextmanager
-from typing import Any, Iterator
+from typing import Any, Iterator, Sequence
 
-from . import arrays
-from .answers import UNREACHED, Certified, Feasible, GaveUp, Infeasible, NotOptimal, PastLimit, Refused, Solved, Verdict
-from .buffers import LIMIT, NUMBERS, converted, is_bool, number_of, unlabelled
+from . import calls, library
+from .answers import Certified, Feasible, Infeasible, NotOptimal, Solved, Unbounded, Verdict
+from .buffers import LIMIT, LIMITS, is_bool, unlabelled
+from .given import DISTANCES_, FLOWS, GRAPH, INSIDE, MAX, MIN, POTENTIALS, PREDECESSORS, Given, Names
 
-#: The capacity of an edge without one. A flow has to stay below it there: then the same edges have room left as if
-#: there were no limit, and so it is as good as it would be then.
-_UNLIMITED = 2**63 - 1
+#: What numbers are of, by the names of arrays.
+_OF_EDGES = {"caps": "capacity", "costs": "weight", "weights": "weight", "flows": "flow"}
+_OF_NODES = {"supplies": "demand", "distances": "distance", "potentials": "potential"}
 
-#: A demand is a supply negated.
-_DEMANDS = NUMBERS._replace(least=-NUMBERS.greatest, greatest=-NUMBERS.least)
+
+class EdgeNames(Names):
+    """Arcs and nodes as a graph has them."""
+
+    has_demands = has_inf_alone = True
+
+    def __init__(self, nodes: Sequence[Any], edges: Sequence[Any]) -> None:
+        super().__init__()
+        self._nodes, self._edges = nodes, edges
+
+    def arc(self, place: int) -> Any:
+        return self._edges[place]
+
+    def node(self, place: int) -> Any:
+        return self._nodes[place]
+
+    def item(self, name: str, place: int) -> str:
+        if name in _OF_EDGES:
+            return f"{_OF_EDGES[name]} of edge {self._edges[place]!r}"
+        return f"{_OF_NODES[name]} of node {self._nodes[place]!r}"
 
 
 def _entries(flow: Any, shape: str) -> dict[tuple[Any, ...], Any]:
@@ -46,11 +65,11 @@ def _test_shape(has_it: bool, shape: str) -> None:
 class _Graph:
     """The nodes and edges of a graph by the numbers that they have in arrays."""
 
-    def __init__(self, graph: Any) -> None:
+    def __init__(self, graph: Any, scale: Any) -> None:
         if not hasattr(graph, "is_directed"):
             raise TypeError(f"the graph is a {type(graph).__name__}, and has to be a DiGraph or MultiDiGraph of networkx")
         if not graph.is_directed():
-            raise ValueError("the graph isn't directed")
+            raise ValueError("the graph is undirected: graph.to_directed() has an arc each way")
         self.nodes = list(graph)
         self._number = {node: number for number, node in enumerate(self.nodes, 1)}
         self._is_multigraph = graph.is_multigraph()
@@ -59,29 +78,34 @@ class _Graph:
         self.edges = [tuple(words) for *words, _ in listed]
         self._data = [data for *_, data in listed]
         self._node_data = [graph.nodes[node] for node in self.nodes]
-        self.tails = [self._number[edge[0]] for edge in self.edges]
-        self.heads = [self._number[edge[1]] for edge in self.edges]
+        self._ends = tuple([self._number[edge[k]] for edge in self.edges] for k in (0, 1))
+        self._how: dict[str, Any] = {"scale": scale, "names": EdgeNames(self.nodes, self.edges)}
 
     def number(self, node: Any) -> int:
         if node not in self._number:
             raise ValueError(f"{node!r} is no node of the graph")
         return self._number[node]
 
-    def weights(self, missing: int) -> array[int]:
-        return converted([data.get("weight", missing) for data in self._data], NUMBERS, "weight")
+    def _of_edges(self, attribute: str, missing: Any) -> list[Any]:
+        return [data.get(attribute, missing) for data in self._data]
 
-    def _capacities(self) -> list[Any]:
-        """The capacities of the graph. An edge with inf carries any amount."""
-        return [data.get("capacity", math.inf) for data in self._data]
+    def max(self, source: Any, sink: Any) -> Given:
+        """The arguments of a call about a maximum flow."""
+        ends = self.number(source), self.number(sink)
+        return Given(MAX, len(self.nodes), *ends, *self._ends, self._of_edges("capacity", math.inf), **self._how)
 
-    def capacities(self) -> array[int]:
-        return converted([_UNLIMITED if it == math.inf else it for it in self._capacities()], NUMBERS, "capacity")
+    def min(self) -> Given:
+        """The arguments of a call about a flow of least cost."""
+        demands = [data.get("demand", 0) for data in self._node_data]
+        numbers = [0] * len(self.edges), self._of_edges("capacity", math.inf), self._of_edges("weight", 0)
+        return Given(MIN, len(self.nodes), *self._ends, *numbers, demands, **self._how)
 
-    def supplies(self) -> list[int]:
-        # A number is an int before it is negated: those of numpy have an end.
-        return [-number_of(data.get("demand", 0), _DEMANDS, "demand") for data in self._node_data]
+    def paths(self, source: Any) -> Given:
+        """The arguments of a call about distances."""
+        graph = Given(GRAPH, len(self.nodes), *self._ends, self._of_edges("weight", 1), **self._how)
+        return graph.add_number("source", self.number(source))
 
-    def by_node(self, values: Mapping[Any, Any], missing: int, name: str) -> list[Any]:
+    def by_node(self, values: Mapping[Any, Any], missing: Any, name: str) -> list[Any]:
         """The value of each node."""
         if not isinstance(values, Mapping):
             raise TypeError(f"{name} is a {type(values).__name__}, and has to be a dict by node")
@@ -100,46 +124,28 @@ class _Graph:
             raise TypeError(f"side is a {type(side).__name__} of bools, and has to be a set of nodes")
         return self.by_node(marks, False, "side")
 
-    def flows(self, flow: Mapping[Any, Any]) -> array[int]:
+    def flows(self, flow: Mapping[Any, Any]) -> list[Any]:
         """The flow of each edge."""
         entries = _entries(flow, "flow[u][v][key]" if self._is_multigraph else "flow[u][v]")
-        flows = converted([entries.pop(edge, 0) for edge in self.edges], NUMBERS, "flow")
-        if any(it != 0 for it in entries.values()):
-            raise ValueError("the flow has an entry of no edge of the graph")
-        for edge, amount, capacity in zip(self.edges, flows, self._capacities()):
-            if capacity == math.inf and amount >= _UNLIMITED:
-                raise ValueError(f"the flow of {edge} is out of its range")
+        flows = [entries.pop(edge, 0) for edge in self.edges]
+        for edge, amount in entries.items():
+            if amount != 0:
+                raise ValueError(f"the flow has an entry of {edge!r}, which is no edge of the graph")
         return flows
 
     def nodes_inside(self, inside: Any) -> set[Any]:
         """The nodes whose mark is true."""
         return {node for node, is_inside in zip(self.nodes, inside) if is_inside}
 
-    def found_set(self, inside: Any) -> set[Any]:
-        """A set that was found to show that no flow is feasible. It has to show it of edges without a limit too."""
-        leaving = entering = 0
-        for tail, head, limit, capacity in zip(self.tails, self.heads, self.capacities(), self._capacities()):
-            amount = math.inf if capacity == math.inf else limit
-            leaving += amount if inside[tail - 1] and not inside[head - 1] else 0
-            entering += amount if inside[head - 1] and not inside[tail - 1] else 0
-        supply = sum(it for it, is_inside in zip(self.supplies(), inside) if is_inside)
-        if -entering <= supply <= leaving:
-            raise GaveUp("no flow is feasible that stays below 2^63 - 1 on the edges without a capacity")
-        return self.nodes_inside(inside)
+    def by_name(self, values: Sequence[Any]) -> dict[Any, Any]:
+        return dict(zip(self.nodes, values))
 
-    def predecessors(self, source: Any, by_node: Any) -> dict[Any, Any]:
+    def predecessors(self, source: Any, by_node: Sequence[int]) -> dict[Any, Any]:
         """The predecessor of each node that is reached; None of the source."""
         found = {node: self.nodes[it - 1] for node, it in zip(self.nodes, by_node) if it != 0}
         return {source: None, **found}
 
-    def found_flow(self, flows: Any) -> dict[Any, Any]:
-        """A flow that was found. An edge without a capacity has to have room left: then no greater one would be better."""
-        for edge, amount, capacity in zip(self.edges, flows, self._capacities()):
-            if capacity == math.inf and amount >= _UNLIMITED:
-                raise GaveUp(f"the flow of {edge} is out of its range")
-        return self.flow_dict(flows)
-
-    def flow_dict(self, flows: array[int]) -> dict[Any, Any]:
+    def flow_dict(self, flows: Sequence[Any]) -> dict[Any, Any]:
         """The flow as networkx has it."""
         made: dict[Any, Any] = {node: {} for node in self.nodes}
         for (tail, head, *key), amount in zip(self.edges, flows):
@@ -150,147 +156,191 @@ class _Graph:
         return made
 
     @contextmanager
-    def names(self) -> Iterator[None]:
-        """Exceptions raised inside name nodes and edges as the graph does."""
+    def shown(self) -> Iterator[None]:
+        """Exceptions raised inside have flows and sets as networkx has them."""
         try:
             yield
         except NotOptimal as it:
-            better = self.flow_dict(it.better)
-            raise NotOptimal(it.reason, better, text=it.text, line=it.line, field=it.field) from None
+            it.better = self.flow_dict(it.better)
+            raise
         except Infeasible as it:
-            raise Infeasible(self.found_set(it.inside)) from None
+            it.certificate = self.nodes_inside(it.certificate)
+            raise
         except Feasible as it:
-            raise Feasible(self.flow_dict(it.flow)) from None
-        except (Refused, PastLimit) as it:
-            raise type(it)(it.reason, **self._place(it)) from None
+            it.flow = self.flow_dict(it.flow)
+            raise
+        except Unbounded as it:
+            from networkx import NetworkXUnbounded
 
-    def _place(self, it: Any) -> dict[str, Any]:
-        if it.arc is not None:
-            return {"arc": self.edges[it.arc - 1]}
-        return {"node": self.nodes[it.node - 1]}
+            raise NetworkXUnbounded(str(it)) from None
 
 
-def _max_words(graph: _Graph, source: Any, sink: Any) -> tuple[Any, ...]:
-    """The arguments of a call about a maximum flow."""
-    ends = graph.number(source), graph.number(sink)
-    return len(graph.nodes), *ends, graph.tails, graph.heads, graph.capacities()
-
-
-def _min_words(graph: _Graph) -> tuple[Any, ...]:
-    """The arguments of a call about a flow of least cost."""
-    lows, costs = [0] * len(graph.edges), graph.weights(0)
-    return len(graph.nodes), graph.tails, graph.heads, lows, graph.capacities(), costs, graph.supplies()
-
-
-def judge_networkx_max(graph: Any, source: Any, sink: Any, flow: Any, side: Any) -> Verdict:
+def judge_networkx_max(graph: Any, source: Any, sink: Any, flow: Any, side: Any, *, scale: Any = None) -> Verdict:
     """Judges that a flow, as maximum_flow returns it, is maximum, by the source's side of a cut: the first set of minimum_cut.
 
     The side is a set or list of nodes, or a dict that maps the nodes on it to True and others to False; a node that isn't in
     the dict isn't on it. Raises Refused if a test fails, and TypeError if the side is another dict.
+
+    >>> import networkx
+    >>> graph = networkx.DiGraph()
+    >>> graph.add_edge("spring", "town", capacity=3)
+    >>> judge_networkx_max(graph, "spring", "town", {"spring": {"town": 3}}, {"spring"}).value
+    3
     """
-    given = _Graph(graph)
-    inside = given.inside(side)
-    with given.names():
-        return arrays.judge_max_arrays(*_max_words(given, source, sink), given.flows(flow), inside)
+    given = _Graph(graph, scale)
+    claim = given.max(source, sink).add(FLOWS, given.flows(flow)).add(INSIDE, given.inside(side))
+    return calls.judge(library.judge_max_arrays, claim)
 
 
-def judge_networkx_min(graph: Any, flow: Any, potentials: Any = None) -> Verdict:
+def judge_networkx_min(graph: Any, flow: Any, potentials: Any = None, *, scale: Any = None) -> Verdict:
     """Judges that a flow, as network_simplex or max_flow_min_cost returns it, costs least, by a dict of potentials.
 
     The reduced cost of an edge is its weight, minus the potential of its tail, plus that of its head; a node that isn't in
     the dict has the potential 0. Raises Refused if a test fails. Without potentials it certifies the flow, as
     certify_networkx_min.
+
+    >>> import networkx
+    >>> graph = networkx.DiGraph()
+    >>> graph.add_edge("mine", "port", weight=7)
+    >>> judge_networkx_min(graph, {}, {"mine": 7}).value
+    0
     """
     if potentials is None:
-        return Verdict("min", certify_networkx_min(graph, flow).value)
-    given = _Graph(graph)
+        return Verdict("min", certify_networkx_min(graph, flow, scale=scale).value)
+    given = _Graph(graph, scale)
     prices = given.by_node(potentials, 0, "potentials")
-    with given.names():
-        return arrays.judge_min_arrays(*_min_words(given), given.flows(flow), prices)
+    return calls.judge(library.judge_min_arrays, given.min().add(FLOWS, given.flows(flow)).add(POTENTIALS, prices))
 
 
-def certify_networkx_max(graph: Any, source: Any, sink: Any, flow: Any) -> Certified:
+def certify_networkx_max(graph: Any, source: Any, sink: Any, flow: Any, *, scale: Any = None) -> Certified:
     """Decides whether a flow is maximum. Returns its value, and the nodes on the source's side of a cut that shows it.
 
     Raises NotOptimal with a flow of greater value, a dict, if the flow is feasible, but not maximum; Refused if it isn't
     feasible.
+
+    >>> import networkx
+    >>> graph = networkx.DiGraph()
+    >>> graph.add_edge("spring", "town", capacity=3)
+    >>> certify_networkx_max(graph, "spring", "town", {"spring": {"town": 3}})
+    Certified(value=3, certificate={'spring'})
+    >>> certify_networkx_max(graph, "spring", "town", {"spring": {"town": 4}})
+    Traceback (most recent call last):
+    dimacs.answers.Refused: arc ('spring', 'town') AboveCap: it carries 4, its capacity is 3
     """
-    given = _Graph(graph)
-    with given.names():
-        value, inside = arrays.certify_max_arrays(*_max_words(given, source, sink), given.flows(flow))
+    given = _Graph(graph, scale)
+    with given.shown():
+        claim = given.max(source, sink).add(FLOWS, given.flows(flow))
+        value, inside = calls.certify(library.certify_max_arrays, claim, [], INSIDE, FLOWS)
     return Certified(value, given.nodes_inside(inside))
 
 
-def certify_networkx_min(graph: Any, flow: Any) -> Certified:
+def certify_networkx_min(graph: Any, flow: Any, *, scale: Any = None) -> Certified:
     """Decides whether a flow costs least. Returns its cost, and a dict of potentials by node that show it.
 
     Raises NotOptimal with a cheaper flow, a dict, if the flow is feasible, but doesn't cost least; Refused as
     certify_networkx_max; GaveUp if the flow costs least, but two of the potentials that were found are 2^64 or more apart;
     others may fit.
+
+    >>> import networkx
+    >>> graph = networkx.DiGraph()
+    >>> graph.add_node("mine", demand=-2)
+    >>> graph.add_node("port", demand=2)
+    >>> graph.add_edge("mine", "port", weight=7)
+    >>> certify_networkx_min(graph, {"mine": {"port": 2}}).value
+    14
     """
-    given = _Graph(graph)
-    with given.names():
-        cost, potentials = arrays.certify_min_arrays(*_min_words(given), given.flows(flow))
-    return Certified(cost, dict(zip(given.nodes, potentials)))
+    given = _Graph(graph, scale)
+    with given.shown():
+        claim = given.min().add(FLOWS, given.flows(flow))
+        cost, potentials = calls.certify(library.certify_min_arrays, claim, [], POTENTIALS, FLOWS)
+    return Certified(cost, given.by_name(potentials))
 
 
-def certify_networkx_infeasible(graph: Any) -> Certified:
+def certify_networkx_infeasible(graph: Any, *, scale: Any = None) -> Certified:
     """Decides whether no flow meets the demands. Returns a set of nodes that shows it.
 
     Raises Feasible with a flow, a dict, if one does; GaveUp if one would have to carry 2^63 or more by edges without a
     capacity.
+
+    >>> import networkx
+    >>> graph = networkx.DiGraph()
+    >>> graph.add_node("mine", demand=-2)
+    >>> graph.add_node("port", demand=2)
+    >>> graph.add_edge("mine", "port", capacity=1)
+    >>> certify_networkx_infeasible(graph).inside
+    {'mine'}
     """
-    given = _Graph(graph)
-    with given.names():
-        inside = arrays.certify_infeasible_arrays(*_min_words(given)).inside
-    return Certified(None, given.found_set(inside))
+    given = _Graph(graph, scale)
+    with given.shown():
+        inside = calls.certify_infeasible(given.min(), []).inside
+    return Certified(None, given.nodes_inside(inside))
 
 
-def certify_networkx_paths(graph: Any, source: Any, distances: Any) -> Certified:
+def certify_networkx_paths(graph: Any, source: Any, distances: Any, *, scale: Any = None) -> Certified:
     """Decides whether these are the distances from a source, a dict by node. Returns a dict of predecessors.
 
     A node that isn't in the dict, or has inf there, is claimed to be unreachable. The predecessor of each node that is
-    reached is on a shortest path to it; that of the source is None. Raises Refused if a distance isn't true.
+    reached is on a shortest path to it; that of the source is None. Raises Refused if a distance isn't true, and ValueError
+    if one isn't below 2^63 - 1.
+
+    >>> import networkx
+    >>> graph = networkx.path_graph("abc", networkx.DiGraph)
+    >>> certify_networkx_paths(graph, "a", {"a": 0, "b": 1, "c": 2}).predecessors
+    {'a': None, 'b': 'a', 'c': 'b'}
     """
-    given = _Graph(graph)
-    weights = given.weights(1)
-    by_node = given.by_node(distances, UNREACHED, "distances")
-    with given.names():
-        words = len(given.nodes), given.tails, given.heads, weights, given.number(source), by_node
-        predecessors = arrays.certify_paths_arrays(*words).predecessors
+    given = _Graph(graph, scale)
+    claim = given.paths(source).add(DISTANCES_, given.by_node(distances, math.inf, "distances"))
+    predecessors = calls.certify(library.certify_paths_arrays, claim, [], PREDECESSORS).predecessors
     return Certified(None, given.predecessors(source, predecessors))
 
 
-def solve_networkx_max(graph: Any, source: Any, sink: Any, limit: int = LIMIT) -> Solved:
+def solve_networkx_max(graph: Any, source: Any, sink: Any, limit: int = LIMIT, *, scale: Any = None) -> Solved:
     """Makes a maximum flow. Returns its value, the flow, and the nodes on the source's side of a cut that shows it.
 
-    Raises GaveUp after `limit` flows that aren't maximum, or if an edge without a capacity carries 2^63 - 1 or more.
+    Raises NetworkXUnbounded if edges without a capacity lead from the source to the sink; GaveUp after `limit` flows that
+    aren't maximum.
+
+    >>> import networkx
+    >>> graph = networkx.DiGraph()
+    >>> graph.add_edge("spring", "town", capacity=0.3)
+    >>> solve_networkx_max(graph, "spring", "town", scale=10)
+    Solved(value=Fraction(3, 10), solution={'spring': {'town': Fraction(3, 10)}, 'town': {}}, certificate={'spring'})
     """
-    given = _Graph(graph)
-    with given.names():
-        value, flows, inside = arrays.solve_max_arrays(*_max_words(given, source, sink), limit)
-    return Solved(value, given.found_flow(flows), given.nodes_inside(inside))
+    given = _Graph(graph, scale)
+    with given.shown():
+        value, flows, inside = calls.solve_max(given.max(source, sink).add_number("limit", limit, LIMITS), [])
+    return Solved(value, given.flow_dict(flows), given.nodes_inside(inside))
 
 
-def solve_networkx_min(graph: Any, limit: int = LIMIT) -> Solved:
+def solve_networkx_min(graph: Any, limit: int = LIMIT, *, scale: Any = None) -> Solved:
     """Makes a flow of least cost. Returns its cost, the flow, and a dict of potentials by node that show it.
 
-    Raises Infeasible with a set of nodes that shows it, if no flow is feasible; GaveUp as solve_min_arrays, or if an edge
-    without a capacity carries 2^63 - 1 or more, or would have to.
+    Raises Infeasible with a set of nodes that shows it, if no flow is feasible; NetworkXUnbounded if a cycle of edges without
+    a capacity costs less than nothing; GaveUp as solve_min_arrays.
+
+    >>> import networkx
+    >>> graph = networkx.DiGraph()
+    >>> graph.add_node("mine", demand=-2)
+    >>> graph.add_node("port", demand=2)
+    >>> graph.add_edge("mine", "port", weight=7)
+    >>> solve_networkx_min(graph)[:2]
+    (14, {'mine': {'port': 2}, 'port': {}})
     """
-    given = _Graph(graph)
-    with given.names():
-        cost, flows, potentials = arrays.solve_min_arrays(*_min_words(given), limit)
-    return Solved(cost, given.found_flow(flows), dict(zip(given.nodes, potentials)))
+    given = _Graph(graph, scale)
+    with given.shown():
+        cost, flows, potentials = calls.solve_min(given.min().add_number("limit", limit, LIMITS), [])
+    return Solved(cost, given.flow_dict(flows), given.by_name(potentials))
 
 
-def solve_networkx_paths(graph: Any, source: Any) -> Solved:
+def solve_networkx_paths(graph: Any, source: Any, *, scale: Any = None) -> Solved:
     """Makes the distances from a source. Returns a dict of the nodes that are reached, and a dict of predecessors, as
-    certify_networkx_paths. Raises Refused if a weight is negative."""
-    given = _Graph(graph)
-    weights = given.weights(1)
-    with given.names():
-        words = len(given.nodes), given.tails, given.heads, weights, given.number(source)
-        _, distances, predecessors = arrays.solve_paths_arrays(*words)
-    reached = {node: it for node, it in zip(given.nodes, distances) if it != UNREACHED}
-    return Solved(None, reached, given.predecessors(source, predecessors))
+    certify_networkx_paths. Raises Refused if a weight is negative.
+
+    >>> import networkx
+    >>> solve_networkx_paths(networkx.path_graph("abc", networkx.DiGraph), "a").distances
+    {'a': 0, 'b': 1, 'c': 2}
+    """
+    given = _Graph(graph, scale)
+    _, distances, predecessors = calls.solve_paths(given.paths(source), [])
+    found = given.predecessors(source, predecessors)
+    return Solved(None, {node: it for node, it in zip(given.nodes, distances) if node in found}, found)

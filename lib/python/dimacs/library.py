@@ -7,16 +7,10 @@ import os
 from pathlib import Path
 from typing import Any, Callable, Sequence
 
-from .answers import Beyond, GaveUp, NotOptimal, Pair, PastLimit, Refused, Verdict
+from .answers import Beyond, GaveUp, Pair, PastLimit, Refused, Verdict
 from .buffers import Room
 
 DONE, REFUSED, MISUSED, NO_MEMORY, GAVE_UP = 0, 1, 2, 4, 5
-
-#: The reasons with which a better flow is handed out.
-BETTER = (b"NotMaximum", b"NotLeast")
-
-#: The reason with which a feasible flow is handed out.
-FEASIBLE = b"Feasible"
 
 #: Room for any line, except for answers to pairs.
 LINE = 256
@@ -126,13 +120,12 @@ def call_with_rooms(function: Callable[..., int], words: list[Any], rooms: list[
     return status, output
 
 
-def refusal(line: bytes, **more: Any) -> Refused:
+def refusal(line: bytes) -> Refused:
     """The fields of a line that begins with x."""
     _, place, *numbers, reason = line.decode("ascii").split()
-    kind = NotOptimal if more else Refused
     if place in ("arc", "node"):
-        return kind(reason, **{place: int(numbers[0])}, **more)
-    return kind(reason, text=place, line=int(numbers[0]), field=int(numbers[1]), **more)
+        return Refused(reason, **{place: int(numbers[0])})
+    return Refused(reason, text=place, line=int(numbers[0]), field=int(numbers[1]))
 
 
 def _distance(words: list[str]) -> int | Beyond | None:

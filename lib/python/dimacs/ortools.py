@@ -14,10 +14,9 @@ there.
 
 from __future__ import annotations
 
-from contextlib import contextmanager
-from typing import Any, Iterator
+from typing import Any
 
-from .answers import Certified, NotOptimal, PastLimit, Refused
+from .answers import Certified, Refused
 from .arrays import certify_max_arrays, certify_min_arrays
 
 
@@ -32,10 +31,6 @@ class _Solver:
         self.flows = [solver.flow(arc) for arc in arcs]
         self.nodes = max([solver.num_nodes(), *(it + 1 for it in self.tails), *(it + 1 for it in self.heads)])
 
-    def ends(self) -> tuple[list[int], list[int]]:
-        """Tails and heads as the calls over arrays have them, numbered from 1."""
-        return [it + 1 for it in self.tails], [it + 1 for it in self.heads]
-
     def sent(self) -> list[int]:
         """The outflow of each node minus its inflow."""
         found = [0] * self.nodes
@@ -43,17 +38,6 @@ class _Solver:
             found[tail] += amount
             found[head] -= amount
         return found
-
-    @contextmanager
-    def names(self) -> Iterator[None]:
-        """Exceptions raised inside name nodes and arcs as the solver does."""
-        try:
-            yield
-        except NotOptimal:
-            raise  # it names none
-        except (Refused, PastLimit) as it:
-            place = {name: at - 1 for name, at in (("arc", it.arc), ("node", it.node)) if at is not None}
-            raise type(it)(it.reason, **place) from None
 
 
 def certify(solver: Any, source: int | None = None, sink: int | None = None) -> Certified:
@@ -78,8 +62,7 @@ def certify(solver: Any, source: int | None = None, sink: int | None = None) -> 
 def _certify_max(solver: Any, source: int | None, sink: int | None) -> Certified:
     given = _Solver(solver)
     ends = _ends_of(given, source, sink)
-    with given.names():
-        certified = certify_max_arrays(given.nodes, *ends, *given.ends(), given.caps, given.flows)
+    certified = certify_max_arrays(given.nodes, *ends, given.tails, given.heads, given.caps, given.flows, base=0)
     return _tested(certified, solver.optimal_flow())
 
 
@@ -87,21 +70,20 @@ def _certify_min(solver: Any) -> Certified:
     given = _Solver(solver)
     costs = [solver.unit_cost(arc) for arc in range(len(given.caps))]
     supplies = [solver.supply(node) for node in range(given.nodes)]
-    with given.names():
-        lows = [0] * len(costs)
-        certified = certify_min_arrays(given.nodes, *given.ends(), lows, given.caps, costs, supplies, given.flows)
-    return _tested(certified, solver.optimal_cost())
+    arcs = given.tails, given.heads, [0] * len(costs), given.caps, costs
+    return _tested(certify_min_arrays(given.nodes, *arcs, supplies, given.flows, base=0), solver.optimal_cost())
 
 
 def _tested(certified: Certified, claimed: int) -> Certified:
     """The certified flow. Raises Refused if the solver reports another value."""
     if certified.value != claimed:
-        raise Refused("ValueDiffers", text="solution", line=0, field=0)
+        numbers = {"claimed": claimed, "value": certified.value}
+        raise Refused("ValueDiffers", text="solution", line=0, field=0, numbers=numbers)
     return certified
 
 
 def _ends_of(given: _Solver, source: int | None, sink: int | None) -> tuple[int, int]:
-    """The source and the sink, from 1: those that are named, else the one node that sends and the one that receives."""
+    """The source and the sink: those that are named, else the one node that sends and the one that receives."""
     sent = given.sent()
     found = []
     for name, named, nodes in (
@@ -110,5 +92,5 @@ def _ends_of(given: _Solver, source: int | None, sink: int | None) -> tuple[int,
     ):
         if named is None and len(nodes) != 1:
             raise ValueError(f"name the {name}: by the flow it may be any of {len(nodes)} nodes")
-        found.append(1 + (nodes[0] if named is None else named))
+        found.append(nodes[0] if named is None else named)
     return found[0], found[1]

@@ -6,16 +6,23 @@ to parallel arcs. They go through texts, and spread_max and spread_min.
 
 from __future__ import annotations
 
-from typing import Any
+from contextlib import contextmanager
+from typing import Any, Iterator
 
 from . import texts
-from .buffers import IDS, NUMBERS, Items, Room, array_of
+from .answers import PastLimit, Refused
+from .given import MOST_NODES
+from .buffers import IDS, NUMBERS, Items, Room, list_of, number_of
+
+_MAX_ARCS = ("tails", IDS), ("heads", IDS), ("caps", NUMBERS)
+_MIN_ARCS = ("tails", IDS), ("heads", IDS), ("lows", NUMBERS), ("caps", NUMBERS), ("costs", NUMBERS)
+_PAIRS = ("pair_tails", IDS), ("pair_heads", IDS), ("sums", NUMBERS)
 
 
-def _columns(*named: tuple[str, Items, Any]) -> list[list[int]]:
+def _columns(named: tuple[tuple[str, Items], ...], *given: Any) -> list[list[int]]:
     """The items of arrays of one length."""
-    columns = [array_of(numbers, items, name).kept.tolist() for name, items, numbers in named]
-    for (name, _, _), column in zip(named, columns):
+    columns = [list_of(numbers, items, name) for (name, items), numbers in zip(named, given)]
+    for (name, _), column in zip(named, columns):
         if len(column) != len(columns[0]):
             raise ValueError(f"{name} has {len(column)} items, and {named[0][0]} has {len(columns[0])}")
     return columns
@@ -25,9 +32,23 @@ def _lines(letter: str, columns: list[list[int]]) -> str:
     return "".join(f"{letter} {' '.join(map(str, items))}\n" for items in zip(*columns))
 
 
-def _claim(pair_tails: Any, pair_heads: Any, sums: Any) -> str:
-    columns = _columns(("pair_tails", IDS, pair_tails), ("pair_heads", IDS, pair_heads), ("sums", NUMBERS, sums))
-    return "s 0\n" + _lines("f", columns)
+def _claim(*pairs: Any) -> str:
+    return "s 0\n" + _lines("f", _columns(_PAIRS, *pairs))
+
+
+@contextmanager
+def _limits(*ends: int) -> Iterator[None]:
+    """A fault of the text of an instance is raised as a limit of arrays, by the node or the arc of its line."""
+    try:
+        yield
+    except Refused as it:
+        if it.text != "instance" or it.line is None:
+            raise
+        if it.line == 1:
+            raise PastLimit(it.reason, node=MOST_NODES + 1) from None
+        reason = "NodeRange" if it.reason == "NumberRange" else it.reason  # of the end 0
+        place = {"node": ends[it.line - 2]} if it.line - 2 < len(ends) else {"arc": it.line - 1 - len(ends)}
+        raise PastLimit(reason, **place) from None
 
 
 def _flows(solution: str, came: Any) -> Any:
@@ -49,11 +70,14 @@ def spread_max_arrays(
     """Deals sums out to the arcs of a maximum flow instance: sums[k] is carried from pair_tails[k] to pair_heads[k].
 
     Returns the flow of each arc, in the form of sums: arcs with the same ends carry the sum between these, each within its
-    bounds if possible. Raises Refused if no arc has the ends of a pair, with its line in a text of the pairs from line 2 on.
+    bounds if possible. Raises Refused if no arc has the ends of a pair, with its line in a text of the pairs from line 2 on;
+    PastLimit as the other calls over arrays.
     """
-    arcs = _columns(("tails", IDS, tails), ("heads", IDS, heads), ("caps", NUMBERS, caps))
-    instance = f"p max {nodes} {len(arcs[0])}\nn {source} s\nn {sink} t\n" + _lines("a", arcs)
-    return _flows(texts.spread_max(instance, _claim(pair_tails, pair_heads, sums)), sums)
+    nodes, *ends = (number_of(it, IDS, name) for name, it in (("nodes", nodes), ("source", source), ("sink", sink)))
+    arcs = _columns(_MAX_ARCS, tails, heads, caps)
+    instance = f"p max {nodes} {len(arcs[0])}\nn {ends[0]} s\nn {ends[1]} t\n" + _lines("a", arcs)
+    with _limits(*ends):
+        return _flows(texts.spread_max(instance, _claim(pair_tails, pair_heads, sums)), sums)
 
 
 def spread_min_arrays(
@@ -68,8 +92,7 @@ def spread_min_arrays(
     sums: Any,
 ) -> Any:
     """The same for an instance of least cost: of all such flows within the bounds, one that costs least."""
-    named = [("tails", IDS, tails), ("heads", IDS, heads)]
-    named += [("lows", NUMBERS, lows), ("caps", NUMBERS, caps), ("costs", NUMBERS, costs)]
-    arcs = _columns(*named)
-    instance = f"p min {nodes} {len(arcs[0])}\n" + _lines("a", arcs)
-    return _flows(texts.spread_min(instance, _claim(pair_tails, pair_heads, sums)), sums)
+    arcs = _columns(_MIN_ARCS, tails, heads, lows, caps, costs)
+    instance = f"p min {number_of(nodes, IDS, 'nodes')} {len(arcs[0])}\n" + _lines("a", arcs)
+    with _limits():
+        return _flows(texts.spread_min(instance, _claim(pair_tails, pair_heads, sums)), sums)

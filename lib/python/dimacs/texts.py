@@ -1,25 +1,45 @@
-"""The calls over texts in memory. A text is bytes, str, or anything with a buffer of bytes, as a bytearray or mmap."""
+"""The calls over texts. A text is bytes, str, or anything with a buffer of bytes, as a bytearray or mmap; or a pathlib.Path,
+whose file is read. What is handed out is str if a str or a Path came, else bytes."""
 
 from __future__ import annotations
 
-from typing import Any, Union
+import os
+from contextlib import contextmanager
+from typing import Any, Iterator, Union
 
 from . import library
-from .answers import Certified, Feasible, Infeasible, Solved, Verdict
-from .buffers import LIMIT, LIMITS, bytes_of, number_of
+from .answers import Certified, Feasible, Infeasible, NotOptimal, Refused, Solved, Verdict
+from .buffers import LIMIT, LIMITS, Buffer, bytes_of, number_of
 
-Text = Union[bytes, str, bytearray, memoryview]
+Text = Union[bytes, str, bytearray, memoryview, "os.PathLike[str]"]
 
 _KINDS = {"max": 0, "min": 1, "infeasible": 2, "paths": 3}
 _TEXTS = {"max": 0, "min": 1, "gr": 2, "query": 3, "solution": 4, "cut": 5, "pot": 6, "dist": 7, "distances": 8}
 
 
+@contextmanager
+def _read(call: str, *texts: Text) -> Iterator[list[Buffer]]:
+    """The bytes of texts. If one is refused that names a file, an exception raised inside says so."""
+    try:
+        yield [bytes_of(it, call) for it in texts]
+    except Refused as it:
+        if it.text is None or it.line != 1:
+            raise
+        for text in texts:
+            if isinstance(text, str) and "\n" not in text and os.path.isfile(text):
+                raise ValueError(f"{call} takes texts, and {text!r} names a file: pass pathlib.Path({text!r})") from it
+        raise
+
+
+def _words(texts: list[Buffer]) -> list[Any]:
+    return [word for it in texts for word in it.words()]
+
+
 def _judge(kind: str, instance: Text, claim: Text, certificate: Text) -> Verdict:
-    texts = bytes_of(instance), bytes_of(claim), bytes_of(certificate)
-    words = texts[0].words() + texts[1].words() + texts[2].words()
-    status, output = library.call(library.judge, _KINDS[kind], *words)
-    if status == library.REFUSED:
-        raise library.refusal(output)
+    with _read(f"judge_{kind}", instance, claim, certificate) as texts:
+        status, output = library.call(library.judge, _KINDS[kind], *_words(texts))
+        if status == library.REFUSED:
+            raise library.refusal(output)
     return library.verdict(output)
 
 
@@ -44,25 +64,33 @@ def judge_paths(graph: Text, queries: Text, labels: Text) -> Verdict:
 
 
 def _in_form_of(came: Text, text: bytes) -> Any:
-    return text.decode("ascii") if isinstance(came, str) else text
+    return text.decode("ascii") if isinstance(came, (str, os.PathLike)) else text
 
 
-def _certify(kind: str, instance: Text, claim: Text) -> tuple[int, bytes, bytes]:
-    """The status of a call that certifies, its line, and the text that shows it."""
-    texts = bytes_of(instance), bytes_of(claim)
-    words = texts[0].words() + texts[1].words()
-    rooms = [library.LINE, library.LINE + texts[0].length + texts[1].length]
-    status, (line, shown) = library.call_for_texts(library.certify, _KINDS[kind], *words, rooms=rooms)
-    return status, line, shown
+def _certify(kind: str, instance: Text, claim: Text) -> Certified:
+    with _read(f"certify_{kind}", instance, claim) as texts:
+        rooms = [library.LINE, library.LINE + texts[0].length + texts[1].length]
+        status, (line, shown) = library.call_for_texts(library.certify, _KINDS[kind], *_words(texts), rooms=rooms)
+        if status == library.REFUSED:
+            raise _refusal(library.refusal(line), instance, claim, shown)
+    value = library.verdict(line).value if kind in ("max", "min") else None
+    return Certified(value, _in_form_of(instance, shown))
 
 
-def _certify_flow(kind: str, instance: Text, solution: Text) -> Certified:
-    status, line, shown = _certify(kind, instance, solution)
-    if status == library.REFUSED and line.rstrip().endswith(library.BETTER):
-        raise library.refusal(line, better=_in_form_of(solution, shown) if shown else None)
-    if status == library.REFUSED:
-        raise library.refusal(line)
-    return Certified(library.verdict(line).value, _in_form_of(instance, shown))
+def _refusal(no: Refused, instance: Text, claim: Text, shown: bytes) -> Refused:
+    """The exception for a refusal, with the text that shows it."""
+    if no.reason == "Feasible":
+        return Feasible(_in_form_of(instance, shown) if shown else None)
+    if not no.is_about_value():
+        return no
+    numbers = {"value": _value(claim), "better_value": _value(shown) if shown else None}
+    better = _in_form_of(claim, shown) if shown else None
+    return NotOptimal(no.reason, better, text=no.text, line=no.line, field=no.field, numbers=numbers if shown else {})
+
+
+def _value(solution: Text) -> int:
+    """The value that a solution claims, which has no fault."""
+    return int(show("solution", solution).split()[2])
 
 
 def certify_max(instance: Text, solution: Text) -> Certified:
@@ -71,7 +99,7 @@ def certify_max(instance: Text, solution: Text) -> Certified:
     Raises NotOptimal with the text of a better flow if the flow is feasible and has the claimed value, but isn't maximum;
     Refused if a text has a fault, or the flow isn't feasible or has another value. The certificate is str if the instance is.
     """
-    return _certify_flow("max", instance, solution)
+    return _certify("max", instance, solution)
 
 
 def certify_min(instance: Text, solution: Text) -> Certified:
@@ -80,7 +108,7 @@ def certify_min(instance: Text, solution: Text) -> Certified:
     Raises NotOptimal with the text of a cheaper flow if the flow is feasible and has the claimed cost, but doesn't cost
     least; Refused as certify_max.
     """
-    return _certify_flow("min", instance, solution)
+    return _certify("min", instance, solution)
 
 
 def certify_infeasible(instance: Text) -> Certified:
@@ -89,12 +117,7 @@ def certify_infeasible(instance: Text) -> Certified:
     Raises Feasible with the text of a feasible flow if there is one; Refused if the text has a fault. The certificate and the
     flow are str if the instance is.
     """
-    status, line, shown = _certify("infeasible", instance, b"")
-    if status == library.REFUSED and line.rstrip().endswith(library.FEASIBLE):
-        raise Feasible(_in_form_of(instance, shown) if shown else None)
-    if status == library.REFUSED:
-        raise library.refusal(line)
-    return Certified(None, _in_form_of(instance, shown))
+    return _certify("infeasible", instance, b"")
 
 
 def certify_paths(graph: Text, distances: Text) -> Certified:
@@ -103,19 +126,15 @@ def certify_paths(graph: Text, distances: Text) -> Certified:
 
     Raises Refused if a text has a fault, or a test fails. The certificate is str if the graph is.
     """
-    status, line, shown = _certify("paths", graph, distances)
-    if status == library.REFUSED:
-        raise library.refusal(line)
-    return Certified(None, _in_form_of(graph, shown))
+    return _certify("paths", graph, distances)
 
 
 def _spread(kind: str, instance: Text, solution: Text) -> Any:
-    texts = bytes_of(instance), bytes_of(solution)
-    words = texts[0].words() + texts[1].words()
-    rooms = [library.LINE, library.LINE + texts[0].length + texts[1].length]
-    status, (line, spread) = library.call_for_texts(library.spread, _KINDS[kind], *words, rooms=rooms)
-    if status == library.REFUSED:
-        raise library.refusal(line)
+    with _read(f"spread_{kind}", instance, solution) as texts:
+        rooms = [library.LINE, library.LINE + texts[0].length + texts[1].length]
+        status, (line, spread) = library.call_for_texts(library.spread, _KINDS[kind], *_words(texts), rooms=rooms)
+        if status == library.REFUSED:
+            raise library.refusal(line)
     return _in_form_of(solution, spread)
 
 
@@ -134,13 +153,15 @@ def spread_min(instance: Text, solution: Text) -> Any:
 
 
 def _solve(kind: str, instance: Text, queries: Text, limit: int) -> Solved:
-    texts = bytes_of(instance), bytes_of(queries)
-    words = [*texts[0].words(), *texts[1].words(), number_of(limit, LIMITS, "limit")]
-    # An answer to a query is a longer line than the query, and a potential or label may be one than an arc.
-    rooms = [library.LINE + 4 * texts[1].length, library.LINE + texts[0].length, library.LINE + 2 * texts[0].length]
-    status, (output, solution, certificate) = library.call_for_texts(library.solve, _KINDS[kind], *words, rooms=rooms)
-    if status == library.REFUSED:
-        raise library.refusal(output)
+    with _read(f"solve_{kind}", instance, queries) as texts:
+        words = [*_words(texts), number_of(limit, LIMITS, "limit")]
+        # An answer to a query is a longer line than the query, and a potential or label may be one than an arc.
+        length = texts[0].length
+        rooms = [library.LINE + 4 * texts[1].length, library.LINE + length, library.LINE + 2 * length]
+        handed = library.call_for_texts(library.solve, _KINDS[kind], *words, rooms=rooms)
+        status, (output, solution, certificate) = handed
+        if status == library.REFUSED:
+            raise library.refusal(output)
     shown = _in_form_of(instance, certificate)
     found = library.verdict(output)
     if found.kind == "infeasible":
@@ -175,14 +196,14 @@ def solve_paths(graph: Text, queries: Text) -> Solved:
     return _solve("paths", graph, queries, LIMIT)
 
 
-def _printed(function: Any, kind: str, text: Text) -> Any:
+def _printed(call: str, function: Any, kind: str, text: Text) -> Any:
     if kind not in _TEXTS:
         raise ValueError(f"{kind!r} is no kind of text: these are {', '.join(_TEXTS)}")
-    given = bytes_of(text)
-    rooms = [library.LINE + given.length]
-    status, (printed,) = library.call_for_texts(function, _TEXTS[kind], *given.words(), rooms=rooms)
-    if status == library.REFUSED:
-        raise library.refusal(printed)
+    with _read(call, text) as texts:
+        rooms = [library.LINE + texts[0].length]
+        status, (printed,) = library.call_for_texts(function, _TEXTS[kind], *_words(texts), rooms=rooms)
+        if status == library.REFUSED:
+            raise library.refusal(printed)
     return _in_form_of(text, printed)
 
 
@@ -191,9 +212,9 @@ def convert(kind: str, text: Text) -> Any:
 
     kind is "max", "min", "gr", "query", "solution", "cut", "pot", "dist" or "distances".
     """
-    return _printed(library.convert, kind, text)
+    return _printed("convert", library.convert, kind, text)
 
 
 def show(kind: str, text: Text) -> Any:
     """A line that describes a text, as `i max 4 5 1 4`. The kinds and what is raised are those of convert."""
-    return _printed(library.show, kind, text)
+    return _printed("show", library.show, kind, text)

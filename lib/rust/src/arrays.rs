@@ -2,12 +2,12 @@
 //!
 //! Nodes and arcs are numbered from 1. The k-th items of the slices by arc describe the k-th arc, and the k-th item of a
 //! slice by node belongs to node k. Each call returns [`Error::WrongLength`] if a slice has a wrong length,
-//! [`Error::PastLimit`] if a number of the instance is past its limit, and [`Error::OutOfMemory`]. Its documentation
-//! names the other variants that it returns.
+//! [`Error::PastLimit`] if a number of the instance is past its limit, [`Error::OutOfMemory`], and
+//! [`Error::UnknownAnswer`]. Its documentation names the other variants that it returns.
 
 use crate::ffi::{self, Array, Graph as RawGraph, Max, Min, DONE, GAVE_UP, MISUSED, NO_MEMORY, REFUSED};
 use crate::rooms::{room_for, Room, LINE};
-use crate::words::{is_feasible, is_infeasible, is_not_optimal, refused, value};
+use crate::words::{is_feasible, is_infeasible, is_not_optimal, refused, unknown_status, value};
 
 /// Why a call over slices doesn't answer yes. A flow is an amount for each arc, and a set has for each node whether it
 /// is inside.
@@ -155,15 +155,15 @@ impl Graph<'_> {
 
 /// The line of a yes, or what the status means.
 fn line_of(status: u32, line: Room<u8>) -> Result<String, Error> {
-    let line = line.text();
+    let line = line.text()?;
     match status {
         DONE => Ok(line),
         GAVE_UP => Err(Error::GaveUp),
         NO_MEMORY => Err(Error::OutOfMemory),
         MISUSED if line.is_empty() => Err(Error::WrongLength),
-        MISUSED => Err(Error::PastLimit(refused(&line))),
-        REFUSED => Err(Error::Refused(refused(&line))),
-        _ => unreachable!("the library answers the status {status}"),
+        MISUSED => Err(Error::PastLimit(refused(&line)?)),
+        REFUSED => Err(Error::Refused(refused(&line)?)),
+        _ => Ok(unknown_status(status)?),
     }
 }
 
@@ -200,7 +200,7 @@ pub fn judge_max(instance: &MaxInstance, flows: &[i64], inside: &[bool]) -> Resu
             line.needed(),
         )
     };
-    Ok(value(&line_of(status, line)?))
+    Ok(value(&line_of(status, line)?)?)
 }
 
 /// Judges that a flow, by arc, costs least, by potentials of the nodes. Returns its cost. The reduced cost of an arc is
@@ -228,7 +228,7 @@ pub fn judge_min(instance: &MinInstance, flows: &[i64], potentials: &[i64]) -> R
             line.needed(),
         )
     };
-    Ok(value(&line_of(status, line)?))
+    Ok(value(&line_of(status, line)?)?)
 }
 
 /// Judges that an instance has no feasible flow, by a set of nodes. [`Error::Refused`] if the set isn't violated. There
@@ -314,7 +314,7 @@ pub fn certify_max(instance: &MaxInstance, flows: &[i64]) -> Result<CertifiedMax
         )
     };
     let line = line_or_better(status, line, better)?;
-    Ok(CertifiedMax { value: value(&line), inside: inside.marks() })
+    Ok(CertifiedMax { value: value(&line)?, inside: inside.marks()? })
 }
 
 /// Decides whether a flow, by arc, costs least. Returns its cost and potentials that [`judge_min`] accepts.
@@ -350,7 +350,7 @@ pub fn certify_min(instance: &MinInstance, flows: &[i64]) -> Result<CertifiedMin
         )
     };
     let line = line_or_better(status, line, better)?;
-    Ok(CertifiedMin { cost: value(&line), potentials: potentials.take() })
+    Ok(CertifiedMin { cost: value(&line)?, potentials: potentials.take() })
 }
 
 /// Decides whether an instance has no feasible flow. Returns a set that [`judge_infeasible`] accepts.
@@ -383,7 +383,7 @@ pub fn certify_infeasible(instance: &MinInstance) -> Result<Vec<bool>, Error> {
         )
     };
     match line_of(status, line) {
-        Ok(_) => Ok(inside.marks()),
+        Ok(_) => Ok(inside.marks()?),
         Err(Error::Refused(it)) if is_feasible(&it) => Err(Error::Feasible(flows.take())),
         Err(error) => Err(error),
     }
@@ -447,7 +447,7 @@ pub fn solve_max(instance: &MaxInstance, limit: u64) -> Result<SolvedMax, Error>
         )
     };
     let line = line_of(status, line)?;
-    Ok(SolvedMax { value: value(&line), flows: flows.take(), inside: inside.marks() })
+    Ok(SolvedMax { value: value(&line)?, flows: flows.take(), inside: inside.marks()? })
 }
 
 /// Makes a flow of least cost, and potentials that [`judge_min`] accepts. [`Error::Infeasible`] with a set that
@@ -488,9 +488,9 @@ pub fn solve_min(instance: &MinInstance, limit: u64) -> Result<SolvedMin, Error>
     };
     let line = line_of(status, line)?;
     if is_infeasible(&line) {
-        return Err(Error::Infeasible(inside.marks()));
+        return Err(Error::Infeasible(inside.marks()?));
     }
-    Ok(SolvedMin { cost: value(&line), flows: flows.take(), potentials: potentials.take() })
+    Ok(SolvedMin { cost: value(&line)?, flows: flows.take(), potentials: potentials.take() })
 }
 
 /// Makes distances from the source, and predecessors that [`judge_paths`] accepts. [`Error::Refused`] for the first arc

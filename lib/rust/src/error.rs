@@ -1,5 +1,6 @@
 //! What isn't a yes.
 
+use std::collections::TryReserveError;
 use std::fmt;
 
 /// Where a refusal points.
@@ -62,6 +63,8 @@ pub enum Error<Flow, Set> {
     WrongLength,
     /// Out of memory: the claim is undecided.
     OutOfMemory,
+    /// The library answers this, which the crate doesn't know: another version of it was linked. The claim is undecided.
+    UnknownAnswer(String),
 }
 
 impl<Flow, Set> fmt::Display for Error<Flow, Set> {
@@ -75,17 +78,31 @@ impl<Flow, Set> fmt::Display for Error<Flow, Set> {
             Error::PastLimit(refused) => write!(out, "a number is past its limit: {refused}"),
             Error::WrongLength => out.write_str("an array has another length than it has to have"),
             Error::OutOfMemory => out.write_str("there was not enough memory"),
+            Error::UnknownAnswer(answer) => write!(out, "libdimacs answers what the crate doesn't know: {answer}"),
         }
     }
 }
 
 impl<Flow: fmt::Debug, Set: fmt::Debug> std::error::Error for Error<Flow, Set> {}
 
-/// An allocation failed.
-pub(crate) struct NoMemory;
+/// Why an answer can't be handed on.
+#[derive(Debug, PartialEq, Eq)]
+pub(crate) enum NoAnswer {
+    OutOfMemory,
+    Unknown(String),
+}
 
-impl<Flow, Set> From<NoMemory> for Error<Flow, Set> {
-    fn from(_: NoMemory) -> Self {
-        Error::OutOfMemory
+impl From<TryReserveError> for NoAnswer {
+    fn from(_: TryReserveError) -> Self {
+        NoAnswer::OutOfMemory
+    }
+}
+
+impl<Flow, Set> From<NoAnswer> for Error<Flow, Set> {
+    fn from(it: NoAnswer) -> Self {
+        match it {
+            NoAnswer::OutOfMemory => Error::OutOfMemory,
+            NoAnswer::Unknown(answer) => Error::UnknownAnswer(answer),
+        }
     }
 }

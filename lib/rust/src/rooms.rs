@@ -1,6 +1,7 @@
 //! Rooms for what calls hand out.
 
-use crate::error::NoMemory;
+use crate::error::NoAnswer;
+use crate::words::unknown;
 
 /// Room for any line, except for answers to pairs.
 pub const LINE: usize = 256;
@@ -21,9 +22,9 @@ pub struct Room<T> {
 }
 
 impl<T: Copy + Default> Room<T> {
-    pub fn new(room: usize) -> Result<Room<T>, NoMemory> {
+    pub fn new(room: usize) -> Result<Room<T>, NoAnswer> {
         let mut items = Vec::new();
-        items.try_reserve_exact(room).map_err(|_| NoMemory)?;
+        items.try_reserve_exact(room)?;
         items.resize(room, T::default());
         Ok(Room { items, needed: 0 })
     }
@@ -45,7 +46,7 @@ impl<T: Copy + Default> Room<T> {
     }
 
     /// Makes enough room for all items, if there wasn't.
-    pub fn grow(&mut self) -> Result<(), NoMemory> {
+    pub fn grow(&mut self) -> Result<(), NoAnswer> {
         if !self.fits() {
             *self = Room::new(self.needed)?;
         }
@@ -60,13 +61,16 @@ impl<T: Copy + Default> Room<T> {
 }
 
 impl Room<u8> {
-    /// A text that was handed out, which is ASCII.
-    pub fn text(self) -> String {
-        String::from_utf8_lossy(&self.take()).into_owned()
+    /// A text that was handed out, which is ASCII. It isn't copied.
+    pub fn text(self) -> Result<String, NoAnswer> {
+        String::from_utf8(self.take()).or_else(|_| unknown("bytes that are no UTF-8"))
     }
 
     /// A byte for each node that was handed out.
-    pub fn marks(self) -> Vec<bool> {
-        self.take().into_iter().map(|it| it != 0).collect()
+    pub fn marks(self) -> Result<Vec<bool>, NoAnswer> {
+        let mut marks = Vec::new();
+        marks.try_reserve_exact(self.needed)?;
+        marks.extend(self.take().into_iter().map(|it| it != 0));
+        Ok(marks)
     }
 }

@@ -2,12 +2,12 @@
 //! `String`.
 //!
 //! Each call returns [`Error::Refused`] for the fault of the first text that has one, else for the first test that fails,
-//! and [`Error::OutOfMemory`]. Its documentation names the other variants that it returns.
+//! [`Error::OutOfMemory`], and [`Error::UnknownAnswer`]. Its documentation names the other variants that it returns.
 
-use crate::error::NoMemory;
+use crate::error::NoAnswer;
 use crate::ffi::{self, DONE, GAVE_UP, NO_MEMORY, REFUSED};
 use crate::rooms::{Room, LINE};
-use crate::words::{is_feasible, is_infeasible, is_not_optimal, refused, value};
+use crate::words::{is_feasible, is_infeasible, is_not_optimal, known, refused, unknown_status, value, words};
 
 /// Why a call over texts doesn't answer yes. A flow is the text of a solution, or `None` if its cost is out of the
 /// range of such texts. A set is a text too.
@@ -94,17 +94,17 @@ const PATHS: u32 = 3;
 
 /// The lines of a yes, or what the status means.
 fn lines_of(status: u32, lines: Room<u8>) -> Result<String, Error> {
-    let lines = lines.text();
+    let lines = lines.text()?;
     match status {
         DONE => Ok(lines),
         GAVE_UP => Err(Error::GaveUp),
         NO_MEMORY => Err(Error::OutOfMemory),
-        REFUSED => Err(Error::Refused(refused(&lines))),
-        _ => unreachable!("the library answers the status {status}"),
+        REFUSED => Err(Error::Refused(refused(&lines)?)),
+        _ => Ok(unknown_status(status)?),
     }
 }
 
-fn grow<const N: usize>(mut rooms: [&mut Room<u8>; N]) -> Result<bool, NoMemory> {
+fn grow<const N: usize>(mut rooms: [&mut Room<u8>; N]) -> Result<bool, NoAnswer> {
     let is_enough = rooms.iter().all(|it| it.fits());
     for room in &mut rooms {
         room.grow()?;
@@ -178,7 +178,7 @@ fn call_of_two(
             )
         };
         if grow([&mut line, &mut shown])? {
-            return Ok((lines_of(status, line), shown.text()));
+            return Ok((lines_of(status, line), shown.text()?));
         }
     }
 }
@@ -194,7 +194,7 @@ fn spread(kind: u32, instance: &[u8], solution: &[u8]) -> Result<String, Error> 
 
 fn certify_flow(kind: u32, instance: &[u8], solution: &[u8]) -> Result<Certified, Error> {
     match certify(kind, instance, solution)? {
-        (Ok(line), certificate) => Ok(Certified { value: value(&line), certificate }),
+        (Ok(line), certificate) => Ok(Certified { value: value(&line)?, certificate }),
         (Err(Error::Refused(it)), better) if is_not_optimal(&it) => {
             Err(Error::NotOptimal(Some(better).filter(|it| !it.is_empty())))
         }
@@ -228,27 +228,37 @@ fn solve(kind: u32, instance: &[u8], queries: &[u8], limit: u64) -> Result<(Stri
             )
         };
         if grow([&mut lines, &mut solution, &mut shown])? {
-            return Ok((lines_of(status, lines)?, solution.text(), shown.text()));
+            return Ok((lines_of(status, lines)?, solution.text()?, shown.text()?));
         }
     }
 }
 
 fn pair(line: &str) -> Option<Pair> {
-    let mut words = line.split_whitespace().skip(1);
-    let (source, target) = (words.next()?.parse().ok()?, words.next()?.parse().ok()?);
-    let distance = match words.next()? {
-        "unreachable" => Distance::Unreachable,
-        "more" => Distance::Beyond(words.next()?.parse().ok()?),
-        number => Distance::Is(number.parse().ok()?),
+    let (source, target, distance) = match words(line) {
+        [Some("v"), Some(source), Some(target), Some("unreachable"), None, None] => {
+            (source, target, Distance::Unreachable)
+        }
+        [Some("v"), Some(source), Some(target), Some("more"), Some(radius), None] => {
+            (source, target, Distance::Beyond(radius.parse().ok()?))
+        }
+        [Some("v"), Some(source), Some(target), Some(distance), None, None] => {
+            (source, target, Distance::Is(distance.parse().ok()?))
+        }
+        _ => return None,
     };
-    Some(Pair { source, target, distance })
+    Some(Pair { source: source.parse().ok()?, target: target.parse().ok()?, distance })
 }
 
-fn paths(lines: &str) -> Paths {
-    match lines.strip_prefix("v sp ss ") {
-        Some(count) => Paths::Sources(count.trim().parse().unwrap_or_default()),
-        None => Paths::Pairs(lines.lines().filter_map(pair).collect()),
+fn paths(lines: &str) -> Result<Paths, NoAnswer> {
+    if let Some(count) = lines.strip_prefix("v sp ss ") {
+        return known(count.trim_end().parse().ok(), lines).map(Paths::Sources);
     }
+    let mut pairs = Vec::new();
+    pairs.try_reserve_exact(lines.lines().count())?;
+    for line in lines.lines() {
+        pairs.push(known(pair(line), line)?);
+    }
+    Ok(Paths::Pairs(pairs))
 }
 
 /// Judges that a solution's flow is maximum, by a cut. Returns its value.
@@ -260,7 +270,7 @@ fn paths(lines: &str) -> Paths {
 /// assert_eq!(judge_max(pipe, "s six\n", "").unwrap_err().to_string(), "x solution 1 2 BadNumber");
 /// ```
 pub fn judge_max(instance: impl AsRef<[u8]>, solution: impl AsRef<[u8]>, cut: impl AsRef<[u8]>) -> Result<i128, Error> {
-    judge(MAX, [instance.as_ref(), solution.as_ref(), cut.as_ref()], LINE).map(|it| value(&it))
+    Ok(value(&judge(MAX, [instance.as_ref(), solution.as_ref(), cut.as_ref()], LINE)?)?)
 }
 
 /// Judges that a solution's flow costs least, by potentials. Returns its cost.
@@ -275,7 +285,7 @@ pub fn judge_min(
     solution: impl AsRef<[u8]>,
     potentials: impl AsRef<[u8]>,
 ) -> Result<i128, Error> {
-    judge(MIN, [instance.as_ref(), solution.as_ref(), potentials.as_ref()], LINE).map(|it| value(&it))
+    Ok(value(&judge(MIN, [instance.as_ref(), solution.as_ref(), potentials.as_ref()], LINE)?)?)
 }
 
 /// Judges that an instance has no feasible flow, by a set of nodes.
@@ -302,7 +312,7 @@ pub fn judge_paths(
     labels: impl AsRef<[u8]>,
 ) -> Result<Paths, Error> {
     let room = LINE + 4 * queries.as_ref().len();
-    judge(PATHS, [graph.as_ref(), queries.as_ref(), labels.as_ref()], room).map(|it| paths(&it))
+    Ok(paths(&judge(PATHS, [graph.as_ref(), queries.as_ref(), labels.as_ref()], room)?)?)
 }
 
 /// Decides whether a solution's flow is maximum. Returns its value and a cut that [`judge_max`] accepts.
@@ -371,7 +381,7 @@ pub fn certify_paths(graph: impl AsRef<[u8]>, distances: impl AsRef<[u8]>) -> Re
 /// ```
 pub fn solve_max(instance: impl AsRef<[u8]>, limit: u64) -> Result<Solved, Error> {
     let (line, solution, certificate) = solve(MAX, instance.as_ref(), &[], limit)?;
-    Ok(Solved { value: value(&line), solution, certificate })
+    Ok(Solved { value: value(&line)?, solution, certificate })
 }
 
 /// Makes a flow of least cost: the texts of a solution and of potentials. [`Error::Infeasible`] with the text of a set
@@ -387,7 +397,7 @@ pub fn solve_min(instance: impl AsRef<[u8]>, limit: u64) -> Result<Solved, Error
     if is_infeasible(&line) {
         return Err(Error::Infeasible(certificate));
     }
-    Ok(Solved { value: value(&line), solution, certificate })
+    Ok(Solved { value: value(&line)?, solution, certificate })
 }
 
 /// Makes labels, and answers queries by them. [`Error::Refused`] also if a query names an unknown node, or a weight is
@@ -400,12 +410,13 @@ pub fn solve_min(instance: impl AsRef<[u8]>, limit: u64) -> Result<Solved, Error
 /// ```
 pub fn solve_paths(graph: impl AsRef<[u8]>, queries: impl AsRef<[u8]>) -> Result<(Paths, String), Error> {
     let (lines, _, labels) = solve(PATHS, graph.as_ref(), queries.as_ref(), crate::LIMIT)?;
-    Ok((paths(&lines), labels))
+    Ok((paths(&lines)?, labels))
 }
 
 /// Deals a solution out to parallel arcs: adds up the entries with the same ends, and gives each arc with these ends
 /// its share, within its bounds if possible. Returns the text of a solution with the claimed value and an entry for
-/// every arc.
+/// every arc. [`Error::Refused`] also for an entry without an arc, and if the first arc with the same ends, which gets
+/// what is too much or too little, would carry more than 64 bits.
 ///
 /// ```
 /// # use dimacs::texts::spread_max;
@@ -460,5 +471,22 @@ pub fn show(kind: Kind, text: impl AsRef<[u8]>) -> Result<String, Error> {
         if grow([&mut out])? {
             return lines_of(status, out);
         }
+    }
+}
+
+#[cfg(test)]
+mod tests {
+    use super::*;
+
+    #[test]
+    fn answers_of_another_version_are_unknown() {
+        let lines = "v 1 2|v 1 2 far|v 1 2 more|v 1 2 less 3|v 1 x 3|v sp ss|v sp ss x|v 1 4294967296 3";
+        for line in lines.split('|') {
+            assert_eq!(paths(line), Err(NoAnswer::Unknown(line.to_owned())));
+        }
+        assert_eq!(paths("v 1 2 3\n\nv 1 3 4\n"), Err(NoAnswer::Unknown(String::new())));
+        assert_eq!(lines_of(9, Room::new(0).unwrap()), Err(Error::UnknownAnswer("the status 9".to_owned())));
+        assert_eq!(paths("v sp ss 18446744073709551615\n"), Ok(Paths::Sources(u64::MAX)));
+        assert_eq!(paths(""), Ok(Paths::Pairs(Vec::new())));
     }
 }

@@ -1,15 +1,17 @@
 -- Inside: the outcomes of runs, their texts, and what ends a run early.
 use Rattle.std.specs.Prelude.{ℕ, ℤ, ◌≡◌, List, [], ◌∷◌, Option, None, Result, Ok, Err, map}
 use Rattle.dimacs_lines.specs.Devices.{Written}
-use Rattle.dimacs_claims.specs.Cuts.{canonical_cut}
+use Rattle.dimacs_claims.specs.Cuts.{SpellsCut, canonical_cut}
+use Rattle.dimacs_claims.specs.Labels.{AreLabels}
 use Rattle.dimacs_claims.specs.LabelTexts.{canonical_labels}
-use Rattle.dimacs_claims.specs.Potentials.{canonical_potentials}
+use Rattle.dimacs_claims.specs.Potentials.{SpellsPotentials, canonical_potentials}
 use Rattle.dimacs_claims.specs.SolutionTexts.{SolutionValue, canonical_solution, claimed}
 use Rattle.dimacs_optimality.specs.declared.verdict.JudgeError.{JudgeError}
 use Rattle.dimacs_optimality.specs.declared.verdict.JudgeError.TheVariants as judge_errors
 use Rattle.dimacs_optimality.specs.declared.verdict.Verdict.{Verdict}
 use Rattle.dimacs_optimality.specs.declared.verdict.Verdict.TheVariants as verdicts
 use Rattle.dimacs_optimality.specs.declared.verdict.Where.TheVariants.{Arc}
+use Rattle.dimacs_optimality.specs.Tests.{AllClear, FirstAlone, Refuses}
 use Rattle.dimacs_records.specs.declared.faults.ReadError.{ReadError}
 use Rattle.dimacs_records.specs.declared.faults.ReadError.TheVariants as read_errors
 use Rattle.dimacs_records.specs.declared.kinds.TextKind.{TextKind}
@@ -21,7 +23,7 @@ use Rattle.dimacs_solve.specs.declared.maximum.MaxAnswer.{MaxAnswer}
 use Rattle.dimacs_solve.specs.declared.maximum.MaxAnswer.TheVariants as max_answers
 use Rattle.dimacs_solve.specs.declared.least.MinAnswer.{MinAnswer}
 use Rattle.dimacs_solve.specs.declared.least.MinAnswer.TheVariants as min_answers
-use Rattle.dimacs_spread.specs.Spread.{IsRefusal}
+use Rattle.dimacs_spread.specs.Spread.{Deals, spread_rows}
 use Rattle.dimacs_runs.specs.declared.jobs.SpreadKind.{SpreadKind}
 use Rattle.dimacs_runs.specs.declared.status.Status.{Status}
 use Rattle.dimacs_runs.specs.declared.status.RunError.{RunError}
@@ -37,7 +39,7 @@ use Rattle.dimacs_runs.specs.declared.stop.Stop.TheVariants as stops
 use Rattle.dimacs_runs.specs.Judgings.{OneMore}
 use Rattle.dimacs_runs.specs.Outputs.{AcceptAll, AcceptInTurn, MayWrite, WritesAlike}
 use Rattle.dimacs_runs.specs.Runs.{ReportsAlone}
-use Rattle.dimacs_runs.specs.Spread.{IsBestOf, SpreadsFlow}
+use Rattle.dimacs_runs.specs.Spread.{IsBestOf}
 use Rattle.dimacs_runs.specs.inside.Reports.{report_lines, report_status}
 
 -- the bytes of a text
@@ -47,6 +49,14 @@ text_bytes (Solution solution) = canonical_solution (claimed solution)
 text_bytes (Cut cut) = canonical_cut cut
 text_bytes (Potentials potentials) = canonical_potentials potentials
 text_bytes (Labels labels) = canonical_labels labels
+
+-- the certificate's text spells it; labels are lawful, so theirs does if they fit a text
+abbrev pub IsReadable : OutputText → Type 0
+IsReadable Nothing = Unit {0}
+IsReadable (Solution solution) = Unit {0}
+IsReadable (Cut cut) = SpellsCut (canonical_cut cut) cut
+IsReadable (Potentials potentials) = SpellsPotentials (canonical_potentials potentials) potentials
+IsReadable (Labels labels) = AreLabels labels
 
 -- the texts without the claim, and all: the claim, the certificate and the report
 abbrev pub unclaimed_texts : Outcome → List (List ℕ)
@@ -137,5 +147,5 @@ MayCertify writes = IfEnds unclaimed_texts (WritesAlike writes)
 
 -- a flow that deals out a claim, or why there is none
 abbrev pub DealsOut : SpreadKind → List ArcView → SolutionValue → Result (List ℤ) JudgeError → Type 0
-DealsOut kind arcs s (Ok x) = SpreadsFlow arcs s x × IsBestOf kind arcs s x
-DealsOut kind arcs s (Err error) = IsRefusal arcs s.entries error
+DealsOut kind arcs s (Ok x) = AllClear (spread_rows arcs s.entries) × Deals arcs s.entries x × IsBestOf kind arcs s x
+DealsOut kind arcs s (Err error) = Refuses (FirstAlone (spread_rows arcs s.entries)) error

@@ -1,13 +1,13 @@
 -- Inside: rests, stored at the first arc between two nodes.
-use Rattle.std.specs.Prelude.{ℕ, ◌≡◌, ◌≢◌, ◌+◌, ◌*◌, ◌<◌, ◌≤◌, ◌^◌, ◌⊎◌, List, length, Some, ℤ, pos, ◌+ℤ◌, ◌<ℤ◌}
+use Rattle.std.specs.Prelude.{ℕ, ◌≡◌, ◌≢◌, ◌+◌, ◌*◌, ◌<◌, ◌≤◌, ◌^◌, ◌⊎◌, List, length, Some, ℤ, pos, neg_ℤ, ◌+ℤ◌, ◌≤ℤ◌, ◌<ℤ◌}
 use Rattle.dimacs_claims.specs.declared.solution.Entry.{Entry}
 use Rattle.dimacs_network.specs.declared.network.ArcView.{ArcView}
 use Rattle.dimacs_network.specs.Arcs.{IsKthBetween, arc_at}
 use Rattle.dimacs_records.specs.declared.reasons.Reason.{Reason}
 use Rattle.dimacs_records.specs.declared.reasons.Reason.TheVariants.{BelowLow, AboveCap}
-use Rattle.dimacs_optimality.specs.declared.verdict.Where.{Where}
 use Rattle.dimacs_optimality.specs.declared.verdict.Where.TheVariants.{Arc}
 use Rattle.dimacs_optimality.specs.Rows.{amount_at}
+use Rattle.dimacs_optimality.specs.Tests.{Row}
 use Rattle.dimacs_optimality.specs.inside.Ranges.{IsOfSize}
 use Rattle.dimacs_spread.specs.Spread.{arc_sum, entry_sum}
 
@@ -35,6 +35,10 @@ pub record AreLows (arcs : List ArcView) (so_many : ℕ) (x : List ℤ) : Type 0
 abbrev pub RestFails : ℤ → Reason → Type 0
 RestFails rest reason = ((reason ≡ BelowLow) × (rest <ℤ pos 0)) ⊎ ((reason ≡ AboveCap) × (pos 0 <ℤ rest))
 
--- a rest is refused at its arc
-abbrev pub IsOfRest : List ℤ → Where → Reason → Type 0
-IsOfRest rests place reason = (k : ℕ) × (k < length rests) × (place ≡ Arc (k + 1)) × RestFails (amount_at rests k) reason
+-- an amount is less than 64 bits can hold, or more
+abbrev pub LeavesRange : ℤ → Reason → Type 0
+LeavesRange z reason = ((reason ≡ BelowLow) × (z <ℤ neg_ℤ (pos (2 ^ 63)))) ⊎ ((reason ≡ AboveCap) × (pos (2 ^ 63) ≤ℤ z))
+
+-- an amount that leaves the range with its rest
+abbrev pub rest_row : List ℤ → List ℤ → Row
+rest_row x rests k place reason = (k < length rests) × (place ≡ Arc (k + 1)) × LeavesRange (amount_at x k +ℤ amount_at rests k) reason

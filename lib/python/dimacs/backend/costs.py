@@ -6,10 +6,12 @@ import math
 from typing import Any, NamedTuple
 
 import networkx as nx
+from networkx.utils import BinaryHeap
 
-from ..answers import Infeasible, NotOptimal, Refused
+from ..answers import Infeasible, Refused, Unbounded
 from ..arrays import certify_min_arrays, solve_min_arrays
 from ..buffers import NUMBERS
+from ..distances import NegativeCycle, potentials_of
 from .flows import solved as solved_max
 from .given import Arcs, Numbers, Unable, answered, edges_of, graph_of, of_edges, of_nodes, unable, whole_ones
 
@@ -39,8 +41,6 @@ def _network(given: Any, demand: Any, capacity: Any, weight: Any) -> Network:
     graph = graph_of(given)
     if not graph.is_directed():
         raise nx.NetworkXNotImplemented("not implemented for undirected type")
-    if len(graph) == 0:
-        raise nx.NetworkXError("graph has no nodes")
     caps, weights = read(graph, capacity, weight)
     demands = of_nodes(graph, demand, 0, "demand")
     are_floats = caps.are_floats or demands.are_floats
@@ -54,6 +54,8 @@ def _loops_last(given: Network) -> list[tuple[Any, Any, Any]]:
 
 
 def _test_finite(given: Network) -> None:
+    if not given.arcs.nodes:
+        raise nx.NetworkXError("graph has no nodes")
     for node, demand in zip(given.arcs.nodes, given.demands):
         if abs(demand) == math.inf:
             raise nx.NetworkXError(f"node {node!r} has infinite demand")
@@ -74,54 +76,46 @@ def _test_feasible(given: Network) -> None:
             raise nx.NetworkXUnfeasible(f"edge {edge!r} has negative capacity")
 
 
-def _is_bounded(given: Network, limitless: list[int]) -> bool:
-    """Whether no cycle of arcs without a limit has a negative weight: then it costs least that they carry nothing."""
-    weights = [given.weights[arc] for arc in limitless]
-    if min(weights, default=0) >= 0:
-        return True
-    none, nodes = [0] * len(limitless), len(given.arcs.nodes)
+def _solved(given: Network, caps: list[Any], infeasible: str, unbounded: str) -> tuple[int, list[int]]:
+    """The least cost of a flow that meets the demands within these capacities, and the amounts of such a flow."""
+    # An infinite weight is left where nothing can be carried.
+    weights = [0 if cap == 0 else it for cap, it in zip(caps, given.weights)]
+    arcs, supplies = given.arcs, [-it for it in given.demands]
     try:
-        certify_min_arrays(nodes, *given.arcs.some(limitless), none, [1] * len(none), weights, [0] * nodes, none)
-    except NotOptimal:
-        return False
-    return True
-
-
-def _solved(given: Network, caps: list[int], weights: list[int]) -> Any:
-    """A flow of least cost that meets the demands, within these capacities."""
-    supplies = [-it for it in given.demands]
-    try:
-        arcs = given.arcs
-        return solve_min_arrays(len(arcs.nodes), arcs.tails, arcs.heads, [0] * len(caps), caps, weights, supplies)
+        with unable():
+            words = arcs.tails, arcs.heads, [0] * len(caps), caps, weights, supplies
+            return solve_min_arrays(len(arcs.nodes), *words)[:2]
     except Infeasible:
-        raise nx.NetworkXUnfeasible("no flow satisfies all node demands") from None
-
-
-def _test_potentials(given: Network, limitless: list[int], potentials: list[int]) -> None:
-    """The potentials show that a flow costs least even if an arc without a limit has none here either."""
-    for arc, tail, head in zip(limitless, *given.arcs.some(limitless)):
-        if given.weights[arc] - potentials[tail - 1] + potentials[head - 1] < 0:
-            raise Unable("the capacities and demands have a sum that is out of range")
+        raise nx.NetworkXUnfeasible(infeasible) from None
+    except Unbounded:
+        raise nx.NetworkXUnbounded(unbounded) from None
 
 
 def solved(given: Network) -> tuple[int, list[int]]:
-    """The least cost, and the amounts of such a flow."""
+    """The least cost, and the amounts of such a flow, as the network simplex method finds them."""
     _test_finite(given)
     _test_feasible(given)
+    messages = "no flow satisfies all node demands", "negative cycle with infinite capacity found"
+    return _solved(given, given.caps, *messages)
+
+
+def capacity_scaling(
+    G: Any, demand: Any = "demand", capacity: Any = "capacity", weight: Any = "weight", heap: Any = BinaryHeap
+) -> tuple[Any, dict[Any, Any]]:
+    """The least cost of a flow that meets all demands, and such a flow. It isn't found by scaling capacities."""
+    given = _network(G, demand, capacity, weight)
+    if sum(given.demands) != 0:
+        raise nx.NetworkXUnfeasible("Sum of the demands should be 0.")
+    if any(abs(it) == math.inf for it in given.weights):
+        raise Unable("the weight of an edge is infinite")
+    unbounded = "Negative cost cycle of infinite capacity found. Min cost flow may be unbounded below."
     limitless = [arc for arc, cap in enumerate(given.caps) if cap == math.inf]
-    # More than a best flow needs to carry anywhere: without cycles that cost nothing or less it goes along paths that bring
-    # what is demanded, and along cycles that have an arc with a limit.
-    most = sum(it for it in given.caps if it != math.inf) + sum(it for it in given.demands if it > 0) + 1
-    caps = [min(most, NUMBERS.greatest) if it == math.inf else it for it in given.caps]
-    # An infinite weight is left where nothing can be carried.
-    weights = [0 if cap == 0 else it for cap, it in zip(caps, given.weights)]
-    with unable():
-        if not _is_bounded(given, limitless):
-            _solved(given, caps, [0] * len(caps))
-            raise nx.NetworkXUnbounded("negative cycle with infinite capacity found")
-        found = _solved(given, caps, weights)
-    _test_potentials(given, limitless, found.potentials)
-    return found.value, found.flows
+    try:
+        with unable():
+            potentials_of(len(given.arcs.nodes), *given.arcs.some(limitless), [given.weights[arc] for arc in limitless])
+    except NegativeCycle:
+        raise nx.NetworkXUnbounded(unbounded) from None
+    return given.shown(*_solved(given, [max(it, 0) for it in given.caps], "No flow satisfying all demands.", unbounded))
 
 
 def network_simplex(
@@ -149,6 +143,9 @@ def max_flow_min_cost(
 ) -> dict[Any, dict[Any, int]]:
     """A flow of least cost among the maximum flows."""
     graph = graph_of(G)
+    # networkx adds those of the source and the sink to what the other nodes demand.
+    if any(data.get("demand") for node, data in graph.nodes(data=True) if node not in (s, t)):
+        raise Unable("nodes have demands, which networkx would meet too")
     found = solved_max(graph, s, t, capacity)
     demands = {s: -found.value, t: found.value}
     caps, weights = read(graph, capacity, weight)

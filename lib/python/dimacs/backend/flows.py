@@ -7,9 +7,8 @@ from typing import Any, NamedTuple
 
 import networkx as nx
 
-from ..answers import UNREACHED
-from ..arrays import solve_max_arrays, solve_paths_arrays
-from ..buffers import NUMBERS
+from ..answers import Unbounded
+from ..arrays import solve_max_arrays
 from .given import Arcs, Unable, answered, graph_of, of_edges, unable
 
 
@@ -36,37 +35,24 @@ def _test_graph(graph: Any, source: Any, sink: Any) -> None:
         raise nx.NetworkXError("MultiGraph and MultiDiGraph not supported (yet).")
 
 
-def _test_bounded(arcs: Arcs, limitless: list[int], source: int, sink: int) -> None:
-    """Raises NetworkXUnbounded if arcs without a limit lead from the source to the sink."""
-    tails, heads = arcs.some(limitless)
-    found = solve_paths_arrays(len(arcs.nodes), tails, heads, [0] * len(tails), source)
-    if found.distances[sink - 1] != UNREACHED:
-        raise nx.NetworkXUnbounded("Infinite capacity path, flow unbounded above.")
-
-
 def solved(given: Any, source: Any, sink: Any, capacity: Any) -> Found:
     """A maximum flow of a graph."""
     graph = graph_of(given)
     _test_graph(graph, source, sink)
     capacities = of_edges(graph, capacity, math.inf, "capacity", True)
-    # An edge without anything to carry is none to networkx.
-    caps = [max(it, 0) for it in capacities.values]
+    caps = [max(it, 0) for it in capacities.values]  # an edge without anything to carry is none to networkx
     arcs = Arcs(graph)
     ends = arcs.number[source], arcs.number[sink]
-    limitless = [arc for arc, cap in enumerate(caps) if cap == math.inf]
-    with unable():
-        if limitless:
-            _test_bounded(arcs, limitless, *ends)
-            # More than any cut of arcs with a limit: so none without a limit is in a least one.
-            most = min(sum(it for it in caps if it != math.inf) + 1, NUMBERS.greatest)
-            caps = [most if it == math.inf else it for it in caps]
-        value, flows, inside = solve_max_arrays(len(arcs.nodes), *ends, arcs.tails, arcs.heads, caps)
-    if any(inside[tail - 1] and not inside[head - 1] for tail, head in zip(*arcs.some(limitless))):
-        raise Unable("the capacities of the edges have a sum that is out of range")
+    try:
+        with unable():
+            value, flows, inside = solve_max_arrays(len(arcs.nodes), *ends, arcs.tails, arcs.heads, caps)
+    except Unbounded:
+        raise nx.NetworkXUnbounded("Infinite capacity path, flow unbounded above.") from None
     return Found(arcs, value, flows, inside, capacities.are_floats)
 
 
-def _test_words(flow_func: Any, kwargs: dict[str, Any]) -> None:
+def _test_words(given: Any, flow_func: Any, kwargs: dict[str, Any]) -> None:
+    graph_of(given)
     if flow_func is not None:
         raise Unable("flow_func names an algorithm of networkx")
     if kwargs:
@@ -88,7 +74,7 @@ def maximum_flow(
     flowG: Any, _s: Any, _t: Any, capacity: Any = "capacity", flow_func: Any = None, **kwargs: Any
 ) -> tuple[int, dict[Any, dict[Any, int]]]:
     """The value of a maximum flow, and the flow."""
-    _test_words(flow_func, kwargs)
+    _test_words(flowG, flow_func, kwargs)
     found = solved(flowG, _s, _t, capacity)
     flow = found.arcs.flow_dict(answered(found.flows, found.are_floats))
     return found.shown_value(), flow if found.arcs.graph.is_directed() else _netted(flow)
@@ -98,7 +84,7 @@ def maximum_flow_value(
     flowG: Any, _s: Any, _t: Any, capacity: Any = "capacity", flow_func: Any = None, **kwargs: Any
 ) -> int:
     """The value of a maximum flow."""
-    _test_words(flow_func, kwargs)
+    _test_words(flowG, flow_func, kwargs)
     return solved(flowG, _s, _t, capacity).shown_value()
 
 
@@ -106,7 +92,7 @@ def minimum_cut(
     flowG: Any, _s: Any, _t: Any, capacity: Any = "capacity", flow_func: Any = None, **kwargs: Any
 ) -> tuple[int, tuple[set[Any], set[Any]]]:
     """The capacity of a minimum cut, and its two sides: the cut by which a maximum flow was judged."""
-    _test_words(flow_func, kwargs)
+    _test_words(flowG, flow_func, kwargs)
     found = solved(flowG, _s, _t, capacity)
     side = {node for node, is_inside in zip(found.arcs.nodes, found.inside) if is_inside}
     return found.shown_value(), (side, set(found.arcs.nodes) - side)
@@ -117,3 +103,28 @@ def minimum_cut_value(
 ) -> int:
     """The capacity of a minimum cut."""
     return maximum_flow_value(flowG, _s, _t, capacity, flow_func, **kwargs)
+
+
+def gomory_hu_tree(G: Any, capacity: Any = "capacity", flow_func: Any = None) -> nx.Graph:
+    """A tree whose lightest edge between two nodes is the capacity of a minimum cut between them, by Gusfield's method."""
+    graph = graph_of(G)
+    if graph.is_directed():
+        raise nx.NetworkXNotImplemented("not implemented for directed type")
+    if len(graph) == 0:
+        raise nx.NetworkXError("Empty Graph does not have a Gomory-Hu tree representation")
+    root, *others = graph
+    parent, label = dict.fromkeys(others, root), {}
+    for node in others:
+        target = parent[node]
+        value, (side, _) = minimum_cut(graph, node, target, capacity, flow_func)
+        label[node] = value
+        for it in others:
+            if it != node and it in side and parent[it] == target:
+                parent[it], label[it] = node, label.get(it, value)
+        if target != root and parent[target] in side:
+            parent[node], parent[target] = parent[target], node
+            label[node], label[target] = label[target], value
+    tree = nx.Graph()
+    tree.add_nodes_from(graph)
+    tree.add_weighted_edges_from((node, parent[node], label[node]) for node in others)
+    return tree

@@ -14,7 +14,6 @@ from typing import Any, Callable, Iterable, Iterator, NamedTuple
 from ..answers import GaveUp, PastLimit
 from ..buffers import NUMBERS
 
-
 #: Up to here each whole number is a float.
 MOST_FLOAT = 2**53
 
@@ -139,12 +138,11 @@ def _whole(number: Any, what: str, infinite: bool) -> Any:
         if infinite and math.isinf(number):
             return number
         if not number.is_integer() or abs(number) > MOST_FLOAT:
-            raise Unable(f"{what} is {number!r}, which isn't a whole number up to 2^53")
+            raise Unable(f"{what} is {number!r}, not a whole number up to 2^53")
         return int(number)
-    try:
-        found = operator.index(number)
-    except TypeError:
-        raise Unable(f"{what} is {number!r}, which isn't a whole number") from None
+    if not hasattr(number, "__index__"):
+        raise Unable(f"{what} is {number!r}, not a whole number")
+    found = operator.index(number)
     if not _fits(found):
         raise Unable(f"{what} is {found}, which has more than 64 bits")
     return found

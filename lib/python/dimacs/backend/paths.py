@@ -1,13 +1,13 @@
-"""Shortest paths from one node, with the arguments, answers and exceptions of networkx."""
+"""Shortest paths, with the arguments, answers and exceptions of networkx."""
 
 from __future__ import annotations
 
-from typing import Any
+from typing import Any, Callable, Iterable, Iterator
 
 import networkx as nx
 
 from ..answers import UNREACHED
-from ..distances import NegativeCycle, distances_from
+from ..distances import NegativeCycle, distances_from, potentials_of
 from .given import Arcs, Numbers, Unable, answered, edges_of, graph_of, of_edges, unable
 
 
@@ -23,48 +23,46 @@ def weights_of(graph: Any, weight: Any, signed: bool) -> Numbers:
 
 
 class _Tree:
-    """The nodes that a source reaches, the nearest first, with their distances, and a shortest path to each."""
+    """The nodes that sources reach, the nearest first, with their distances, and a shortest path to each."""
 
-    def __init__(self, given: Any, source: Any, weight: Any, signed: bool) -> None:
+    def __init__(self, given: Any, sources: Iterable[Any], weight: Any, signed: bool = False) -> None:
         graph = graph_of(given)
         weights = weights_of(graph, weight, signed)
         arcs = Arcs(graph)
+        self._are_floats, self._nodes, self._number = weights.are_floats, arcs.nodes, arcs.number
+        self._sources = list(sources)
+        starts = [arcs.number[it] for it in self._sources]
+        nodes, tails, heads, lengths, start = len(arcs.nodes), arcs.tails, arcs.heads, weights.values, starts[0]
+        if len(starts) > 1:  # one more node leads to all sources
+            nodes, start = nodes + 1, nodes + 1
+            tails, heads, lengths = tails + [start] * len(starts), heads + starts, lengths + [0] * len(starts)
         with unable():
-            words = len(arcs.nodes), arcs.tails, arcs.heads, weights.values, arcs.number[source]
-            self._distances, self._predecessors = distances_from(*words)
-        self._are_floats = weights.are_floats
-        self._nodes = arcs.nodes
-        self._number = arcs.number
-        self._source = source
+            self._distances, self._predecessors = distances_from(nodes, tails, heads, lengths, start)
 
     def within(self, cutoff: Any = None) -> list[int]:
         """The places of the nodes whose distance isn't above the cutoff."""
         distances = self._distances
         most = UNREACHED - 1 if cutoff is None else min(cutoff, UNREACHED - 1)
-        return sorted((place for place, it in enumerate(distances) if it <= most), key=distances.__getitem__)
+        reached = (place for place in range(len(self._nodes)) if distances[place] <= most)
+        return sorted(reached, key=distances.__getitem__)
 
-    def lengths(self, places: list[int]) -> dict[Any, Any]:
-        """The distances of these nodes, and that of the source, which has one whatever the cutoff is."""
+    def lengths(self, cutoff: Any = None) -> dict[Any, Any]:
+        """The distances up to a cutoff, and those of the sources, which have one whatever the cutoff is."""
+        places = self.within(cutoff)
         lengths = answered((self._distances[place] for place in places), self._are_floats)
-        found = {self._source: 0}
-        found.update(zip((self._nodes[place] for place in places), lengths))
-        return found
+        return {**dict.fromkeys(self._sources, 0), **dict(zip((self._nodes[place] for place in places), lengths))}
 
-    def paths(self, places: list[int]) -> dict[Any, list[Any]]:
-        """Shortest paths to these nodes, and that to the source."""
-        paths: list[Any] = [None] * len(self._nodes)
-        paths[self._number[self._source] - 1] = [self._source]
+    def paths(self, cutoff: Any = None) -> dict[Any, list[Any]]:
+        """Shortest paths to the nodes up to a cutoff, and those to the sources."""
+        places, found = self.within(cutoff), {source: [source] for source in self._sources}
         for place in places:
-            # Of nodes at one distance the predecessor may come later.
-            waiting = []
-            while paths[place] is None:
-                waiting.append(place)
+            waiting = []  # of nodes at one distance the predecessor may come later
+            while self._nodes[place] not in found:
+                waiting.append(self._nodes[place])
                 place = self._predecessors[place] - 1
-            path = paths[place]
-            for place in reversed(waiting):
-                path = paths[place] = [*path, self._nodes[place]]
-        found = {self._source: [self._source]}
-        found.update((self._nodes[place], paths[place]) for place in places)
+            path = found[self._nodes[place]]
+            for node in reversed(waiting):
+                path = found[node] = [*path, node]
         return found
 
     def length_to(self, target: Any, cutoff: Any = None) -> Any:
@@ -78,73 +76,104 @@ class _Tree:
 
     def path_to(self, target: Any) -> list[Any]:
         """A shortest path to a node that is reached."""
-        path, number = [target], self._number[target]
-        while self._nodes[number - 1] != self._source:
-            number = self._predecessors[number - 1]
-            path.append(self._nodes[number - 1])
+        path = [target]
+        while path[-1] not in self._sources:
+            path.append(self._nodes[self._predecessors[self._number[path[-1]] - 1] - 1])
         return path[::-1]
 
+    def to(self, target: Any, message: str, cutoff: Any = None) -> tuple[Any, list[Any]]:
+        """The distance of a node, and a path. Raises NetworkXNoPath with this message if it isn't reached."""
+        length = self.length_to(target, cutoff)
+        if length is None:
+            raise nx.NetworkXNoPath(message)
+        return length, self.path_to(target)
 
-def _test_source(graph: Any, source: Any, message: str) -> None:
-    if source not in graph_of(graph):
-        raise nx.NodeNotFound(message)
+
+def _test_nodes(graph: Any, message: str, *nodes: Any) -> None:
+    for node in nodes:
+        if node not in graph_of(graph):
+            raise nx.NodeNotFound(message.format(node))
 
 
-def _nearest(graph: Any, source: Any, weight: Any) -> _Tree:
+def _nearest(graph: Any, sources: Any, weight: Any) -> _Tree:
     """As Dijkstra's search finds them."""
-    _test_source(graph, source, f"Node {source} not found in graph")
-    return _Tree(graph, source, weight, False)
+    graph = graph_of(graph)
+    if not sources:
+        raise ValueError("sources must not be empty")
+    _test_nodes(graph, "Node {} not found in graph", *sources)
+    return _Tree(graph, sources, weight)
 
 
-def dijkstra_path_length(G: Any, source: Any, target: Any, weight: Any = "weight") -> Any:
-    """The distance from one node to another."""
-    _test_source(G, source, f"Node {source} not found in graph")
-    if source == target:
-        return 0
-    length = _nearest(G, source, weight).length_to(target)
-    if length is None:
-        raise nx.NetworkXNoPath(f"Node {target} not reachable from {source}")
-    return length
+def multi_source_dijkstra(
+    G: Any, sources: Any, target: Any = None, cutoff: Any = None, weight: Any = "weight"
+) -> tuple[Any, Any]:
+    """The distances from the nearest source and shortest paths, or one distance and path."""
+    tree = _nearest(G, sources, weight)
+    if target in sources:
+        return 0, [target]
+    if target is None:
+        return tree.lengths(cutoff), tree.paths(cutoff)
+    return tree.to(target, f"No path to {target}.", cutoff)
+
+
+def multi_source_dijkstra_path(G: Any, sources: Any, cutoff: Any = None, weight: Any = "weight") -> dict[Any, list[Any]]:
+    """Shortest paths from the nearest source."""
+    return _nearest(G, sources, weight).paths(cutoff)
+
+
+def multi_source_dijkstra_path_length(G: Any, sources: Any, cutoff: Any = None, weight: Any = "weight") -> dict[Any, Any]:
+    """The distances from the nearest source."""
+    return _nearest(G, sources, weight).lengths(cutoff)
 
 
 def single_source_dijkstra(
     G: Any, source: Any, target: Any = None, cutoff: Any = None, weight: Any = "weight"
 ) -> tuple[Any, Any]:
     """The distances from a node and shortest paths, or one distance and path."""
-    _test_source(G, source, f"Node {source} not found in graph")
-    if source == target:
-        return 0, [target]
-    tree = _nearest(G, source, weight)
-    if target is None:
-        places = tree.within(cutoff)
-        return tree.lengths(places), tree.paths(places)
-    length = tree.length_to(target, cutoff)
-    if length is None:
-        raise nx.NetworkXNoPath(f"No path to {target}.")
-    return length, tree.path_to(target)
+    return multi_source_dijkstra(G, [source], target, cutoff, weight)
 
 
-def single_source_dijkstra_path(
-    G: Any, source: Any, cutoff: Any = None, weight: Any = "weight"
-) -> dict[Any, list[Any]]:
+def single_source_dijkstra_path(G: Any, source: Any, cutoff: Any = None, weight: Any = "weight") -> dict[Any, list[Any]]:
     """Shortest paths from a node."""
-    tree = _nearest(G, source, weight)
-    return tree.paths(tree.within(cutoff))
+    return multi_source_dijkstra_path(G, [source], cutoff, weight)
 
 
-def single_source_dijkstra_path_length(
-    G: Any, source: Any, cutoff: Any = None, weight: Any = "weight"
-) -> dict[Any, Any]:
+def single_source_dijkstra_path_length(G: Any, source: Any, cutoff: Any = None, weight: Any = "weight") -> dict[Any, Any]:
     """The distances from a node."""
-    tree = _nearest(G, source, weight)
-    return tree.lengths(tree.within(cutoff))
+    return multi_source_dijkstra_path_length(G, [source], cutoff, weight)
+
+
+def dijkstra_path(G: Any, source: Any, target: Any, weight: Any = "weight") -> list[Any]:
+    """A shortest path from one node to another."""
+    return list(single_source_dijkstra(G, source, target, None, weight)[1])
+
+
+def dijkstra_path_length(G: Any, source: Any, target: Any, weight: Any = "weight") -> Any:
+    """The distance from one node to another."""
+    tree = _nearest(G, [source], weight)
+    return 0 if source == target else tree.to(target, f"Node {target} not reachable from {source}")[0]
+
+
+def all_pairs_dijkstra(G: Any, cutoff: Any = None, weight: Any = "weight") -> Iterator[tuple[Any, Any]]:
+    """For each node the distances from it and shortest paths."""
+    return ((node, single_source_dijkstra(G, node, None, cutoff, weight)) for node in list(graph_of(G)))
+
+
+def all_pairs_dijkstra_path_length(G: Any, cutoff: Any = None, weight: Any = "weight") -> Iterator[tuple[Any, Any]]:
+    """For each node the distances from it."""
+    return ((node, single_source_dijkstra_path_length(G, node, cutoff, weight)) for node in list(graph_of(G)))
+
+
+def all_pairs_dijkstra_path(G: Any, cutoff: Any = None, weight: Any = "weight") -> Iterator[tuple[Any, Any]]:
+    """For each node shortest paths from it."""
+    return ((node, single_source_dijkstra_path(G, node, cutoff, weight)) for node in list(graph_of(G)))
 
 
 def _nearest_signed(graph: Any, source: Any, weight: Any) -> _Tree:
     """As Bellman and Ford's search finds them."""
-    _test_source(graph, source, f"Source {source} not in G")
+    _test_nodes(graph, "Source {} not in G", source)
     try:
-        return _Tree(graph, source, weight, True)
+        return _Tree(graph, [source], weight, True)
     except NegativeCycle:
         raise nx.NetworkXUnbounded("Negative cycle detected.") from None
 
@@ -154,25 +183,116 @@ def single_source_bellman_ford(
 ) -> tuple[Any, Any]:
     """The distances from a node and shortest paths, or one distance and path; weights may be negative."""
     if source == target:
-        _test_source(G, source, f"Node {source} is not found in the graph")
+        _test_nodes(G, "Node {} is not found in the graph", source)
         return 0, [source]
     tree = _nearest_signed(G, source, weight)
     if target is None:
-        places = tree.within()
-        return tree.lengths(places), tree.paths(places)
-    length = tree.length_to(target)
-    if length is None:
-        raise nx.NetworkXNoPath(f"Target {target} cannot be reached from given sources")
-    return length, tree.path_to(target)
+        return tree.lengths(), tree.paths()
+    return tree.to(target, f"Target {target} cannot be reached from given sources")
 
 
 def single_source_bellman_ford_path(G: Any, source: Any, weight: Any = "weight") -> dict[Any, list[Any]]:
     """Shortest paths from a node; weights may be negative."""
-    tree = _nearest_signed(G, source, weight)
-    return tree.paths(tree.within())
+    return _nearest_signed(G, source, weight).paths()
 
 
 def single_source_bellman_ford_path_length(G: Any, source: Any, weight: Any = "weight") -> dict[Any, Any]:
     """The distances from a node; weights may be negative."""
-    tree = _nearest_signed(G, source, weight)
-    return tree.lengths(tree.within())
+    return _nearest_signed(G, source, weight).lengths()
+
+
+def bellman_ford_path(G: Any, source: Any, target: Any, weight: Any = "weight") -> list[Any]:
+    """A shortest path from one node to another; weights may be negative."""
+    return list(single_source_bellman_ford(G, source, target, weight)[1])
+
+
+def bellman_ford_path_length(G: Any, source: Any, target: Any, weight: Any = "weight") -> Any:
+    """The distance from one node to another; weights may be negative."""
+    if source == target:
+        _test_nodes(G, "Node {} not found in graph", source)
+        return 0
+    return _nearest_signed(G, source, weight).to(target, f"node {target} not reachable from {source}")[0]
+
+
+def negative_edge_cycle(G: Any, weight: Any = "weight", heuristic: bool = True) -> bool:
+    """Whether a cycle has a negative weight: a proved call found one, or potentials that show that there is none."""
+    graph = graph_of(G)
+    arcs, weights = Arcs(graph), weights_of(graph, weight, True)
+    try:
+        with unable():
+            potentials_of(len(arcs.nodes), arcs.tails, arcs.heads, weights.values)
+    except NegativeCycle:
+        return True
+    return False
+
+
+def single_source_shortest_path(G: Any, source: Any, cutoff: Any = None) -> dict[Any, list[Any]]:
+    """Paths of the fewest edges from a node."""
+    _test_nodes(G, "Source {} not in G", source)
+    return _Tree(G, [source], None).paths(cutoff)
+
+
+def single_source_shortest_path_length(G: Any, source: Any, cutoff: Any = None) -> dict[Any, Any]:
+    """The fewest edges of paths from a node."""
+    _test_nodes(G, "Source {} is not in G", source)
+    return _Tree(G, [source], None).lengths(cutoff)
+
+
+def _tree(graph: Any, source: Any, weight: Any, method: str) -> _Tree:
+    if weight is None:
+        _test_nodes(graph, "Source {} is not in G", source)
+        return _Tree(graph, [source], None)
+    return _nearest_signed(graph, source, weight) if method == "bellman-ford" else _nearest(graph, [source], weight)
+
+
+def _some(given: Any, source: Any, target: Any, weight: Any, method: str, show: Callable[[_Tree], Any]) -> Any:
+    """What `show` makes of the tree from a source, of that to a target, or of that from each node."""
+    graph = graph_of(given)
+    if source is None and target is None:
+        return ((node, show(_tree(graph, node, weight, method))) for node in list(graph))
+    if source is None and graph.is_directed():
+        graph = graph.reverse(copy=False)
+    return show(_tree(graph, target if source is None else source, weight, method))
+
+
+def _one(graph: Any, source: Any, target: Any, weight: Any) -> tuple[Any, list[Any]]:
+    _test_nodes(graph, "Source {} is not in G", source)
+    _test_nodes(graph, "Target {} is not in G", target)
+    return _Tree(graph, [source], weight).to(target, f"No path between {source} and {target}.")
+
+
+def _test_method(given: Any, method: str) -> None:
+    graph_of(given)
+    if method not in ("dijkstra", "bellman-ford"):
+        raise ValueError(f"method not supported: {method}")
+
+
+def shortest_path(G: Any, source: Any = None, target: Any = None, weight: Any = None, method: str = "dijkstra") -> Any:
+    """A shortest path; or those from a node, to a node, or between all."""
+    _test_method(G, method)
+    if source is not None and target is not None:
+        is_signed = method == "bellman-ford" and weight is not None
+        return bellman_ford_path(G, source, target, weight) if is_signed else _one(G, source, target, weight)[1]
+    found = _some(G, source, target, weight, method, _Tree.paths)
+    return found if target is None else {node: path[::-1] for node, path in found.items()}
+
+
+def shortest_path_length(
+    G: Any, source: Any = None, target: Any = None, weight: Any = None, method: str = "dijkstra"
+) -> Any:
+    """A distance; or those from a node, to a node, or between all."""
+    _test_method(G, method)
+    if source is not None and target is not None:
+        if weight is None:
+            return _one(G, source, target, None)[0]
+        length = bellman_ford_path_length if method == "bellman-ford" else dijkstra_path_length
+        return length(G, source, target, weight)
+    return _some(G, source, target, weight, method, _Tree.lengths)
+
+
+def has_path(G: Any, source: Any, target: Any) -> bool:
+    """Whether a path leads from one node to another."""
+    try:
+        return bool(_one(G, source, target, None))
+    except nx.NetworkXNoPath:
+        return False

@@ -1,5 +1,6 @@
 use Rattle.std.proofs.Common.{[], ◌∷◌, Some, ap}
 use Rattle.dimacs_lines.specs.Devices.{InMemory}
+use Rattle.dimacs_runs.specs.Outputs.{WritesAlike}
 use Rattle.dimacs_runs.specs.Spread.{Spreads}
 use Rattle.dimacs_c.specs.Calls.{handed}
 use Rattle.dimacs_c.proofs.CallLemmas.{answered_texts}
@@ -13,6 +14,6 @@ returns c =
     let reports = rw (ap (λ (m : InMemory). m.bytes) c.new-text.ensures, ap (λ (m : InMemory). m.bytes) c.new-report.ensures) at reported in
     let handed_text = rw c.bytes.ensures at c.end.ensures in
     let printed = rw c.bytes-2.ensures at c.end-2.ensures in
-    answered_texts (Spreads c.args.kind a b) c.run_spread-ended.result
+    answered_texts (WritesAlike (Spreads c.args.kind a b)) c.run_spread-ended.result
     ((c.run_spread-ended.new.solution_out.bytes, handed c.args.solution.now c.end.new.out c.end.new.needed) ∷ (c.run_spread-ended.new.report.bytes, handed c.args.out.now c.end-2.new.out c.end-2.new.needed) ∷ [])
     c.run_spread-ended.new.report.bytes c.end-2.result (handed c.args.out.now c.end-2.new.out c.end-2.new.needed) reports ((c.end.result, handed_text), ((c.end-2.result, printed), tt)) printed

@@ -10,7 +10,7 @@ use Rattle.dimacs_runs.specs.Spread.{SpreadsClaim}
 use Rattle.dimacs_runs.specs.inside.Outcomes.{outcome_of}
 use Rattle.dimacs_runs.proofs.SpreadLemmas.{max_deals}
 use Rattle.dimacs_runs.proofs.SolvingLemmas.{counts_none}
-use Rattle.dimacs_runs.proofs.TextLemmas.{spreading, two_end, two_stop}
+use Rattle.dimacs_runs.proofs.TextLemmas.{certifying, two_end, two_stop}
 use Rattle.dimacs_runs.proofs.spread.spread_maximum.Goals as goal
 
 -- the texts were read, and the claim was dealt out
@@ -20,9 +20,9 @@ returns-clause-spreads g c = λ a b first second.
     let instance = c.in_ok-instance.instance in
     let solution = claimed c.in_ok-instance.claim in
     let flow = c.spread_max-flow in
-    let deals = max_deals instance.arcs solution flow.result flow.ensures.deals flow.ensures.kept flow.ensures.refused in
+    let deals = max_deals instance.arcs solution flow.result flow.ensures.deals (flow.ensures.tested, flow.ensures.refused) in
     let fits : SFits w128 c.in_ok-instance.claim.value = search rules in
-    two_end spreading (text_of kinds.Max GivesMax a) (text_of kinds.Solution GivesSolution b) (λ i s. SpreadsClaim Max i.arcs s) instance solution (outcome_of c.answer_spread.result) read.0 read.1
+    two_end certifying (text_of kinds.Max GivesMax a) (text_of kinds.Solution GivesSolution b) (λ i s. SpreadsClaim Max i.arcs s) instance solution (outcome_of c.answer_spread.result) read.0 read.1
     (rw c.network.ensures.arcs at (c.answer_spread.ensures.spreads Max) solution (to_z-of_z w128 c.in_ok-instance.claim.value fits) deals)
 
 pub returns-clause-faults : goal.returns-clause-faults
@@ -31,4 +31,4 @@ returns-clause-faults g c = counts_none (outcome_of c.answer_spread.result) _ _ 
 -- a text could not be read
 pub returns-in_err-instance-clause-spreads : goal.returns-in_err-instance-clause-spreads
 returns-in_err-instance-clause-spreads g c = λ a b first second.
-    two_stop spreading (text_of kinds.Max GivesMax a) (text_of kinds.Solution GivesSolution b) (λ i s. SpreadsClaim Max i.arcs s) _ c.from_residual.result c.from_residual.ensures.1 (c.in_err-instance.ensures.reads a b first second)
+    two_stop certifying (text_of kinds.Max GivesMax a) (text_of kinds.Solution GivesSolution b) (λ i s. SpreadsClaim Max i.arcs s) _ c.from_residual.result c.from_residual.ensures.1 (c.in_err-instance.ensures.reads a b first second)

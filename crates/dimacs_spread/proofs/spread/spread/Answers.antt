@@ -1,7 +1,7 @@
 use Rattle.std.proofs.Common.{◌≡◌, ◌∙◌}
 use Rattle.std.proofs.lemmas.List.{take_at}
 use Rattle.std.proofs.lemmas.Result.{err_from_is_err_and}
-use Rattle.dimacs_spread.specs.Spread.{FirstArcsFail, KeepsBoundsIfAny, NoneCheaper}
+use Rattle.dimacs_spread.specs.Spread.{NoneCheaper}
 use Rattle.dimacs_spread.proofs.spread.spread.Goals as goal
 
 pub returns-in_err-deal-clause-refused : goal.returns-in_err-deal-clause-refused
@@ -10,20 +10,8 @@ returns-in_err-deal-clause-refused g c =
     let refused = rw (c.in_ok-arcs.ensures, c.deref-2.ensures.value) at c.in_err-deal.ensures.refused in
     rw (p.1, p.2) refused
 
-pub returns-clause-kept : goal.returns-clause-kept
-returns-clause-kept g c =
-    let kept : KeepsBoundsIfAny (g.N.Network.list c.args.network.now) c.args.solution.now.entries.items c.deal.new.amounts = rw (c.in_ok-arcs.ensures, c.deref-2.ensures.value) at c.in_ok-deal.ensures.kept in
-    let same : c.from_vec.result ≡ c.deal.new.amounts = c.from_vec.ensures ∙ take_at c.deal.new.amounts _ c.in_ok-amounts.amounts.len (c.deal.auto.amounts ∙ c.deref_mut-2.ensures.len) in
-    rw same kept
-
 pub returns-clause-least : goal.returns-clause-least
 returns-clause-least g c =
     let least : NoneCheaper (g.N.Network.list c.args.network.now) c.args.solution.now.entries.items c.deal.new.amounts = rw (c.in_ok-arcs.ensures, c.deref-2.ensures.value) at c.in_ok-deal.ensures.least in
     let same : c.from_vec.result ≡ c.deal.new.amounts = c.from_vec.ensures ∙ take_at c.deal.new.amounts _ c.in_ok-amounts.amounts.len (c.deal.auto.amounts ∙ c.deref_mut-2.ensures.len) in
     rw same least
-
-pub returns-clause-failing : goal.returns-clause-failing
-returns-clause-failing g c =
-    let failing : FirstArcsFail (g.N.Network.list c.args.network.now) c.args.solution.now.entries.items c.deal.new.amounts = rw (c.in_ok-arcs.ensures, c.deref-2.ensures.value) at c.in_ok-deal.ensures.failing in
-    let same : c.from_vec.result ≡ c.deal.new.amounts = c.from_vec.ensures ∙ take_at c.deal.new.amounts _ c.in_ok-amounts.amounts.len (c.deal.auto.amounts ∙ c.deref_mut-2.ensures.len) in
-    rw same failing

@@ -1,0 +1,12 @@
+use Rattle.std.proofs.Common.{[], ◌∷◌, refl, lit<}
+use Rattle.std.specs.Prelude.{codes}
+use Rattle.dimacs_records.specs.declared.kinds.TextKind.TheVariants.{Queries}
+use Rattle.dimacs_records.specs.declared.records.Record.TheVariants.{SourceQuery}
+use Rattle.dimacs_records.specs.Forms.{Id, form}
+use Rattle.dimacs_records.proofs.PlainRecords.{plain_spells}
+use Rattle.dimacs_records.proofs.plain.queries_line.Goals as goal
+
+pub returns : goal.returns
+returns c =
+    let line = c.in_ok-size.field-0 in
+    plain_spells Queries (form (codes "s") (Id ∷ [])) c.args.bytes.now 115 line.size (SourceQuery line.id) (1, lit< tt, refl) refl refl refl refl c.in_ok-size.ensures

@@ -1,0 +1,235 @@
+// dimacs/lemon.hpp: flows, cuts, potentials and distances over the graphs and maps of LEMON, judged and certified.
+//
+//     lemon::Preflow<Graph, Map> preflow(graph, capacity, source, target);
+//     preflow.run();
+//     auto answer = dimacs::lemon::certify_max(graph, capacity, source, target, preflow.flowMap());
+//     if (!answer) std::cerr << answer.message();  // x arc 17 AboveCap: the arc has LEMON's ID 17
+//
+// Flows, bounds, costs and lengths are maps by arc, supplies and potentials maps by node, of any type that LEMON reads.
+// Their values have to be integers, of any type; dimacs/graphs.hpp has what is thrown if one doesn't fit in 64 bits. An
+// edge of an undirected graph is two arcs, as in LEMON. What is handed out are maps too, which refer to the graph.
+#ifndef DIMACS_LEMON_HPP
+#define DIMACS_LEMON_HPP
+
+#include "graphs.hpp"
+
+#include <lemon/core.h>
+
+namespace dimacs {
+
+inline namespace DIMACS_SPAN {
+
+namespace lemon {
+
+// Numbers by node or by arc, by the graph's IDs, that LEMON reads as a map.
+template <class Graph, class Item, class Number>
+class Map {
+  public:
+    using Key = Item;
+    using Value = Number;
+
+    explicit Map(const Graph &graph, std::size_t size) : graph_(&graph), numbers_(size) {}
+
+    // Throws std::out_of_range for INVALID.
+    Value operator[](const Key &item) const { return numbers_.at(static_cast<std::size_t>(graph_->id(item))); }
+    void set(const Key &item, Value number) { numbers_.at(static_cast<std::size_t>(graph_->id(item))) = number; }
+
+  private:
+    const Graph *graph_;
+    std::vector<Number> numbers_;
+};
+
+// The arcs and nodes of a graph, in the order in which LEMON goes over them.
+template <class G>
+class Index {
+  public:
+    using Node = typename G::Node;
+    using Arc = typename G::Arc;
+    using Marked = Map<G, Node, bool>;
+    using Potential = Map<G, Node, std::int64_t>;
+    using Flow = Map<G, Arc, std::int64_t>;
+
+    explicit Index(const G &graph) : graph_(&graph), numbers_(static_cast<std::size_t>(graph.maxNodeId() + 1)) {
+        Node node;
+        for (graph.first(node); node != ::lemon::INVALID; graph.next(node)) {
+            nodes_.push_back(node);
+            numbers_[static_cast<std::size_t>(graph.id(node))] = size();
+        }
+        Arc arc;
+        for (graph.first(arc); arc != ::lemon::INVALID; graph.next(arc)) {
+            arcs_.push_back(arc);
+            tails_.push_back(number(graph.source(arc)));
+            heads_.push_back(number(graph.target(arc)));
+        }
+    }
+
+    std::uint32_t size() const { return detail::node_count(nodes_.size()); }
+    const std::vector<Node> &nodes() const { return nodes_; }
+    const std::vector<Arc> &arcs() const { return arcs_; }
+    const std::vector<std::uint32_t> &tails() const { return tails_; }
+    const std::vector<std::uint32_t> &heads() const { return heads_; }
+    std::string node_name(std::size_t node) const { return std::to_string(graph_->id(nodes_[node])); }
+    std::string arc_name(std::size_t arc) const { return std::to_string(graph_->id(arcs_[arc])); }
+
+    // The number of a node, from 1. Throws PastLimitAt if the graph doesn't have it.
+    std::uint32_t number(const Node &node) const {
+        const auto id = graph_->id(node);
+        const auto place = static_cast<std::size_t>(id);
+        const std::uint32_t number = id < 0 || place >= numbers_.size() ? 0 : numbers_[place];
+        if (number == 0) detail::throw_no_node<Node, Arc>(node, std::to_string(id));
+        return number;
+    }
+
+    // The numbers of a map, in the order of the arcs or the nodes.
+    template <class Values>
+    std::vector<std::int64_t> by_arc(const Values &map) const {
+        return detail::by_arc(*this, [&](auto k) { return detail::narrow(value_at(map, arcs_[k])); });
+    }
+    template <class Values>
+    std::vector<std::int64_t> by_node(const Values &map) const {
+        return detail::by_node(*this, [&](auto k) { return detail::narrow(value_at(map, nodes_[k])); });
+    }
+
+    // A byte for each node, from a map of truth values.
+    template <class Values>
+    std::vector<std::uint8_t> marks(const Values &map) const {
+        std::vector<std::uint8_t> marks;
+        for (const Node &it : nodes_) marks.push_back(map[it] ? 1 : 0);
+        return marks;
+    }
+
+    // LEMON adds the potential of the tail to a cost; here it is subtracted. All potentials may be moved by one number.
+    static std::vector<std::int64_t> turned(std::vector<std::int64_t> potentials) {
+        const auto least = std::numeric_limits<std::int64_t>::min();
+        const bool has_least = std::find(potentials.begin(), potentials.end(), least) != potentials.end();
+        for (std::int64_t &it : potentials) it = has_least ? -1 - it : -it;
+        return potentials;
+    }
+
+    Flow flow(const std::vector<std::int64_t> &numbers) const {
+        Flow map(*graph_, static_cast<std::size_t>(graph_->maxArcId() + 1));
+        for (std::size_t k = 0; k < arcs_.size(); k++) map.set(arcs_[k], numbers[k]);
+        return map;
+    }
+
+    Marked marked(const std::vector<std::uint8_t> &marks) const {
+        Marked map(*graph_, numbers_.size());
+        for (std::size_t k = 0; k < nodes_.size(); k++) map.set(nodes_[k], marks[k] != 0);
+        return map;
+    }
+
+    Potential potential(const std::vector<std::int64_t> &found) const {
+        const auto numbers = turned(found);
+        Potential map(*graph_, numbers_.size());
+        for (std::size_t k = 0; k < nodes_.size(); k++) map.set(nodes_[k], numbers[k]);
+        return map;
+    }
+
+  private:
+    template <class Values, class Item>
+    static auto value_at(const Values &map, const Item &item) -> std::decay_t<decltype(map[item])> {
+        return map[item];
+    }
+
+    const G *graph_;
+    std::vector<std::uint32_t> numbers_, tails_, heads_;
+    std::vector<Node> nodes_;
+    std::vector<Arc> arcs_;
+};
+
+// The arrays of a minimum cost flow instance.
+template <class G>
+struct MinArrays {
+    template <class Lower, class Upper, class Cost, class Supply>
+    MinArrays(const G &graph, const Lower &lower, const Upper &upper, const Cost &cost, const Supply &supply)
+        : index(graph),
+          lows(index.by_arc(lower)),
+          caps(index.by_arc(upper)),
+          costs(index.by_arc(cost)),
+          supplies(index.by_node(supply)) {}
+
+    MinInstance instance() const { return {index.size(), index.tails(), index.heads(), lows, caps, costs, supplies}; }
+
+    Index<G> index;
+    std::vector<std::int64_t> lows, caps, costs, supplies;
+};
+
+// Decides whether a flow, for example Preflow's flowMap(), is maximum. A yes has a cut, as minCutMap fills one in.
+// NotOptimal has a better flow. RefusedAt has the arc that carries too much or less than 0, or the node out of balance.
+template <class G, class Capacity, class Flow>
+detail::CertifiedMaxOver<Index<G>> certify_max(const G &graph, const Capacity &capacity, typename G::Node source,
+                                               typename G::Node target, const Flow &flow) {
+    const Index<G> index(graph);
+    const auto caps = index.by_arc(capacity), flows = index.by_arc(flow);
+    return detail::certify_max_over(index, detail::max_over(index, index.number(source), index.number(target), caps),
+                                    flows);
+}
+
+// Judges that a flow is maximum, by a cut: a map by node that is true on the source's side.
+template <class G, class Capacity, class Flow, class Cut>
+detail::JudgedFlowOver<Index<G>> judge_max(const G &graph, const Capacity &capacity, typename G::Node source,
+                                           typename G::Node target, const Flow &flow, const Cut &cut) {
+    const Index<G> index(graph);
+    const auto caps = index.by_arc(capacity), flows = index.by_arc(flow);
+    const auto instance = detail::max_over(index, index.number(source), index.number(target), caps);
+    return detail::judge_over(index, [&] { return dimacs::judge_max(instance, flows, index.marks(cut)); });
+}
+
+// Decides whether a flow, as NetworkSimplex' flowMap fills one in, costs least. A yes has potentials, as its
+// potentialMap fills them in. NotOptimal has a cheaper flow. RefusedAt as in certify_max. A node's outflow minus its
+// inflow has to be its supply, so the supplies sum to 0.
+template <class G, class Lower, class Upper, class Cost, class Supply, class Flow>
+detail::CertifiedMinOver<Index<G>> certify_min(const G &graph, const Lower &lower, const Upper &upper, const Cost &cost,
+                                               const Supply &supply, const Flow &flow) {
+    const MinArrays<G> arrays(graph, lower, upper, cost, supply);
+    const auto flows = arrays.index.by_arc(flow);
+    return detail::certify_min_over(arrays.index, arrays.instance(), flows);
+}
+
+// Decides whether no flow is feasible, as after INFEASIBLE of NetworkSimplex. A yes has a map that is true in a set of
+// nodes whose supply can't be met. Feasible has a feasible flow.
+template <class G, class Lower, class Upper, class Supply>
+detail::CertifiedInfeasibleOver<Index<G>> certify_infeasible(const G &graph, const Lower &lower, const Upper &upper,
+                                                             const Supply &supply) {
+    const Index<G> index(graph);
+    const auto lows = index.by_arc(lower), caps = index.by_arc(upper);
+    const auto supplies = index.by_node(supply);
+    const std::vector<std::int64_t> costs(index.arcs().size());
+    const MinInstance instance{index.size(), index.tails(), index.heads(), lows, caps, costs, supplies};
+    return detail::certify_infeasible_over(index, instance);
+}
+
+// Judges that a flow costs least, by LEMON's potentials: an arc's reduced cost is its cost, plus the potential of its
+// source, minus that of its target.
+template <class G, class Lower, class Upper, class Cost, class Supply, class Flow, class Potential>
+detail::JudgedFlowOver<Index<G>> judge_min(const G &graph, const Lower &lower, const Upper &upper, const Cost &cost,
+                                           const Supply &supply, const Flow &flow, const Potential &potential) {
+    const MinArrays<G> arrays(graph, lower, upper, cost, supply);
+    const Index<G> &index = arrays.index;
+    const auto flows = index.by_arc(flow), potentials = index.turned(index.by_node(potential));
+    return detail::judge_over(index, [&] { return dimacs::judge_min(arrays.instance(), flows, potentials); });
+}
+
+// Decides whether the distances that a search found, as Dijkstra, BellmanFord or Bfs with the lengths 1, are right:
+// reached(v) is whether there is a walk to v, and dist(v) the least length of one. RefusedAt has the arc or the node at
+// which they are wrong. A dist(v) of 2^63 - 1 is out of range.
+template <class G, class Length, class Search>
+detail::CertifiedPathsOver<Index<G>> certify_paths(const G &graph, const Length &length, typename G::Node source,
+                                                   const Search &search) {
+    const Index<G> index(graph);
+    const auto distances = detail::by_node(index, [&](auto k) {
+        const auto &node = index.nodes()[k];
+        if (!search.reached(node)) return std::optional(unreached);
+        return detail::array_distance<std::decay_t<decltype(search.dist(node))>>(search.dist(node));
+    });
+    const auto weights = index.by_arc(length);
+    return detail::certify_paths_over(index, index.number(source), weights, distances);
+}
+
+}  // namespace lemon
+
+}  // namespace DIMACS_SPAN
+
+}  // namespace dimacs
+
+#endif

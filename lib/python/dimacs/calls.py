@@ -1,0 +1,151 @@
+"""The calls over arrays, made with arguments that are ready, for all layers. Each yes and each answer is for arcs without a
+limit too: they have one in the library, and the answer is tested for it."""
+
+from __future__ import annotations
+
+from typing import Any, Callable
+
+from . import library
+from .answers import UNREACHED, Certified, Feasible, GaveUp, Infeasible, NotOptimal, Refused, Solved, Unbounded, Verdict
+from .buffers import Room
+from .given import COSTS, DISTANCES_, FLOWS, GRAPH, HEADS, INSIDE, MIN, POTENTIALS, PREDECESSORS, SUPPLIES, TAILS
+from .given import Array, Given
+
+
+def judge(function: Callable[..., int], given: Given) -> Verdict:
+    words = given.words()
+    with given.named():
+        status, line = library.call(function, *words)
+        if status == library.REFUSED:
+            raise library.refusal(line)
+        found = library.verdict(line)
+        if found.kind == "infeasible" and given.limitless() and not _is_violated(given, given.column(INSIDE)):
+            raise Refused("NotViolated", text="certificate", line=0, field=0)
+    return Verdict(found.kind, given.value(found.value) if found.kind in ("max", "min") else found.value)
+
+
+def certify(function: Callable[..., int], given: Given, came: Any, *handed: Array) -> Certified:
+    """Makes a call that certifies. It hands out the certificate, then a better flow."""
+    words = given.words()
+    with given.named():
+        rooms = [given.room(kind) for kind in handed]
+        status, line = library.call_with_rooms(function, words, rooms)
+        if status == library.DONE:
+            value = None if given.form is GRAPH else given.value(library.verdict(line).value)
+            return Certified(value, given.shown(handed[0], rooms[0], came))
+        no = library.refusal(line)
+        if not no.is_about_value():
+            raise no
+        flows = rooms[1].items()
+        values = {"value": given.value_of(given.column(FLOWS)), "better_value": given.value_of(flows)}
+        numbers = {name: given.value(it) for name, it in values.items()}
+        better = given.shown(FLOWS, rooms[1], came)
+        raise NotOptimal(no.reason, better, text=no.text, line=no.line, field=no.field, numbers=numbers)
+
+
+def certify_infeasible(given: Given, came: Any) -> Certified:
+    words = given.words()
+    with given.named():
+        inside, flows = rooms = [given.room(INSIDE), given.room(FLOWS)]
+        status, _ = library.call_with_rooms(library.certify_infeasible_arrays, words, rooms)
+        if status == library.REFUSED:
+            raise Feasible(given.shown(FLOWS, flows, came))
+        return Certified(None, _found_set(given, inside, came))
+
+
+def solve_max(given: Given, came: Any) -> Solved:
+    words = given.words()
+    if given.limitless():
+        _test_bounded_max(given)
+        given.bound_limitless()
+    found, (flows, inside) = _solve(library.solve_max_arrays, given, words, FLOWS, INSIDE)
+    if any(inside.items()[tail - 1] and not inside.items()[head - 1] for tail, head in _limitless_ends(given)):
+        raise GaveUp("the capacities have a sum that is out of range")
+    return Solved(given.value(found.value), given.shown(FLOWS, flows, came), given.shown(INSIDE, inside, came))
+
+
+def solve_min(given: Given, came: Any) -> Solved:
+    words = given.words()
+    limitless = given.limitless()
+    if limitless:
+        given.bound_limitless()
+    try:
+        found, (flows, prices, inside) = _solve(library.solve_min_arrays, given, words, FLOWS, POTENTIALS, INSIDE)
+    except GaveUp:
+        if limitless:
+            _test_bounded_min(given)
+        raise
+    if found.kind == "infeasible":
+        raise Infeasible(_found_set(given, inside, came))
+    costs, potentials = given.column(COSTS), prices.items()
+    for arc, (tail, head) in zip(limitless, _limitless_ends(given)):
+        if costs[arc] - potentials[tail - 1] + potentials[head - 1] < 0:
+            _test_bounded_min(given)
+            raise GaveUp("the capacities and supplies have a sum that is out of range")
+    return Solved(given.value(found.value), given.shown(FLOWS, flows, came), given.shown(POTENTIALS, prices, came))
+
+
+def solve_paths(given: Given, came: Any) -> Solved:
+    _, (distances, before) = _solve(library.solve_paths_arrays, given, given.words(), DISTANCES_, PREDECESSORS)
+    return Solved(None, given.shown(DISTANCES_, distances, came), given.shown(PREDECESSORS, before, came))
+
+
+def _solve(function: Callable[..., int], given: Given, words: list[Any], *handed: Array) -> tuple[Verdict, list[Room]]:
+    with given.named():
+        rooms = [given.room(kind) for kind in handed]
+        status, line = library.call_with_rooms(function, words, rooms)
+        if status == library.REFUSED:
+            raise library.refusal(line)
+        return library.verdict(line), rooms
+
+
+# ---- arcs without a limit
+
+
+def _limitless_ends(given: Given) -> list[tuple[int, int]]:
+    limitless = given.limitless()
+    if not limitless:
+        return []
+    tails, heads = given.column(TAILS), given.column(HEADS)
+    return [(tails[arc], heads[arc]) for arc in limitless]
+
+
+def _test_bounded_max(given: Given) -> None:
+    """Raises Unbounded if arcs without a limit lead from the source to the sink."""
+    tails, heads = zip(*_limitless_ends(given))
+    graph = Given(GRAPH, given.number("nodes"), tails, heads, [0] * len(tails)).add_number("source", given.number("source"))
+    with given.named():
+        distances = solve_paths(graph, []).distances
+        sink = given.number("sink")
+        if 0 < sink <= len(distances) and distances[sink - 1] != UNREACHED:
+            raise Unbounded("arcs without a limit lead from the source to the sink")
+
+
+def _test_bounded_min(given: Given) -> None:
+    """Raises Unbounded if a cycle of arcs without a limit costs less than nothing: if each arc carries at most 1 and no node
+    has a supply, flows of 0 cost least exactly if there is none."""
+    limitless = given.limitless()
+    tails, heads = zip(*_limitless_ends(given))
+    costs = [given.column(COSTS)[arc] for arc in limitless]
+    none, nodes = [0] * len(limitless), given.number("nodes")
+    claim = Given(MIN, nodes, tails, heads, none, [1] * len(none), costs, [0] * nodes).add(FLOWS, none)
+    try:
+        certify(library.certify_min_arrays, claim, [], POTENTIALS, FLOWS)
+    except NotOptimal:
+        raise Unbounded("a cycle of arcs without a limit costs less than nothing") from None
+
+
+def _found_set(given: Given, inside: Room, came: Any) -> Any:
+    """A set that was found to show that no flow is feasible. It has to show it of arcs without a limit too."""
+    if given.limitless() and not _is_violated(given, inside.items()):
+        raise GaveUp("no flow is feasible that stays below 2^63 - 1 on the arcs without a limit")
+    return given.shown(INSIDE, inside, came)
+
+
+def _is_violated(given: Given, inside: Any) -> bool:
+    """Whether a set supplies more than can leave it, or less than has to."""
+    from .compared import crossing
+
+    supply = sum(it for it, is_inside in zip(given.column(SUPPLIES), inside) if is_inside)
+    leaving, entering = (crossing(given, inside, direction) for direction in (1, -1))
+    return not -entering <= supply <= leaving

@@ -1,0 +1,307 @@
+"""The arguments of a call over arrays, as whole numbers in memory; and its answers, in the numbers and names that came."""
+
+from __future__ import annotations
+
+import ctypes
+import math
+from array import array
+from contextlib import contextmanager
+from itertools import compress
+from typing import Any, Callable, Iterable, Iterator, NamedTuple, Sequence
+
+from .answers import UNREACHED, PastLimit, Refused
+from .buffers import CAPACITIES, DISTANCES, IDS, MARKS, NUMBERS, UNLIMITED, Buffer, Items, Room
+from .buffers import array_of, is_numpy, is_single, item, number_of, unlabelled
+from .scales import units_of
+
+#: The greatest number of nodes.
+MOST_NODES = 2**27
+
+#: A demand is a supply negated.
+_DEMANDS = NUMBERS._replace(least=-NUMBERS.greatest, greatest=-NUMBERS.least)
+
+#: Predecessors that count from 0: -1 is none.
+_FROM_ZERO = Items("q", 8, -1, 2**32 - 2)
+
+
+class Array(NamedTuple):
+    """The name of an array, the type of its items, whether there is one for each node or arc, and its unit."""
+
+    name: str
+    items: Items
+    each: str
+    unit: str = ""
+
+
+TAILS, HEADS = (Array(name, IDS, "arcs") for name in ("tails", "heads"))
+LOWS, FLOWS = (Array(name, NUMBERS, "arcs", "amount") for name in ("lows", "flows"))
+CAPS = Array("caps", CAPACITIES, "arcs", "amount")
+COSTS, WEIGHTS = (Array(name, NUMBERS, "arcs", "cost") for name in ("costs", "weights"))
+SUPPLIES = Array("supplies", NUMBERS, "nodes", "amount")
+POTENTIALS = Array("potentials", NUMBERS, "nodes", "cost")
+INSIDE = Array("inside", MARKS, "nodes")
+DISTANCES_ = Array("distances", DISTANCES, "nodes", "cost")
+PREDECESSORS = Array("predecessors", IDS, "nodes")
+
+
+class Form:
+    """An instance in memory: its numbers, and then the address and the length of each array."""
+
+    def __init__(self, numbers: str, *arrays: Array) -> None:
+        self.numbers = numbers.split()
+        self.arrays = arrays
+        fields: list[tuple[str, Any]] = [(name, ctypes.c_uint32) for name in self.numbers]
+        for it in arrays:
+            fields += [(it.name, ctypes.c_void_p), (f"{it.name}_length", ctypes.c_size_t)]
+        self.structure = type("Instance", (ctypes.Structure,), {"_fields_": fields})
+
+
+MAX = Form("nodes source sink", TAILS, HEADS, CAPS)
+MIN = Form("nodes", TAILS, HEADS, LOWS, CAPS, COSTS, SUPPLIES)
+GRAPH = Form("nodes", TAILS, HEADS, WEIGHTS)
+
+
+class Names:
+    """How nodes, arcs and items of arrays are named: by numbers from a base."""
+
+    #: Whether supplies come as demands, negated.
+    has_demands = False
+    #: Whether each number is a distance: only inf says that a node isn't reached.
+    has_inf_alone = False
+
+    def __init__(self, base: int = 1) -> None:
+        if base not in (0, 1):
+            raise ValueError(f"base is {base!r}, and has to be 0 or 1")
+        self.base = base
+
+    def arc(self, place: int) -> Any:
+        """The name of an arc by its place, from 0."""
+        return place + self.base
+
+    def node(self, place: int) -> Any:
+        return place + self.base
+
+    def item(self, name: str, place: int) -> str:
+        return f"{name}[{place}]"
+
+
+class Given:
+    """The arguments of a call: an instance, and those that are added. Keeps the memory of all arrays."""
+
+    def __init__(self, form: Form, *given: Any, scale: Any = None, names: Names | None = None) -> None:
+        self.form, self.names, self._scale = form, names or Names(), scale
+        count = len(form.numbers)
+        self._singles = dict(zip(form.numbers, given))
+        self._raw: dict[Array, Any] = {}
+        self._words: list[Any] = []
+        self._buffers: dict[str, Buffer] = {}
+        for kind, numbers in zip(form.arrays, given[count:]):
+            self._keep(kind, numbers)
+
+    def _keep(self, kind: Array, numbers: Any) -> None:
+        numbers = unlabelled(numbers)
+        self._raw[kind] = list(numbers) if hasattr(numbers, "__next__") else numbers
+
+    def add(self, kind: Array, numbers: Any) -> Given:
+        """Adds an array after the instance."""
+        self._keep(kind, numbers)
+        self._words.append(kind)
+        return self
+
+    def add_number(self, name: str, number: Any, items: Items = IDS) -> Given:
+        """Adds a number after the instance."""
+        self._singles[name] = number
+        self._words.append((name, items))
+        return self
+
+    # ---- the arguments as the library takes them
+
+    def words(self) -> list[Any]:
+        """The arguments. Raises ValueError or TypeError if one of them has a wrong value, length or type."""
+        numbers = {name: self._single(name, IDS) for name in self.form.numbers}
+        self._count = {"nodes": numbers["nodes"]}
+        self._units = units_of(self._scale, self._groups)
+        for kind in self._raw:
+            self._convert(kind)
+        self._test_lengths()
+        fields = [*numbers.values(), *(it for kind in self.form.arrays for it in self._buffers[kind.name].words())]
+        self._instance = self.form.structure(*fields)
+        words: list[Any] = [ctypes.byref(self._instance)]
+        for added in self._words:
+            if isinstance(added, Array):
+                words += self._buffers[added.name].words()
+            else:
+                words.append(self._single(*added))
+        self._test_limitless()
+        return words
+
+    def _single(self, name: str, items: Items) -> int:
+        number = number_of(self._singles[name], items, name)
+        return number + 1 - self.names.base if name in ("source", "sink") else number
+
+    def _convert(self, kind: Array) -> None:
+        numbers = self._raw[kind]
+        if is_single(numbers):
+            wanted = f"an array of {self._count[kind.each]}" if kind.each in self._count else "an array"
+            given = "None" if numbers is None else "one number"
+            raise TypeError(f"{kind.name}: {given}, {wanted} is wanted")
+        if self._units and kind.unit:
+            scale, name = self._units.of(kind.unit), self._namer(kind)
+            numbers = [scale.whole(it, lambda: item(name, k)) for k, it in enumerate(_listed(numbers, name))]
+        self._buffers[kind.name] = found = self._buffer(kind, numbers)
+        if kind.items is DISTANCES and (self._units or self.names.has_inf_alone):
+            self._test_reached(kind, numbers)
+        self._count.setdefault("arcs", found.length)  # one arc for each tail, which are the first
+
+    def _buffer(self, kind: Array, numbers: Any) -> Buffer:
+        """An array in memory, as the library takes it."""
+        name = self._namer(kind)
+        if kind is SUPPLIES and self.names.has_demands:
+            # A number is an int before it is negated: those of numpy have an end.
+            found = array("q", (-number_of(it, _DEMANDS, item(name, k)) for k, it in enumerate(numbers)))
+        elif kind.items is IDS and self.names.base == 0:
+            found = array("I", (it + 1 for it in array_of(numbers, _FROM_ZERO, name).listed(_FROM_ZERO)))
+        else:
+            return array_of(numbers, kind.items, name)
+        return Buffer(found, *found.buffer_info())
+
+    def _test_reached(self, kind: Array, numbers: Any) -> None:
+        """No number says that a node isn't reached."""
+        for place, found in enumerate(self.column(kind)):
+            if found == UNREACHED and numbers[place] != math.inf:
+                raise ValueError(f"{self.names.item(kind.name, place)} is {numbers[place]}, not below 2^63 - 1")
+
+    def _namer(self, kind: Array) -> Callable[[int], str] | str:
+        if type(self.names) is Names:
+            return kind.name
+        return lambda place: self.names.item(kind.name, place)
+
+    def _groups(self, unit: str) -> Iterable[tuple[Sequence[Any], Callable[[int], str]]]:
+        for kind, numbers in self._raw.items():
+            if kind.unit == unit:
+                name = self._namer(kind)
+                yield _listed(numbers, name), lambda place, name=name: item(name, place)
+
+    def _test_lengths(self) -> None:
+        """The library tests the lengths too, but doesn't report which one is wrong."""
+        for kind in self._raw:
+            found, wanted = self._buffers[kind.name].length, self._count[kind.each]
+            if found != wanted:
+                raise ValueError(f"{kind.name} has {found} items, and there are {wanted} {kind.each}")
+
+    # ---- arcs without a limit
+
+    def limitless(self) -> list[int]:
+        """The places of the arcs whose capacity is inf."""
+        return infinite(self._raw[CAPS]) if CAPS in self._raw else []
+
+    def _test_limitless(self) -> None:
+        if FLOWS not in self._raw or not (limitless := self.limitless()):
+            return
+        flows = self.column(FLOWS)
+        for place in limitless:
+            if flows[place] >= UNLIMITED:
+                raise ValueError(f"{self.names.item('flows', place)} is {flows[place]}, and has to be below {UNLIMITED}")
+
+    def bound_limitless(self) -> None:
+        """Gives arcs without a limit more than a best flow needs to carry anywhere: without cycles that cost nothing or less
+        it goes along paths that bring what is supplied, and along cycles that have an arc with a limit."""
+        limitless = self.limitless()
+        caps = array("q", self.column(CAPS))
+        finite = sum(caps) - UNLIMITED * len(limitless)
+        supplied = sum(it for it in self.column(SUPPLIES) if it > 0) if self.form is MIN else 0
+        bound = min(finite + supplied + 1, UNLIMITED)
+        for place in limitless:
+            caps[place] = bound
+        self._buffers[CAPS.name] = Buffer(caps, *caps.buffer_info())
+        self._instance.caps = caps.buffer_info()[0]
+
+    # ---- answers
+
+    def column(self, kind: Array) -> list[int]:
+        """An array as whole numbers."""
+        return self._buffers[kind.name].listed(kind.items)
+
+    def number(self, name: str) -> int:
+        return self._single(name, IDS)
+
+    def count(self, kind: Array) -> int:
+        """The number of items that an array has."""
+        return self._count[kind.each]
+
+    def room(self, kind: Array) -> Room:
+        """Memory for an array that is handed out. If there are too many nodes, the library hands out none."""
+        return Room(kind.items, min(self.count(kind), MOST_NODES) if kind.each == "nodes" else self.count(kind))
+
+    def shown(self, kind: Array, room: Room, came: Any) -> Any:
+        """An array that was handed out, in the user's numbers, and in the form of one that came."""
+        if kind.items is IDS and self.names.base == 0:
+            return _in_form_of([it - 1 for it in room.items()], came, "q")
+        if not (self._units and kind.unit):
+            return room.in_form_of(unlabelled(came))
+        scale = self._units.of(kind.unit)
+        is_distance = kind.items is DISTANCES
+        shown = [math.inf if is_distance and it == UNREACHED else scale.shown(it) for it in room.items()]
+        return _in_form_of(shown, came, "O")
+
+    def value(self, number: int | None) -> Any:
+        """The value of a maximum flow, or a cost, in the user's numbers."""
+        if self._units is None or number is None:
+            return number
+        amount, cost = self._units
+        return (amount if self.form is MAX else amount.times(cost)).shown(number)
+
+    def value_of(self, flows: Sequence[int]) -> int:
+        """The value or the cost of a flow."""
+        if self.form is MIN:
+            return sum(amount * cost for amount, cost in zip(flows, self.column(COSTS)))
+        return self.sent(self.number("source"), flows)
+
+    def sent(self, node: int, flows: Sequence[int]) -> int:
+        """What leaves a node less what enters it."""
+        leaving = sum(compress(flows, (it == node for it in self.column(TAILS))))
+        return leaving - sum(compress(flows, (it == node for it in self.column(HEADS))))
+
+    def amount(self, unit: str, number: int) -> Any:
+        """A number of this unit, in the user's numbers."""
+        return self._units.of(unit).shown(number) if self._units else number
+
+    @contextmanager
+    def named(self) -> Iterator[None]:
+        """Exceptions raised inside name arcs and nodes as the caller does, with the numbers that were compared."""
+        from .compared import compared
+
+        try:
+            yield
+        except (Refused, PastLimit) as it:
+            it.numbers = {**it.numbers, **compared(self, it)}
+            if it.arc is not None:
+                it.arc = self.names.arc(it.arc - 1)
+            if it.node is not None:
+                it.node = self.names.node(it.node - 1) if 0 < it.node <= self.number("nodes") else it.node - 1 + self.names.base
+            raise
+
+
+def infinite(numbers: Any) -> list[int]:
+    """The places of items that are inf."""
+    kind = getattr(getattr(numbers, "dtype", None), "char", None) or getattr(numbers, "typecode", None)
+    kind = kind or getattr(numbers, "format", None)
+    if isinstance(kind, str) and kind[-1] in "?bBhHiIlLqQ":
+        return []
+    return [place for place, it in enumerate(numbers) if type(it) is not int and it == math.inf]
+
+
+def _listed(numbers: Any, name: Any) -> Sequence[Any]:
+    """The items of an array one by one: those of numpy keep their type."""
+    if is_single(numbers) or isinstance(numbers, (str, bytes, dict, set, frozenset)):
+        raise TypeError(f"{name if isinstance(name, str) else 'an array'} is {numbers!r}, and has to be an array")
+    return list(numbers)
+
+
+def _in_form_of(items: list[Any], came: Any, kind: str) -> Any:
+    """Items in an array of numpy if that came, else in a list."""
+    if not is_numpy(unlabelled(came)):
+        return items
+    import numpy
+
+    return numpy.array(items, kind)

@@ -1,0 +1,140 @@
+"""Maximum flows of sparse matrices."""
+
+from __future__ import annotations
+
+import operator
+from dataclasses import dataclass
+from typing import Any
+
+import numpy as np
+from numpy.typing import NDArray
+from scipy import sparse
+
+from .. import calls, library
+from ..answers import Certified, GaveUp, NotOptimal, Refused
+from ..buffers import LIMIT, LIMITS
+from ..given import FLOWS, INSIDE, MAX, Given, Names
+from .entries import Places, entries_of, matrix_of, whole
+
+
+@dataclass(repr=False)
+class MaximumFlowResult:
+    """A maximum flow as SciPy returns it, with a cut that shows it.
+
+    flow_value is its value, flow a matrix in CSR format, whose (i, j)'th entry is what goes from i to j less what goes
+    from j to i, and inside has for each vertex whether it is on the source's side of the cut.
+    """
+
+    flow_value: Any
+    flow: Any
+    inside: NDArray[np.bool_]
+
+    def __repr__(self) -> str:
+        return f"MaximumFlowResult with value of {self.flow_value}"
+
+
+class _EntryNames(Names):
+    """Vertices by their numbers, from 0, and an arc by its two."""
+
+    def __init__(self, tails: Any, heads: Any) -> None:
+        super().__init__(0)
+        self._ends = tails, heads
+
+    def arc(self, place: int) -> Any:
+        return tuple(int(it[place]) for it in self._ends)
+
+
+class _Network:
+    """The entries of a matrix of capacities as arcs, and the source and the sink."""
+
+    def __init__(self, csgraph: Any, source: int, sink: int) -> None:
+        if not (sparse.issparse(csgraph) and csgraph.format == "csr"):
+            raise TypeError("graph must be in CSR format")
+        if csgraph.dtype.kind not in "iu":
+            raise ValueError("graph capacities must be integers")
+        if csgraph.shape[0] != csgraph.shape[1]:
+            raise ValueError("graph must be specified as a square matrix.")
+        self.vertices = csgraph.shape[0]
+        self.source, self.sink = operator.index(source), operator.index(sink)
+        if self.source == self.sink:
+            raise ValueError("source and sink vertices must differ")
+        for name, vertex in ("source", self.source), ("sink", self.sink):
+            if not 0 <= vertex < self.vertices:
+                raise ValueError(f"{name} value ({vertex}) must be between 0 and {self.vertices - 1}")
+        self.form = sparse.csr_array if isinstance(csgraph, sparse.csr_array) else sparse.csr_matrix
+        self.tails, self.heads, caps = entries_of(csgraph)
+        self.caps = whole(caps, self.tails, self.heads)
+        if len(self.caps) and self.caps.min() < 0:
+            arc = int(np.argmax(self.caps < 0))
+            raise ValueError(f"the capacity from {self.tails[arc]} to {self.heads[arc]} is {self.caps[arc]}")
+
+    def given(self) -> Given:
+        """The arguments of calls over arrays."""
+        names = _EntryNames(self.tails, self.heads)
+        return Given(MAX, self.vertices, self.source, self.sink, self.tails, self.heads, self.caps, names=names)
+
+    def matrix(self, flows: Any) -> Any:
+        """A flow as SciPy has it: of 32 bits if all capacities and all of its sums fit those."""
+        # Of each pair of vertices there is one sum. Those of 0 are kept, as they are by SciPy.
+        ends = np.concatenate((self.tails, self.heads)), np.concatenate((self.heads, self.tails))
+        places = Places(*ends, self.vertices)
+        amounts = places.fitting(np.concatenate((flows, -flows)), "the flow", GaveUp)
+        most = max(self.caps.max(initial=0), amounts.max(initial=0))
+        kind = np.int32 if most <= np.iinfo(np.int32).max else np.int64
+        return self.form(matrix_of(places, amounts.astype(kind), self.vertices))
+
+
+def maximum_flow(csgraph: Any, source: int, sink: int, *, method: str = "dinic") -> MaximumFlowResult:
+    """A maximum flow between two vertices, as scipy.sparse.csgraph.maximum_flow returns it, judged by a cut.
+
+    Capacities are integers of up to 64 bits, and none is negative. The method isn't used: the flow may differ from SciPy's,
+    but not its value. TypeError and ValueError are raised as by SciPy, GaveUp as by solve_max_arrays.
+    """
+    given = _Network(csgraph, source, sink)
+    if method not in ("edmonds_karp", "dinic"):
+        raise ValueError(f"{method} method is not supported yet.")
+    value, flows, inside = calls.solve_max(given.given().add_number("limit", LIMIT, LIMITS), given.caps)
+    shown = np.int64(value) if value <= np.iinfo(np.int64).max else value
+    return MaximumFlowResult(shown, given.matrix(flows), inside)
+
+
+def certify_maximum_flow(csgraph: Any, source: int, sink: int, flow: Any) -> Certified:
+    """Decides whether a flow of SciPy is maximum. Returns its value, and for each vertex whether it is inside a cut.
+
+    flow is the result of maximum_flow, or its matrix: an entry that isn't stored is 0, and the one at (j, i) is that at
+    (i, j) negated. Raises NotOptimal with such a matrix of greater value if the flow is feasible, but not maximum; Refused
+    if the flow isn't feasible, or doesn't have the value of the result; ValueError if it is no such matrix. A refusal names a
+    vertex, or an edge as (i, j).
+    """
+    given = _Network(csgraph, source, sink)
+    given.tails, given.heads, given.caps, flows = _by_pair(given, getattr(flow, "flow", flow))
+    try:
+        value, inside = calls.certify(library.certify_max_arrays, given.given().add(FLOWS, flows), flows, INSIDE, FLOWS)
+    except NotOptimal as it:
+        it.better = given.matrix(it.better)
+        raise
+    claimed = getattr(flow, "flow_value", value)
+    if claimed != value:
+        numbers = {"claimed": claimed, "value": value}
+        raise Refused("ValueDiffers", text="solution", line=0, field=0, numbers=numbers)
+    return Certified(value, inside)
+
+
+def _by_pair(given: _Network, flow: Any) -> tuple[Any, Any, Any, Any]:
+    """Each pair of vertices from one of which to the other there is a capacity or a flow: the two, and the sum of either."""
+    matrix = sparse.coo_matrix(flow)
+    if matrix.shape != (given.vertices, given.vertices):
+        raise ValueError(f"the flow has the shape {matrix.shape}, and the graph has {given.vertices} vertices")
+    rows, columns, values = entries_of(matrix)
+    amounts, none = whole(values, rows, columns), np.zeros(len(values), np.int64)
+    ends = np.concatenate((given.tails, rows, columns)), np.concatenate((given.heads, columns, rows))
+    places = Places(*ends, given.vertices)
+    no_caps = np.zeros(len(given.caps), np.int64)
+    caps = places.fitting(np.concatenate((given.caps, none, none)), "the capacity")
+    both_ways = places.sums(np.concatenate((no_caps, amounts, amounts))).are_zero()
+    if not both_ways.all():
+        place = places.at(int(np.argmin(both_ways)))
+        raise ValueError(f"the flow at {place} isn't that at {place[::-1]} negated, as SciPy has it")
+    sums = places.fitting(np.concatenate((no_caps, amounts, none)), "the flow")
+    kept = (caps > 0) | (sums > 0)
+    return places.rows[kept], places.columns[kept], caps[kept], np.maximum(sums[kept], 0)

@@ -1,0 +1,137 @@
+"""Shortest paths of matrices."""
+
+from __future__ import annotations
+
+from typing import Any
+
+import numpy as np
+from scipy import sparse
+from scipy.sparse import csgraph as scipy_graphs
+
+from ..answers import UNREACHED, GaveUp
+from ..arrays import solve_paths_arrays
+from ..distances import NegativeCycle, distances_from, potentials_of
+from .entries import Places, entries_of, numbers_of, whole
+
+#: SciPy's predecessor of a vertex that has none.
+NO_PREDECESSOR = -9999
+
+_METHODS = ("auto", "FW", "D", "BF", "J")
+
+#: The formats in which several entries at a place are several edges, as by SciPy. In others they are one, of their sum.
+_SEVERAL = ("csr", "csc")
+
+
+def _stored(matrix: Any) -> tuple[Any, Any, Any]:
+    """The entries of a sparse matrix, but for those at a place with inf, which is no edge."""
+    rows, columns, values = entries_of(matrix)
+    kept = values != np.inf
+    if not (kept.all() or matrix.format in _SEVERAL):
+        kept = ~Places(rows, columns, matrix.shape[1]).share(~kept)
+    return rows[kept], columns[kept], values[kept]
+
+
+def _shown(csgraph: Any) -> tuple[Any, Any, Any, Any]:
+    """The shape of a matrix that isn't sparse, and its entries that are edges."""
+    matrix = np.ma.masked_invalid(np.ma.asarray(csgraph), copy=True)
+    if matrix.ndim != 2:
+        raise ValueError("compressed-sparse graph must be 2-D")
+    filled = matrix.filled(0)
+    rows, columns = np.nonzero(filled)
+    return matrix.shape, rows, columns, filled[rows, columns]
+
+
+def _edges(csgraph: Any, unweighted: bool) -> tuple[int, Any, Any, Any]:
+    """The number of vertices of a graph, and the ends and weights of its edges."""
+    is_sparse = sparse.issparse(csgraph)
+    shape, rows, columns, values = (csgraph.shape, *_stored(csgraph)) if is_sparse else _shown(csgraph)
+    if shape[0] != shape[1]:
+        raise ValueError("graph should be a square array")
+    if unweighted:
+        return shape[0], rows, columns, np.ones(len(rows), np.int64)
+    weights = whole(values, rows, columns)
+    if not is_sparse or csgraph.format in _SEVERAL:
+        return shape[0], rows, columns, weights
+    places = Places(rows, columns, shape[1])
+    return shape[0], places.rows, places.columns, places.fitting(weights, "the weight")
+
+
+def _sources(indices: Any, vertices: int) -> Any:
+    """The vertices that are asked for, in the shape in which they are."""
+    if indices is None:
+        return np.arange(vertices)
+    found = np.array(indices, dtype=np.int64)
+    found[found < 0] += vertices
+    if ((found < 0) | (found >= vertices)).any():
+        raise ValueError("indices out of range 0...N")
+    return found
+
+
+class _Distances:
+    """How the distances from a source are made: by one call, or by more if weights are negative."""
+
+    def __init__(self, vertices: int, tails: Any, heads: Any, weights: Any, method: str) -> None:
+        self._words = vertices, numbers_of(tails), numbers_of(heads), weights
+        self._is_signed = len(weights) > 0 and weights.min() < 0
+        self._potentials = None
+        if self._is_signed:
+            self._words = vertices, *(it.tolist() for it in self._words[1:])
+            # By this method SciPy asks only of what the sources reach whether there is a negative cycle.
+            self._potentials = None if method == "BF" else potentials_of(*self._words)
+
+    def from_source(self, source: int) -> tuple[Any, Any]:
+        if self._is_signed:
+            return tuple(map(np.array, distances_from(*self._words, source + 1, self._potentials)))
+        return solve_paths_arrays(*self._words, source + 1)[1:]
+
+
+def _as_floats(distances: Any, source: int) -> Any:
+    """Distances as SciPy has them. Raises GaveUp if one is no float."""
+    found = distances.astype(np.float64)
+    with np.errstate(invalid="ignore"):  # 2^63 is past the end
+        lost = (found.astype(np.int64) != distances) & (distances != UNREACHED)
+    if lost.any():
+        vertex = int(np.argmax(lost))
+        raise GaveUp(f"the distance from {source} to {vertex} is {distances[vertex]}, and there is no such float")
+    found[distances == UNREACHED] = np.inf
+    return found
+
+
+def shortest_path(
+    csgraph: Any,
+    method: str = "auto",
+    directed: bool = True,
+    return_predecessors: bool = False,
+    unweighted: bool = False,
+    overwrite: bool = False,
+    indices: Any = None,
+) -> Any:
+    """Distances between vertices, as scipy.sparse.csgraph.shortest_path returns them, judged by predecessors.
+
+    Weights are whole numbers of up to 64 bits, in integers or floats; some may be negative. The method isn't used, except
+    that "BF" allows a negative cycle that no source reaches. Raises ValueError and NegativeCycleError as SciPy, ValueError
+    if a weight isn't whole, and GaveUp if a distance is above 2^53 and no float, or if it, or a number that is needed for
+    negative weights, is out of the range of 64 bits.
+    """
+    if method not in _METHODS:
+        raise ValueError(f"unrecognized method '{method}'")
+    if method == "FW" and indices is not None:
+        raise ValueError("Cannot specify indices with method == 'FW'.")
+    vertices, tails, heads, weights = _edges(csgraph, unweighted)
+    if not directed:
+        tails, heads, weights = np.append(tails, heads), np.append(heads, tails), np.append(weights, weights)
+    sources = _sources(indices, vertices)
+    distances = np.empty((sources.size, vertices), np.float64)
+    predecessors = np.empty((sources.size, vertices), np.int32)
+    try:
+        graph = _Distances(vertices, tails, heads, weights, method)
+        for row, source in enumerate(map(int, sources.flat)):
+            found, before = graph.from_source(source)
+            distances[row] = _as_floats(found, source)
+            predecessors[row] = np.where(before > 0, before.astype(np.int64) - 1, NO_PREDECESSOR)
+    except NegativeCycle as it:
+        raise scipy_graphs.NegativeCycleError(str(it)) from None
+    shape = (*sources.shape, vertices)
+    if return_predecessors:
+        return distances.reshape(shape), predecessors.reshape(shape)
+    return distances.reshape(shape)

@@ -1,0 +1,291 @@
+"""What exceptions say, whole: one row for each."""
+
+import pathlib
+import pickle
+import tempfile
+import unittest
+from fractions import Fraction
+
+import dimacs
+
+try:
+    import networkx
+except ImportError:
+    networkx = None
+
+try:
+    import numpy
+except ImportError:
+    numpy = None
+
+INF, NAN = float("inf"), float("nan")
+TEXT = "p max 2 1\nn 1 s\nn 2 t\na 1 2 3\n"
+MAX = 3, 1, 3, [1, 2], [2, 3], [5, 4]
+MIN = 2, [1, 1], [2, 2], [1, 0], [5, 5], [3, 7], [6, -6]
+PATHS = 3, [1, 2], [2, 3], [5, 4]
+
+
+def changed(words, place, item):
+    return (*words[:place], item, *words[place + 1 :])
+
+
+class Errors(unittest.TestCase):
+    def rows(self, kind, rows):
+        for message, call, *words in rows:
+            with self.subTest(message), self.assertRaises(kind) as caught:
+                call(*words)
+            self.assertEqual(str(caught.exception), message)
+            again = pickle.loads(pickle.dumps(caught.exception))
+            self.assertEqual((type(again), str(again), repr(again)), (kind, message, repr(caught.exception)))
+
+
+class Arrays(Errors):
+    def test_refused(self):
+        judge_max, judge_min = dimacs.judge_max_arrays, dimacs.judge_min_arrays
+        judge_paths, certify_paths = dimacs.judge_paths_arrays, dimacs.certify_paths_arrays
+        cut, prices = [True, True, False], [7, 0]
+        self.rows(
+            dimacs.Refused,
+            [
+                ("arc 2 AboveCap: it carries 5, its capacity is 4", judge_max, *MAX, [4, 5], cut),
+                ("arc 1 BelowLow: it carries -1, its lower bound is 0", judge_max, *MAX, [-1, 0], cut),
+                ("node 2 Balance: 3 leaves, 4 enters", judge_max, *MAX, [4, 3], cut),
+                ("node 1 SourceOutside", judge_max, *MAX, [4, 4], [0, 0, 0]),
+                ("node 3 SinkInside", judge_max, *MAX, [4, 4], [1, 1, 1]),
+                ("arc 2 NotSaturated: it leaves the cut and carries 3, its capacity is 4", judge_max, *MAX, [3, 3], cut),
+                (
+                    "arc 1 BackFlow: it enters the cut and carries 1",
+                    judge_max,
+                    *(3, 2, 3, [1, 2, 2], [2, 3, 1], [5, 1, 1], [1, 1, 1], [0, 1, 0]),
+                ),
+                ("arc 1 BelowLow: it carries 0, its lower bound is 1", judge_min, *MIN, [0, 6], prices),
+                ("node 1 Balance: 4 leaves, its supply is 6", judge_min, *MIN, [4, 0], prices),
+                (
+                    "arc 1 NotTight: its reduced cost is -4, and it carries 4 of 1 to 5",
+                    judge_min,
+                    *(*MIN, [4, 2], prices),
+                ),
+                (
+                    "certificate 0 0 NotViolated: the set supplies 6, and from 1 to 10 can leave it",
+                    dimacs.judge_infeasible_arrays,
+                    *(*MIN, [1, 0]),
+                ),
+                ("node 1 NotShortest: the source is at 1", certify_paths, *PATHS, 1, [1, 5, 9]),
+                ("arc 2 NotShortest: 5 and its weight 4 are less than 10", certify_paths, *PATHS, 1, [0, 5, 10]),
+                ("arc 2 Escapes: its tail is at 5, its head isn't reached", certify_paths, *PATHS, 1, [0, 5, INF]),
+                ("node 3 NoTightArc: no arc gives its distance 8", certify_paths, *PATHS, 1, [0, 5, 8]),
+                (
+                    "node 3 NoTightArc: no arc from 1 gives its distance 9",
+                    judge_paths,
+                    *(*PATHS, 1, [0, 5, 9], [0, 1, 1]),
+                ),
+                (
+                    "node 2 NodeRange: its predecessor is 4, and there are 3 nodes",
+                    judge_paths,
+                    *(*PATHS, 1, [0, 5, 9], [0, 4, 2]),
+                ),
+                (
+                    "node 2 PredUnknown: its predecessors don't lead back to the source",
+                    judge_paths,
+                    *(*PATHS, 1, [0, 5, 9], [0, 3, 2]),
+                ),
+                ("arc 1 NegativeWeight: its weight is -1", dimacs.solve_paths_arrays, 2, [1], [2], [-1], 1),
+            ],
+        )
+
+    def test_cost_out_of_range(self):
+        most = 4 * 10**18
+        words = 2, [1], [2], [0], [most], [most], [most, -most], [most]
+        self.rows(dimacs.Refused, [(f"arc 1 CostRange: the cost up to it is {most * most}", dimacs.certify_min_arrays, *words)])
+
+    def test_not_optimal(self):
+        self.rows(
+            dimacs.NotOptimal,
+            [
+                (
+                    "solution 0 0 NotMaximum: its value is 3, and that of a better flow 4",
+                    *(dimacs.certify_max_arrays, *MAX, [3, 3]),
+                ),
+                (
+                    "solution 0 0 NotLeast: it costs 26, and a better flow 22",
+                    *(dimacs.certify_min_arrays, *MIN, [4, 2]),
+                ),
+                (
+                    "solution 1 2 NotMaximum: its value is 1, and that of a better flow 3",
+                    *(dimacs.certify_max, TEXT, "s 1\nf 1 2 1\n"),
+                ),
+            ],
+        )
+        with self.assertRaises(dimacs.NotOptimal) as caught:
+            dimacs.certify_max_arrays(*MAX, [3, 3])
+        self.assertEqual((caught.exception.value, caught.exception.better_value), (3, 4))
+        shown = "NotOptimal('NotMaximum', text='solution', line=0, field=0, numbers={'value': 3, 'better_value': 4}, better=[4, 4])"
+        self.assertEqual(repr(caught.exception), shown)
+
+    def test_numbers(self):
+        flows, certify = [0, 4], dimacs.certify_max_arrays
+        range_32 = "not a whole number of 0 to 4294967295"
+        self.rows(
+            ValueError,
+            [
+                ("flows[1] is nan, not a whole number", certify, *MAX, [0, NAN]),
+                ("flows[1] is 2.5, not a whole number", certify, *MAX, [0, 2.5]),
+                ("flows[0] is 5/2, not a whole number", certify, *MAX, [Fraction(5, 2), 0]),
+                ("flows[0] is inf, not a whole number", certify, *MAX, [INF, 0]),
+                ("caps[0] is 9223372036854775808, not a whole number of 64 bits", certify, *changed(MAX, 5, [2**63, 0]), flows),
+                (f"tails[1] is -1, {range_32}", certify, *changed(MAX, 3, [1, -1]), flows),
+                (f"nodes is -1, {range_32}", certify, *changed(MAX, 0, -1), flows),
+                ("source is 1.5, not a whole number", certify, *changed(MAX, 1, 1.5), flows),
+                ("inside[2] is 256, not a whole number of 0 to 255", dimacs.judge_max_arrays, *MAX, flows, [1, 0, 256]),
+                ("caps has 1 items, and there are 2 arcs", certify, *changed(MAX, 5, [1]), flows),
+                ("base is 2, and has to be 0 or 1", lambda: certify(*MAX, flows, base=2)),
+                (
+                    "flows[0] is 9223372036854775807, and has to be below 9223372036854775807",
+                    *(certify, *changed(MAX, 5, [INF, 4]), [2**63 - 1, 0]),
+                ),
+            ],
+        )
+        self.rows(
+            TypeError,
+            [
+                ("caps: one number, an array of 2 is wanted", certify, *changed(MAX, 5, 5), flows),
+                ("tails: one number, an array is wanted", certify, *changed(MAX, 3, 5), flows),
+                ("flows: None, an array of 2 is wanted", certify, *MAX, None),
+                ("flows[0] is '4', not a number", certify, *MAX, ["4", 0]),
+                ("source is '1', not a number", certify, *changed(MAX, 1, "1"), flows),
+                ("flows is a dict, whose items have no places as those of an array", certify, *MAX, {0: 4, 1: 4}),
+            ],
+        )
+
+    @unittest.skipUnless(numpy, "no numpy")
+    def test_numbers_of_numpy(self):
+        wide = numpy.zeros(20)
+        wide[17] = NAN
+        graph = 2, 1, 2, [1] * 20, [2] * 20, [3] * 20
+        certify = dimacs.certify_max_arrays
+        self.rows(
+            ValueError,
+            [
+                ("flows[17] is nan, not a whole number", certify, *graph, wide),
+                ("flows[1] is 9223372036854775808, not a whole number of 64 bits", certify, *MAX, numpy.array([0, 2**63], "uint64")),
+                ("flows has 2 dimensions, and not one", certify, *MAX, numpy.zeros((2, 2))),
+            ],
+        )
+        self.rows(TypeError, [("caps: one number, an array of 2 is wanted", certify, *changed(MAX, 5, numpy.array(5)), [0, 0])])
+
+    def test_past_limit(self):
+        certify, flows, base = dimacs.certify_max_arrays, [4, 4], "nodes are numbered from 1, and there are 3"
+        self.rows(
+            dimacs.PastLimit,
+            [
+                (f"arc 2 NodeRange: it goes from 2 to 4; {base}", certify, *changed(MAX, 4, [2, 4]), flows),
+                (
+                    f"arc 1 NodeRange: it goes from 0 to 2; {base}; base=0 numbers them from 0",
+                    *(certify, *changed(MAX, 3, [0, 2]), flows),
+                ),
+                (f"node 4 NodeRange: {base}", certify, *changed(MAX, 2, 4), flows),
+                ("node 1 NodeTwice: it is the source and the sink", certify, *changed(MAX, 2, 1), flows),
+                ("arc 2 BoundOrder: its lower bound is 0, its capacity -1", certify, *changed(MAX, 5, [1, -1]), flows),
+                ("arc 1 BoundOrder: its lower bound is 6, its capacity 5", dimacs.solve_min_arrays, *changed(MIN, 3, [6, 0])),
+            ],
+        )
+
+    def test_unbounded(self):
+        message = "arcs without a limit lead from the source to the sink"
+        self.rows(dimacs.Unbounded, [(message, dimacs.solve_max_arrays, *changed(MAX, 5, [INF, INF]))])
+        message = "a cycle of arcs without a limit costs less than nothing"
+        words = 2, [1, 2], [2, 1], [0, 0], [INF, INF], [1, -2], [0, 0]
+        self.rows(dimacs.Unbounded, [(message, dimacs.solve_min_arrays, *words)])
+
+
+class Scales(Errors):
+    def test_what_is_no_multiple(self):
+        def certify(caps, scale):
+            return dimacs.certify_max_arrays(*changed(MAX, 5, caps), [0, 0], scale=scale)
+
+        self.rows(
+            ValueError,
+            [
+                ("caps[1] is 0.125, not a multiple of 1/100: the nearest is 0.12", certify, [1, 0.125], 100),
+                ("caps[0] is 1/3, not a multiple of 1/100: the nearest is 0.33", certify, [Fraction(1, 3), 1], 100),
+                ("caps[0] is nan, not a finite number", certify, [NAN, 1], 100),
+                ("scale is -1, and has to be above 0", certify, [1, 1], -1),
+                ("caps[1] is 1e+30: with the least common denominator 1 it has more than 64 bits", certify, [1, 1e30], "exact"),
+            ],
+        )
+        message = "scale is 0.1: pass an int or a Fraction, by which numbers are multiplied, or a Decimal, their unit"
+        self.rows(TypeError, [(message, certify, [1, 1], 0.1), ("caps[0] is 'x', not a number", certify, ["x", 1], 100)])
+
+
+class Texts(Errors):
+    def test_texts(self):
+        certify = dimacs.certify_max
+        with tempfile.TemporaryDirectory() as folder:
+            name = pathlib.Path(folder, "net.max")
+            name.write_text(TEXT)
+            self.assertEqual(certify(name, "s 3\nf 1 2 3\n"), (3, "p cut 2 1\nu 1\n"))
+            message = f"certify_max takes texts, and {str(name)!r} names a file: pass pathlib.Path({str(name)!r})"
+            self.rows(ValueError, [(message, certify, str(name), "s 3\n")])
+            self.rows(ValueError, [(message.replace("certify_max", "show"), dimacs.show, "max", str(name))])
+        for given in (None, 5, ["p max"]):
+            message = f"certify_max takes texts, not {type(given).__name__}: for a file pass pathlib.Path(..)"
+            self.rows(TypeError, [(message, certify, given, "s 3\n")])
+        self.rows(dimacs.Refused, [("instance 1 2 BadWord", dimacs.judge_min, TEXT, "s 3\n", "")])
+
+
+@unittest.skipUnless(networkx, "no networkx")
+class Graphs(Errors):
+    def graph(self, kind="DiGraph", **data):
+        made = getattr(networkx, kind)()
+        made.add_node("Leeds", demand=-30)
+        made.add_node("York", demand=30)
+        made.add_edge("Leeds", "York", **data)
+        return made
+
+    def test_refused(self):
+        flow = {"Leeds": {"York": 31}}
+        certify_min, certify_max = dimacs.certify_networkx_min, dimacs.certify_networkx_max
+        self.rows(
+            dimacs.Refused,
+            [
+                ("node 'Leeds' Balance: 31 leaves, its supply is 30", certify_min, self.graph(), flow),
+                (
+                    "arc ('Leeds', 'York') AboveCap: it carries 31, its capacity is 9",
+                    *(certify_max, self.graph(capacity=9), "Leeds", "York", flow),
+                ),
+                (
+                    "node 'York' NoTightArc: no arc gives its distance 0",
+                    *(dimacs.certify_networkx_paths, self.graph(), "Leeds", {"Leeds": 0, "York": 0}),
+                ),
+            ],
+        )
+        with self.assertRaises(dimacs.Refused) as caught:
+            certify_min(self.graph(), flow)
+        self.assertEqual(repr(caught.exception), "Refused('Balance', node='Leeds', numbers={'leaves': 31, 'supply': 30})")
+
+    def test_arguments(self):
+        certify, name = dimacs.certify_networkx_max, "of edge ('Leeds', 'York')"
+        ends = "Leeds", "York", {}
+        undirected = "the graph is undirected: graph.to_directed() has an arc each way"
+        self.rows(
+            ValueError,
+            [
+                (f"capacity {name} is 2.5, not a whole number", certify, self.graph(capacity=2.5), *ends),
+                (f"weight {name} is 2.5, not a whole number", dimacs.solve_networkx_paths, self.graph(weight=2.5), "Leeds"),
+                (f"flow {name} is -0.5, not a whole number", certify, self.graph(), *ends[:2], {"Leeds": {"York": -0.5}}),
+                (undirected, certify, self.graph("Graph"), *ends),
+                ("'Hull' is no node of the graph", certify, self.graph(), "Hull", *ends[1:]),
+                (
+                    "the flow has an entry of ('York', 'Leeds'), which is no edge of the graph",
+                    *(certify, self.graph(), *ends[:2], {"York": {"Leeds": 1}}),
+                ),
+                (
+                    "distance of node 'York' is 9223372036854775807, not below 2^63 - 1",
+                    *(dimacs.certify_networkx_paths, self.graph(), "Leeds", {"Leeds": 0, "York": 2**63 - 1}),
+                ),
+            ],
+        )
+
+
+if __name__ == "__main__":
+    unittest.main()

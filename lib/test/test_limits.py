@@ -1,0 +1,658 @@
+"""Every layer near the ends of types: random cases, each of whose answers is computed here once more in whole numbers.
+
+DIMACS_CASES=20 has 20 times as many cases run. A case is drawn by its number alone, which is named if it fails.
+"""
+
+import array
+import itertools
+import math
+import os
+import random
+import unittest
+
+import dimacs
+from dimacs import ortools
+
+try:
+    import networkx
+except ImportError:
+    networkx = None
+else:
+    from dimacs import backend
+
+try:
+    import numpy
+    from scipy import sparse
+    from scipy.sparse import csgraph
+except ImportError:
+    numpy = csgraph = None
+else:
+    from dimacs import scipy as ours
+
+TIMES = int(os.environ.get("DIMACS_CASES", "1"))
+ENDS = (0, 2**31, 2**32, 2**53, 2**62, 2**63, 2**64, 10**18)
+OFFSETS = (0, 0, 1, -1, 2**63, -(2**63), 2**64, -(2**64))
+LAST = 2**63 - 1
+KINDS = [f"{sign}int{bits}" for bits in (8, 16, 32, 64) for sign in ("", "u")]
+
+
+# ---- what is drawn
+
+
+def near(chance, ends=ENDS):
+    """A number at most 3 from one of the ends."""
+    return chance.choice(ends) + chance.randrange(-3, 4)
+
+
+def amount(chance, past=0.03):
+    """A capacity: it has 64 bits, except for a few."""
+    found = abs(near(chance, ENDS[-1:] + (() if chance.random() < past else ENDS[:-3])))
+    return near(chance) if chance.random() < past else found
+
+
+class Net:
+    """Arcs between a few nodes, from 1, of which the first is the source and the last the sink."""
+
+    def __init__(self, chance, past=0.03):
+        self.nodes = chance.randrange(2, 5)
+        self.ends = [(chance.randrange(self.nodes) + 1, chance.randrange(self.nodes) + 1) for _ in range(chance.randrange(1, 7))]
+        self.caps = [amount(chance, past) for _ in self.ends]
+
+    def arcs(self):
+        return [(*ends, cap) for ends, cap in zip(self.ends, self.caps)]
+
+    def split_ends(self):
+        return [list(it) for it in zip(*self.ends)]
+
+
+def claimed(chance, net):
+    """The amounts of a maximum flow, changed on an arc, or on all of a path, if the claim is to be false."""
+    flows = maximum_flow(net)
+    offset = chance.choice(OFFSETS)
+    path = chance.choice([[chance.randrange(len(flows))], path_of(net, lambda arc: True) or []])
+    return [it + offset * (arc in path) for arc, it in enumerate(flows)]
+
+
+def parts(chance, total, least, greatest):
+    """Up to 9 numbers between these that add up to a total; None if so few can't."""
+    count = next((it for it in range(1, 10) if it * least <= total <= it * greatest), None)
+    if count is None:
+        return None
+    found, rest = [], total
+    for left in range(chance.randrange(count, count + 4) - 1, -1, -1):
+        low, high = max(least, rest - left * greatest), min(greatest, rest - left * least)
+        found.append(chance.choice([low, high, chance.randint(low, high)]))
+        rest -= found[-1]
+    return found
+
+
+def fits(numbers, bits=64):
+    return all(-(2 ** (bits - 1)) <= it < 2 ** (bits - 1) for it in numbers)
+
+
+def numpy_of(chance, numbers):
+    """An array of numpy, of any type that holds these numbers."""
+    kinds = [it for it in KINDS if all(numpy.iinfo(it).min <= number <= numpy.iinfo(it).max for number in numbers)]
+    kinds += ["float64"] * all(int(float(it)) == it for it in numbers)
+    return numpy.array(numbers, chance.choice(kinds + ["object"]))
+
+
+def form(chance, numbers):
+    """The same numbers in another form."""
+    forms = [list, tuple]
+    forms += [lambda items: array.array("q", items)] * fits(numbers)
+    forms += [lambda items: numpy_of(chance, items)] * (numpy is not None)
+    return chance.choice(forms)(numbers)
+
+
+# ---- what is true, in whole numbers
+
+
+def sent(nodes, ends, flows):
+    """What leaves each node less what enters it."""
+    found = [0] * (nodes + 1)
+    for (tail, head), it in zip(ends, flows):
+        found[tail] += it
+        found[head] -= it
+    return found[1:]
+
+
+def sides(nodes):
+    """Each set of nodes."""
+    return ([False, *it] for it in itertools.product([False, True], repeat=nodes))
+
+
+def crossing(net, inside):
+    return sum(cap for tail, head, cap in net.arcs() if inside[tail] and not inside[head])
+
+
+def maximum(net):
+    """The capacity of the least cut."""
+    return min(crossing(net, it) for it in sides(net.nodes) if it[1] and not it[net.nodes])
+
+
+def path_of(net, has_room):
+    """The arcs of a path from the source to the sink; None if there is none. An arc's number is negated if it is gone back."""
+    paths = {1: []}
+    for node in (waiting := [1]):
+        for arc, (tail, head) in enumerate(net.ends):
+            for number, start, end in (arc, tail, head), (~arc, head, tail):
+                if start == node and end not in paths and has_room(number):
+                    paths[end] = [*paths[node], number]
+                    waiting.append(end)
+    return paths.get(net.nodes)
+
+
+def maximum_flow(net):
+    """The amounts of a maximum flow, by augmenting paths."""
+    flows = [0] * len(net.caps)
+
+    def room(arc):
+        return net.caps[arc] - flows[arc] if arc >= 0 else flows[~arc]
+
+    while path := path_of(net, lambda arc: room(arc) > 0):
+        most = min(map(room, path))
+        for arc in path:
+            flows[arc if arc >= 0 else ~arc] += most if arc >= 0 else -most
+    return flows
+
+
+def is_feasible(net, flows):
+    has_bounds = all(0 <= it <= cap for it, cap in zip(flows, net.caps))
+    return has_bounds and not any(sent(net.nodes, net.ends, flows)[1:-1])
+
+
+def distances(nodes, arcs, source):
+    """The distances from a source, None of a node that isn't reached. Raises ValueError if there is a negative cycle."""
+    found = [None] * (nodes + 1)
+    found[source] = 0
+    for turn in range(nodes + 1):
+        before = list(found)
+        for tail, head, weight in arcs:
+            if found[tail] is not None and (found[head] is None or found[tail] + weight < found[head]):
+                found[head] = found[tail] + weight
+        if before == found:
+            return found[1:]
+    raise ValueError("negative cycle")
+
+
+def has_negative_cycle(nodes, arcs):
+    try:
+        distances(nodes + 1, [*arcs, *((nodes + 1, node, 0) for node in range(1, nodes + 1))], nodes + 1)
+    except ValueError:
+        return True
+    return False
+
+
+def residual(net, costs, flows):
+    for (tail, head), cap, cost, it in zip(net.ends, net.caps, costs, flows):
+        if it < cap:
+            yield tail, head, cost
+        if it > 0:
+            yield head, tail, -cost
+
+
+def meets(net, supplies):
+    """Whether a flow meets the supplies: no set has to send more than can leave it."""
+    inside = ([node for node in range(1, net.nodes + 1) if it[node]] for it in sides(net.nodes))
+    return sum(supplies) == 0 and all(
+        sum(supplies[node - 1] for node in it) <= crossing(net, [node in it for node in range(net.nodes + 1)]) for it in inside
+    )
+
+
+# ---- what calls answer
+
+
+class Limits(unittest.TestCase):
+    def cases(self, count, test):
+        """Runs so many cases, and fails with the number of those that fail."""
+        wrong = []
+        for number in range(count * TIMES):
+            try:
+                test(random.Random(number))
+            except AssertionError as it:
+                wrong.append(f"case {number}: {it}")
+        self.assertEqual(wrong[:5], [], f"{len(wrong)} of {count * TIMES} cases failed")
+
+    def outcome(self, call, *words, gives_up=(dimacs.GaveUp,), past=(ValueError,)):
+        """The kind of an answer, and what it shows."""
+        try:
+            return "yes", call(*words)
+        except dimacs.NotOptimal as it:
+            return "better", it.better
+        except dimacs.Refused as it:
+            return "no", it
+        except gives_up as it:
+            return "gave up", it
+        except past as it:
+            return "past", it
+
+    def is_wanted(self, found, *wanted):
+        self.assertIn(found[0], wanted, repr(found[1]))
+
+    def is_certified_max(self, net, flows, found, better):
+        """An answer about a flow is true; `better` lists the amounts of a better one."""
+        value = sent(net.nodes, net.ends, flows)[0]
+        is_maximum = is_feasible(net, flows) and value == maximum(net)
+        self.is_wanted(found, "no" if not is_feasible(net, flows) else "yes" if is_maximum else "better")
+        if found[0] == "yes":
+            inside = [False, *found[1].inside]
+            self.assertEqual((found[1].value, inside[1], inside[net.nodes]), (value, True, False))
+            self.assertEqual(crossing(net, inside), value)
+        if found[0] == "better":
+            self.assertTrue(is_feasible(net, better(found[1])))
+            self.assertGreater(sent(net.nodes, net.ends, better(found[1]))[0], value)
+
+
+class Arrays(Limits):
+    def words(self, chance, net):
+        return net.nodes, *(form(chance, it) for it in net.split_ends()), form(chance, net.caps)
+
+    def test_maximum_flows(self):
+        self.cases(1500, self.maximum_flow)
+
+    def maximum_flow(self, chance):
+        net = Net(chance)
+        flows = claimed(chance, net)
+        nodes, *arcs = self.words(chance, net)
+        found = self.outcome(dimacs.certify_max_arrays, nodes, 1, nodes, *arcs, form(chance, flows))
+        solved = self.outcome(dimacs.solve_max_arrays, nodes, 1, nodes, *arcs)
+        if not fits(net.caps) or min(net.caps) < 0:
+            self.is_wanted(solved, "past")
+            return self.is_wanted(found, "past")
+        self.assertEqual(solved[1].value, maximum(net))
+        self.is_certified_max(net, list(map(int, solved[1].flows)), ("yes", solved[1]), None)
+        if not fits(flows):
+            return self.is_wanted(found, "past")
+        self.is_certified_max(net, flows, found, list)
+
+    def test_least_costs(self):
+        self.cases(1500, self.least_cost)
+
+    def least_cost(self, chance):
+        net = Net(chance, 0)
+        costs = [chance.choice([-1, 1, 1, 1]) * amount(chance) for _ in net.caps]
+        flows = [chance.choice([0, cap, chance.randint(0, cap)]) for cap in net.caps]
+        supplies = [it + chance.choice(OFFSETS) * (chance.random() < 0.1) for it in sent(net.nodes, net.ends, flows)]
+        words = self.words(chance, net)
+        bounds = words[:3], [0] * len(net.caps), words[3]
+        words = *bounds[0], bounds[1], bounds[2], form(chance, costs), form(chance, supplies)
+        found = self.outcome(dimacs.certify_min_arrays, *words, form(chance, flows))
+        solved = self.outcome(dimacs.solve_min_arrays, *words)
+        if not (fits(costs) and fits(supplies)):
+            self.is_wanted(solved, "past")
+            return self.is_wanted(found, "past")
+        self.is_solved_min(net, costs, supplies, solved)
+        if sent(net.nodes, net.ends, flows) != supplies:
+            return self.is_wanted(found, "no")
+        self.is_certified_min(net, costs, flows, found)
+
+    def is_certified_min(self, net, costs, flows, found):
+        *_, cost = sums = list(itertools.accumulate(map(int.__mul__, costs, flows)))
+        if max(map(abs, sums)) > 10**30:
+            return self.is_wanted(found, "no")
+        is_least = not has_negative_cycle(net.nodes, residual(net, costs, flows))
+        self.is_wanted(found, *(("yes", "gave up") if is_least else ("better",)))
+        if found[0] == "yes":
+            self.assertEqual(found[1].value, cost)
+            prices = [int(it) for it in found[1].potentials]
+            for tail, head, cost in residual(net, costs, flows):
+                self.assertGreaterEqual(cost - prices[tail - 1] + prices[head - 1], 0)
+        if found[0] == "better":
+            better = list(map(int, found[1]))
+            self.assertEqual(sent(net.nodes, net.ends, better), sent(net.nodes, net.ends, flows))
+            self.assertTrue(all(0 <= it <= cap for it, cap in zip(better, net.caps)))
+            self.assertLess(sum(map(int.__mul__, costs, better)), cost)
+
+    def is_solved_min(self, net, costs, supplies, found):
+        if not meets(net, supplies):
+            self.assertIsInstance(found[1], dimacs.Infeasible)
+            inside = [False, *found[1].inside]
+            supply = sum(it for it, is_inside in zip(supplies, inside[1:]) if is_inside)
+            entering = crossing(net, [not it for it in inside])
+            return self.assertFalse(-entering <= supply <= crossing(net, inside))
+        self.is_wanted(found, "yes", "gave up")
+        if found[0] == "yes":
+            flows = list(map(int, found[1].flows))
+            self.assertEqual(sent(net.nodes, net.ends, flows), supplies)
+            self.is_certified_min(net, costs, flows, found)
+
+    def test_distances(self):
+        self.cases(2000, self.paths)
+
+    def paths(self, chance):
+        net = Net(chance)
+        true = distances(net.nodes, [it for it in net.arcs()], 1) if min(net.caps) >= 0 else [0] * net.nodes
+        claim = [LAST if it is None else it for it in true]
+        changed = chance.randrange(net.nodes)
+        claim[changed] += chance.choice(OFFSETS)
+        words = self.words(chance, net)
+        found = self.outcome(dimacs.certify_paths_arrays, *words, 1, form(chance, claim))
+        solved = self.outcome(dimacs.solve_paths_arrays, *words, 1)
+        if not fits(net.caps):
+            self.is_wanted(solved, "past")
+            return self.is_wanted(found, "past")
+        if min(net.caps) < 0:
+            return self.is_wanted(solved, "no")
+        if any(it is not None and it >= LAST for it in true):
+            self.is_wanted(solved, "gave up")
+        else:
+            self.assertEqual(list(map(int, solved[1].distances)), [LAST if it is None else it for it in true])
+        if not fits(claim):
+            return self.is_wanted(found, "past")
+        is_true = [None if it == LAST else it for it in claim] == true
+        self.is_wanted(found, "yes" if is_true else "no")
+
+
+@unittest.skipUnless(networkx, "no networkx")
+class Graphs(Limits):
+    def graph(self, chance, net, attribute="capacity"):
+        """A graph with a key for each arc, by its number, and an edge of which the numbers may be those of numpy."""
+        graph = networkx.MultiDiGraph()
+        graph.add_nodes_from(range(1, net.nodes + 1))
+        for arc, ((tail, head), number) in enumerate(zip(net.ends, net.caps)):
+            number = numpy_of(chance, [number])[0] if numpy and chance.random() < 0.3 else number
+            graph.add_edge(tail, head, arc, **{attribute: number})
+        return graph
+
+    def flow(self, net, flows):
+        found = {}
+        for arc, ((tail, head), it) in enumerate(zip(net.ends, flows)):
+            found.setdefault(tail, {}).setdefault(head, {})[arc] = it
+        return found
+
+    def test_maximum_flows(self):
+        self.cases(1500, self.maximum_flow)
+
+    def maximum_flow(self, chance):
+        net = Net(chance)
+        flows = claimed(chance, net)
+        graph, flow = self.graph(chance, net), self.flow(net, flows)
+        found = self.outcome(dimacs.certify_networkx_max, graph, 1, net.nodes, flow)
+        if not fits(net.caps) or min(net.caps) < 0 or not fits(flows):
+            return self.is_wanted(found, "past")
+        if found[0] == "yes":
+            found = "yes", dimacs.Certified(found[1].value, [it in found[1].inside for it in range(1, net.nodes + 1)])
+        self.is_certified_max(net, flows, found, lambda it: [it[tail][head][arc] for arc, (tail, head) in enumerate(net.ends)])
+
+    def test_distances(self):
+        self.cases(2000, self.paths)
+
+    def paths(self, chance):
+        net = Net(chance)
+        if min(net.caps) < 0:
+            return
+        true = dict(enumerate(distances(net.nodes, net.arcs(), 1), 1))
+        claim = {node: it for node, it in true.items() if it is not None}
+        changed = chance.choice(list(true))
+        claim[changed] = claim.get(changed, chance.choice([LAST, 2**63, near(chance)])) + chance.choice(OFFSETS)
+        graph = self.graph(chance, net, "weight")
+        found = self.outcome(dimacs.certify_networkx_paths, graph, 1, claim)
+        solved = self.outcome(dimacs.solve_networkx_paths, graph, 1)
+        if not fits(net.caps):
+            self.is_wanted(solved, "past")
+            return self.is_wanted(found, "past")
+        reached = {node: it for node, it in true.items() if it is not None}
+        if max(reached.values()) >= LAST:
+            self.is_wanted(solved, "gave up")
+        else:
+            self.assertEqual(solved[1].distances, reached)
+        if not fits(claim.values()) or LAST in claim.values():
+            return self.is_wanted(found, "past")
+        self.is_wanted(found, "yes" if claim == reached else "no")
+
+
+@unittest.skipUnless(csgraph, "no SciPy")
+class Scipy(Limits):
+    def matrix(self, chance, net, by_place, forms=("csr", "coo", "csc"), signed=True):
+        """A sparse matrix of any type that fits, with entries that add up to a number at each place; and the entries."""
+        kinds = [(numpy.iinfo(it), it) for it in KINDS] + [(range(-(2**53), 2**53), "float64")] * (len(forms) > 1)
+        chance.shuffle(kinds)
+        for kind, name in kinds:
+            least, most = (kind[0], kind[-1]) if isinstance(kind, range) else (kind.min, kind.max)
+            dealt = [parts(chance, it, least if signed else 0, most) for it in by_place.values()]
+            if None not in dealt:
+                break
+        entries = [(place, it) for place, some in zip(by_place, dealt) for it in some]
+        chance.shuffle(entries)
+        rows, columns = ([at[k] - 1 for at, _ in entries] for k in (0, 1))
+        data = numpy.array([it for _, it in entries], name)
+        return self.formed(data, rows, columns, net.nodes, chance.choice(forms)), entries
+
+    def formed(self, data, rows, columns, count, kind):
+        """Entries in a format, none of which are added up."""
+        if kind == "coo":
+            return sparse.coo_matrix((data, (rows, columns)), shape=(count, count))
+        ends = (rows, columns) if kind == "csr" else (columns, rows)
+        order = numpy.lexsort((range(len(data)), numpy.array(ends[0], int)))
+        starts = numpy.searchsorted(numpy.array(ends[0], int)[order], range(count + 1))
+        made = sparse.csr_matrix if kind == "csr" else sparse.csc_matrix
+        return made((data[order], numpy.array(ends[1], int)[order], starts), shape=(count, count))
+
+    def summed(self, entries):
+        found = {}
+        for place, it in entries:
+            found[place] = found.get(place, 0) + it
+        return found
+
+    def test_certified_flows(self):
+        self.cases(4000, self.certified)
+
+    def certified(self, chance):
+        net = Net(chance, 0)
+        net.ends = list(dict.fromkeys(it for it in net.ends if it[0] != it[1]))
+        if not net.ends:
+            return
+        net.caps = net.caps[: len(net.ends)]
+        while chance.random() < 0.3:  # several capacities at a place, which may be more together than 64 bits have
+            net.caps[chance.randrange(len(net.caps))] += amount(chance, 0)
+        flows = claimed(chance, net)
+        flow = self.summed((pair, it) for ends, it in zip(net.ends, flows) for pair, it in ((ends, it), (ends[::-1], -it)))
+        graph, _ = self.matrix(chance, net, {ends: cap for ends, cap in zip(net.ends, net.caps)}, ("csr",), False)
+        shown, _ = self.matrix(chance, net, flow)
+        found = self.outcome(ours.certify_maximum_flow, graph, 0, net.nodes - 1, shown)
+        if not fits(net.caps) or not fits(it for it in flow.values() if it > 0):
+            return self.is_wanted(found, "past")
+        # Between two vertices a flow of SciPy has only what goes from one to the other in the end.
+        pairs = [ends for ends in dict.fromkeys((*net.ends, *flow)) if flow.get(ends, 0) > 0 or ends in net.ends]
+        caps = dict(zip(net.ends, net.caps))
+        net.ends, net.caps = pairs, [caps.get(ends, 0) for ends in pairs]
+        self.is_certified_max(net, [max(0, flow.get(ends, 0)) for ends in pairs], found, lambda it: self.amounts(net, it))
+
+    def amounts(self, net, matrix):
+        return [max(0, int(matrix[tail - 1, head - 1])) for tail, head in net.ends]
+
+    def test_solved_flows(self):
+        self.cases(2500, self.solved)
+
+    def solved(self, chance):
+        net = Net(chance, 0)
+        net.ends = list(dict.fromkeys(it for it in net.ends if it[0] != it[1]))
+        if not net.ends:
+            return
+        net.caps = net.caps[: len(net.ends)]
+        net.caps[0] += chance.choice([0, 2**31, 2**63])
+        graph, entries = self.matrix(chance, net, dict(zip(net.ends, net.caps)), ("csr",), False)
+        found = self.outcome(ours.maximum_flow, graph, 0, net.nodes - 1)
+        if not fits(it for _, it in entries):
+            return self.is_wanted(found, "past")
+        self.is_wanted(found, "yes", *(("gave up",) if not fits(net.caps) else ()))
+        if found[0] == "yes":
+            self.assertEqual(int(found[1].flow_value), maximum(net))
+            flows = self.amounts(net, found[1].flow)
+            self.assertTrue(is_feasible(net, flows))
+            self.assertEqual(sent(net.nodes, net.ends, flows)[0], maximum(net))
+
+    def test_distances(self):
+        self.cases(4000, self.paths)
+
+    def paths(self, chance):
+        net = Net(chance, 0)
+        sign = chance.choice([0, 0, 0.3])
+        by_place = {ends: cap * (-1 if chance.random() < sign else 1) for ends, cap in zip(net.ends, net.caps)}
+        while chance.random() < 0.2:
+            by_place[chance.choice(list(by_place))] += amount(chance, 0)
+        graph, entries = self.matrix(chance, net, by_place)
+        is_sum = graph.format == "coo"
+        arcs = [(*place, it) for place, it in (self.summed(entries).items() if is_sum else entries)]
+        found = self.outcome(ours.shortest_path, graph, gives_up=(dimacs.GaveUp, csgraph.NegativeCycleError))
+        if not fits(it for *_, it in arcs):
+            return self.is_wanted(found, "past")
+        if has_negative_cycle(net.nodes, arcs):
+            self.assertIsInstance(found[1], (csgraph.NegativeCycleError, dimacs.GaveUp))
+            return
+        true = [distances(net.nodes, arcs, source) for source in range(1, net.nodes + 1)]
+        reached = [it for row in true for it in row if it is not None]
+        if any(int(float(it)) != it or not -(2**63) <= it < LAST for it in reached):
+            return self.is_wanted(found, "gave up")
+        is_near = all(abs(it) < 2**60 for *_, it in arcs)
+        self.is_wanted(found, *(("yes",) if is_near or min(it for *_, it in arcs) >= 0 else ("yes", "gave up")))
+        if found[0] == "yes":
+            self.assertEqual(found[1].tolist(), [[math.inf if it is None else it for it in row] for row in true])
+
+
+class Solver:
+    """A SimpleMaxFlow of OR-Tools by its methods, which has solved."""
+
+    def __init__(self, net, flows, value):
+        self.net, self.flows, self.value = net, flows, value
+
+    def num_arcs(self):
+        return len(self.flows)
+
+    def num_nodes(self):
+        return self.net.nodes
+
+    def tail(self, arc):
+        return self.net.ends[arc][0] - 1
+
+    def head(self, arc):
+        return self.net.ends[arc][1] - 1
+
+    def capacity(self, arc):
+        return self.net.caps[arc]
+
+    def flow(self, arc):
+        return self.flows[arc]
+
+    def optimal_flow(self):
+        return self.value
+
+
+class OrTools(Limits):
+    def test_maximum_flows(self):
+        self.cases(1000, self.maximum_flow)
+
+    def maximum_flow(self, chance):
+        net = Net(chance)
+        flows = claimed(chance, net)
+        offset = chance.choice(OFFSETS)
+        solver = Solver(net, flows, sent(net.nodes, net.ends, flows)[0] + offset)
+        found = self.outcome(ortools.certify, solver, 0, net.nodes - 1)
+        if not fits(net.caps) or min(net.caps) < 0 or not fits(flows):
+            return self.is_wanted(found, "past")
+        if offset and found[0] == "no":
+            return self.assertTrue(found[1].reason == "ValueDiffers" or not is_feasible(net, flows))
+        self.is_certified_max(net, flows, found, list)
+        self.assertTrue(found[0] != "yes" or not offset)
+
+
+@unittest.skipUnless(networkx, "no networkx")
+class Backend(Limits):
+    """The functions themselves, which networkx calls."""
+
+    def graph(self, chance, net, attribute, missing=0.0):
+        graph = networkx.DiGraph()
+        graph.add_nodes_from(range(1, net.nodes + 1))
+        for (tail, head), it in zip(net.ends, net.caps):
+            graph.add_edge(tail, head)
+            if chance.random() < missing:
+                graph[tail][head].pop(attribute, None)
+            else:
+                graph[tail][head][attribute] = numpy_of(chance, [it])[0] if numpy and chance.random() < 0.3 else it
+        net.ends = list(graph.edges())
+        net.caps = [int(data.get(attribute, 10**40)) for *_, data in graph.edges(data=True)]
+        return graph
+
+    def called(self, *words):
+        return self.outcome(*words, gives_up=(NotImplementedError,), past=(networkx.NetworkXException,))
+
+    def test_maximum_flows(self):
+        self.cases(1500, self.maximum_flow)
+
+    def maximum_flow(self, chance):
+        net = Net(chance)
+        graph = self.graph(chance, net, "capacity", 0.2)
+        net.caps = [max(0, it) for it in net.caps]
+        found = self.called(backend.minimum_cut, graph, 1, net.nodes)
+        finite = [it for it in net.caps if it < 10**40]
+        is_wide = not fits([sum(finite)]) or self.has_wide_floats(graph, "capacity", sum(finite))
+        if maximum(net) >= 10**40:
+            return self.is_wanted(found, "past", *(("gave up",) if is_wide else ()))
+        self.is_wanted(found, "yes", *(("gave up",) if is_wide else ()))
+        if found[0] == "yes":
+            value, (side, others) = found[1]
+            self.assertEqual((value, side | others), (maximum(net), set(graph)))
+            self.assertEqual(crossing(net, [it in side for it in range(net.nodes + 1)]), value)
+            value, flow = backend.maximum_flow(graph, 1, net.nodes)
+            flows = [int(flow[tail][head]) for tail, head in net.ends]
+            self.assertTrue(is_feasible(net, flows))
+            self.assertEqual(sent(net.nodes, net.ends, flows)[0], value)
+
+    def has_wide_floats(self, graph, attribute, total):
+        numbers = [it for *_, it in graph.edges(data=attribute)]
+        return any(isinstance(it, float) for it in numbers) and total >= 2**53
+
+    def test_distances(self):
+        self.cases(2000, self.paths)
+
+    def paths(self, chance):
+        net = Net(chance)
+        net.caps = [it * chance.choice([1, 1, 1, -1]) for it in net.caps]
+        graph = self.graph(chance, net, "weight")
+        found = self.called(backend.single_source_bellman_ford_path_length, graph, 1)
+        total = sum(map(abs, net.caps))
+        is_wide = total >= 2**60 or self.has_wide_floats(graph, "weight", total)
+        try:
+            true = distances(net.nodes, net.arcs(), 1)
+        except ValueError:
+            return self.is_wanted(found, "past", *(("gave up",) if is_wide else ()))
+        self.is_wanted(found, "yes", *(("gave up",) if is_wide else ()))
+        if found[0] == "yes":
+            self.assertEqual(found[1], {node: it for node, it in enumerate(true, 1) if it is not None})
+
+
+class Spread(Limits):
+    def test_sums(self):
+        self.cases(2000, self.dealt)
+
+    def dealt(self, chance):
+        net = Net(chance, 0)
+        ends = list(dict.fromkeys(net.ends))
+        sums = [sum(cap for at, cap in zip(net.ends, net.caps) if at == it) for it in ends]
+        sums = [chance.choice([it, 0, it // 2]) + chance.choice(OFFSETS) for it in sums]
+        arcs = [form(chance, it) for it in net.split_ends()] + [form(chance, net.caps)]
+        pairs = [form(chance, list(it)) for it in zip(*ends)] + [form(chance, sums)]
+        found = self.outcome(dimacs.spread_max_arrays, net.nodes, 1, net.nodes, *arcs, *pairs)
+        if not fits(sums):
+            return self.is_wanted(found, "past")
+        rests = {at: it - self.rest(net, at, it) for at, it in zip(ends, sums)}
+        self.is_wanted(found, "yes" if fits(rests.values()) else "no")
+        if found[0] == "yes":
+            self.is_dealt(net, dict(zip(ends, sums)), list(map(int, found[1])))
+
+    def rest(self, net, at, total):
+        """What all arcs but the first carry of a sum that isn't within their bounds."""
+        caps = [cap for ends, cap in zip(net.ends, net.caps) if ends == at]
+        return 0 if total <= sum(caps) else sum(caps[1:])
+
+    def is_dealt(self, net, sums, flows):
+        for at, total in sums.items():
+            shares = [(it, cap) for ends, it, cap in zip(net.ends, flows, net.caps) if ends == at]
+            self.assertEqual(sum(it for it, _ in shares), total)
+            if 0 <= total <= sum(cap for _, cap in shares):
+                self.assertTrue(all(0 <= it <= cap for it, cap in shares))
+
+
+if __name__ == "__main__":
+    unittest.main()

@@ -1,0 +1,211 @@
+"""Numbers that aren't whole, infinite capacities, and numbers from 0: next to fractions, by trying all."""
+
+import array
+import math
+import random
+import unittest
+from decimal import Decimal
+from fractions import Fraction
+
+import dimacs
+from dimacs.scales import Scale
+
+try:
+    import numpy
+except ImportError:
+    numpy = None
+
+try:
+    import networkx
+except ImportError:
+    networkx = None
+
+INF = math.inf
+
+
+def multiples(number, factor, count=6):
+    """Each multiple of 1 / factor near a float that is the same float."""
+    near = round(Fraction(number) * factor)
+    return [it for it in range(near - count, near + count + 1) if float(it / Fraction(factor)) == number]
+
+
+class Floats(unittest.TestCase):
+    def test_the_multiple_that_a_float_stands_for(self):
+        """The only one that is this float, or the float itself if it is one; none otherwise."""
+        chance = random.Random(1)
+        taken = 0
+        for _ in range(20_000):
+            factor = chance.choice([1, 3, 7, 10, 100, 1000, 10**6, 2**20, Fraction(1, 3), Fraction(5, 7)])
+            most = chance.choice([9, 10**4, 10**9, 2**52, 2**53, 10**18])
+            number = float(chance.randrange(-most, most) / Fraction(factor))
+            number = chance.choice([number, number, math.nextafter(number, INF), number + 1 / 3])
+            same = multiples(number, factor)
+            exact = Fraction(number) * factor
+            wanted = int(exact) if exact.denominator == 1 else same[0] if len(same) == 1 else None
+            try:
+                found = Scale.of(factor).whole(number, lambda: "it")
+            except ValueError as it:
+                found = None
+                self.assertIn("the nearest is", str(it))
+            self.assertEqual(found, wanted, (number, factor))
+            taken += found is not None
+        self.assertGreater(taken, 9000)
+
+    def test_decimals_and_fractions(self):
+        for number in Decimal("0.07"), Fraction(7, 100), 0.07:
+            self.assertEqual(Scale.of(100).whole(number, str), 7)
+            self.assertEqual(Scale.of(Decimal("0.01")).whole(number, str), 7)
+        self.assertEqual(repr(Scale.of(Decimal("0.01")).shown(7)), "Decimal('0.07')")
+        self.assertEqual(repr(Scale.of(100).shown(7)), "Fraction(7, 100)")
+        self.assertEqual(Scale.of(Decimal("0.01")).shown(10**40 + 7), Decimal(f"{10**38}.07"))
+        for number in Decimal("0.075"), Fraction(1, 3), Decimal("NaN"):
+            with self.assertRaises(ValueError):
+                Scale.of(100).whole(number, str)
+
+    @unittest.skipUnless(numpy, "no numpy")
+    def test_floats_of_numpy(self):
+        self.assertEqual(Scale.of(10).whole(numpy.float32(0.1), str), 1)
+        self.assertEqual(Scale.of(10).whole(numpy.float64(0.1), str), 1)
+        with self.assertRaises(ValueError):
+            Scale.of(10).whole(float(numpy.float32(0.1)), str)
+
+
+def best(nodes, source, sink, ends, caps):
+    """The capacity of the least cut, in fractions."""
+    found = INF
+    for number in range(2**nodes):
+        inside = [number >> node & 1 for node in range(nodes)]
+        if inside[source] and not inside[sink]:
+            found = min(found, sum(cap for (tail, head), cap in zip(ends, caps) if inside[tail] and not inside[head]))
+    return found
+
+
+class Flows(unittest.TestCase):
+    def drawn(self, chance):
+        nodes = chance.randrange(2, 5)
+        ends = [(chance.randrange(nodes), chance.randrange(nodes)) for _ in range(chance.randrange(1, 7))]
+        return nodes, ends, [list(it) for it in zip(*ends)]
+
+    def test_what_fractions_say(self):
+        chance = random.Random(2)
+        for _ in range(1000):
+            nodes, ends, split = self.drawn(chance)
+            factor = chance.choice([1, 10, 100, 8, Decimal("0.05"), "exact"])
+            unit = Fraction(1, 8) if factor == "exact" else Fraction(factor) if isinstance(factor, Decimal) else Fraction(1, factor)
+            exact = [chance.randrange(60) * unit for _ in ends]
+            caps = [chance.choice([float, Fraction])(it) for it in exact]
+            form = numpy.array if numpy and all(isinstance(it, float) for it in caps) else list
+            found = dimacs.solve_max_arrays(nodes, 0, nodes - 1, *split, form(caps), scale=factor, base=0)
+            self.assertEqual(found.value, best(nodes, 0, nodes - 1, ends, exact))
+            self.assertTrue(all(0 <= it <= cap for it, cap in zip(found.flows, exact)))
+            again = dimacs.certify_max_arrays(nodes, 0, nodes - 1, *split, caps, list(found.flows), scale=factor, base=0)
+            self.assertEqual((again.value, again.inside), (found.value, list(found.inside)))
+            if any(found.flows):
+                with self.assertRaises(dimacs.Refused) as no:
+                    dimacs.certify_max_arrays(nodes, 0, nodes - 1, *split, caps, [0] * len(ends), scale=factor, base=0)
+                self.assertEqual((no.exception.value, no.exception.better_value > 0), (0, True)) if found.value else None
+
+    def test_costs(self):
+        words = [0, 0], [1, 1], [0, 0], [2.5, 9], [0.03, 0.07], [4.5, -4.5]
+        cost, flows, prices = dimacs.solve_min_arrays(2, *words, scale=(10, 100), base=0)
+        self.assertEqual((cost, flows), (Fraction(215, 1000), [Fraction(5, 2), 2]))
+        self.assertEqual(prices[0] - prices[1], Fraction(7, 100))
+        self.assertEqual(dimacs.judge_min_arrays(2, *words, flows, prices, scale=(10, 100), base=0).value, cost)
+        with self.assertRaises(dimacs.NotOptimal) as no:
+            dimacs.certify_min_arrays(2, *words, [2, 2.5], scale=(10, 100), base=0)
+        self.assertEqual((no.exception.value, no.exception.better), (Fraction(235, 1000), flows))
+
+    def test_distances(self):
+        found = dimacs.solve_paths_arrays(4, [0, 1], [1, 2], [0.5, 0.25], 0, scale="exact", base=0)
+        self.assertEqual(found, (None, [0, Fraction(1, 2), Fraction(3, 4), INF], [-1, 0, 1, -1]))
+        claim = [0, 0.5, 0.75, INF]
+        self.assertEqual(dimacs.certify_paths_arrays(4, [0, 1], [1, 2], [0.5, 0.25], 0, claim, scale=4, base=0).predecessors, [-1, 0, 1, -1])
+
+    @unittest.skipUnless(networkx, "no networkx")
+    def test_graphs(self):
+        graph = networkx.DiGraph()
+        graph.add_node("a", demand=-1.5)
+        graph.add_node("b", demand=1.5)
+        graph.add_edge("a", "b", capacity=2.5, weight=Decimal("0.1"))
+        cost, flow, _ = dimacs.solve_networkx_min(graph, scale=10)
+        self.assertEqual((cost, flow["a"]["b"]), (Fraction(15, 100), Fraction(3, 2)))
+        self.assertEqual(dimacs.certify_networkx_min(graph, flow, scale=10).value, cost)
+        self.assertEqual(dimacs.certify_networkx_paths(graph, "a", {"a": 0, "b": 0.1}, scale=10).predecessors["b"], "a")
+
+
+class Limitless(unittest.TestCase):
+    """Capacities of inf."""
+
+    def test_what_is_best(self):
+        """As with a capacity that no answer reaches, or infinite."""
+        chance = random.Random(3)
+        kinds = {"yes": 0, "unbounded": 0}
+        for _ in range(1500):
+            nodes = chance.randrange(2, 5)
+            ends = [(chance.randrange(nodes), chance.randrange(nodes)) for _ in range(chance.randrange(1, 7))]
+            caps = [chance.choice([INF, chance.randrange(9)]) for _ in ends]
+            split = [list(it) for it in zip(*ends)]
+            given = chance.choice([list(caps), array.array("d", caps)])
+            wanted = best(nodes, 0, nodes - 1, ends, caps)
+            try:
+                value, flows, inside = dimacs.solve_max_arrays(nodes, 0, nodes - 1, *split, given, base=0)
+            except dimacs.Unbounded:
+                kinds["unbounded"] += 1
+                self.assertEqual(wanted, INF)
+                continue
+            kinds["yes"] += 1
+            self.assertEqual(value, wanted)
+            words = nodes, 0, nodes - 1, *split, given, list(map(int, flows))
+            self.assertEqual(dimacs.certify_max_arrays(*words, base=0).value, wanted)
+            self.assertEqual(dimacs.judge_max_arrays(*words, inside, base=0).value, wanted)
+        self.assertGreater(min(kinds.values()), 200, kinds)
+
+    def test_least_costs(self):
+        words = 3, [1, 2, 1], [2, 3, 3]
+        cost, flows, _ = dimacs.solve_min_arrays(*words, [0] * 3, [INF, INF, 2], [1, 1, 1], [5, 0, -5])
+        self.assertEqual((cost, flows), (8, [3, 3, 2]))
+        with self.assertRaises(dimacs.Infeasible) as no:
+            dimacs.solve_min_arrays(*words, [0] * 3, [INF, 1, 2], [1, 1, 1], [5, 0, -5])
+        self.assertEqual(dimacs.judge_infeasible_arrays(*words, [0] * 3, [INF, 1, 2], [1] * 3, [5, 0, -5], no.exception.inside).kind, "infeasible")
+
+    def test_a_set_that_shows_nothing(self):
+        """It is violated by less than 2^63, and not by an arc without a limit."""
+        supplies = [2**63 - 1, 2**62, -(2**63) + 1, -(2**62)]
+        words = 4, [1, 2], [3, 3], [0, 0], [INF, INF], [0, 0], supplies
+        with self.assertRaises(dimacs.Refused) as no:
+            dimacs.judge_infeasible_arrays(2, [1], [2], [0], [INF], [0], [2**63 - 1, -(2**63) + 1], [1, 0])
+        self.assertEqual(no.exception.reason, "NotViolated")
+        with self.assertRaises(dimacs.Refused) as no:
+            dimacs.judge_infeasible_arrays(*words, [1, 1, 0, 0])
+        self.assertEqual(str(no.exception), f"certificate 0 0 NotViolated: the set supplies {2**63 - 1 + 2**62}, and from 0 to inf can leave it")
+
+
+class FromZero(unittest.TestCase):
+    def test_the_same_by_both(self):
+        chance = random.Random(4)
+        for _ in range(300):
+            nodes = chance.randrange(2, 6)
+            arcs = [[chance.randrange(nodes) for _ in range(6)] for _ in range(2)]
+            shifted = [[it + 1 for it in some] for some in arcs]
+            weights = [chance.randrange(9) for _ in range(6)]
+            form = chance.choice([list, tuple, numpy.array] if numpy else [list])
+            one = dimacs.solve_paths_arrays(nodes, *shifted, weights, 1)
+            zero = dimacs.solve_paths_arrays(nodes, *map(form, arcs), form(weights), 0, base=0)
+            self.assertEqual(list(zero.distances), one.distances)
+            self.assertEqual(list(zero.predecessors), [it - 1 for it in one.predecessors])
+            words = nodes, *map(form, arcs), weights, 0, zero.distances, zero.predecessors
+            self.assertTrue(dimacs.judge_paths_arrays(*words, base=0))
+
+    def test_refusals(self):
+        with self.assertRaises(dimacs.Refused) as no:
+            dimacs.certify_max_arrays(2, 0, 1, [0, 0], [1, 1], [3, 3], [3, 4], base=0)
+        self.assertEqual(str(no.exception), "arc 1 AboveCap: it carries 4, its capacity is 3")
+        with self.assertRaises(dimacs.PastLimit) as no:
+            dimacs.certify_max_arrays(2, 0, 2, [0], [1], [3], [3], base=0)
+        self.assertEqual(str(no.exception), "node 2 NodeRange: nodes are numbered from 0, and there are 2")
+        with self.assertRaisesRegex(dimacs.Refused, "node 1 NodeRange: its predecessor is 2, and there are 2 nodes"):
+            dimacs.judge_paths_arrays(2, [0], [1], [3], 0, [0, 3], [-1, 2], base=0)
+
+
+if __name__ == "__main__":
+    unittest.main()

@@ -1,0 +1,251 @@
+#!/usr/bin/env python3
+"""Compares the program with the referee, referee/referee.py: tests/referee.py [BINARY] [COUNT] [SEED]
+
+Both judge COUNT cases (30,000 if it isn't given), whose texts spoiled_texts.py makes at random, and have to print the
+same, with the same status. Listed is how often each answer of a judge was met, and each fault of a text by KIND,
+letter, field and reason; what wasn't met has failed, but LineLimit, which takes 10^12 lines. Then both commands run
+with files that fail, and with wrong arguments. At last the referee alone judges the rows of tables of dimacs_tests.
+
+BINARY is the built program; crates/dimacs/out/dimacs by default.
+"""
+import collections
+import concurrent.futures
+import itertools
+import os
+import re
+import subprocess
+import sys
+import tempfile
+
+from instances import BINARY
+from spoiled_texts import JUDGES, KINDS, judged_texts
+import referee  # the folder of which spoiled_texts.py adds to the path
+
+TOP = os.path.dirname(os.path.dirname(os.path.abspath(__file__)))
+WORKERS = 4
+MEMORY = "/dev/shm" if os.path.isdir("/dev/shm") else None
+
+# The judges in turn. Labels have the most places where they can fail.
+COMMANDS = ["max", "min", "infeasible", "paths", "paths"]
+
+FLOW_REFUSALS = ["x solution UnknownArc", "x solution ArcTwice", "x arc BelowLow", "x arc AboveCap", "x node Balance"]
+FLOW_REFUSALS += ["x solution ValueDiffers", "x certificate NodesDiffer"]
+
+# The answers of each judge, beside the faults of its texts.
+ANSWERS = {
+    "max": ["v max", *FLOW_REFUSALS, "x node SourceOutside", "x node SinkInside", "x arc NotSaturated", "x arc BackFlow"],
+    "min": ["v min", *FLOW_REFUSALS, "x arc CostRange", "x arc NotTight"],
+    "infeasible": ["v infeasible", "x certificate NodesDiffer", "x certificate NotViolated"],
+    "paths": ["nothing", "v sp ss", "v DIST", "v unreachable", "v more", "x certificate NodesDiffer", "x node QueryNode"]
+    + ["x node BlockMissing", "x arc NegativeWeight", "x node NoTightArc", "x arc Escapes", "x arc NotShortest"],
+}
+
+
+def verdict(command, line):
+    """What a line of a verdict is listed as."""
+    words = line.split()
+    if command != "paths":
+        return " ".join(words[:2])
+    if words[1] == "sp":
+        return "v sp ss"
+    return f"v {words[3]}" if words[3] in ("unreachable", "more") else "v DIST"
+
+
+def fault(command, texts, text, line, field, reason):
+    """What a fault is listed as."""
+    kinds = JUDGES[command][1]
+    at = [KINDS[kind][0] for kind in kinds].index(text)
+    lines = texts[at].split("\n")
+    if reason in ("LineTooLong", "UnknownLine"):
+        letter = "any"
+    elif line > len(lines) or line == len(lines) and not lines[-1]:
+        letter = "end"
+    else:
+        letter = referee.fields_of(lines[line - 1])[0]
+    return f"{kinds[at]} {letter} {field} {reason}"
+
+
+def met(command, texts, output):
+    """What is met by an output."""
+    words = output.split()
+    if words[:1] != ["x"]:
+        return {f"judge-{command}: {verdict(command, line)}" for line in output.splitlines()} or {"judge-paths: nothing"}
+    refusal = f"x {words[1]} {words[-1]}"
+    if refusal in ANSWERS[command]:
+        return {f"judge-{command}: {refusal}"}
+    _, text, line, field, reason = words
+    return {fault(command, texts, text, int(line), field, reason)}
+
+
+def to_be_met():
+    """All answers, and each condition of a text's fault at each of its places."""
+    listed = [f"judge-{command}: {answer}" for command, answers in ANSWERS.items() for answer in answers]
+    for kind in KINDS:
+        listed += [f"{kind} any 0 LineTooLong", f"{kind} any 1 UnknownLine"]
+    for (kind, letter, _), (_, columns) in referee.FORMS.items():
+        listed.append(f"{kind} {letter} 0 FieldCount")
+        for place, column in enumerate(columns, 2):
+            reasons = ["BadWord"] if isinstance(column, set) else ["BadNumber", "NumberRange"]
+            listed += [f"{kind} {letter} {place} {reason}" for reason in reasons]
+    for (kind, letter), conditions in referee.ROWS.items():
+        listed += [f"{kind} {letter} {field} {reason}" for reason, _, _, field in conditions]
+    for reason, kinds, _ in referee.CONDITIONS_AT_END:
+        listed += [f"{kind} end 0 {reason}" for kind in kinds.split()]
+    return list(dict.fromkeys(listed))
+
+
+def write(folder, texts):
+    for name, text in texts.items():
+        with open(os.path.join(folder, name), "wb") as file:
+            file.write(text.encode("latin-1"))
+
+
+def compared(binary, cases):
+    """What some cases meet, how often; and those in which the two differ."""
+    found, differing = collections.Counter(), []
+    with tempfile.TemporaryDirectory(dir=MEMORY) as folder:
+        for command, seed in cases:
+            texts = judged_texts(command, seed)
+            names = "ISC"[: len(texts)]
+            write(folder, dict(zip(names, texts)))
+            words = [binary, f"judge-{command}", *names]
+            ran = subprocess.run(words, stdout=subprocess.PIPE, stderr=subprocess.STDOUT, cwd=folder, check=False)
+            proved, plain = (ran.returncode, ran.stdout.decode("latin-1")), referee.judge(command, texts)
+            found.update(met(command, texts, plain[1]))
+            if proved != plain:
+                differing.append(f"judge-{command}, {seed}: the program {proved}, the referee {plain}, {texts}"[:2000])
+    return found, differing
+
+
+def compare_all(binary, count, seed):
+    """What is met by all cases, which is listed, and how it fails."""
+    cases = [(COMMANDS[number % len(COMMANDS)], f"{seed}:{number}") for number in range(count)]
+    found, failures = collections.Counter(), []
+    with concurrent.futures.ProcessPoolExecutor(WORKERS) as pool:
+        for counts, differing in pool.map(compared, itertools.repeat(binary), [cases[k::50] for k in range(50)]):
+            found += counts
+            failures += differing
+    listed = to_be_met()
+    for it in listed:
+        print(f"{found[it]:6} {it}")
+    failures += [f"never met: {it}" for it in listed if not found[it]]
+    failures += [f"not listed: {it}" for it in found if it not in listed]
+    return count + len(listed), failures
+
+
+# ---- the commands
+
+FILES = {
+    "max": "p max 2 1\nn 1 s\nn 2 t\na 1 2 1\n",
+    "flow": "s 1\nf 1 2 1\n",
+    "cut": "p cut 2 1\nu 1\n",
+    "min": "p min 1 0\nn 1 1\n",
+    "set": "p cut 1 1\nu 1\n",
+    "faulty": "p max 2 1\nn 1\n",
+}
+
+# The arguments, after `judge-` for the program. A folder can be opened, but not read.
+RUNS = [
+    *["max max flow cut", "infeasible min set", "max faulty flow cut", "max max faulty cut", "max max flow max"],
+    *["", "max", "max max flow", "max max flow cut cut", "infeasible min set set", "other max flow cut"],
+    *["max max flow cut\udcff", "max \udcff flow cut", "--help", "max max flow --help"],
+    *["max absent flow cut", "max max absent cut", "max faulty flow absent", "max absent absent absent"],
+    *["max folder flow cut", "max max folder cut", "max faulty folder cut", "max max faulty folder"],
+]
+
+
+def run(words, folder, output):
+    """The status, the output, and the messages without the program's name and the usage text."""
+    ran = subprocess.run(words, stdout=output, stderr=subprocess.PIPE, cwd=folder, text=True, check=False)
+    messages = [line.partition(": ")[2] for line in ran.stderr.splitlines()]
+    return ran.returncode, ran.stdout, messages[:1] if ran.returncode == 2 else messages
+
+
+def compare_commands(binary):
+    """How many runs there are, and those in which the two differ."""
+    failures = []
+    with tempfile.TemporaryDirectory(dir=MEMORY) as folder, open("/dev/full", "wb") as full:
+        write(folder, FILES)
+        os.mkdir(os.path.join(folder, "folder"))
+        runs = [(words, subprocess.PIPE) for words in RUNS] + [("max max flow cut", full), ("max max flow max", full)]
+        for words, output in runs:
+            judge = [f"judge-{words}".split(), []][not words]
+            proved = run([binary, *judge], folder, output)
+            plain = run([sys.executable, referee.__file__, *words.split()], folder, output)
+            if proved != plain:
+                failures.append(f"the arguments {words!r}: the program {proved}, the referee {plain}")
+    return len(runs), failures
+
+
+# ---- the tables of dimacs_tests
+
+TEXT_TABLES = {
+    "max_flows": "max",
+    "min_flows": "min",
+    "graphs": "gr",
+    "queries": "query",
+    "solutions": "solution",
+    "cuts": "cut",
+    "potentials": "pot",
+    "labels": "dist",
+}
+
+
+def unescaped(text):
+    """The bytes of a Rust string, a character for each."""
+    text = re.sub(r"\\u\{(\w+)\}", lambda it: chr(int(it[1], 16)), text).encode().decode("latin-1")
+    return re.sub(r"\\(x..|.)", lambda it: it[0].encode().decode("unicode_escape"), text)
+
+
+def tables(name):
+    """The code of a file, and the rows of its tables by their names. In a cell `;` ends a line."""
+    with open(f"{TOP}/crates/dimacs_tests/src/{name}.rt", encoding="utf-8") as file:
+        code = file.read()
+    found = re.findall(r'static (\w+): &str = "\\\n(.*?)";\n', code, re.DOTALL)
+    rows = {table: [row.split(" | ") for row in unescaped(content).split("\n")] for table, content in found}
+    return code, {table: [[cell.replace(";", "\n") for cell in row] for row in of] for table, of in rows.items()}
+
+
+def judged_rows():
+    """Each row of a judge: its name, what the referee answers, and what it has to."""
+    for file in ("flows", "paths"):
+        code, by_name = tables(file)
+        for table, command in [(table, re.search(rf"JudgeKind::(\w+), {table},", code)[1].lower()) for table in by_name]:
+            for name, instance, claim, certificate, ended, output in by_name[table]:
+                texts = [instance, certificate] if command == "infeasible" else [instance, claim, certificate]
+                wanted = ["Done", "Refused"].index(ended), output.lstrip(" ")
+                yield f"{table}, {name}", referee.judge(command, texts), wanted
+
+
+def read_rows():
+    """Each row of a text: its name, the refusal of the referee or nothing, and what it has to be."""
+    for file, kind in TEXT_TABLES.items():
+        for name, text, asked, wanted, *_ in tables(f"texts/{file}")[1]["CASES"]:
+            try:
+                referee.read(kind, text)
+                refusal = ""
+            except referee.Refused as refused:
+                refusal = str(refused)
+            wanted = f"x {KINDS[kind][0]} {wanted}" if asked == "is refused" else wanted if asked == "isn't shown" else ""
+            yield f"{file}, {name}", refusal, wanted.strip("\n")
+
+
+def judge_tables():
+    """How many rows there are, and those in which the referee is wrong."""
+    found = [*judged_rows(), *read_rows()]
+    return len(found), [f"{name}: {plain}, and not {wanted}" for name, plain, wanted in found if plain != wanted]
+
+
+def main():
+    binary, count, seed = [*sys.argv[1:], *[BINARY, "30000", "1"][len(sys.argv) - 1 :]]
+    binary = os.path.abspath(binary)
+    parts = [compare_all(binary, int(count), seed), compare_commands(binary), judge_tables()]
+    failures = [failure for _, some in parts for failure in some]
+    for failure in failures:
+        print(f"FAILED: {failure}")
+    print(f"{sum(tests for tests, _ in parts) - len(failures)} passed, {len(failures)} failed")
+    return int(bool(failures))
+
+
+if __name__ == "__main__":
+    sys.exit(main())

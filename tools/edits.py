@@ -1,0 +1,122 @@
+#!/usr/bin/env python3
+"""Reads wrong bodies, which are mistakes made on purpose, for the scripts that have them refused.
+
+A file of them has for each a line `name: NAME`, a line `file: PATH`, and lines `old: TEXT` and `new: TEXT`, each TEXT one
+line. Further pairs apply to what the earlier ones made; a line `file` may stand before each.
+"""
+import os
+import re
+import subprocess
+import tempfile
+
+
+class Fault(Exception):
+    """Why an edit shows nothing."""
+
+
+class Edit:
+    """A wrong body: the pairs of texts by which it changes files, and the other lines that it has, by their words."""
+
+    def __init__(self, path, name, lines, others):
+        self.path, self.name = path, name
+        self.pairs, self.words, self.fault = [], {}, None
+        try:
+            self.read(lines, others)
+        except Fault as fault:
+            self.fault = str(fault)
+
+    def read(self, lines, others):
+        file = old = None
+        for line in lines:
+            word, is_line, text = line.partition(": ")
+            if word == "file" and is_line:
+                file = text
+            elif word == "old" and is_line and file and old is None:
+                old = text
+            elif word == "new" and is_line and old:
+                self.pairs.append((file, old, text))
+                old = None
+            elif word in others and is_line and word not in self.words:
+                self.words[word] = text
+            else:
+                raise Fault(f"the line {line!r} can't be read")
+        lacking = [it for it in others if it not in self.words]
+        if not self.pairs or old or lacking:
+            raise Fault(f"it has no line {', '.join(lacking or ['new'])}")
+
+    def applied(self, root):
+        """The texts that it makes of files below a folder, by their paths."""
+        if self.fault:
+            raise Fault(self.fault)
+        texts = {}
+        for file, old, new in self.pairs:
+            if file not in texts:
+                texts[file] = text_of(root, file)
+            count = texts[file].count(old)
+            if count != 1:
+                raise Fault(f"{old!r} stands {count} times in {file}")
+            texts[file] = texts[file].replace(old, new)
+        return texts
+
+
+def text_of(root, file):
+    try:
+        with open(os.path.join(root, file), encoding="utf-8") as it:
+            return it.read()
+    except OSError as error:
+        raise Fault(f"{file}: {error.strerror}") from None
+
+
+def edits_in(path, others=()):
+    """The edits of a file; none if it isn't there. Each has to have a line for each of the other words too."""
+    if not os.path.exists(path):
+        return []
+    with open(path, encoding="utf-8") as it:
+        found = [named.splitlines() for named in re.split(r"^name: ", it.read(), flags=re.M)]
+    stray = [line for line in found[0] if line]
+    named = [(lines[0], [line for line in lines[1:] if line]) for lines in found[1:]]
+    return [Edit(path, name, lines, others) for name, lines in ([("", stray)] if stray else []) + named]
+
+
+def showing_nothing(kit, edits, root_of):
+    """Yields each edit that shows nothing, and why: it can't be applied, its code doesn't parse, or is as it was."""
+    with tempfile.TemporaryDirectory() as room:
+        made, originals = {}, {}
+        for edit in edits:
+            try:
+                for file, text in edit.applied(root_of(edit)).items():
+                    made[edit, file] = written(f"{room}/{len(made)}.rt", text)
+                    originals[edit, file] = os.path.join(root_of(edit), file)
+            except Fault as fault:
+                yield edit, str(fault)
+        unparsed, code = unparsed_of(kit, made.values()), code_of(kit, {*made.values(), *originals.values()})
+        for edit in dict.fromkeys(edit for edit, _ in made):
+            files = [file for its, file in made if its is edit]
+            why = [unparsed[made[edit, file]] for file in files if made[edit, file] in unparsed]
+            if why:
+                yield edit, f"it doesn't parse {why[0]}"
+            elif all(code[made[edit, file]] == code[originals[edit, file]] for file in files):
+                yield edit, "it changes no code"
+
+
+def written(path, text):
+    """Writes a file, and answers its path."""
+    with open(path, "w", encoding="utf-8") as it:
+        it.write(text)
+    return path
+
+
+def fmt(kit, flag, paths):
+    words = [f"{kit}/bin/rattle", "fmt", flag, *paths]
+    return subprocess.run(words, stdout=subprocess.PIPE, stderr=subprocess.STDOUT, text=True, check=False).stdout
+
+
+def unparsed_of(kit, paths):
+    """Which of these files don't parse, and where."""
+    return dict(re.findall(r"^(\S+): it does not parse: (.*)", fmt(kit, "--check", paths), re.M)) if paths else {}
+
+
+def code_of(kit, paths):
+    """The code of each of these files, without its comments."""
+    paths = sorted(paths)
+    return dict(zip(paths, re.split(r"^file \d+\n", fmt(kit, "--code", paths), flags=re.M)[1:])) if paths else {}

@@ -1,0 +1,71 @@
+#!/usr/bin/env python3
+"""Sums up what a build is made of, so that none is taken for that of other sources: tools/sources.py [FILE]
+
+It prints the sum of what is proved: of the sources, definitions and proofs of all crates but those of tests, crates.txt,
+HANDLES, VERSION and the kit. With FILE it writes it to the file `sources` beside that one, with a sum of it.
+
+Such a file lies beside what was built. Times say less: a source may come with an older one, and a definition that is gone
+has none. Without a kit all but the kit is compared.
+"""
+import collections
+import glob
+import hashlib
+import os
+import shutil
+import subprocess
+import sys
+
+import kit as kits
+
+# What a build is made of: the folders of the crates, and the files beside them.
+Parts = collections.namedtuple("Parts", "folders files")
+BESIDE = ["crates.txt", "HANDLES", "VERSION"]
+PROVED = Parts(["src", "specs", "proofs"], BESIDE)
+UNPROVED = Parts(["src"], [*BESIDE, "tools/quick_build.py"])
+
+
+def digest(path):
+    with open(path, "rb") as it:
+        return hashlib.sha256(it.read()).hexdigest()
+
+
+def summed(parts):
+    """The lines of what these parts sum up to: of the files, and of the kit, if it is there."""
+    crates = [it for it in kits.crates() if not it.endswith("_tests")]
+    files = [f"{kits.TOP}/{it}" for it in parts.files]
+    for folder in (f"{kits.TOP}/crates/{crate}/{it}" for crate in crates for it in parts.folders):
+        files += sorted(it for it in glob.glob(f"{folder}/**", recursive=True) if os.path.isfile(it))
+    whole = hashlib.sha256("".join(f"{digest(it)} {os.path.relpath(it, kits.TOP)}\n" for it in files).encode())
+    lines = [f"sources {whole.hexdigest()}"]
+    if shutil.which("rt"):
+        version = subprocess.run(["rt", "version"], capture_output=True, text=True, check=True).stdout
+        lines.append(f"kit {version.strip()}")
+    return lines
+
+
+def lines_for(parts, built):
+    return [*summed(parts), *(f"{digest(it)} {os.path.basename(it)}" for it in built)]
+
+
+def note(path, parts, built):
+    """Writes beside what was built what it was made of."""
+    with open(path, "w", encoding="utf-8") as it:
+        it.writelines(f"{line}\n" for line in lines_for(parts, built))
+
+
+def is_current(path, parts, built):
+    """Whether this was built, and of what stands here now."""
+    if not all(map(os.path.exists, [path, *built])):
+        return False
+    now = lines_for(parts, built)
+    with open(path, encoding="utf-8") as it:
+        noted = it.read().splitlines()
+    if not any(it.startswith("kit ") for it in now):
+        noted = [it for it in noted if not it.startswith("kit ")]
+    return noted == now
+
+
+if __name__ == "__main__":
+    if sys.argv[1:]:
+        note(f"{os.path.dirname(sys.argv[1])}/sources", PROVED, sys.argv[1:])
+    print("\n".join(summed(PROVED)))

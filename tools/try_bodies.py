@@ -1,0 +1,482 @@
+#!/usr/bin/env python3
+"""Has wrong bodies refused: tools/try_bodies.py [--apply] [--tenth SEED] [--over-ci] [CRATE..]
+
+They are mistakes made on purpose, and a contract has to refuse each. Without a crate's name those of all are tried. With
+--tenth it is a tenth of each crate's, which SEED picks, without those that take a proof of the whole crate.
+
+One check of a copy of a crate tries many. Most are tried on a twin: the function stays as it is, and after it, under
+another name, comes one with its contract, its proof files and the wrong body. A method of a trait can have no twin, nor
+can several functions: they are edited in place, each function once in a check. The check asks for these alone, and takes
+the other functions of a proved library by their contracts. In each check a twin without an edit has to be proved. What
+lies outside of functions is tried by a check of the whole crate, as is what such a check doesn't report.
+
+A wrong body is refused if the proof of the function fails. It fails this script if it is proved, and where it is bad: it
+can't be applied or compiled, or the proof fails only since a proof file names what the edit took away.
+
+The checks go over the libraries below, which rt check builds if they aren't there; with --over-ci over those that rt ci
+left. What they print is kept in crates/CRATE/out/wrong-bodies.
+
+With --apply nothing is tried, and what shows nothing is refused: its old text doesn't stand once in the file, or it
+doesn't parse, or changes no code.
+"""
+import argparse
+import collections
+import concurrent.futures
+import functools
+import glob
+import hashlib
+import json
+import os
+import re
+import shutil
+import subprocess
+import sys
+import tempfile
+
+import edits as bodies
+import kit as kits
+
+TOP = os.path.dirname(os.path.dirname(os.path.abspath(__file__)))
+
+# How the folders of the trials are named, for tools/gate_times.py.
+ROOM = "wrong-bodies-"
+
+# The checks that run at once, and the edits in one of them.
+JOBS = os.cpu_count()
+EDITS = 48
+
+REFUSED, PROVED, BAD = "refused", "proved", "bad"
+
+FUNCTION = re.compile(r'( *)(?:pub(?:\([a-z]+\))? )?(?:const )?(?:unsafe )?(?:extern "C" )?fn (\w+)')
+BLOCK = re.compile(r"(?:pub )?(?:unsafe )?(?:impl|trait)\b")
+NO_PROOF = re.compile(r"^fn (\S+): no proof: expected answers in", re.M)
+PROOF_ERROR = re.compile(r"^(?:note: )?(?:\./)?(proofs/\S+?):\d+:\d+: error(.*(?:\n  .*)*)", re.M)
+CODE_ERROR = re.compile(r"^(?:\./)?(src/\S+?):(\d+):\d+: error(.*)", re.M)
+LOST = re.compile(r"has\s+no field|is not in scope|has\s+no `|was not admitted")
+
+# What a check reports of what is proved, or is but for functions that are taken by their contracts, and how these are.
+AS_PROVED = ("proved", "no holes", "depends on a hole")
+HOLE = """use Rattle.{module}.Statement.{{statement}}
+
+pub {name}_spec : {{M : Type 1}} → statement M
+{name}_spec = ?
+"""
+
+# A function with its body: the lines of its head, its body's brackets, and the impl or trait around it.
+Function = collections.namedtuple("Function", "head first last name block")
+
+# What a check printed, with its status, and the processor minutes that it took, by its crate.
+Report = collections.namedtuple("Report", "status text minutes")
+
+
+def text_of(path):
+    with open(path, encoding="utf-8") as it:
+        return it.read()
+
+
+def write(path, text):
+    os.makedirs(os.path.dirname(path), exist_ok=True)
+    with open(path, "w", encoding="utf-8") as it:
+        it.write(text)
+
+
+def functions(lines):
+    """The functions with a body in a text in the layout of rt fmt."""
+    block = ""
+    for head, line in enumerate(lines):
+        if BLOCK.match(line):
+            ends = next(it for it in range(head, len(lines)) if lines[it].endswith(("{", "}")))
+            block = " ".join(lines[head : ends + 1])
+        found = FUNCTION.match(line)
+        if found:
+            indent, name = found.groups()
+            rest = range(head, len(lines))
+            first = next((it for it in rest if lines[it].endswith("{") and re.match(rf"{indent}\S", lines[it])), None)
+            last = next((it for it in rest if lines[it] == f"{indent}}}"), None)
+            if first is not None and last is not None and first < last:
+                yield Function(head, first, last, name, block if indent else "")
+
+
+def parted(block):
+    """The parameters of an impl, and what stands after them, without lifetimes and the modules of names."""
+    text = re.sub(r"^(?:unsafe )?impl|\{$", "", re.sub(r"\w+::|&|'\w+", "", block.partition(" where ")[0]))
+    depth = 0
+    for at, char in enumerate(text):
+        depth += (char == "<") - (char == ">")
+        if depth == 0:
+            break
+    given, rest = text[1:at], text[at:] if at == 0 else text[at + 1 :]
+    while re.search(r"<[^<>]*>", given):
+        given = re.sub(r"<[^<>]*>", "", given)
+    return {re.sub(r"^const ", "", it.strip()).partition(":")[0] for it in given.split(",")}, rest
+
+
+def owner_of(block):
+    """What a check names an impl or a trait: `Trait`, `Type+Its+Types`, or `TypeItsTypesTraitItsTypes`."""
+    trait = re.match(r"(?:pub )?(?:unsafe )?trait (\w+)", block)
+    if trait:
+        return trait[1]
+    parameters, rest = parted(block)
+    head, is_of_trait, kind = rest.partition(" for ")
+    names = [[it[0].upper() + it[1:] for it in re.findall(r"\w+", text) if it not in parameters] for text in (kind, head)]
+    return "".join(names[0] + names[1]) if is_of_trait else "+".join(names[1])
+
+
+class Place(collections.namedtuple("Place", "file function")):
+    """A function in a file of a crate."""
+
+    def is_of_trait(self):
+        return bool(re.search(r"\bfor\b|\btrait\b", re.sub(r"for<", "", self.function.block)))
+
+    def path(self, name):
+        """The function under this name, as a check names it: of a method, whose type may be of another module, the end."""
+        parts = self.file[len("src/") : -len(".rt")].split("/")
+        owner = owner_of(self.function.block) if self.function.block else ""
+        return [owner, name] if owner else [*([] if parts == ["lib"] else parts), name]
+
+
+class Edit:
+    """A wrong body: what it makes of the crate's files, and the functions that it changes, if it changes nothing else."""
+
+    def __init__(self, crate, body):
+        self.crate, self.body, self.name = crate, body, body.name
+        self.functions, self.result, self.why = [], None, None
+        try:
+            self.texts = body.applied(f"{TOP}/crates/{crate}")
+            self.find_functions()
+        except bodies.Fault as fault:
+            self.settle(BAD, str(fault))
+
+    def settle(self, result, why=""):
+        self.result, self.why = result, why
+
+    def log(self):
+        """A new file for the output of a check."""
+        return f"{TOP}/crates/{self.crate}/out/wrong-bodies/{self.name}.{os.urandom(2).hex()}.txt"
+
+    def lines_of(self, file):
+        """The lines of a file as they are, and as the edit makes them: as many, since each of its texts is one line."""
+        return text_of(f"{TOP}/crates/{self.crate}/{file}").split("\n"), self.texts[file].split("\n")
+
+    def find_functions(self):
+        found = set()
+        for file in self.texts:
+            was, now = self.lines_of(file)
+            every = list(functions(was))
+            for number, line in enumerate(was):
+                if line != now[number]:
+                    around = [Place(file, it) for it in every if it.first <= number <= it.last]
+                    found.add(around[-1] if around else None)
+        if None not in found:
+            self.functions = sorted(found)
+
+    def may_have_twin(self):
+        """Whether it changes one function alone, of no trait."""
+        return len(self.functions) == 1 and not self.functions[0].is_of_trait()
+
+
+class Unedited:
+    """What stands for an edit that changes nothing: if it isn't proved, the check shows nothing."""
+
+    def __init__(self, edit):
+        self.crate, self.functions = edit.crate, edit.functions
+
+    def lines_of(self, file):
+        lines = text_of(f"{TOP}/crates/{self.crate}/{file}").split("\n")
+        return lines, lines
+
+
+class Trial:
+    """A copy of a crate with some edits in it: the paths of what each changed there, and where it stands."""
+
+    def __init__(self, crate, room):
+        self.crate, self.room = crate, room
+        self.folder = f"{TOP}/crates/{crate}"
+        self.keys = keys_of(crate)
+        self.paths, self.lines, self.control = {}, {}, None
+        for part in ("src", "specs", "proofs"):
+            if os.path.isdir(f"{self.folder}/{part}"):
+                shutil.copytree(f"{self.folder}/{part}", f"{room}/{part}")
+
+    def put_whole(self, edit):
+        for file, text in edit.texts.items():
+            write(f"{self.room}/{file}", text)
+
+    def path(self, place, name):
+        """The path of a function, under this name, as a check prints it; the end of it, if that isn't known."""
+        end = place.path(place.function.name)
+        found = [it for it in self.keys if it[-len(end) :] == end]
+        return [*(found[0] if len(found) == 1 else end)[:-1], name]
+
+    def put_holes(self, edits):
+        """Takes all functions by their contracts that aren't edited in place, as rt ci has proved them."""
+        in_place = {place for edit in edits if not edit.may_have_twin() for place in edit.functions}
+        for place in set(places_in(self.folder)) - in_place:
+            path = self.path(place, place.function.name)
+            if path in self.keys:
+                shutil.rmtree(f"{self.room}/proofs/{'/'.join(path)}", ignore_errors=True)
+                text = HOLE.format(module=".".join([self.crate, "proofs", *path]), name=path[-1])
+                write(f"{self.room}/proofs/{'/'.join(path)}/Proof.antt", text)
+
+    def put_in_place(self, edit):
+        """Gives the edited functions their new bodies."""
+        for file, own in edit.functions:
+            lines, edited = text_of(f"{self.room}/{file}").split("\n"), edit.lines_of(file)[1]
+            lines[own.first : own.last] = edited[own.first : own.last]
+            write(f"{self.room}/{file}", "\n".join(lines))
+        self.paths[edit] = [self.path(it, it.function.name) for it in edit.functions]
+
+    def put_twins(self, edits):
+        """Puts a twin of each edited function right after it, and one more of the first, without its edit."""
+        if edits:
+            self.control = Unedited(edits[0])
+            edits = [*edits, self.control]
+        for number, edit in enumerate(edits):
+            (place,) = edit.functions
+            name = f"{place.function.name}_edit_{number}"
+            self.paths[edit] = [self.path(place, name)]
+            self.copy_proofs(place, name)
+        for file in {it.functions[0].file for it in edits}:
+            here, lines = [it for it in edits if it.functions[0].file == file], []
+            for number, line in enumerate(text_of(f"{self.room}/{file}").split("\n")):
+                lines.append(line)
+                for edit in (it for it in here if it.functions[0].function.last == number):
+                    first = len(lines) + 1
+                    lines += twin_of(edit, self.paths[edit][0][-1])
+                    self.lines[edit] = file, range(first, len(lines) + 1)
+            write(f"{self.room}/{file}", "\n".join(lines))
+
+    def copy_proofs(self, place, name):
+        """Gives a twin the proof files of its function."""
+        end, proofs = "/".join(place.path(place.function.name)), f"{self.folder}/proofs"
+        for folder in glob.glob(f"{proofs}/**/{end}", recursive=True):
+            own = os.path.relpath(folder, proofs)
+            twin = f"{os.path.dirname(own)}/{name}"
+            modules = [f".proofs.{it.replace('/', '.')}." for it in (own, twin)]
+            for file in glob.glob(f"{folder}/**/*.antt", recursive=True):
+                write(f"{self.room}/proofs/{twin}/{os.path.relpath(file, folder)}", text_of(file).replace(*modules))
+
+    def edits_at(self, file, line):
+        """The edits that an error there may be of: a twin, or what is edited in place in that file."""
+        twins = [it for it, (its_file, lines) in self.lines.items() if its_file == file and line in lines]
+        others = [it for it in self.paths if it not in self.lines]
+        found = twins or [it for it in others if file in {place.file for place in it.functions}]
+        return [it for it in found if it is not self.control]
+
+    def check(self, log):
+        """Checks what is edited in the copy, or all of it."""
+        words = [*check_words(self.crate), "--jobs", "1", *(["--allow-holes"] if self.paths and self.keys else [])]
+        for path in (it for paths in self.paths.values() for it in paths):
+            words += ["--only", "::".join(path)]
+        write(log, "")
+        with open(log, "w", encoding="utf-8") as out:
+            started = subprocess.Popen(words, cwd=self.room, stdin=subprocess.DEVNULL, stdout=out, stderr=out)
+            _, status, used = os.wait4(started.pid, 0)
+        started.returncode = os.waitstatus_to_exitcode(status)
+        minutes = collections.Counter({self.crate: (used.ru_utime + used.ru_stime) / 60})
+        return Report(started.returncode, text_of(log), minutes)
+
+
+def twin_of(edit, name):
+    """The lines of the edited function under another name, with the attributes above it."""
+    file, own = edit.functions[0]
+    _, lines = edit.lines_of(file)
+    above = own.head
+    while lines[above - 1].strip().startswith("#["):
+        above -= 1
+    head = lines[own.head].replace(f"fn {own.name}", f"fn {name}", 1)
+    return ["", *lines[above : own.head], head, *lines[own.head + 1 : own.last + 1]]
+
+
+def check_words(crate):
+    """The command that checks a crate in the current folder, over the libraries of this checkout."""
+    kit, listed = kits.folder("bin/rattle"), kits.crates()
+    root = "src/main.rt" if os.path.exists(f"{TOP}/crates/{crate}/src/main.rt") else "src/lib.rt"
+    words = [f"{kit}/bin/rattle", "check", "--crate-name", crate, root, "-L", f"dependency={kit}/rlibs"]
+    for name in ["std", *listed[crate]]:
+        folder = f"{TOP}/crates/{name}/out/rlib" if name in listed else f"{kit}/rlibs"
+        words += ["--extern", f"{name}={folder}/{name}.rlib"]
+    for name in kits.below(listed, crate):
+        words += ["-L", f"dependency={TOP}/crates/{name}/out/rlib"]
+    words += ["--crate-type", "staticlib"] if re.search(rf"^{crate} staticlib", text_of(f"{TOP}/crates.txt"), re.M) else []
+    return words + ["--antt-project", f"{kit}/rattle/logic/antt-project.json", "--logic-built", f"{kit}/logic_built"]
+
+
+def keys_of(crate):
+    """The paths of the functions of a library that was proved, as lists; none if it wasn't."""
+    file = f"{TOP}/crates/{crate}/out/rlib/{crate}.rlib/toolchain/mir.json"
+    listed = json.loads(text_of(file)) if os.path.exists(file) else []
+    return [key.split("::")[1:] for key, *_ in listed if "+" not in key]
+
+
+def places_in(folder):
+    """The functions of a crate's sources."""
+    for path in glob.glob(f"{folder}/src/**/*.rt", recursive=True):
+        for it in functions(text_of(path).split("\n")):
+            yield Place(os.path.relpath(path, folder), it)
+
+
+def verdict_at(path, report):
+    """What a check reports of the function at a path."""
+    found = re.findall(rf"^fn \S*::{re.escape('::'.join(path))}: (.*)", report.text, re.M)
+    return found[0] if len(found) == 1 else ""
+
+
+def judge(edit, paths, report):
+    """Settles an edit by what a check reports of the functions that it changed, at the paths that these have there."""
+    verdicts = [verdict_at(it, report) for it in paths]
+    parts = [f"/{'/'.join(it)}/" for it in paths]
+    errors = [why for file, why in PROOF_ERROR.findall(report.text) if any(it in file for it in parts)]
+    without = [it for it in verdicts if it.startswith("no proof: expected answers in")]
+    if without:
+        edit.settle(REFUSED, without[0])
+    elif any(it.startswith("not proved") for it in verdicts):
+        judge_errors(edit, errors)
+    elif all(it.startswith(AS_PROVED) for it in verdicts):
+        edit.settle(PROVED)
+
+
+def judge_errors(edit, errors):
+    """Settles an edit by the errors in proof files."""
+    failed = [it for it in errors if not LOST.search(it)]
+    if failed:
+        edit.settle(REFUSED, failed[0])
+    elif errors:
+        edit.settle(BAD, f"a proof file names what it took away{errors[0]}")
+
+
+def try_together(edits):
+    """Tries edits of functions by one check, and answers the minutes by crate. It may leave some unsettled."""
+    crate = edits[0].crate
+    with tempfile.TemporaryDirectory(prefix=ROOM) as room:
+        trial = Trial(crate, room)
+        trial.put_holes(edits)
+        for edit in (it for it in edits if not it.may_have_twin()):
+            trial.put_in_place(edit)
+        trial.put_twins([it for it in edits if it.may_have_twin()])
+        report = trial.check(edits[0].log())
+    for file, line, why in CODE_ERROR.findall(report.text):
+        for edit in trial.edits_at(file, int(line)):
+            edit.settle(BAD, f"error{why}")
+    rest = [it for it in edits if it.result is None]
+    if 0 < len(rest) < len(edits):
+        return report.minutes + try_together(rest)
+    if trial.control and not verdict_at(trial.paths[trial.control][0], report).startswith(AS_PROVED):
+        return report.minutes
+    for edit in rest:
+        judge(edit, trial.paths[edit], report)
+    return report.minutes
+
+
+def try_alone(edit):
+    """Tries one edit by a check of the crate with it, and answers the minutes by crate."""
+    with tempfile.TemporaryDirectory(prefix=ROOM) as room:
+        trial = Trial(edit.crate, room)
+        trial.put_whole(edit)
+        report = trial.check(edit.log())
+    without = NO_PROOF.findall(report.text)
+    edit.settle(None)
+    if report.status == 0:
+        edit.settle(PROVED)
+    elif without:
+        edit.settle(REFUSED, f"no proof of {without[0]}")
+    else:
+        judge_errors(edit, [why for _, why in PROOF_ERROR.findall(report.text)])
+    if edit.result is None:
+        edit.settle(BAD, report.text[-300:])
+    return report.minutes
+
+
+def groups_of(edits):
+    """The edits of a crate that are tried by one check each: those that have no twin change different functions."""
+    twins = [it for it in edits if it.may_have_twin()]
+    others = [it for it in edits if it.functions and not it.may_have_twin()]
+    while twins or others:
+        changed, group = set(), []
+        for edit in others[:]:
+            if changed.isdisjoint(edit.functions) and len(group) < EDITS:
+                changed |= set(edit.functions)
+                group.append(edit)
+                others.remove(edit)
+        room = EDITS - len(group)
+        group, twins = group + twins[:room], twins[room:]
+        yield group
+
+
+def run(trials):
+    """Runs trials, some of them at once, and answers their minutes by crate."""
+    with concurrent.futures.ThreadPoolExecutor(JOBS) as pool:
+        return sum(pool.map(lambda it: it(), trials), collections.Counter())
+
+
+def try_all(edits):
+    """Tries edits, and answers the minutes by crate."""
+    crates = dict.fromkeys(it.crate for it in edits)
+    left = {crate: [it for it in edits if it.crate == crate and not it.result] for crate in crates}
+    minutes = run(functools.partial(try_together, it) for crate in crates for it in groups_of(left[crate]))
+    return minutes + run(functools.partial(try_alone, it) for it in edits if not it.result)
+
+
+def print_results(edits, minutes):
+    """Prints what became of the edits, and answers how many weren't refused."""
+    for it in edits:
+        if it.result != REFUSED:
+            print(f"{it.crate}: {it.name}: {it.result.upper()}{': ' + it.why if it.why else ''}")
+    print(f"{'crate':20} edits  refused  proved  bad  minutes")
+    for crate in dict.fromkeys(it.crate for it in edits):
+        count = collections.Counter(it.result for it in edits if it.crate == crate)
+        counts = f"{count.total():5}  {count[REFUSED]:7}  {count[PROVED]:6}  {count[BAD]:3}"
+        print(f"{crate:20} {counts}  {minutes[crate]:7.1f}")
+    failed = sum(it.result != REFUSED for it in edits)
+    print(f"{len(edits) - failed} passed, {failed} failed")
+    return failed
+
+
+def bodies_of(crate):
+    """The wrong bodies of a crate, as they are read."""
+    return bodies.edits_in(f"{TOP}/crates/{crate}/wrong-bodies")
+
+
+def apply(crates):
+    """Applies the edits of these crates, and answers how many show nothing."""
+    read = {it: crate for crate in crates for it in bodies_of(crate)}
+    faults = list(bodies.showing_nothing(kits.folder(), read, lambda it: f"{TOP}/crates/{read[it]}"))
+    for it, fault in faults:
+        print(f"{read[it]}: {it.name}: {fault}")
+    print(f"edits: {len(read)}, showing nothing: {len(faults)}")
+    return len(faults) + (not read)
+
+
+def tenth_of(edits, seed):
+    """A tenth of a crate's edits, and one at least: those whose names come first in an order that the seed gives."""
+    quick = [it for it in edits if it.functions or it.result]
+    quick.sort(key=lambda it: hashlib.sha256(f"{seed} {it.name}".encode()).digest())
+    return quick[: -(-len(edits) // 10)]
+
+
+def attempt(crates, seed, is_over_ci):
+    """Tries the edits of these crates, and answers how many aren't refused."""
+    of_crates = {crate: [Edit(crate, it) for it in bodies_of(crate)] for crate in crates}
+    if seed:
+        print(f"--tenth {seed} tries these again")
+        of_crates = {crate: tenth_of(edits, seed) for crate, edits in of_crates.items()}
+    for crate in [] if is_over_ci else crates:
+        subprocess.run(["rt", "check"], cwd=f"{TOP}/crates/{crate}", check=True)
+    edits = [it for edits in of_crates.values() for it in edits]
+    return print_results(edits, try_all(edits))
+
+
+def main():
+    words = argparse.ArgumentParser(description="Has wrong bodies refused.")
+    words.add_argument("--apply", action="store_true", help="only apply them")
+    words.add_argument("--tenth", metavar="SEED", help="try a tenth of them")
+    words.add_argument("--over-ci", action="store_true", help="over the libraries that rt ci left")
+    words.add_argument("crates", nargs="*", metavar="CRATE")
+    asked = words.parse_args()
+    crates = asked.crates or [it for it in kits.crates() if bodies_of(it)]
+    failed = apply(crates) if asked.apply else attempt(crates, asked.tenth, asked.over_ci)
+    return 1 if failed else 0
+
+
+if __name__ == "__main__":
+    sys.exit(main())
