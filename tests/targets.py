@@ -5,12 +5,11 @@ FOLDER is where `make` built the library and the program for this one: build, or
 What a part tests is built by make first. The parts:
   module    the module that is kept is the one of which clang made the archive
   wasm      in node the library's tests, with each call compared with the library for this system, and 5,000 random
-            instances; its heap, up to the end of 32-bit addresses; the layer for JavaScript; and the package, as npm
-            installs it
+            instances; its heap, up to the end of 32-bit addresses; the layer for JavaScript; and the package
   command   the command in node: its statuses, output and files are those of the program
   page      the page in Chromium: answers, marked lines, downloads, refused requests
   aarch64   under qemu the library's tests in C, and the program, compared as the command
-With --all there are more instances and all runs over the examples, and two parts more:
+With --all there are more instances and all runs over the examples, npm installs the package, and two parts more:
   windows   under wine the library's tests in C
   firefox   the page in Firefox
 
@@ -117,16 +116,26 @@ def test_wasm(tests):
 
 
 def test_package(tests):
-    """Installs the package without the network, and runs its command."""
-    if not shutil.which("npm"):
-        print("left out: the package for node: no npm")
-        return
-    place = f"{tests.room}/installed"
-    os.mkdir(place)
-    words = ["--offline", "--no-audit", "--no-fund", "--prefix", place]
-    tests.ended("npm install", run("npm", "install", *words, f"{tests.build}/npm/dimacs.tgz", cwd=place))
-    ran = run("npx", "--offline", "dimacs", "show", "gr", f"{TOP}/examples/road.gr", cwd=place)
-    tests.ended("npx dimacs", ran, ran.stdout == "i sp 6 13\n")
+    """Unpacks the package as npm does, and with --all lets npm do it, without the network; then calls it."""
+    place, package = f"{tests.room}/unpacked", f"{tests.build}/npm/dimacs.tgz"
+    os.makedirs(f"{place}/node_modules")
+    unpacked = run("tar", "-xzf", package, "--transform", "s/^package/dimacs/", "-C", f"{place}/node_modules")
+    tests.ended("unpacking the package", unpacked)
+    use_package(tests, place, ["node", "node_modules/dimacs/cli.js"])
+    if tests.is_all and not shutil.which("npm"):
+        print("left out: npm install: no npm")
+    elif tests.is_all:
+        place = f"{tests.room}/installed"
+        os.mkdir(place)
+        words = ["--offline", "--no-audit", "--no-fund", "--prefix", place]
+        tests.ended("npm install", run("npm", "install", *words, package, cwd=place))
+        use_package(tests, place, ["npx", "--offline", "dimacs"])
+
+
+def use_package(tests, place, command):
+    """Runs the command of a package that is installed in a folder, and imports it."""
+    ran = run(*command, "show", "gr", f"{TOP}/examples/road.gr", cwd=place)
+    tests.ended("the command of the package", ran, ran.stdout == "i sp 6 13\n")
     call = "import {show} from 'dimacs'; process.stdout.write(show('cut', 'p cut 4 1\\nu 1\\n'))"
     ran = run("node", "--input-type=module", "-e", call, cwd=place)
     tests.ended("import of the package", ran, ran.stdout == "i cut 4 1\n")

@@ -1,4 +1,5 @@
 // The page: shows texts and answers, and asks the worker.
+import {drawing} from "./drawing.js";
 import {FORMATS, inWords} from "./words.js";
 
 const $ = (id) => document.getElementById(id);
@@ -207,13 +208,22 @@ function made({name, bytes, text, isWhole}, {what, kind, status}) {
     return element("div", {className: "made"}, row, shown);
 }
 
+/** What the drawing shows, below it. */
+function caption({kind, network}) {
+    const set = network.inside.length ? " Filled nodes are in the set." : "";
+    const arcs = kind === "paths"
+        ? "Arcs have their weights. Dark ones lead from the first source along its labels."
+        : `Arcs have their flow / capacity, or only their capacity. Thick ones are full.${set}`;
+    return element("p", {className: "about", textContent: arcs});
+}
+
 function use(file, bytes) {
     return take(new File([bytes], file), file, "claim");
 }
 
 function clearAnswer() {
     $("answer").hidden = true;
-    for (const id of ["verdict", "meaning", "line", "places", "made"]) $(id).replaceChildren();
+    for (const id of ["verdict", "meaning", "line", "places", "drawn", "made"]) $(id).replaceChildren();
 }
 
 function answer(got) {
@@ -224,6 +234,7 @@ function answer(got) {
     $("meaning").textContent = `${sentence} (${time})`;
     $("line").textContent = got.output.trimEnd();
     $("places").replaceChildren(...got.places.map(excerpt));
+    $("drawn").replaceChildren(...(got.network ? [drawing(got.network), caption(got)] : []));
     $("made").replaceChildren(...got.files.map((it) => made(it, got)));
     $("answer").hidden = false;
     got.places.forEach(select);

@@ -213,12 +213,88 @@ function placesOf(line) {
     return number ? [excerpt(SLOTS[text], held[SLOTS[text]], number, field)] : [];
 }
 
+// ---- a small network, to be drawn
+
+const MOST_DRAWN = {nodes: 60, arcs: 150};
+
+/** The fields of the lines that begin with one of these letters. */
+const recordsOf = (bytes, letters) => [...linesWith(bytes, letters)].map((it) => it.fields);
+
+/** A number as it is printed. */
+const plain = (number) => String(BigInt(number.replace("+", "")));
+
+/** Where flow begins: the source, nodes with a supply, or the source of the first block. */
+function beginsOf(kind, claim) {
+    const nodes = recordsOf(held.instance, "n");
+    if (kind === "max") return nodes.filter(([, , end]) => end === "s").map(([, id]) => Number(id));
+    if (kind !== "paths") return nodes.filter(([, , supply]) => Number(supply) > 0).map(([, id]) => Number(id));
+    return recordsOf(claim, "tsq").slice(0, 1).map(([, id]) => Number(id));
+}
+
+/** What arcs carry: the entries with the same ends, in their order. */
+function flowsOf(claim) {
+    const found = new Map();
+    for (const [, tail, head, flow] of recordsOf(claim, "f")) {
+        const key = `${Number(tail)} ${Number(head)}`;
+        found.set(key, [...(found.get(key) ?? []), plain(flow)]);
+    }
+    return found;
+}
+
+/** The arcs by which the labels of the first block go. */
+function treeOf(labels) {
+    const records = recordsOf(labels, "td"), end = records.findIndex(([letter], i) => i > 0 && letter === "t");
+    const first = records.slice(1, end < 0 ? undefined : end);
+    return new Set(first.map(([, id, , predecessor]) => `${Number(predecessor)} ${Number(id)}`));
+}
+
+/** An arc as it is drawn: on a path its weight, otherwise its flow and its capacity. */
+function drawnArc(kind, numbers, number, flows, tree, wrong) {
+    const [tail, head] = numbers.map(Number), key = `${tail} ${head}`, arc = {number, tail, head};
+    const isWrong = wrong === number;
+    if (kind === "paths") {
+        const state = isWrong ? "wrong" : tree.has(key) ? "used" : "";
+        return {...arc, label: plain(numbers[2]), state};
+    }
+    const cap = plain(numbers[kind === "max" ? 2 : 3]), flow = flows.get(key)?.shift() ?? "0";
+    if (kind === "infeasible" && flows.size === 0) return {...arc, label: cap, state: ""};
+    const state = isWrong ? "wrong" : flow === "0" ? "" : flow === cap ? "full" : "used";
+    return {...arc, label: `${flow}/${cap}`, state};
+}
+
+/** The network with a claim and a certificate, if it is small; otherwise null. */
+function drawn(kind, claim, certificate, {arc = 0, node = 0}) {
+    const [, , ...counts] = firstRecord(held.instance), [nodes, arcs] = counts.map(Number);
+    if (!(nodes <= MOST_DRAWN.nodes && arcs <= MOST_DRAWN.arcs)) return null;
+    const given = recordsOf(held.instance, "a"), flows = flowsOf(claim), tree = treeOf(certificate);
+    return {
+        nodes,
+        arcs: given.map(([, ...numbers], i) => drawnArc(kind, numbers, i + 1, flows, tree, arc)),
+        begins: beginsOf(kind, kind === "paths" ? certificate : claim),
+        inside: recordsOf(certificate, "u").map(([, id]) => Number(id)),
+        wrongNode: node,
+    };
+}
+
+/** What is drawn of an answer: nothing if a text has a fault. */
+function drawnAnswer(kind, status, line, files) {
+    const place = status === 1 ? refusal(line) : {};
+    if (place.line && !["NotMaximum", "NotLeast"].includes(place.reason)) return null;
+    const own = (name, slot) => files.find((it) => it.name === name)?.bytes ?? held[slot];
+    const certificate = files.find((it) => it.name !== "solution")?.bytes ?? held.certificate;
+    const isMade = status === 0 || place.reason === "Feasible";
+    return drawn(kind, isMade ? own("solution", "claim") : held.claim, status === 0 ? certificate : held.certificate, place);
+}
+
 // ---- what the page asks for
 
 const CERTIFICATES = {max: "cut", min: "pot", infeasible: "cut", paths: "dist"};
 
 function checked(kind, claimed) {
     const {instance, claim, certificate} = held;
+    if (kind !== "infeasible" && !claim.length) {
+        throw new Unreadable("There is nothing to check yet: give a claim beside the instance, or press Solve.");
+    }
     if (kind === "paths" && claimed === "query" && !certificate.length) {
         throw new Unreadable("Queries are judged by labels: give them as the certificate, or press Solve to make them.");
     }
@@ -228,8 +304,11 @@ function checked(kind, claimed) {
     return {...answer, names: [answer.status === 0 ? CERTIFICATES[kind] : "solution"]};
 }
 
-function solved(claimed) {
-    const kind = claimed === "infeasible" ? "min" : claimed;
+function solved(claim, claimed) {
+    if (claim === "paths" && claimed !== "query") {
+        throw new Unreadable("Solve answers queries: give some beside the graph, as p aux sp ss 1 and s 1 on two lines.");
+    }
+    const kind = claim === "infeasible" ? "min" : claim;
     const answer = texts.solve(kind, held.instance, kind === "paths" ? held.claim : NONE, LIMIT);
     const isInfeasible = latin.decode(answer.handed[0]).startsWith("v infeasible");
     return {...answer, names: ["solution", isInfeasible ? "cut" : CERTIFICATES[kind]]};
@@ -255,12 +334,14 @@ const ASKED = {
 
     async run({what, kind, claimed}) {
         const begun = performance.now();
-        const {status, handed: [printed, ...made], names} = what === "solve" ? solved(kind) : checked(kind, claimed);
+        const answer = what === "solve" ? solved(kind, claimed) : checked(kind, claimed);
+        const {status, handed: [printed, ...made], names} = answer;
         const took = performance.now() - begun, output = latin.decode(printed.subarray(0, MOST_SHOWN));
         const line = output.split("\n", 1)[0];
         const all = names.map((name, i) => ({name, bytes: made[i], ...shown(made[i])}));
         const files = status === GAVE_UP ? [] : all.filter((it) => it.bytes.length);
-        return {what, kind, status, line, output, took, files, places: status === 1 ? placesOf(line) : []};
+        const network = status === 0 || status === 1 ? drawnAnswer(kind, status, line, files) : null;
+        return {what, kind, status, line, output, took, files, network, places: status === 1 ? placesOf(line) : []};
     },
 };
 

@@ -133,6 +133,22 @@ const TESTS = {
         await person.read();
         assert.equal((await person.ask("Check")).line, "v max 12");
     },
+    "a small network is drawn": async (person) => {
+        const count = (selector) => person.page.evaluate(`document.querySelectorAll("#drawn ${selector}").length`);
+        await person.example("a maximum flow");
+        await person.ask("Check");
+        // Of its arcs 1 to 3, 2 to 4 and 3 to 5 are full.
+        const wanted = {".node": 5, ".node.inside": 3, ".arc": 7, ".arc.full": 3, ".arc.wrong": 0};
+        for (const [selector, number] of Object.entries(wanted)) assert.equal(await count(selector), number, selector);
+        const label = `document.querySelector("#drawn svg").getAttribute("aria-label")`;
+        assert.equal(await person.page.evaluate(label), "The network: 5 nodes, 7 arcs; inside the set: 1, 2, 3");
+        await person.write("claim", "s 12\nf 1 2 11\nf 1 3 6\nf 2 3 7\nf 2 4 4\nf 3 5 13\nf 4 5 4\n");
+        assert.equal((await person.ask("Check")).line, "x arc 1 AboveCap");
+        assert.equal(await count(".arc.wrong"), 1);
+        await person.example("a fault in a text");
+        await person.ask("Check");
+        assert.equal(await count("svg"), 0);
+    },
     "a fault in a text": async (person) => {
         await person.example("a fault in a text");
         const {line, marked, fields} = await person.ask("Check");
@@ -153,6 +169,14 @@ const TESTS = {
         const {line, meaning} = await person.ask("Check");
         assert.equal(line, "x solution 2 0 SolutionMissing");
         assert.match(meaning, /no line s VALUE/);
+    },
+    "nothing to check, and nothing to solve": async (person) => {
+        await person.write("instance", MAX);
+        await person.write("claim", "");
+        assert.match((await person.ask("Check")).verdict, /^There is nothing to check yet/);
+        assert.equal((await person.ask("Solve")).line, "v max 4");
+        await person.example("distances");
+        assert.match((await person.ask("Solve")).verdict, /^Solve answers queries/);
     },
     "least cost, solved": async (person) => {
         await person.example("a flow of least cost");

@@ -57,7 +57,7 @@ def digest(text):
 
 
 def page(module):
-    style, script = read(f"{PAGE}/page.css"), joined(f"{PAGE}/words.js", f"{PAGE}/main.js")
+    style, script = read(f"{PAGE}/page.css"), joined(*(f"{PAGE}/{it}.js" for it in ("words", "drawing", "main")))
     policy = ["default-src 'none'", f"script-src {digest(script)} 'wasm-unsafe-eval'", "worker-src blob:"]
     policy += [f"style-src {digest(style)}", "base-uri 'none'", "form-action 'none'"]
     parts = {
