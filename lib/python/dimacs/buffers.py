@@ -56,7 +56,7 @@ def _address_of(view: memoryview) -> int:
     """The address of the bytes of a view. They stay there as long as the view lives."""
     seen = _View()
     ctypes.pythonapi.PyObject_GetBuffer(ctypes.py_object(view), ctypes.byref(seen), 0)
-    address = seen.address
+    address = int(seen.address or 0)
     ctypes.pythonapi.PyBuffer_Release(ctypes.byref(seen))
     return address
 

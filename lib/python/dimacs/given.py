@@ -6,6 +6,7 @@ import ctypes
 import math
 from array import array
 from contextlib import contextmanager
+from functools import partial
 from itertools import compress
 from typing import Any, Callable, Iterable, Iterator, NamedTuple, Sequence
 
@@ -180,7 +181,7 @@ class Given:
         for kind, numbers in self._raw.items():
             if kind.unit == unit:
                 name = self._namer(kind)
-                yield _listed(numbers, name), lambda place, name=name: item(name, place)
+                yield _listed(numbers, name), partial(item, name)
 
     def _test_lengths(self) -> None:
         """The library tests the lengths too, but doesn't report which one is wrong."""

@@ -49,7 +49,7 @@ class EdgeNames(Names):
 
 def _entries(flow: Any, shape: str) -> dict[tuple[Any, ...], Any]:
     """The entries of a flow of this shape by their edges."""
-    entries = {(): flow}
+    entries: dict[tuple[Any, ...], Any] = {(): flow}
     for _ in range(shape.count("[")):
         _test_shape(all(isinstance(it, Mapping) for it in entries.values()), shape)
         entries = {(*edge, word): it for edge, more in entries.items() for word, it in more.items()}

@@ -5,6 +5,7 @@ from __future__ import annotations
 import decimal
 import math
 from fractions import Fraction
+from functools import partial
 from typing import Any, Callable, Iterable, NamedTuple, Sequence
 
 #: Digits enough for each product that is shown.
@@ -92,11 +93,11 @@ def _readable(number: Any) -> Any:
 def exact_scale(groups: Iterable[tuple[Sequence[Any], Callable[[int], str]]]) -> Scale:
     """The scale by the least common denominator of these numbers. Raises ValueError if one of them has more than 64 bits
     then."""
-    exact = []
+    exact: list[tuple[Fraction, Callable[[], str]]] = []
     for numbers, name in groups:
         for k, number in enumerate(numbers):
             if number != math.inf:
-                exact.append((_fraction(number, lambda: name(k)), lambda k=k, name=name: name(k)))
+                exact.append((_fraction(number, partial(name, k)), partial(name, k)))
     common = math.lcm(*(it.denominator for it, _ in exact))
     for it, named in exact:
         if not -(2**63) <= it * common < 2**63:

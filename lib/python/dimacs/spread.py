@@ -47,8 +47,9 @@ def _limits(*ends: int) -> Iterator[None]:
         if it.line == 1:
             raise PastLimit(it.reason, node=MOST_NODES + 1) from None
         reason = "NodeRange" if it.reason == "NumberRange" else it.reason  # of the end 0
-        place = {"node": ends[it.line - 2]} if it.line - 2 < len(ends) else {"arc": it.line - 1 - len(ends)}
-        raise PastLimit(reason, **place) from None
+        if it.line - 2 < len(ends):
+            raise PastLimit(reason, node=ends[it.line - 2]) from None
+        raise PastLimit(reason, arc=it.line - 1 - len(ends)) from None
 
 
 def _flows(solution: str, came: Any) -> Any:

@@ -109,7 +109,8 @@ def _of_matrix(cost_matrix: Any, maximize: bool) -> _Edges:
     if matrix.dtype.kind == "f" and (np.isnan(matrix).any() or (matrix == (np.inf if maximize else -np.inf)).any()):
         raise ValueError("matrix contains invalid numeric entries")
     rows, columns = np.nonzero(~np.isinf(matrix) if matrix.dtype.kind == "f" else np.ones(matrix.shape, bool))
-    return _Edges(matrix.shape, rows, columns, whole(matrix[rows, columns], rows, columns), maximize)
+    shape = matrix.shape[0], matrix.shape[1]
+    return _Edges(shape, rows, columns, whole(matrix[rows, columns], rows, columns), maximize)
 
 
 def linear_sum_assignment(cost_matrix: Any, maximize: bool = False) -> Assignment:
@@ -164,7 +165,8 @@ def _of_sparse(matrix: Any, maximize: bool, has_costs: bool = True) -> _Edges:
     if not sparse.issparse(matrix):
         raise TypeError("graph must be in sparse format (CSC, CSR, or COO)")
     rows, columns, values = entries_of(matrix)
-    return _Edges(matrix.shape, rows, columns, whole(values, rows, columns) if has_costs else np.zeros(len(rows), np.int64), maximize)
+    costs = whole(values, rows, columns) if has_costs else np.zeros(len(rows), np.int64)
+    return _Edges(matrix.shape, rows, columns, costs, maximize)
 
 
 def min_weight_full_bipartite_matching(biadjacency: Any, maximize: bool = False) -> Assignment:

@@ -36,7 +36,8 @@ def _stored(matrix: Any) -> tuple[Any, Any, Any]:
 
 def _shown(csgraph: Any) -> tuple[Any, Any, Any, Any]:
     """The shape of a matrix that isn't sparse, and its entries that are edges."""
-    matrix = np.ma.masked_invalid(np.ma.asarray(csgraph), copy=True)
+    masked: Any = np.ma
+    matrix = masked.masked_invalid(masked.asarray(csgraph), copy=True)
     if matrix.ndim != 2:
         raise ValueError("compressed-sparse graph must be 2-D")
     filled = matrix.filled(0)
@@ -82,17 +83,18 @@ class _Distances:
     """How the distances from a source are made: by one call, or by more if weights are negative."""
 
     def __init__(self, vertices: int, tails: Any, heads: Any, weights: Any, method: str) -> None:
-        self._words = vertices, numbers_of(tails), numbers_of(heads), weights
+        self._words: tuple[int, Any, Any, Any] = vertices, numbers_of(tails), numbers_of(heads), weights
         self._is_signed = len(weights) > 0 and weights.min() < 0
         self._potentials = None
         if self._is_signed:
-            self._words = vertices, *(it.tolist() for it in self._words[1:])
+            self._words = vertices, *(it.tolist() for it in self._words[1:])  # type: ignore[assignment]
             # By this method SciPy asks only of what the sources reach whether there is a negative cycle.
             self._potentials = None if method == "BF" else potentials_of(*self._words)
 
     def from_source(self, source: int) -> tuple[Any, Any]:
         if self._is_signed:
-            return tuple(map(np.array, distances_from(*self._words, source + 1, self._potentials)))
+            found, before = distances_from(*self._words, source + 1, self._potentials)
+            return np.array(found), np.array(before)
         return solve_paths_arrays(*self._words, source + 1)[1:]
 
 
