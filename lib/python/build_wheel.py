@@ -88,14 +88,23 @@ def _extras() -> list[str]:
     """The lines about packages that some modules need."""
     table = re.search(r"^\[project.optional-dependencies\]\n((?:.+\n)+)", _project(), re.M)[1]
     needs = re.findall(r'^(\w+) = \["(.+)"\]$', table, re.M)
-    return [line for name, need in needs for line in (f"Provides-Extra: {name}", f'Requires-Dist: {need}; extra == "{name}"')]
+    return [
+        line
+        for name, need in needs
+        for line in (f"Provides-Extra: {name}", f'Requires-Dist: {need}; extra == "{name}"')
+    ]
 
 
 def metadata(version: str) -> str:
     """What describes the package, in the form of METADATA and PKG-INFO."""
     lines = ["Metadata-Version: 2.1", f"Name: {NAME}", f"Version: {version}", f"Summary: {_field('description')}"]
     lines += [f"Keywords: {','.join(_list('keywords'))}", *(f"Classifier: {it}" for it in _list("classifiers"))]
-    lines += [f"Requires-Python: {_field('requires-python')}", *_extras(), "Description-Content-Type: text/markdown", ""]
+    lines += [
+        f"Requires-Python: {_field('requires-python')}",
+        *_extras(),
+        "Description-Content-Type: text/markdown",
+        "",
+    ]
     return "\n".join(lines) + "\n" + (HERE / _field("readme")).read_text()
 
 

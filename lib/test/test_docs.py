@@ -49,7 +49,7 @@ class Docs(unittest.TestCase):
                 found = doctest.testmod(module)
                 self.assertEqual(found.failed, 0)
                 tried += found.attempted
-        self.assertGreater(tried, 40)
+        self.assertGreater(tried, 30)
 
     def test_each_function_has_an_example(self):
         for name, it in public():
@@ -74,9 +74,19 @@ class Docs(unittest.TestCase):
     @unittest.skipUnless(importlib.util.find_spec("mypy"), "no mypy")
     @unittest.skipUnless(importlib.util.find_spec("numpy"), "no numpy")
     def test_types(self):
-        words = [sys.executable, "-m", "mypy", "--config-file", str(PACKAGE.parent / "pyproject.toml"), "--cache-dir=/dev/null"]
+        words = [
+            sys.executable,
+            "-m",
+            "mypy",
+            "--config-file",
+            str(PACKAGE.parent / "pyproject.toml"),
+            "--cache-dir=/dev/null",
+        ]
         ran = subprocess.run(
-            [*words, str(PACKAGE), *map(str, sorted(EXAMPLES.glob("*.py")))], capture_output=True, text=True, check=False
+            [*words, str(PACKAGE), *map(str, sorted(EXAMPLES.glob("*.py")))],
+            capture_output=True,
+            text=True,
+            check=False,
         )
         self.assertTrue(re.match(r"Success: no issues found in \d+ source files", ran.stdout), ran.stdout + ran.stderr)
 

@@ -16,7 +16,8 @@ from .given import DISTANCES_, FLOWS, GRAPH, INSIDE, MAX, MIN, POTENTIALS, PREDE
 
 class FrameAnswer(NamedTuple):
     """An answer, which was judged: its value or cost, None for distances; a Series of flows on the index of the frame, None
-    for distances; and a DataFrame by node, with what shows it: "inside", "potential", or "distance" and "predecessor"."""
+    for distances; and a DataFrame by node, with what shows it: "inside", "potential", or "distance" and "predecessor".
+    """
 
     value: Any
     flows: Any
@@ -47,7 +48,9 @@ class _FrameNames(Names):
 class Frame:
     """A network of edges in a DataFrame. See from_frame."""
 
-    def __init__(self, edges: pd.DataFrame, tail: Any, head: Any, columns: dict[str, Any], supply: Any, scale: Any) -> None:
+    def __init__(
+        self, edges: pd.DataFrame, tail: Any, head: Any, columns: dict[str, Any], supply: Any, scale: Any
+    ) -> None:
         self.edges, self.columns, self._scale = edges, columns, scale
         for name in (tail, head, *columns.values()):
             if name not in edges.columns:
@@ -82,7 +85,13 @@ class Frame:
         return self._given(MAX, *ends, self._tails, self._heads, self._column("caps", math.inf))
 
     def _min(self) -> Given:
-        arcs = self._tails, self._heads, self._column("lows", 0), self._column("caps", math.inf), self._column("costs", 0)
+        arcs = (
+            self._tails,
+            self._heads,
+            self._column("lows", 0),
+            self._column("caps", math.inf),
+            self._column("costs", 0),
+        )
         return self._given(MIN, *arcs, self._supplies)
 
     def _paths(self, source: Any) -> Given:
@@ -170,7 +179,9 @@ class Frame:
         for node in claimed:
             self._number(node)
         by_node = [claimed.get(node, math.inf) for node in self.nodes]
-        before = calls.certify(library.certify_paths_arrays, self._paths(source).add(DISTANCES_, by_node), [], PREDECESSORS)
+        before = calls.certify(
+            library.certify_paths_arrays, self._paths(source).add(DISTANCES_, by_node), [], PREDECESSORS
+        )
         return FrameAnswer(None, None, self._by_node(distance=by_node, predecessor=self._before(before.predecessors)))
 
 
@@ -193,7 +204,8 @@ def from_frame(
 
     >>> import pandas
     >>> table = {"from": ["mine", "mine"], "to": ["port", "port"], "tons": [5, 5], "price": [3, 7]}
-    >>> network = from_frame(pandas.DataFrame(table), "from", "to", capacity="tons", cost="price", supply={"mine": 6, "port": -6})
+    >>> supply = {"mine": 6, "port": -6}
+    >>> network = from_frame(pandas.DataFrame(table), "from", "to", capacity="tons", cost="price", supply=supply)
     >>> network.solve_min().flows.tolist()
     [5, 1]
     """

@@ -202,7 +202,9 @@ class Given:
         flows = self.column(FLOWS)
         for place in limitless:
             if flows[place] >= UNLIMITED:
-                raise ValueError(f"{self.names.item('flows', place)} is {flows[place]}, and has to be below {UNLIMITED}")
+                raise ValueError(
+                    f"{self.names.item('flows', place)} is {flows[place]}, and has to be below {UNLIMITED}"
+                )
 
     def bound_limitless(self) -> None:
         """Gives arcs without a limit more than a best flow needs to carry anywhere: without cycles that cost nothing or less
@@ -279,7 +281,8 @@ class Given:
             if it.arc is not None:
                 it.arc = self.names.arc(it.arc - 1)
             if it.node is not None:
-                it.node = self.names.node(it.node - 1) if 0 < it.node <= self.number("nodes") else it.node - 1 + self.names.base
+                is_node = 0 < it.node <= self.number("nodes")
+                it.node = self.names.node(it.node - 1) if is_node else it.node - 1 + self.names.base
             raise
 
 

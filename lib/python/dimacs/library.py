@@ -85,6 +85,7 @@ solve_max_arrays = _export("dimacs_solve_max_arrays", _address, _limit, rooms=3)
 solve_min_arrays = _export("dimacs_solve_min_arrays", _address, _limit, rooms=4)
 solve_paths_arrays = _export("dimacs_solve_paths_arrays", _address, _number, rooms=3)
 
+
 def _if(is_it: bool, number: str) -> int | None:
     return int(number) if is_it else None
 

@@ -126,9 +126,7 @@ def network_simplex(
     return given.shown(*solved(given))
 
 
-def min_cost_flow(
-    G: Any, demand: Any = "demand", capacity: Any = "capacity", weight: Any = "weight"
-) -> dict[Any, Any]:
+def min_cost_flow(G: Any, demand: Any = "demand", capacity: Any = "capacity", weight: Any = "weight") -> dict[Any, Any]:
     """A flow of least cost that meets all demands."""
     return network_simplex(G, demand, capacity, weight)[1]
 

@@ -136,7 +136,9 @@ def certify_assignment(cost_matrix: Any, row_ind: Any, col_ind: Any, maximize: b
     edges = _of_matrix(cost_matrix, maximize)
     flows = _claimed(edges, row_ind, col_ind)
     try:
-        cost, potentials = calls.certify(library.certify_min_arrays, edges.given().add(FLOWS, flows), flows, POTENTIALS, FLOWS)
+        cost, potentials = calls.certify(
+            library.certify_min_arrays, edges.given().add(FLOWS, flows), flows, POTENTIALS, FLOWS
+        )
     except NotOptimal as it:
         it.better = edges.assigned(it.better)
         it.numbers = {name: edges.sign * number for name, number in it.numbers.items()}
@@ -155,7 +157,9 @@ def _claimed(edges: _Edges, row_ind: Any, col_ind: Any) -> Any:
     number = {place: arc for arc, place in enumerate(zip(edges.rows.tolist(), edges.columns.tolist()))}
     for place in zip(rows.tolist(), columns.tolist()):
         if place not in number:
-            raise ValueError(f"{place[::-1] if edges.is_turned else place} is no place of the matrix with a finite cost")
+            raise ValueError(
+                f"{place[::-1] if edges.is_turned else place} is no place of the matrix with a finite cost"
+            )
         flows[number[place]] += 1
         flows[len(edges.costs) + place[1]] += 1
     return flows

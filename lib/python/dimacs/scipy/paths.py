@@ -203,7 +203,9 @@ def certify_shortest_path(
             found[row] = np.where(shown > 0, shown.astype(np.int64) - 1, NO_PREDECESSOR)
         else:
             found[row] = before[row]
-            calls.judge(library.judge_paths_arrays, given.add(PREDECESSORS, np.maximum(before[row].astype(np.int64) + 1, 0)))
+            calls.judge(
+                library.judge_paths_arrays, given.add(PREDECESSORS, np.maximum(before[row].astype(np.int64) + 1, 0))
+            )
     return found.reshape((*sources.shape, vertices))
 
 

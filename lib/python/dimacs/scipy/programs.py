@@ -25,7 +25,7 @@ class CertifiedProgram(NamedTuple):
     where it can be less."""
 
     value: Any
-    x: NDArray[np.int64]
+    x: NDArray[np.int64] | None
     duals: list[Any]
 
 
@@ -51,7 +51,8 @@ class _Program:
     def __init__(self, c: Any, A_ub: Any, b_ub: Any, A_eq: Any, b_eq: Any, bounds: Any) -> None:
         self.costs = np.asarray(c).ravel().tolist()
         parts = [(A, b) for A, b in ((A_ub, b_ub), (A_eq, b_eq)) if A is not None]
-        matrix = sparse.vstack([sparse.csr_matrix(A) for A, _ in parts]).tocsc() if parts else sparse.csc_matrix((0, len(self.costs)))
+        none = sparse.csr_matrix((0, len(self.costs)), dtype=np.int64)
+        matrix = sparse.vstack([none, *(sparse.csr_matrix(A) for A, _ in parts)]).tocsc()
         matrix.eliminate_zeros()
         self.right = [_exact(it) for _, b in parts for it in np.asarray(b).ravel().tolist()]
         self.inequalities = 0 if A_ub is None else sparse.csr_matrix(A_ub).shape[0]
@@ -59,7 +60,7 @@ class _Program:
         entries = [list(zip(*self._column(matrix, j))) for j in range(matrix.shape[1])]
         self.signs = _signs(self.rows, entries)
         slacks = [[(row, 1)] for row in range(self.inequalities)]
-        self.ends = [_ends(it, self.signs) for it in [*entries, *slacks]]
+        self.ends: list[tuple[Any, Any]] = [_ends(it, self.signs) for it in [*entries, *slacks]]
         self.bounds = _bounds(bounds, len(self.costs)) + [(0, math.inf)] * self.inequalities
         self.shifts = [min(low, 0) for low, _ in self.bounds]  # an arc carries 0 or more
 
@@ -70,7 +71,7 @@ class _Program:
     def given(self) -> Given:
         """The instance."""
         count, last = len(self.costs), self.rows + 1
-        tails, heads = ([last if it is None else it + 1 for it in some] for some in zip(*self.ends)) if self.ends else ([], [])
+        tails, heads = ([last if ends[k] is None else ends[k] + 1 for ends in self.ends] for k in (0, 1))
         supplies = [sign * it for sign, it in zip(self.signs, self.right)] + [0]
         for (tail, head), shift in zip(self.ends, self.shifts):
             supplies[self.rows if tail is None else tail] -= shift
@@ -124,7 +125,9 @@ def _signs(rows: int, entries: list[list[tuple[int, Any]]]) -> list[int]:
                     signs[other] = way * signs[row]
                     waiting.append(other)
                 elif signs[other] != way * signs[row]:
-                    raise ValueError(f"this is no network: no signs of constraints give x[{column}] entries of 1 and -1")
+                    raise ValueError(
+                        f"this is no network: no signs of constraints give x[{column}] entries of 1 and -1"
+                    )
     return signs
 
 
@@ -179,7 +182,7 @@ def certify_linprog(
     if result.status == 2:
         inside = calls.certify_infeasible(program.given(), []).inside
         names = program.given().names
-        return CertifiedProgram(None, None, [names.node(row) for row in range(program.rows) if inside[row]])  # type: ignore[arg-type]
+        return CertifiedProgram(None, None, [names.node(row) for row in range(program.rows) if inside[row]])
     if result.status != 0:
         raise ValueError(f"the result has the status {result.status}, and no solution")
     x = _rounded(result.x, tolerance)
