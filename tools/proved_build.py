@@ -8,6 +8,7 @@ dimacs_c is proved again. rt lib takes none of these, since they hold statements
 """
 import argparse
 import os
+import re
 import shutil
 import subprocess
 import sys
@@ -18,6 +19,15 @@ import kit as kits
 
 CRATES = f"{kits.TOP}/crates"
 PROGRAM, ARCHIVE = f"{CRATES}/dimacs/out/dimacs", f"{CRATES}/dimacs_c/out/libdimacs_c.a"
+
+
+def test_kit():
+    """Ends the build if the sources, which say by which kit they are proved, name another one."""
+    with open(f"{CRATES}/dimacs_runs/src/build.rt", encoding="utf-8") as it:
+        named = re.search(r"\(proved by (.*)\)", it.read())[1]
+    here = subprocess.run(["rt", "version"], capture_output=True, text=True, check=True).stdout.strip()
+    if named != here:
+        sys.exit(f"this is {here}; build.rt and Version.antt in crates/dimacs_runs name {named}: name this kit there")
 
 
 def order(listed):
@@ -73,6 +83,7 @@ def main():
     words.add_argument("folder")
     asked = words.parse_args()
     kit, listed = kits.folder("bin/rattle", "c/liblibc_c.a"), kits.crates()
+    test_kit()
     if asked.by_ci:
         build_over_ci(kit, listed)
     else:

@@ -47,8 +47,9 @@ def _library() -> bytes:
 
 
 def version_of(library: bytes) -> str:
-    """The version of a package that has this library."""
-    return (TOP / "VERSION").read_text().strip() + ("" if PROVED in library else "+unproved")
+    """The version of a package that has this library, as PEP 440 spells it."""
+    version = (TOP / "VERSION").read_text().strip().replace("-dev", ".dev0")
+    return version + ("" if PROVED in library else "+unproved")
 
 
 def oldest_glibc(file: bytes) -> int:

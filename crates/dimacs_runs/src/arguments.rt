@@ -1,16 +1,17 @@
 //! The meaning of the command's arguments: a verb, such as `judge-max`, then files and options.
 
-ghost use Rattle.std.specs.Prelude.{◌≡◌, ◌≢◌, ◌∷◌, [], ℕ, List, IfSome, IfNone, length, map};
+ghost use Rattle.std.specs.Prelude.{◌≡◌, ◌≢◌, ◌↔◌, ◌∷◌, [], ℕ, Contains, List, IfSome, IfNone, IsTrue, codes, length, map};
 ghost use Rattle.dimacs_records.specs.declared.kinds.TextKind.{TextKind};
 ghost use Rattle.dimacs_runs.specs.declared.jobs.CertifyKind.{CertifyKind};
 ghost use Rattle.dimacs_runs.specs.declared.jobs.Job.{Job};
 ghost use Rattle.dimacs_runs.specs.declared.jobs.JudgeKind.{JudgeKind};
+ghost use Rattle.dimacs_runs.specs.declared.jobs.Request.{Request};
 ghost use Rattle.dimacs_runs.specs.declared.jobs.SolveJob.{SolveJob};
 ghost use Rattle.dimacs_runs.specs.declared.jobs.SpreadKind.{SpreadKind};
 ghost use Rattle.std.specs.String.{string_bytes};
-ghost use Rattle.dimacs_runs.specs.Jobs.{AreCertifyFiles, AreOptions, Asks, AsksSolver, IsLimit, GiveLimit, certify_verb, file_count, judge_verb, kind_argument, solve_verb, spread_verb};
+ghost use Rattle.dimacs_runs.specs.Jobs.{AreCertifyFiles, AreOptions, Asks, AsksSolver, IsLimit, GiveLimit, Requests, certify_verb, command_words, file_count, judge_verb, kind_argument, solve_verb, spread_verb};
 
-use crate::jobs::{CertifyKind, Job, JudgeKind, SolveJob, SpreadKind};
+use crate::jobs::{CertifyKind, Job, JudgeKind, Request, SolveJob, SpreadKind};
 use dimacs_lines::number;
 use dimacs_records::TextKind;
 
@@ -22,6 +23,61 @@ const LIMIT: u64 = 1_000_000;
 
 /// The greatest limit.
 const GREATEST_LIMIT: i64 = 1_000_000_000;
+
+/// What these arguments, without the program's name, ask for.
+pub fn request(arguments: &[String]) -> Option<Request<'_>>
+    ensures requested { IfSome result (λ wanted. Requests (map string_bytes arguments.now) wanted) }
+    ensures not_requested { IfNone result ((wanted : Request) → ¬ Requests (map string_bytes arguments.now) wanted) }
+{
+    match arguments {
+        [word] => word_alone(word.as_str()),
+        [first, command] if first.as_str() == "help" && is_command(command.as_str()) => {
+            Some(Request::HelpOn(command.as_str()))
+        }
+        [first, command @ ..] if first.as_str() == "explain" => {
+            Some(Request::Explain(job(command)?))
+        }
+        _ => Some(Request::Run(job(arguments)?)),
+    }
+}
+
+/// What a word without others asks for.
+fn word_alone<'a>(word: &str) -> Option<Request<'a>>
+    ensures requested { IfSome result (Requests (word.now ∷ [])) }
+    ensures not_requested { IfNone result ((wanted : Request) → ¬ Requests (word.now ∷ []) wanted) }
+{
+    match word {
+        "--help" | "-h" | "help" => Some(Request::Help),
+        "--version" | "-V" => Some(Request::Version),
+        _ => None,
+    }
+}
+
+/// Whether a word names a command.
+fn is_command(word: &str) -> bool
+    ensures { IsTrue result ↔ Contains command_words word.now }
+{
+    matches!(
+        word,
+        "convert"
+            | "show"
+            | "judge-max"
+            | "judge-min"
+            | "judge-infeasible"
+            | "judge-paths"
+            | "certify-max"
+            | "certify-min"
+            | "certify-infeasible"
+            | "certify-paths"
+            | "solve-max"
+            | "solve-min"
+            | "solve-paths"
+            | "spread-max"
+            | "spread-min"
+            | "explain"
+            | "help"
+    )
+}
 
 /// The run that these arguments, without the program's name, ask for. A file may have any name, even one that begins
 /// with `-`.

@@ -2,6 +2,7 @@
 #![tactic(auto)]
 
 mod arguments;
+mod build;
 mod certify;
 mod certify_distances;
 mod certify_infeasible;
@@ -27,12 +28,13 @@ mod text;
 mod texts_in_turn;
 mod verdict;
 
-pub use arguments::job;
+pub use arguments::{job, request};
+pub use build::{PROVED, version};
 pub use certify::run_certify;
 pub use command::{command_status, run_command};
 pub use failure::{CommandError, Failure, FileCall};
 pub use files::Files;
-pub use jobs::{CertifyKind, Job, JudgeKind, SolveJob, SpreadKind};
+pub use jobs::{CertifyKind, Job, JudgeKind, Request, SolveJob, SpreadKind};
 pub use judge::run_judge;
 pub use solve::run_solve;
 pub use spread::run_spread;

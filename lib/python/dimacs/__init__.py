@@ -61,7 +61,7 @@ from .texts import (
     spread_min,
 )
 
-__version__ = "0.1.0"
+__version__ = "0.2.0.dev0"
 
 __all__ = [
     "UNREACHED",
