@@ -179,7 +179,6 @@ pub static KINDS: [&str; 9] = [
 
 /// The end of the usage text of all commands.
 static ENDING: &str = "\
-
 Exit status:
   0  done; a judge said yes                3  a file failed, or isn't there
   1  refused: the line begins with x       4  out of memory
@@ -192,6 +191,7 @@ Example:
 /// The usage text of all commands, after the version.
 pub fn of_all(alloc: Global) -> Result<String, AllocError> {
     let mut notes = notes(alloc, None)?;
+    notes.push_str("\n\n")?;
     notes.push_str(ENDING)?;
     let mut program = clap::Command::new(alloc, "dimacs")
         .about("Reads, converts, judges and makes the DIMACS texts of flows and shortest paths")

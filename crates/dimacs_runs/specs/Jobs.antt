@@ -1,5 +1,5 @@
 -- What the arguments ask for.
-use Rattle.std.specs.Prelude.{ℕ, ◌≡◌, ◌≤◌, ◌+◌, ◌++◌, List, [], ◌∷◌, Contains, codes, map, length, pos}
+use Rattle.std.specs.Prelude.{ℕ, ◌≡◌, ◌≤◌, ◌+◌, ◌++◌, ◌⊎◌, List, [], ◌∷◌, Contains, codes, map, length, pos}
 use Rattle.std.specs.String.{string_bytes}
 use Rattle.dimacs_lines.specs.Number.{Spells}
 use Rattle.dimacs_records.specs.declared.kinds.TextKind.{TextKind}
@@ -97,10 +97,10 @@ command_words = codes "convert" ∷ codes "show" ∷ codes "judge-max" ∷ codes
     ∷ codes "certify-max" ∷ codes "certify-min" ∷ codes "certify-infeasible" ∷ codes "certify-paths" ∷ codes "solve-max" ∷ codes "solve-min"
     ∷ codes "solve-paths" ∷ codes "spread-max" ∷ codes "spread-min" ∷ codes "explain" ∷ codes "help" ∷ []
 
--- help and the version are asked for by one word alone, help on a command by one word before it
+-- help and the version are asked for by one word alone, help on a command by `help` before it
 abbrev pub Requests : List (List ℕ) → Request → Type 0
-Requests arguments Help = (word : List ℕ) × Contains (codes "--help" ∷ codes "-h" ∷ codes "help" ∷ []) word × (arguments ≡ word ∷ [])
+Requests arguments Help = (arguments ≡ codes "--help" ∷ []) ⊎ ((arguments ≡ codes "-h" ∷ []) ⊎ (arguments ≡ codes "help" ∷ []))
 Requests arguments (HelpOn command) = Contains command_words command.now × (arguments ≡ codes "help" ∷ command.now ∷ [])
-Requests arguments Version = (word : List ℕ) × Contains (codes "--version" ∷ codes "-V" ∷ []) word × (arguments ≡ word ∷ [])
+Requests arguments Version = (arguments ≡ codes "--version" ∷ []) ⊎ (arguments ≡ codes "-V" ∷ [])
 Requests arguments (Run job) = Asks arguments job
 Requests arguments (Explain job) = (command : List (List ℕ)) × (arguments ≡ codes "explain" ∷ command) × Asks command job

@@ -26,29 +26,50 @@ const GREATEST_LIMIT: i64 = 1_000_000_000;
 
 /// What these arguments, without the program's name, ask for.
 pub fn request(arguments: &[String]) -> Option<Request<'_>>
-    ensures requested { IfSome result (λ wanted. Requests (map string_bytes arguments.now) wanted) }
+    ensures requested { IfSome result (Requests (map string_bytes arguments.now)) }
     ensures not_requested { IfNone result ((wanted : Request) → ¬ Requests (map string_bytes arguments.now) wanted) }
 {
-    match arguments {
-        [word] => word_alone(word.as_str()),
-        [first, command] if first.as_str() == "help" && is_command(command.as_str()) => {
-            Some(Request::HelpOn(command.as_str()))
-        }
-        [first, command @ ..] if first.as_str() == "explain" => {
-            Some(Request::Explain(job(command)?))
-        }
+    let (first, rest) = arguments.split_first()?;
+    match first.as_str() {
+        "help" => help(rest),
+        "explain" => Some(Request::Explain(job(rest)?)),
+        "--help" | "-h" => alone(Request::Help, rest),
+        "--version" | "-V" => alone(Request::Version, rest),
         _ => Some(Request::Run(job(arguments)?)),
     }
 }
 
-/// What a word without others asks for.
-fn word_alone<'a>(word: &str) -> Option<Request<'a>>
-    ensures requested { IfSome result (Requests (word.now ∷ [])) }
-    ensures not_requested { IfNone result ((wanted : Request) → ¬ Requests (word.now ∷ []) wanted) }
+/// What `help` with these arguments after it asks for.
+fn help(arguments: &[String]) -> Option<Request<'_>>
+    ensures requested { IfSome result (Requests (codes "help" ∷ map string_bytes arguments.now)) }
+    ensures not_requested { IfNone result ((wanted : Request) → ¬ Requests (codes "help" ∷ map string_bytes arguments.now) wanted) }
 {
-    match word {
-        "--help" | "-h" | "help" => Some(Request::Help),
-        "--version" | "-V" => Some(Request::Version),
+    match arguments {
+        [] => Some(Request::Help),
+        [command] => help_on(command.as_str()),
+        _ => None,
+    }
+}
+
+/// Help on the command with this name.
+fn help_on(command: &str) -> Option<Request<'_>>
+    ensures requested { IfSome result (Requests (codes "help" ∷ command.now ∷ [])) }
+    ensures not_requested { IfNone result (¬ Contains command_words command.now) }
+{
+    if is_command(command) {
+        Some(Request::HelpOn(command))
+    } else {
+        None
+    }
+}
+
+/// What an argument asks for, if none come after it.
+fn alone<'a>(wanted: Request<'a>, rest: &[String]) -> Option<Request<'a>>
+    ensures wanted { IfSome result (λ request. (request ≡ wanted.entry) × (rest.now ≡ [])) }
+    ensures not_alone { IfNone result (rest.now ≢ []) }
+{
+    match rest {
+        [] => Some(wanted),
         _ => None,
     }
 }
