@@ -12,6 +12,7 @@ was.
 """
 import argparse
 import os
+import re
 import shutil
 import subprocess
 import sys
@@ -36,6 +37,15 @@ case "$*" in
 esac
 exec '{kit}/toolchain/bin/clang' "$@"
 """
+
+
+def test_kit():
+    """Ends the build if the sources, which say by which kit they are proved, name another one."""
+    with open(f"{CRATES}/dimacs_runs/src/build.rt", encoding="utf-8") as it:
+        named = re.search(r"\(proved by (.*)\)", it.read())[1]
+    here = subprocess.run(["rt", "version"], capture_output=True, text=True, check=True).stdout.strip()
+    if named != here:
+        sys.exit(f"this is {here}; build.rt and Version.antt in crates/dimacs_runs name {named}: name this kit there")
 
 
 def order(listed):
@@ -98,6 +108,7 @@ def main():
     if not asked.by_ci and sources.is_current(noted, sources.PROVED, built):
         return
     kit, listed = kits.folder("bin/rattle", "c/liblibc_c.a"), kits.crates()
+    test_kit()
     if asked.by_ci and not sources.is_current(BY_CI, sources.PROVED, [PROGRAM]):
         sys.exit("crates/dimacs/out/dimacs isn't what rt ci proved of these sources: .ci/gate proves and builds it")
     os.makedirs(f"{CRATES}/dimacs_c/out", exist_ok=True)

@@ -2,6 +2,7 @@ pub mod FileLemmas
 pub mod JudgingLemmas
 pub mod PlanLemmas
 mod ArgumentLemmas
+mod RequestLemmas
 mod WritingLemmas
 pub mod ReportLemmas
 pub mod SolvingLemmas
