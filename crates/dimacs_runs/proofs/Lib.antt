@@ -2,7 +2,6 @@ pub mod FileLemmas
 pub mod JudgingLemmas
 pub mod PlanLemmas
 mod ArgumentLemmas
-mod RequestLemmas
 mod WritingLemmas
 pub mod ReportLemmas
 pub mod SolvingLemmas

@@ -1,6 +1,10 @@
-use Rattle.std.proofs.Common.{sym, arith}
-use Rattle.dimacs_runs.proofs.RequestLemmas.{names_command}
+use Rattle.std.proofs.Common.{◌≡◌, ◌↔◌, ◌<◌, Contains, IsTrue, List, arith, refl, slice_index_or, sym, true, ℕ}
+use Rattle.dimacs_runs.specs.Jobs.{command_words}
 use Rattle.dimacs_runs.proofs.arguments.is_command.Goals as goal
+
+-- a word that stands in the list at a place names a command
+names_command : (word : List ℕ) (k : ℕ) → k < 17 → slice_index_or command_words k word ≡ word → IsTrue true ↔ Contains command_words word
+names_command word k below same = ((λ yes. (k, below, same)), (λ within. refl))
 
 pub returns-in-convert-3 : goal.returns-in-convert-3
 returns-in-convert-3 c = names_command c.args.word.now 2 (omega arith) (sym c.in-convert.is-text)
