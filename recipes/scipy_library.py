@@ -56,7 +56,7 @@ def main():
         try:
             dimacs.certify_paths_arrays(*graph, source, distances[source])
         except dimacs.Refused as refused:
-            print("x", refused)
+            print(refused.printed)
             return 1
     if queries and len(queries[0]) == 1:
         print("v sp ss", len(queries))

@@ -263,6 +263,8 @@ def is_numpy(given: Any) -> bool:
 
 def is_single(given: Any) -> bool:
     """Whether this is one number, or nothing, where there has to be an array."""
+    if type(given) in (list, tuple):
+        return False
     return given is None or isinstance(given, Number) or is_numpy(given) and given.ndim == 0
 
 
