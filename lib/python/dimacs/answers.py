@@ -133,6 +133,7 @@ _SAID = {
     "NotViolated": ["the set supplies {supply}, and from {least} to {most} can leave it"],
     "NumberRange": ["at most {most} nodes"],
     "PredUnknown": ["its predecessors don't lead back to the source"],
+    "UnknownArc": ["no arc goes from {tail} to {head}"],
     "ValueDiffers": ["{claimed} is claimed, it is {value}"],
 }
 

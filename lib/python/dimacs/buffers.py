@@ -299,6 +299,8 @@ def array_of(numbers: Any, items: Items, name: Name) -> Buffer:
 
 def list_of(numbers: Any, items: Items, name: Name) -> list[int]:
     """The items of an array as ints."""
+    if is_single(numbers):
+        raise TypeError(f"{_array(name)}: {'None' if numbers is None else 'one number'}, an array is wanted")
     return array_of(numbers, items, name).listed(items)
 
 

@@ -200,7 +200,9 @@ class Given:
         """The places of the arcs whose capacity is inf."""
         if self._limitless is None:
             caps = self._buffers.get(CAPS.name)
-            may_be = caps is not None and _UNLIMITED_BYTES in ctypes.string_at(caps.address, caps.length * CAPACITIES.width)
+            may_be = caps is not None and _UNLIMITED_BYTES in ctypes.string_at(
+                caps.address, caps.length * CAPACITIES.width
+            )
             self._limitless = infinite(self._raw[CAPS]) if may_be else []
         return self._limitless
 
