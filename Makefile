@@ -5,6 +5,8 @@ SHELL = /bin/sh
 .DELETE_ON_ERROR:
 
 VERSION := $(shell cat VERSION)
+# Its three numbers, without what marks a version before a release.
+NUMBERS := $(firstword $(subst -, ,$(VERSION)))
 PREFIX = /usr/local
 DESTDIR =
 KIT = $(shell tools/kit.py)
@@ -79,12 +81,12 @@ install: $(if $(UNPROVED),quick,all) $(MAN)
 	install -m 644 lib/include/dimacs.h lib/include/dimacs.hpp $(IN)/include
 	install -m 644 lib/include/dimacs/*.hpp $(IN)/include/dimacs
 	install -m 644 $(FROM)/libdimacs.a $(IN)/lib
-	install -m 644 $(FROM)/libdimacs.so.0 $(IN)/lib/libdimacs.so.$(VERSION)
-	ln -sf libdimacs.so.$(VERSION) $(IN)/lib/libdimacs.so.0
+	install -m 644 $(FROM)/libdimacs.so.0 $(IN)/lib/libdimacs.so.$(NUMBERS)
+	ln -sf libdimacs.so.$(NUMBERS) $(IN)/lib/libdimacs.so.0
 	ln -sf libdimacs.so.0 $(IN)/lib/libdimacs.so
 	sed 's/@VERSION@/$(VERSION)$(if $(UNPROVED),+unproved)/' lib/package/dimacs.pc.in >$(IN)/lib/pkgconfig/dimacs.pc
 	install -m 644 lib/package/dimacsConfig.cmake $(IN)/lib/cmake/dimacs
-	sed 's/@VERSION@/$(VERSION)/' lib/package/dimacsConfigVersion.cmake.in \
+	sed 's/@VERSION@/$(NUMBERS)/' lib/package/dimacsConfigVersion.cmake.in \
 	    >$(IN)/lib/cmake/dimacs/dimacsConfigVersion.cmake
 	install -d $(IN)/share/dimacs/rust/src
 	install -m 644 $(addprefix lib/rust/,Cargo.toml Cargo.lock build.rs) $(IN)/share/dimacs/rust

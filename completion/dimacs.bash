@@ -36,6 +36,7 @@ _dimacs_places() {
         spread-max) echo max solution solution ;;
         spread-min) echo min solution solution ;;
         solve-min) echo min solution certificate --limit ;;
+        help) echo COMMAND ;;
     esac
 }
 
@@ -44,13 +45,18 @@ _dimacs() {
     local commands='convert show certify-max certify-min certify-infeasible certify-paths judge-max judge-min
         judge-infeasible judge-paths solve-max solve-min solve-paths
         spread-max spread-min'
+    local others='explain help'
     local kinds='max min gr query solution distances cut pot dist'
     COMPREPLY=()
     if ((COMP_CWORD > 1)) && [[ ${COMP_WORDS[1]} == explain ]]; then
         at=2
     fi
+    if ((COMP_CWORD == 1)) && [[ $word == -* ]]; then
+        mapfile -t COMPREPLY < <(compgen -W '--help --version' -- "$word")
+        return
+    fi
     if ((COMP_CWORD == at)); then
-        ((at > 1)) || commands+=' explain'
+        ((at > 1)) || commands+=" $others"
         mapfile -t COMPREPLY < <(compgen -W "$commands" -- "$word")
         return
     fi
@@ -58,6 +64,7 @@ _dimacs() {
     case ${places[COMP_CWORD - at - 1]:-} in
         '') ;;
         KIND) mapfile -t COMPREPLY < <(compgen -W "$kinds" -- "$word") ;;
+        COMMAND) mapfile -t COMPREPLY < <(compgen -W "$commands $others" -- "$word") ;;
         --limit) mapfile -t COMPREPLY < <(compgen -W --limit -- "$word") ;;
         *) _dimacs_files "${places[COMP_CWORD - at - 1]}" "$word" ;;
     esac

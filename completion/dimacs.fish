@@ -17,7 +17,12 @@ end
 
 # Whether the command comes next.
 function __dimacs_begins
-    test (count (__dimacs_words)) -eq 1
+    test (count (__dimacs_words)) -eq 1; or __dimacs_at 1 help
+end
+
+# Whether the first word comes next, or the command to help with.
+function __dimacs_begins_anew
+    __fish_is_first_token; or __dimacs_at 1 help
 end
 
 complete -c dimacs -f
@@ -37,7 +42,10 @@ complete -c dimacs -n '__dimacs_begins' -a solve-min -d 'Write a cheapest flow'
 complete -c dimacs -n '__dimacs_begins' -a solve-paths -d 'Write distances'
 complete -c dimacs -n '__dimacs_begins' -a spread-max -d 'Spread sums over parallel arcs'
 complete -c dimacs -n '__dimacs_begins' -a spread-min -d 'The same, at least cost'
-complete -c dimacs -n '__fish_is_first_token' -a explain -d 'Do it, and explain a refusal'
+complete -c dimacs -n '__dimacs_begins_anew' -a explain -d 'Do it, and explain a refusal'
+complete -c dimacs -n '__dimacs_begins_anew' -a help -d 'Print the usage'
+complete -c dimacs -n '__fish_is_first_token' -s h -l help -d 'Print the usage'
+complete -c dimacs -n '__fish_is_first_token' -s V -l version -d 'Print the version'
 
 set -l texts convert show
 complete -c dimacs -n "__dimacs_at 1 $texts" -a max -d 'An instance of maximum flow'

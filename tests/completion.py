@@ -50,7 +50,7 @@ def usage():
     for words in re.findall(r'\(\s*"([a-z][^"]*)",\s*"[^"]*",?\s*\)', source):
         word, *places = words.replace("[--limit N]", "--limit N").replace("[", "").replace("]", "").split()
         commands[word] = places
-    table = re.search(r"^KIND:\n(.*?)\n\n", source, re.MULTILINE | re.DOTALL)[1]
+    table = re.search(r'^KIND:\n(.*?)"', source, re.MULTILINE | re.DOTALL)[1]
     return commands, re.findall(r"(?:^|  )(\w+)  ", table, re.MULTILINE)
 
 
@@ -62,8 +62,10 @@ def offered(shell, words, folder):
     return ran.stdout.split(), ran.stderr
 
 
-def is_right(found, place, kinds, files):
+def is_right(found, place, commands, kinds, files):
     """Whether what is offered can stand at a place, and all of it is offered if it isn't a file."""
+    if place == "COMMAND":
+        return sorted(found) == sorted(commands)
     if place in ("N", None):
         return not found
     if place == "KIND":
@@ -82,7 +84,7 @@ def checks(shell, folder):
     yield "syntax", ran.returncode == 0 and not ran.stderr
     found, complaint = offered(shell, ["dimacs"], folder)
     yield f"commands: {found}{complaint}", sorted(found) == sorted(commands) and not complaint
-    explained = sorted(set(commands) - {"explain"})
+    explained = sorted(set(commands) - {"explain", "help"})
     found, complaint = offered(shell, ["dimacs", "explain"], folder)
     yield f"explain: {found}{complaint}", sorted(found) == explained and not complaint
     for word, places in commands.items():
@@ -91,8 +93,8 @@ def checks(shell, folder):
         typed = ["dimacs", word]
         for place in [*places, None]:
             found, complaint = offered(shell, typed, folder)
-            yield f"{' '.join(typed)}: {found}{complaint}", is_right(found, place, kinds, files) and not complaint
-            typed.append({"KIND": "max", "--limit": "--limit", "N": "5"}.get(place, "a"))
+            yield f"{' '.join(typed)}: {found}{complaint}", is_right(found, place, commands, kinds, files) and not complaint
+            typed.append({"COMMAND": "show", "KIND": "max", "--limit": "--limit", "N": "5"}.get(place, "a"))
     for typed in ["dimacs", "judge-max"], ["dimacs", "explain", "judge-max"]:
         found, complaint = offered(shell, typed, folder)
         yield f"files of the kind: {found}{complaint}", "a.max" in found and not complaint

@@ -75,6 +75,10 @@ CASES = [
     ("Escapes", "judge-paths G Q L", {"L": "p dist 4 1\nt 1 0\n"}, ["G:2: a 1 2 5", "L:2: the block from source 1", "no farther than 5; it has no label"]),
     ("NotShortest", "judge-paths G Q L", {"G": "p sp 2 2\na 1 2 3\na 1 2 1\n", "L": "p dist 2 1\nt 1 1\nd 2 3 1\n"}, ["G:3: a 1 2 1", "no farther than 1; its label is 3"]),
     ("NegativeWeight", "solve-paths G Q L", {"G": "p sp 2 1\na 1 2 -4\n"}, ["G:2: a 1 2 -4", "the WEIGHT -4"]),
+    # A solver that refuses has emptied what it writes: here the queries, by files in the wrong order.
+    ("FieldCount", "solve-paths G L Q", {"L": "p dist 4 1\nt 1 0\n"}, ["L:1: p dist 4 1", "that of distance labels (dist), and queries (query) is wanted", "\nQ is empty: a solve run", "before it reads"]),
+    ("NegativeWeight", "solve-paths G Q L", {"G": "p sp 2 1\na 1 2 -4\n"}, ["the WEIGHT -4", "\nL is empty: "]),
+    ("NodeRange", "solve-max I S C", {"I": "p max 1 1\nn 1 s\nn 2 t\n"}, ["\nS is empty: ", "\nC is empty: "]),
     ("NotMaximum", "certify-max I S", {"S": "s 0\n"}, ["S:1: s 0", "name a file after the solution"]),
     ("NotMaximum", "certify-max I S B", {"S": "s 0\n"}, ["S:1: s 0", "B:1: s 6", "has 6 more than the 0"]),
     ("NotLeast", "certify-min MI S B", {"S": "s 15\nf 1 2 2\nf 1 3 2\nf 2 3 1\nf 2 4 1\nf 3 4 3\n"}, ["B:1: s 14", "costs 1 less than the 15"]),

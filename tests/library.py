@@ -52,10 +52,13 @@ CPP_TESTS = [
     ("hpp", "c++17", None),
     ("hpp", "gnu++17", None),
     ("hpp", "c++20", None),
-    ("lemon", "c++17", ("LEMON", "lemon/core.h")),
+    ("limits", "gnu++17", None),
     ("lemon", "gnu++17", ("LEMON", "lemon/core.h")),
-    ("boost", "c++17", ("Boost", "boost/graph/adjacency_list.hpp")),
+    ("limits_lemon", "c++17", ("LEMON", "lemon/core.h")),
+    ("limits_lemon", "gnu++17", ("LEMON", "lemon/core.h")),
     ("boost", "gnu++17", ("Boost", "boost/graph/adjacency_list.hpp")),
+    ("limits_boost", "c++17", ("Boost", "boost/graph/adjacency_list.hpp")),
+    ("limits_boost", "gnu++17", ("Boost", "boost/graph/adjacency_list.hpp")),
 ]
 
 

@@ -117,6 +117,7 @@ RUNS = [
     ("solve-paths negative source SHOWN", 1, "x arc 1 NegativeWeight\n"),
     ("convert gr missing", 3, ""),
     ("convert foo odd", 2, ""),
+    ("foo odd", 2, ""),
 ]
 
 # Runs that write one file twice, which a line on the standard error reports; no write is refused, since the later text
@@ -180,8 +181,12 @@ CLOSED = [
     ("convert gr odd", "<&- >&-", 3, errno.EBADF),
 ]
 
-# What the usage text begins with and has in it. It is left out for want of memory.
-USAGE = r"dimacs: usage\ndimacs \d+\.\d+\.\d+\nReads, .*\n\nUsage: dimacs COMMAND FILE\.\.\.\n.*\n  convert KIND FILE .*\n"
+# What is complained of arguments that ask for nothing, as a pattern. After the first line it is left out for
+# want of memory.
+USAGE = {
+    "convert foo odd": r"dimacs: usage\nno kind foo\nPrints its canonical form\n\nUsage: dimacs convert KIND FILE\n.*",
+    "foo odd": r"dimacs: usage\nno command foo\ndimacs \d.*\nUsage: dimacs COMMAND FILE\.\.\.\n.*\n  convert KIND FILE .*\n",
+}
 NO_TEXT = "dimacs: usage\n"
 
 # The calls of each kind that a run made, the most memory that it held at once, in kB, and the bytes of its growths.
@@ -463,7 +468,7 @@ def twice(words):
 def is_whole_complaint(ran, words):
     """Whether the standard error of a run of which no call was refused is what its status asks for."""
     if ran.status == 2:
-        return bool(re.fullmatch(USAGE, ran.complaint, re.DOTALL))
+        return bool(re.fullmatch(USAGE[words], ran.complaint, re.DOTALL))
     if ran.status == 3:
         return ran.complaint == complaint_of(Call("opened", files_of(words)[0]), errno.ENOENT)
     return ran.complaint == twice(words)

@@ -1,16 +1,20 @@
 #!/usr/bin/env python3
 """Tests that the version is the same everywhere as in the file VERSION: tests/version.py [BUILD]
 
-BUILD is the folder of the program and the library that are asked; build if none is given. The last line counts what
-agreed and what didn't.
+The program and the library have to say too whether they are proved, and by which kit. BUILD is the folder of the two;
+build if none is given. The last line counts what agreed and what didn't.
 """
 import ctypes
 import os
 import re
+import shutil
 import subprocess
 import sys
 
 TOP = os.path.dirname(os.path.dirname(os.path.abspath(__file__)))
+
+# What tools/quick_build.py leaves in what it builds.
+UNPROVED = b"dimacs: not proved"
 
 
 def read(name):
@@ -18,27 +22,78 @@ def read(name):
         return it.read()
 
 
+def parts(version):
+    """The three numbers of a version."""
+    return version.partition("-")[0].split(".")
+
+
 def number(version):
     """The version as one number."""
-    first, second, third = map(int, version.split("."))
+    first, second, third = map(int, parts(version))
     return 10000 * first + 100 * second + third
+
+
+def kit():
+    """The line by which a kit is known: that of the one here, or of the sources."""
+    if shutil.which("rt"):
+        return subprocess.run(["rt", "version"], capture_output=True, text=True, check=True).stdout.strip()
+    return re.search(r"\(proved by (.*)\)", read("crates/dimacs_runs/src/build.rt"))[1]
+
+
+def is_proved(file):
+    with open(file, "rb") as it:
+        return UNPROVED not in it.read()
+
+
+def full(version, file):
+    """What a file that was built has to say of itself."""
+    return f"{version} (proved by {kit()})" if is_proved(file) else f"{version} (not proved)"
+
+
+def of_program(program, wanted):
+    """Yields what the program names, by each way to ask it."""
+    line = f"dimacs {full(wanted, program)}"
+    for words, stream, at in (["--version"], 1, 0), (["-V"], 1, 0), (["help"], 1, 0), (["--help"], 1, 0), ([], 2, 1):
+        ran = subprocess.run([program, *words], capture_output=True, text=True, check=False)
+        lines = (ran.stdout if stream == 1 else ran.stderr).split("\n")
+        yield f"dimacs {' '.join(words)}", lines[at : at + 1], [line]
+
+
+def of_library(file, wanted):
+    """Yields what the library names, by each of its calls."""
+    library, needed = ctypes.CDLL(os.path.abspath(file)), ctypes.c_size_t()
+    yield "dimacs_version()", library.dimacs_version(), number(wanted)
+    yield "dimacs_proved()", library.dimacs_proved(), int(is_proved(file))
+    out = ctypes.create_string_buffer(200)
+    status = library.dimacs_version_text(out, ctypes.c_size_t(200), ctypes.byref(needed))
+    yield "dimacs_version_text()", (status, out.raw[: needed.value].decode()), (0, full(wanted, file))
+
+
+def of_python(file, wanted):
+    """Yields what the package for Python names: a version as PEP 440 spells it."""
+    environment = {**os.environ, "DIMACS_LIBRARY": os.path.abspath(file), "PYTHONPATH": f"{TOP}/lib/python"}
+    words = [sys.executable, "-B", "-c", "import dimacs; print(dimacs.__version__)"]
+    ran = subprocess.run(words, capture_output=True, text=True, check=False, env=environment)
+    yield "dimacs.__version__", ran.stdout.strip().partition("+")[0], wanted.replace("-dev", ".dev0")
+
+
+def of_files(wanted):
+    """Yields what files name."""
+    header = dict(re.findall(r"^#define DIMACS_VERSION(\w*) ([\w\-.\"]+)$", read("lib/include/dimacs.h"), re.MULTILINE))
+    numbers = dict(zip(("_MAJOR", "_MINOR", "_PATCH"), parts(wanted)))
+    yield "dimacs.h", header, {"": f'"{wanted}"', **numbers}
+    crate = [re.findall(r'^version = "(.*)"$', read(f"lib/rust/Cargo.{it}"), re.MULTILINE) for it in ("toml", "lock")]
+    yield "the crate for Cargo", crate, [[wanted], [wanted]]
+    if os.path.exists(f"{TOP}/CHANGELOG.md"):
+        yield "CHANGELOG.md", re.findall(r"^## ([^\s,]+)", read("CHANGELOG.md"), re.MULTILINE)[:1], [wanted]
 
 
 def found(build, wanted):
     """Yields each place, the version that it names, and the one that it has to name."""
-    used = subprocess.run([f"{build}/dimacs"], capture_output=True, text=True, check=False).stderr
-    yield "the usage text", re.findall(r"^dimacs [\d.]+$", used, re.MULTILINE), [f"dimacs {wanted}"]
-    library = ctypes.CDLL(os.path.abspath(f"{build}/libdimacs.so"))
-    yield "dimacs_version()", library.dimacs_version(), number(wanted)
-    header = dict(re.findall(r"^#define DIMACS_VERSION(\w*) ([\d\".]+)$", read("lib/include/dimacs.h"), re.MULTILINE))
-    parts = dict(zip(("_MAJOR", "_MINOR", "_PATCH"), wanted.split(".")))
-    yield "dimacs.h", header, {"": f'"{wanted}"', **parts}
-    python = re.findall(r'^__version__ = "(.*)"$', read("lib/python/dimacs/__init__.py"), re.MULTILINE)
-    yield "dimacs.__version__", python, [wanted]
-    crate = [re.findall(r'^version = "(.*)"$', read(f"lib/rust/Cargo.{it}"), re.MULTILINE) for it in ("toml", "lock")]
-    yield "the crate for Cargo", crate, [[wanted], [wanted]]
-    if os.path.exists(f"{TOP}/CHANGELOG.md"):
-        yield "CHANGELOG.md", re.findall(r"^## \D*([\d.]+\d)", read("CHANGELOG.md"), re.MULTILINE)[:1], [wanted]
+    yield from of_program(f"{build}/dimacs", wanted)
+    yield from of_library(f"{build}/libdimacs.so", wanted)
+    yield from of_python(f"{build}/libdimacs.so", wanted)
+    yield from of_files(wanted)
 
 
 def main():

@@ -111,7 +111,7 @@ def main():
     with tempfile.TemporaryDirectory() as room:
         make_tarball(f"{room}/tarball", f"dimacs-{version}-x86_64-linux")
         if shutil.which("dpkg-deb"):
-            make_debian(f"{room}/debian", version)
+            make_debian(f"{room}/debian", version.replace("-", "~"))
         else:
             print("left out: the package for Debian: no dpkg-deb")
     os.environ["DIMACS_LIBRARY"] = f"{TOP}/build/libdimacs.so.0"

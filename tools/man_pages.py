@@ -229,8 +229,8 @@ def version():
 
 
 def date():
-    """The date of the version."""
-    return re.search(rf"^## {re.escape(version())}, (\S+)$", read("CHANGELOG.md"), re.MULTILINE)[1]
+    """The date of the newest version that has one."""
+    return re.search(r"^## \S+, (\S+)$", read("CHANGELOG.md"), re.MULTILINE)[1]
 
 
 def tidy(lines):

@@ -12,6 +12,7 @@ was.
 """
 import argparse
 import os
+import re
 import shutil
 import subprocess
 import sys
@@ -36,6 +37,15 @@ case "$*" in
 esac
 exec '{kit}/toolchain/bin/clang' "$@"
 """
+
+
+def test_kit():
+    """Ends the build if the sources, which say by which kit they are proved, name another one."""
+    with open(f"{CRATES}/dimacs_runs/src/build.rt", encoding="utf-8") as it:
+        named = re.search(r"\(proved by (.*)\)", it.read())[1]
+    here = subprocess.run(["rt", "version"], capture_output=True, text=True, check=True).stdout.strip()
+    if named != here:
+        sys.exit(f"this is {here}; build.rt and Version.antt in crates/dimacs_runs name {named}: name this kit there")
 
 
 def order(listed):
@@ -100,6 +110,7 @@ def main():
     kit, listed = kits.folder("bin/rattle", "c/liblibc_c.a"), kits.crates()
     if asked.by_ci and not sources.is_current(BY_CI, sources.PROVED, [PROGRAM]):
         sys.exit("crates/dimacs/out/dimacs isn't what rt ci proved of these sources: .ci/gate proves and builds it")
+    test_kit()
     os.makedirs(f"{CRATES}/dimacs_c/out", exist_ok=True)
     os.makedirs(asked.folder, exist_ok=True)
     with tempfile.TemporaryDirectory() as room:

@@ -30,14 +30,22 @@ extern "C" {
 #endif
 
 /* The version of this header, also as one number: 10000 times the first, 100 times the second, and the third. */
-#define DIMACS_VERSION "0.1.0"
+#define DIMACS_VERSION "0.2.0-dev"
 #define DIMACS_VERSION_MAJOR 0
-#define DIMACS_VERSION_MINOR 1
+#define DIMACS_VERSION_MINOR 2
 #define DIMACS_VERSION_PATCH 0
 #define DIMACS_VERSION_NUMBER (DIMACS_VERSION_MAJOR * 10000 + DIMACS_VERSION_MINOR * 100 + DIMACS_VERSION_PATCH)
 
 /* The version of the library that was linked or loaded, as such a number. */
 uint32_t dimacs_version(void);
+
+/* 1 if that library is proved: the kit that built it had proved that each function meets its contract. 0 if it was
+ * built without proofs, as by `make quick`. */
+uint32_t dimacs_proved(void);
+
+/* Hands out the version with what proved the library, as `dimacs --version` prints it: `0.2.0-dev (proved by ..)`, with
+ * the kit and its logic, or `0.2.0-dev (not proved)`. Returns DIMACS_DONE. */
+uint32_t dimacs_version_text(uint8_t *out, size_t room, size_t *needed);
 
 /* What a call returns. */
 enum {

@@ -1,19 +1,22 @@
-"""Builds the wheel of the package: its files, and the shared library, inside of it.
+"""Builds the wheel of the package, its files and the shared library inside of it, and the archive of its sources.
 
 It is the build backend that pyproject.toml names, and needs nothing but Python. To install the package:
 
     make && pip install ./lib/python
 
 The library is the one that `make` proved and built, or another that DIMACS_LIBRARY names. If that doesn't have the mark
-of a proved one, the wheel's version ends in +unproved.
+of a proved one, the wheel's version ends in +unproved. The same files give the same wheel and archive, to the byte.
 """
 
 from __future__ import annotations
 
 import base64
+import gzip
 import hashlib
+import io
 import os
 import re
+import tarfile
 import zipfile
 from pathlib import Path
 
@@ -21,18 +24,15 @@ NAME = "dimacs"
 HERE = Path(__file__).resolve().parent
 TOP = HERE.parents[1]
 
-METADATA = """Metadata-Version: 2.1
-Name: {name}
-Version: {version}
-Summary: Judges and certifies claims about flows and distances, by functions that are proved
-Requires-Python: >=3.10
-"""
-
 WHEEL = """Wheel-Version: 1.0
 Generator: build_wheel
 Root-Is-Purelib: false
 Tag: {tag}
 """
+
+NO_LIBRARY = """{place} isn't there. There are two ways to get it:
+    make          proves and builds it, which takes over an hour; then pip install ./lib/python
+    make quick    builds it unproved; then DIMACS_LIBRARY=build/quick/libdimacs.so pip install ./lib/python"""
 
 # What the compiler leaves in a library that is proved: the logic in which it is.
 PROVED = b"rattle logic="
@@ -42,13 +42,19 @@ def _library() -> bytes:
     """The shared library."""
     place = Path(os.environ.get("DIMACS_LIBRARY") or TOP / "build" / "libdimacs.so")
     if not place.is_file():
-        raise SystemExit(f"{place} isn't there: build it by `make`")
+        raise SystemExit(NO_LIBRARY.format(place=place))
     return place.read_bytes()
+
+
+def _plain_version() -> str:
+    """The version as PEP 440 spells it: that of the sources here, or of the repository that they are in."""
+    place = HERE / "VERSION" if (HERE / "VERSION").is_file() else TOP / "VERSION"
+    return place.read_text().strip().replace("-dev", ".dev0")
 
 
 def version_of(library: bytes) -> str:
     """The version of a package that has this library."""
-    return (TOP / "VERSION").read_text().strip() + ("" if PROVED in library else "+unproved")
+    return _plain_version() + ("" if PROVED in library else "+unproved")
 
 
 def oldest_glibc(file: bytes) -> int:
@@ -61,30 +67,73 @@ def tag_of(library: bytes) -> str:
     return f"py3-none-manylinux_2_{oldest_glibc(library)}_x86_64"
 
 
+# pyproject.toml is read line by line: Python 3.10 has no module for it.
+
+
+def _project() -> str:
+    return (HERE / "pyproject.toml").read_text()
+
+
+def _field(name: str) -> str:
+    """The text of a field."""
+    return re.search(rf'^{name} = "(.*)"$', _project(), re.M)[1]
+
+
+def _list(name: str) -> list[str]:
+    """The texts of a list."""
+    return re.findall(r'"(.*?)"', re.search(rf"^{name} = \[(.*?)\]", _project(), re.M | re.S)[1])
+
+
+def _extras() -> list[str]:
+    """The lines about packages that some modules need."""
+    table = re.search(r"^\[project.optional-dependencies\]\n((?:.+\n)+)", _project(), re.M)[1]
+    needs = re.findall(r'^(\w+) = \["(.+)"\]$', table, re.M)
+    return [
+        line
+        for name, need in needs
+        for line in (f"Provides-Extra: {name}", f'Requires-Dist: {need}; extra == "{name}"')
+    ]
+
+
+def metadata(version: str) -> str:
+    """What describes the package, in the form of METADATA and PKG-INFO."""
+    lines = ["Metadata-Version: 2.1", f"Name: {NAME}", f"Version: {version}", f"Summary: {_field('description')}"]
+    lines += [f"Keywords: {','.join(_list('keywords'))}", *(f"Classifier: {it}" for it in _list("classifiers"))]
+    lines += [
+        f"Requires-Python: {_field('requires-python')}",
+        *_extras(),
+        "Description-Content-Type: text/markdown",
+        "",
+    ]
+    return "\n".join(lines) + "\n" + (HERE / _field("readme")).read_text()
+
+
 def entry_points() -> str:
     """Where other packages find this one: the tables of pyproject.toml, as an installed package has them."""
-    project = (HERE / "pyproject.toml").read_text()
-    tables = re.findall(r'^\[project\.entry-points\."(.+)"\]\n((?:.+\n)+)', project, re.M)
+    tables = re.findall(r'^\[project\.entry-points\."(.+)"\]\n((?:.+\n)+)', _project(), re.M)
     return "\n".join(f"[{group}]\n{lines}" for group, lines in tables).replace('"', "")
 
 
 def _description(library: bytes, version: str) -> dict[str, bytes]:
     """The files that describe a package, by their names in the folder for them."""
     files = {
-        "METADATA": METADATA.format(name=NAME, version=version),
+        "METADATA": metadata(version),
         "WHEEL": WHEEL.format(tag=tag_of(library)),
         "entry_points.txt": entry_points(),
     }
     return {name: content.encode() for name, content in files.items()}
 
 
+def _sources() -> dict[str, bytes]:
+    """The files of the package itself."""
+    files = {it.relative_to(HERE).as_posix(): it.read_bytes() for it in sorted((HERE / NAME).rglob("*.py"))}
+    return {**files, f"{NAME}/py.typed": b""}
+
+
 def _files(library: bytes, version: str) -> dict[str, bytes]:
     """What the wheel holds, but for the list of it."""
-    files = {it.relative_to(HERE).as_posix(): it.read_bytes() for it in sorted((HERE / NAME).rglob("*.py"))}
-    files[f"{NAME}/py.typed"] = b""
-    files[f"{NAME}/libdimacs.so"] = library
-    files |= {f"{NAME}-{version}.dist-info/{name}": it for name, it in _description(library, version).items()}
-    return files
+    described = {f"{NAME}-{version}.dist-info/{name}": it for name, it in _description(library, version).items()}
+    return {**_sources(), f"{NAME}/libdimacs.so": library, **described}
 
 
 def _digest(content: bytes) -> str:
@@ -102,7 +151,9 @@ def build_wheel(wheel_directory, config_settings=None, metadata_directory=None):
     wheel = f"{NAME}-{version}-{tag_of(library)}.whl"
     with zipfile.ZipFile(os.path.join(wheel_directory, wheel), "w", zipfile.ZIP_DEFLATED) as it:
         for name, content in files.items():
-            it.writestr(name, content)
+            entry = zipfile.ZipInfo(name)  # of 1980, and not of now
+            entry.compress_type, entry.external_attr = zipfile.ZIP_DEFLATED, 0o100644 << 16
+            it.writestr(entry, content)
     return wheel
 
 
@@ -119,5 +170,17 @@ def prepare_metadata_for_build_wheel(metadata_directory, config_settings=None):
 
 
 def build_sdist(sdist_directory, config_settings=None):
-    """pip asks for it if it makes no wheel; there is none, since what is in the wheel has to be proved first."""
-    raise NotImplementedError("build the wheel: the library is proved and built by `make`")
+    """Writes the archive of the sources into a folder, and returns its name. It has no library, which isn't built by Python:
+    a wheel is made of it with DIMACS_LIBRARY."""
+    version = _plain_version()
+    files = {name: (HERE / name).read_bytes() for name in ("README.md", "build_wheel.py", "pyproject.toml")}
+    files |= {"PKG-INFO": metadata(version).encode(), "VERSION": f"{version}\n".encode(), **_sources()}
+    packed = io.BytesIO()
+    with tarfile.open(fileobj=packed, mode="w", format=tarfile.PAX_FORMAT) as it:
+        for name, content in sorted(files.items()):
+            entry = tarfile.TarInfo(f"{NAME}-{version}/{name}")
+            entry.size = len(content)
+            it.addfile(entry, io.BytesIO(content))
+    archive = f"{NAME}-{version}.tar.gz"
+    (Path(sdist_directory) / archive).write_bytes(gzip.compress(packed.getvalue(), mtime=0))
+    return archive

@@ -223,7 +223,9 @@ class Flows(Backend):
         chance = random.Random(6)
         for _ in rounds(100):
             graph = drawn(networkx.Graph, chance, 20, capacity=lambda: chance.randrange(9))
-            networkx.set_edge_attributes(graph, {it: 3 for it in graph.edges if "capacity" not in graph.edges[it]}, "capacity")
+            networkx.set_edge_attributes(
+                graph, {it: 3 for it in graph.edges if "capacity" not in graph.edges[it]}, "capacity"
+            )
             tree = networkx.gomory_hu_tree(graph, backend="dimacs")
             self.assertTrue(networkx.is_tree(tree) and set(tree) == set(graph))
             for one, other in itertools.combinations(graph, 2):
@@ -444,17 +446,30 @@ class Paths(Backend):
         if both:
             self.assertEqual(both[1][0], both[0][0])
         pairs = dict(networkx.all_pairs_dijkstra(graph, cutoff, weight, backend="dimacs"))
-        self.assertEqual({node: it[0] for node, it in pairs.items()}, dict(networkx.all_pairs_dijkstra_path_length(graph, cutoff, weight)))
+        self.assertEqual(
+            {node: it[0] for node, it in pairs.items()},
+            dict(networkx.all_pairs_dijkstra_path_length(graph, cutoff, weight)),
+        )
         paths = dict(networkx.all_pairs_dijkstra_path(graph, cutoff, weight, backend="dimacs"))
         self.assertEqual({node: it[1] for node, it in pairs.items()}, paths)
         both = [dict(networkx.shortest_path(graph, weight=weight, backend=it)) for it in ("networkx", "dimacs")]
-        self.assertEqual(*({at: {to: length_of(graph, path, weight) for to, path in it.items()} for at, it in some.items()} for some in both))
+        self.assertEqual(
+            *(
+                {at: {to: length_of(graph, path, weight) for to, path in it.items()} for at, it in some.items()}
+                for some in both
+            )
+        )
 
     def test_cycles(self):
         chance = random.Random(9)
         found = {True: 0, False: 0}
         for _ in rounds(300):
-            graph = drawn(chance.choice([networkx.DiGraph, networkx.MultiDiGraph]), chance, 16, weight=lambda: chance.randrange(-2, 9))
+            graph = drawn(
+                chance.choice([networkx.DiGraph, networkx.MultiDiGraph]),
+                chance,
+                16,
+                weight=lambda: chance.randrange(-2, 9),
+            )
             theirs = networkx.negative_edge_cycle(graph.copy())
             self.assertEqual(networkx.negative_edge_cycle(graph, backend="dimacs"), theirs)
             found[theirs] += 1
@@ -531,7 +546,9 @@ class Registered(Backend):
 
         dispatched = set(networkx.utils.backends._registered_algorithms)
         self.assertEqual(set(dir(backend)) & dispatched, set(info.FUNCTIONS))
-        self.assertEqual(set(backend.__all__), {*info.FUNCTIONS, "Unable", "can_run", "convert_from_nx", "convert_to_nx"})
+        self.assertEqual(
+            set(backend.__all__), {*info.FUNCTIONS, "Unable", "can_run", "convert_from_nx", "convert_to_nx"}
+        )
         self.assertIn("certificate", networkx.minimum_cut.__doc__)
 
     def test_arguments(self):

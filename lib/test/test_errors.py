@@ -52,7 +52,13 @@ class Arrays(Errors):
                 ("node 2 Balance: 3 leaves, 4 enters", judge_max, *MAX, [4, 3], cut),
                 ("node 1 SourceOutside", judge_max, *MAX, [4, 4], [0, 0, 0]),
                 ("node 3 SinkInside", judge_max, *MAX, [4, 4], [1, 1, 1]),
-                ("arc 2 NotSaturated: it leaves the cut and carries 3, its capacity is 4", judge_max, *MAX, [3, 3], cut),
+                (
+                    "arc 2 NotSaturated: it leaves the cut and carries 3, its capacity is 4",
+                    judge_max,
+                    *MAX,
+                    [3, 3],
+                    cut,
+                ),
                 (
                     "arc 1 BackFlow: it enters the cut and carries 1",
                     judge_max,
@@ -96,7 +102,10 @@ class Arrays(Errors):
     def test_cost_out_of_range(self):
         most = 4 * 10**18
         words = 2, [1], [2], [0], [most], [most], [most, -most], [most]
-        self.rows(dimacs.Refused, [(f"arc 1 CostRange: the cost up to it is {most * most}", dimacs.certify_min_arrays, *words)])
+        self.rows(
+            dimacs.Refused,
+            [(f"arc 1 CostRange: the cost up to it is {most * most}", dimacs.certify_min_arrays, *words)],
+        )
 
     def test_not_optimal(self):
         self.rows(
@@ -132,7 +141,12 @@ class Arrays(Errors):
                 ("flows[1] is 2.5, not a whole number", certify, *MAX, [0, 2.5]),
                 ("flows[0] is 5/2, not a whole number", certify, *MAX, [Fraction(5, 2), 0]),
                 ("flows[0] is inf, not a whole number", certify, *MAX, [INF, 0]),
-                ("caps[0] is 9223372036854775808, not a whole number of 64 bits", certify, *changed(MAX, 5, [2**63, 0]), flows),
+                (
+                    "caps[0] is 9223372036854775808, not a whole number of 64 bits",
+                    certify,
+                    *changed(MAX, 5, [2**63, 0]),
+                    flows,
+                ),
                 (f"tails[1] is -1, {range_32}", certify, *changed(MAX, 3, [1, -1]), flows),
                 (f"nodes is -1, {range_32}", certify, *changed(MAX, 0, -1), flows),
                 ("source is 1.5, not a whole number", certify, *changed(MAX, 1, 1.5), flows),
@@ -167,11 +181,19 @@ class Arrays(Errors):
             ValueError,
             [
                 ("flows[17] is nan, not a whole number", certify, *graph, wide),
-                ("flows[1] is 9223372036854775808, not a whole number of 64 bits", certify, *MAX, numpy.array([0, 2**63], "uint64")),
+                (
+                    "flows[1] is 9223372036854775808, not a whole number of 64 bits",
+                    certify,
+                    *MAX,
+                    numpy.array([0, 2**63], "uint64"),
+                ),
                 ("flows has 2 dimensions, and not one", certify, *MAX, numpy.zeros((2, 2))),
             ],
         )
-        self.rows(TypeError, [("caps: one number, an array of 2 is wanted", certify, *changed(MAX, 5, numpy.array(5)), [0, 0])])
+        self.rows(
+            TypeError,
+            [("caps: one number, an array of 2 is wanted", certify, *changed(MAX, 5, numpy.array(5)), [0, 0])],
+        )
 
     def test_past_limit(self):
         certify, flows, base = dimacs.certify_max_arrays, [4, 4], "nodes are numbered from 1, and there are 3"
@@ -186,7 +208,11 @@ class Arrays(Errors):
                 (f"node 4 NodeRange: {base}", certify, *changed(MAX, 2, 4), flows),
                 ("node 1 NodeTwice: it is the source and the sink", certify, *changed(MAX, 2, 1), flows),
                 ("arc 2 BoundOrder: its lower bound is 0, its capacity -1", certify, *changed(MAX, 5, [1, -1]), flows),
-                ("arc 1 BoundOrder: its lower bound is 6, its capacity 5", dimacs.solve_min_arrays, *changed(MIN, 3, [6, 0])),
+                (
+                    "arc 1 BoundOrder: its lower bound is 6, its capacity 5",
+                    dimacs.solve_min_arrays,
+                    *changed(MIN, 3, [6, 0]),
+                ),
             ],
         )
 
@@ -210,11 +236,18 @@ class Scales(Errors):
                 ("caps[0] is 1/3, not a multiple of 1/100: the nearest is 0.33", certify, [Fraction(1, 3), 1], 100),
                 ("caps[0] is nan, not a finite number", certify, [NAN, 1], 100),
                 ("scale is -1, and has to be above 0", certify, [1, 1], -1),
-                ("caps[1] is 1e+30: with the least common denominator 1 it has more than 64 bits", certify, [1, 1e30], "exact"),
+                (
+                    "caps[1] is 1e+30: with the least common denominator 1 it has more than 64 bits",
+                    certify,
+                    [1, 1e30],
+                    "exact",
+                ),
             ],
         )
         message = "scale is 0.1: pass an int or a Fraction, by which numbers are multiplied, or a Decimal, their unit"
-        self.rows(TypeError, [(message, certify, [1, 1], 0.1), ("caps[0] is 'x', not a number", certify, ["x", 1], 100)])
+        self.rows(
+            TypeError, [(message, certify, [1, 1], 0.1), ("caps[0] is 'x', not a number", certify, ["x", 1], 100)]
+        )
 
 
 class Texts(Errors):
@@ -261,7 +294,9 @@ class Graphs(Errors):
         )
         with self.assertRaises(dimacs.Refused) as caught:
             certify_min(self.graph(), flow)
-        self.assertEqual(repr(caught.exception), "Refused('Balance', node='Leeds', numbers={'leaves': 31, 'supply': 30})")
+        self.assertEqual(
+            repr(caught.exception), "Refused('Balance', node='Leeds', numbers={'leaves': 31, 'supply': 30})"
+        )
 
     def test_arguments(self):
         certify, name = dimacs.certify_networkx_max, "of edge ('Leeds', 'York')"
@@ -271,8 +306,19 @@ class Graphs(Errors):
             ValueError,
             [
                 (f"capacity {name} is 2.5, not a whole number", certify, self.graph(capacity=2.5), *ends),
-                (f"weight {name} is 2.5, not a whole number", dimacs.solve_networkx_paths, self.graph(weight=2.5), "Leeds"),
-                (f"flow {name} is -0.5, not a whole number", certify, self.graph(), *ends[:2], {"Leeds": {"York": -0.5}}),
+                (
+                    f"weight {name} is 2.5, not a whole number",
+                    dimacs.solve_networkx_paths,
+                    self.graph(weight=2.5),
+                    "Leeds",
+                ),
+                (
+                    f"flow {name} is -0.5, not a whole number",
+                    certify,
+                    self.graph(),
+                    *ends[:2],
+                    {"Leeds": {"York": -0.5}},
+                ),
                 (undirected, certify, self.graph("Graph"), *ends),
                 ("'Hull' is no node of the graph", certify, self.graph(), "Hull", *ends[1:]),
                 (

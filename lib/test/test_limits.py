@@ -55,7 +55,9 @@ class Net:
 
     def __init__(self, chance, past=0.03):
         self.nodes = chance.randrange(2, 5)
-        self.ends = [(chance.randrange(self.nodes) + 1, chance.randrange(self.nodes) + 1) for _ in range(chance.randrange(1, 7))]
+        self.ends = [
+            (chance.randrange(self.nodes) + 1, chance.randrange(self.nodes) + 1) for _ in range(chance.randrange(1, 7))
+        ]
         self.caps = [amount(chance, past) for _ in self.ends]
 
     def arcs(self):
@@ -196,7 +198,8 @@ def meets(net, supplies):
     """Whether a flow meets the supplies: no set has to send more than can leave it."""
     inside = ([node for node in range(1, net.nodes + 1) if it[node]] for it in sides(net.nodes))
     return sum(supplies) == 0 and all(
-        sum(supplies[node - 1] for node in it) <= crossing(net, [node in it for node in range(net.nodes + 1)]) for it in inside
+        sum(supplies[node - 1] for node in it) <= crossing(net, [node in it for node in range(net.nodes + 1)])
+        for it in inside
     )
 
 
@@ -373,7 +376,9 @@ class Graphs(Limits):
             return self.is_wanted(found, "past")
         if found[0] == "yes":
             found = "yes", dimacs.Certified(found[1].value, [it in found[1].inside for it in range(1, net.nodes + 1)])
-        self.is_certified_max(net, flows, found, lambda it: [it[tail][head][arc] for arc, (tail, head) in enumerate(net.ends)])
+        self.is_certified_max(
+            net, flows, found, lambda it: [it[tail][head][arc] for arc, (tail, head) in enumerate(net.ends)]
+        )
 
     def test_distances(self):
         self.cases(2000, self.paths)
@@ -447,7 +452,9 @@ class Scipy(Limits):
         while chance.random() < 0.3:  # several capacities at a place, which may be more together than 64 bits have
             net.caps[chance.randrange(len(net.caps))] += amount(chance, 0)
         flows = claimed(chance, net)
-        flow = self.summed((pair, it) for ends, it in zip(net.ends, flows) for pair, it in ((ends, it), (ends[::-1], -it)))
+        flow = self.summed(
+            (pair, it) for ends, it in zip(net.ends, flows) for pair, it in ((ends, it), (ends[::-1], -it))
+        )
         graph, _ = self.matrix(chance, net, {ends: cap for ends, cap in zip(net.ends, net.caps)}, ("csr",), False)
         shown, _ = self.matrix(chance, net, flow)
         found = self.outcome(ours.certify_maximum_flow, graph, 0, net.nodes - 1, shown)
@@ -457,7 +464,9 @@ class Scipy(Limits):
         pairs = [ends for ends in dict.fromkeys((*net.ends, *flow)) if flow.get(ends, 0) > 0 or ends in net.ends]
         caps = dict(zip(net.ends, net.caps))
         net.ends, net.caps = pairs, [caps.get(ends, 0) for ends in pairs]
-        self.is_certified_max(net, [max(0, flow.get(ends, 0)) for ends in pairs], found, lambda it: self.amounts(net, it))
+        self.is_certified_max(
+            net, [max(0, flow.get(ends, 0)) for ends in pairs], found, lambda it: self.amounts(net, it)
+        )
 
     def amounts(self, net, matrix):
         return [max(0, int(matrix[tail - 1, head - 1])) for tail, head in net.ends]

@@ -135,6 +135,7 @@ class MaximumFlow(Networkx):
             self.assertIn("side", str(it))
         for form in ({**inside, "moat": False}, {*side, "moat"}):
             self.refused(ValueError, dimacs.judge_networkx_max, graph, *ends, flow, form)
+
         class Table(list):
             """Is gone through by the names of its columns, as a DataFrame is."""
 
@@ -334,7 +335,6 @@ class Distances(Networkx):
             it = self.refused(dimacs.Refused, dimacs.certify_networkx_paths, graph, "a", distances)
             self.assertEqual((it.arc, it.node, it.reason), wanted)
 
-
     def test_a_distance_at_the_limit(self):
         """A node that isn't reached has no entry, or inf: no number stands for that."""
         graph = networkx.DiGraph([("a", "b")])
@@ -391,13 +391,41 @@ class Misuse(Networkx):
 
         half, none = {"a": {"b": 0.5}}, {}
         for call, words, message in [
-            (dimacs.certify_networkx_max, (graph(capacity=2**63), "a", "b", none), f"capacity of edge ('a', 'b') is {2**63}, not a whole number of 64 bits"),
-            (dimacs.certify_networkx_max, (graph(capacity=1.5), "a", "b", none), "capacity of edge ('a', 'b') is 1.5, not a whole number"),
-            (dimacs.certify_networkx_max, (graph(), "a", "b", half), "flow of edge ('a', 'b') is 0.5, not a whole number"),
-            (dimacs.certify_networkx_min, (graph(weight=0.5), none), "weight of edge ('a', 'b') is 0.5, not a whole number"),
-            (dimacs.certify_networkx_min, (graph(demand=2**64), none), f"demand of node 'b' is {2**64}, not a whole number"),
-            (dimacs.certify_networkx_paths, (graph(weight=float("inf")), "a", {"a": 0}), "weight of edge ('a', 'b') is inf, not a whole number"),
-            (dimacs.certify_networkx_paths, (graph(), "a", {"a": 0, "b": 0.5}), "distance of node 'b' is 0.5, not a whole number"),
+            (
+                dimacs.certify_networkx_max,
+                (graph(capacity=2**63), "a", "b", none),
+                f"capacity of edge ('a', 'b') is {2**63}, not a whole number of 64 bits",
+            ),
+            (
+                dimacs.certify_networkx_max,
+                (graph(capacity=1.5), "a", "b", none),
+                "capacity of edge ('a', 'b') is 1.5, not a whole number",
+            ),
+            (
+                dimacs.certify_networkx_max,
+                (graph(), "a", "b", half),
+                "flow of edge ('a', 'b') is 0.5, not a whole number",
+            ),
+            (
+                dimacs.certify_networkx_min,
+                (graph(weight=0.5), none),
+                "weight of edge ('a', 'b') is 0.5, not a whole number",
+            ),
+            (
+                dimacs.certify_networkx_min,
+                (graph(demand=2**64), none),
+                f"demand of node 'b' is {2**64}, not a whole number",
+            ),
+            (
+                dimacs.certify_networkx_paths,
+                (graph(weight=float("inf")), "a", {"a": 0}),
+                "weight of edge ('a', 'b') is inf, not a whole number",
+            ),
+            (
+                dimacs.certify_networkx_paths,
+                (graph(), "a", {"a": 0, "b": 0.5}),
+                "distance of node 'b' is 0.5, not a whole number",
+            ),
         ]:
             it = self.refused(ValueError, call, *words)
             self.assertIn(message, str(it))

@@ -91,19 +91,29 @@ class Flows(unittest.TestCase):
         for _ in range(1000):
             nodes, ends, split = self.drawn(chance)
             factor = chance.choice([1, 10, 100, 8, Decimal("0.05"), "exact"])
-            unit = Fraction(1, 8) if factor == "exact" else Fraction(factor) if isinstance(factor, Decimal) else Fraction(1, factor)
+            unit = (
+                Fraction(1, 8)
+                if factor == "exact"
+                else Fraction(factor)
+                if isinstance(factor, Decimal)
+                else Fraction(1, factor)
+            )
             exact = [chance.randrange(60) * unit for _ in ends]
             caps = [chance.choice([float, Fraction])(it) for it in exact]
             form = numpy.array if numpy and all(isinstance(it, float) for it in caps) else list
             found = dimacs.solve_max_arrays(nodes, 0, nodes - 1, *split, form(caps), scale=factor, base=0)
             self.assertEqual(found.value, best(nodes, 0, nodes - 1, ends, exact))
             self.assertTrue(all(0 <= it <= cap for it, cap in zip(found.flows, exact)))
-            again = dimacs.certify_max_arrays(nodes, 0, nodes - 1, *split, caps, list(found.flows), scale=factor, base=0)
+            again = dimacs.certify_max_arrays(
+                nodes, 0, nodes - 1, *split, caps, list(found.flows), scale=factor, base=0
+            )
             self.assertEqual((again.value, again.inside), (found.value, list(found.inside)))
             if any(found.flows):
                 with self.assertRaises(dimacs.Refused) as no:
                     dimacs.certify_max_arrays(nodes, 0, nodes - 1, *split, caps, [0] * len(ends), scale=factor, base=0)
-                self.assertEqual((no.exception.value, no.exception.better_value > 0), (0, True)) if found.value else None
+                self.assertEqual(
+                    (no.exception.value, no.exception.better_value > 0), (0, True)
+                ) if found.value else None
 
     def test_costs(self):
         words = [0, 0], [1, 1], [0, 0], [2.5, 9], [0.03, 0.07], [4.5, -4.5]
@@ -119,7 +129,10 @@ class Flows(unittest.TestCase):
         found = dimacs.solve_paths_arrays(4, [0, 1], [1, 2], [0.5, 0.25], 0, scale="exact", base=0)
         self.assertEqual(found, (None, [0, Fraction(1, 2), Fraction(3, 4), INF], [-1, 0, 1, -1]))
         claim = [0, 0.5, 0.75, INF]
-        self.assertEqual(dimacs.certify_paths_arrays(4, [0, 1], [1, 2], [0.5, 0.25], 0, claim, scale=4, base=0).predecessors, [-1, 0, 1, -1])
+        self.assertEqual(
+            dimacs.certify_paths_arrays(4, [0, 1], [1, 2], [0.5, 0.25], 0, claim, scale=4, base=0).predecessors,
+            [-1, 0, 1, -1],
+        )
 
     @unittest.skipUnless(networkx, "no networkx")
     def test_graphs(self):
@@ -166,7 +179,10 @@ class Limitless(unittest.TestCase):
         self.assertEqual((cost, flows), (8, [3, 3, 2]))
         with self.assertRaises(dimacs.Infeasible) as no:
             dimacs.solve_min_arrays(*words, [0] * 3, [INF, 1, 2], [1, 1, 1], [5, 0, -5])
-        self.assertEqual(dimacs.judge_infeasible_arrays(*words, [0] * 3, [INF, 1, 2], [1] * 3, [5, 0, -5], no.exception.inside).kind, "infeasible")
+        self.assertEqual(
+            dimacs.judge_infeasible_arrays(*words, [0] * 3, [INF, 1, 2], [1] * 3, [5, 0, -5], no.exception.inside).kind,
+            "infeasible",
+        )
 
     def test_a_set_that_shows_nothing(self):
         """It is violated by less than 2^63, and not by an arc without a limit."""
@@ -177,7 +193,10 @@ class Limitless(unittest.TestCase):
         self.assertEqual(no.exception.reason, "NotViolated")
         with self.assertRaises(dimacs.Refused) as no:
             dimacs.judge_infeasible_arrays(*words, [1, 1, 0, 0])
-        self.assertEqual(str(no.exception), f"certificate 0 0 NotViolated: the set supplies {2**63 - 1 + 2**62}, and from 0 to inf can leave it")
+        self.assertEqual(
+            str(no.exception),
+            f"certificate 0 0 NotViolated: the set supplies {2**63 - 1 + 2**62}, and from 0 to inf can leave it",
+        )
 
 
 class FromZero(unittest.TestCase):

@@ -7,7 +7,7 @@ import dimacs
 
 try:
     import numpy
-    from scipy import sparse
+    from scipy import optimize, sparse
     from scipy.sparse import csgraph
 except ImportError:
     csgraph = None
@@ -245,6 +245,205 @@ class ShortestPath(Scipy):
         far = sparse.csr_matrix(numpy.array([[0, 2**53, 0], [0, 0, 1], [0, 0, 0]]))
         self.raises(dimacs.GaveUp, "from 0 to 2 is 9007199254740993", call, far)
         self.assertEqual(call(far, indices=1)[2], 1)
+
+
+class Tables(Scipy):
+    def test_what_scipy_finds(self):
+        chance = random.Random(5)
+        kinds = {"yes": 0, "no": 0}
+        for _ in range(300):
+            graph = drawn(chance, chance.randrange(1, 8), 1, 9, dtype=chance.choice(["int64", "float64"]))
+            last = graph.shape[0] - 1
+            more = {
+                "directed": chance.choice([True, False]),
+                "unweighted": chance.choice([True, False]),
+                "indices": chance.choice([None, 0, [0], [last, 0]]),
+            }
+            dist, before = csgraph.shortest_path(graph, return_predecessors=True, **more)
+            for words in (dist,), (dist, before):
+                found = ours.certify_shortest_path(graph, *words, **more)
+                self.assertEqual((found.shape, found.dtype), (before.shape, before.dtype))
+            ours.certify_shortest_path(graph, dist, found, **more)
+            wrong = dist.copy()
+            place = chance.randrange(dist.size)
+            wrong.flat[place] = chance.choice([numpy.inf, dist.flat[place] + 1, max(0, dist.flat[place] - 1)])
+            if wrong.flat[place] == dist.flat[place]:
+                kinds["yes"] += 1
+                continue
+            kinds["no"] += 1
+            for words in (wrong,), (wrong, before):
+                no = self.raises(dimacs.Refused, "", ours.certify_shortest_path, graph, *words, **more)
+                self.assertEqual(len(no.arc or no.node), 2)
+        self.assertGreater(kinds["no"], 100)
+
+    def test_what_is_named(self):
+        graph, certify = [[0, 5, 0], [0, 0, 4], [0, 0, 0]], ours.certify_shortest_path
+        dist = numpy.array([[0, 5, 9], [numpy.inf, 0, 4], [numpy.inf, numpy.inf, 0]])
+        dist[0, 2] = 8
+        no = self.raises(dimacs.Refused, "NoTightArc: no arc gives its distance 8", certify, graph, dist)
+        self.assertEqual(no.node, (0, 2))
+        dist[0, 2] = 10
+        message = r"arc \(1, 2\) NotShortest: 5 and its weight 4 are less than 10"
+        self.raises(dimacs.Refused, message, certify, graph, dist)
+        dist[0, 2] = 9.5
+        self.raises(ValueError, r"distances\[0, 2\] is 9.5, not a whole number", certify, graph, dist)
+        self.raises(ValueError, r"dist has the shape \(2, 3\), and has to have \(3, 3\)", certify, graph, dist[:2])
+
+    def test_negative_weights(self):
+        graph = numpy.array([[0, -5, 0], [0, 0, 4], [0, 0, 0]])
+        dist, before = csgraph.shortest_path(graph, return_predecessors=True)
+        self.assertEqual(ours.certify_shortest_path(graph, dist, before).tolist(), before.tolist())
+
+
+class Assignments(Scipy):
+    def drawn(self, chance):
+        shape = chance.randrange(1, 6), chance.randrange(1, 6)
+        costs = numpy.array([[chance.randrange(-9, 9) for _ in range(shape[1])] for _ in range(shape[0])], float)
+        for _ in range(chance.choice([0, 0, 3])):
+            costs[chance.randrange(shape[0]), chance.randrange(shape[1])] = numpy.inf
+        return costs
+
+    def test_what_scipy_finds(self):
+        chance = random.Random(6)
+        for _ in range(400):
+            costs, maximize = self.drawn(chance), chance.random() < 0.5
+            costs = -costs if maximize else costs
+            try:
+                theirs = optimize.linear_sum_assignment(costs, maximize)
+            except ValueError as it:
+                self.raises(ValueError, str(it), ours.linear_sum_assignment, costs, maximize)
+                continue
+            rows, columns = found = ours.linear_sum_assignment(costs, maximize)
+            self.assertEqual(rows.tolist(), sorted(set(rows.tolist())))
+            self.assertEqual((len(rows), costs[found].sum()), (len(theirs[0]), costs[theirs].sum()))
+            value, u, v = ours.certify_assignment(costs, *theirs, maximize)
+            self.assertEqual(value, costs[theirs].sum())
+            self.is_shown(-costs if maximize else costs, theirs, u, v)
+            other = chance.sample(range(costs.shape[1]), len(rows)) if len(rows) == len(costs) else None
+            if other and costs[rows, other].sum() != value and numpy.isfinite(costs[rows, other]).all():
+                no = self.raises(dimacs.NotOptimal, "NotLeast", ours.certify_assignment, costs, rows, other, maximize)
+                self.assertEqual(no.value, costs[rows, other].sum())
+                self.assertEqual(no.better_value, costs[no.better].sum())
+
+    def is_shown(self, costs, found, u, v):
+        rests = costs - u[:, None] - v[None, :]
+        narrow = v if len(u) <= len(v) else u
+        self.assertTrue((rests >= 0).all() and (rests[found] == 0).all() and (narrow <= 0).all())
+        self.assertEqual(u.sum() + v.sum(), costs[found].sum())
+
+    def test_what_is_refused(self):
+        costs, certify = [[4, 1], [2, 3]], ours.certify_assignment
+        no = self.raises(dimacs.Refused, "Balance: 0 leaves, its supply is 1", certify, costs, [0], [0])
+        self.assertEqual(no.node, ("row", 1))
+        no = self.raises(dimacs.Refused, "AboveCap: it carries 2, its capacity is 1", certify, costs, [0, 1], [0, 0])
+        self.assertEqual(no.arc, ("column", 0))
+        self.raises(ValueError, r"\(0, 2\) is no place", certify, costs, [0, 1], [2, 0])
+        self.raises(ValueError, r"the entry at \(0, 1\) is 0.5", certify, [[4, 0.5], [2, 3]], [0, 1], [1, 0])
+        for wrong in ([1, 2], [[numpy.nan]], [[-numpy.inf]]):
+            with self.assertRaises(ValueError) as theirs:
+                optimize.linear_sum_assignment(wrong)
+            self.assertEqual(str(self.raises(ValueError, "", ours.linear_sum_assignment, wrong)), str(theirs.exception))
+
+    def test_matchings(self):
+        chance = random.Random(7)
+        for _ in range(300):
+            shape = chance.randrange(1, 6), chance.randrange(1, 6)
+            graph = numpy.array([[chance.choice([0, 0, 3, 5, 8]) for _ in range(shape[1])] for _ in range(shape[0])])
+            graph = sparse.csr_matrix(graph)
+            for kind in "row", "column":
+                theirs, found = (it.maximum_bipartite_matching(graph, kind) for it in (csgraph, ours))
+                self.assertEqual((found.shape, (found >= 0).sum()), (theirs.shape, (theirs >= 0).sum()))
+                for place, other in enumerate(found):
+                    row, column = (other, place) if kind == "row" else (place, other)
+                    self.assertTrue(other == -1 or graph[row, column])
+                self.assertEqual(len(set(found[found >= 0])), (found >= 0).sum())
+            if (theirs >= 0).sum() < min(shape):  # SciPy 1.10 may run for ever then
+                self.raises(ValueError, "no full matching exists", ours.min_weight_full_bipartite_matching, graph)
+                continue
+            theirs, found = (it.min_weight_full_bipartite_matching(graph) for it in (csgraph, ours))
+            self.assertEqual(graph[found].sum(), graph[theirs].sum())
+
+
+class Programs(Scipy):
+    def drawn(self, chance):
+        """A program of a network, or one that is near it."""
+        rows, count = chance.randrange(1, 5), chance.randrange(1, 7)
+        matrix = numpy.zeros((rows, count), int)
+        for column in range(count):
+            for row, sign in zip(chance.sample(range(rows), min(rows, chance.choice([1, 2, 2]))), (1, -1)):
+                matrix[row, column] = sign
+        x = [chance.randrange(5) for _ in range(count)]
+        right = matrix @ x
+        matrix[(flipped := [row for row in range(rows) if chance.random() < 0.4])] *= -1
+        right[flipped] *= -1
+        cut = chance.randrange(rows + 1)
+        words = {"c": [chance.randrange(-3, 9) for _ in range(count)]}
+        if cut:
+            words |= {"A_ub": matrix[:cut], "b_ub": right[:cut] + chance.randrange(2)}
+        if cut < rows:
+            words |= {"A_eq": matrix[cut:], "b_eq": right[cut:] + (chance.random() < 0.1)}
+        low = chance.choice([0, 0, -2, 1])
+        words["bounds"] = chance.choice([(min(low, 0), None), (min(low, 0), 6), [(min(low, it), it + 2) for it in x]])
+        return words
+
+    def test_what_scipy_finds(self):
+        chance = random.Random(8)
+        kinds = dict.fromkeys((0, 2, 3), 0)
+        for _ in range(300):
+            words = self.drawn(chance)
+            theirs = optimize.linprog(**words)
+            kinds[theirs.status] = kinds.get(theirs.status, 0) + 1
+            if theirs.status == 2:
+                self.assertIsNone(ours.certify_linprog(theirs, **words).value)
+            elif theirs.status == 0:
+                found = ours.certify_linprog(theirs, **words)
+                self.assertAlmostEqual(found.value, theirs.fun)
+                self.is_shown(found, **words)
+            else:
+                self.raises(ValueError, "status 3", ours.certify_linprog, theirs, **words)
+        self.assertGreater(min(kinds.values()), 5, kinds)
+
+    def is_shown(self, found, c, A_ub=None, b_ub=None, A_eq=None, b_eq=None, bounds=None):
+        parts = [it for it in (A_ub, A_eq) if it is not None]
+        reduced = c - numpy.vstack(parts).T @ found.duals
+        table = [bounds] * len(c) if isinstance(bounds, tuple) else bounds
+        for it, cost, (low, high) in zip(found.x, reduced, table):
+            self.assertTrue(low <= it and (high is None or it <= high))
+            self.assertTrue((cost >= 0 or it == high) and (cost <= 0 or it == low))
+
+    def test_what_is_no_network(self):
+        for A_eq, message in [
+            ([[1, 1], [1, -1], [1, 0]], r"x\[0\] has 3 entries, and may have two"),
+            ([[2, 1], [0, 1]], r"x\[0\] has an entry of 2, not 1 or -1"),
+            ([[1, 1], [1, -1]], r"no signs of constraints give x\[1\] entries"),
+        ]:
+            program = {"c": [1, 1], "A_eq": A_eq, "b_eq": [1] * len(A_eq)}
+            result = optimize.OptimizeResult(x=[1, 1], fun=2, status=0)
+            self.raises(ValueError, message, ours.certify_linprog, result, **program)
+        free = {"c": [1], "A_eq": [[1]], "b_eq": [1], "bounds": (None, None)}
+        self.raises(ValueError, r"x\[0\] has no lower bound", ours.certify_linprog, result, **free)
+
+    def test_what_is_refused(self):
+        program = {"c": [3, 7], "A_eq": [[1, 1]], "b_eq": [6], "bounds": (0, 5)}
+
+        def certify(x, fun):
+            return ours.certify_linprog(optimize.OptimizeResult(x=numpy.array(x), fun=fun, status=0), **program)
+
+        self.assertEqual(certify([5 + 1e-9, 1.0], 22).x.tolist(), [5, 1])
+        no = self.raises(dimacs.NotOptimal, "it costs 26, and a better flow 22", certify, [4.0, 2.0], 26)
+        self.assertEqual(no.better.tolist(), [5, 1])
+        no = self.raises(dimacs.Refused, "Balance: 5 leaves, its supply is 6", certify, [5.0, 0.0], 15)
+        self.assertEqual(no.node, "A_eq[0]")
+        no = self.raises(dimacs.Refused, "AboveCap: it carries 6, its capacity is 5", certify, [6.0, 0.0], 18)
+        self.assertEqual(no.arc, "x[0]")
+        self.raises(dimacs.Refused, "ValueDiffers: 23 is claimed, it is 22", certify, [5.0, 1.0], 23)
+        self.raises(ValueError, r"x\[0\] is 4.5, not a whole number: the nearest is 4", certify, [4.5, 1.5], 24)
+
+
+class Names(Scipy):
+    def test_what_is_there(self):
+        self.assertEqual(dir(ours), sorted(ours.__all__))
+        self.assertTrue(all(hasattr(ours, it) for it in ours.__all__))
 
 
 if __name__ == "__main__":

@@ -125,7 +125,6 @@ class Certifies(unittest.TestCase):
         self.assertNotIsInstance(caught.exception, dimacs.NotOptimal)
         self.assertEqual(caught.exception.node, 1)
 
-
     def test_infeasible(self):
         for instance, form in (SURPLUS, str), (SURPLUS.encode(), bytes):
             value, shown = dimacs.certify_infeasible(instance)
@@ -161,7 +160,9 @@ class Spreads(unittest.TestCase):
         parallel = "p max 2 2\nn 1 s\nn 2 t\na 1 2 3\na 1 2 5\n"
         self.assertEqual(dimacs.spread_max(parallel, "s 6\nf 1 2 4\nf 1 2 2\n"), "s 6\nf 1 2 3\nf 1 2 3\n")
         self.assertEqual(dimacs.spread_max(parallel, b"s 6\nf 1 2 6\n"), b"s 6\nf 1 2 3\nf 1 2 3\n")
-        self.assertEqual(dimacs.spread_min("p min 2 2\na 1 2 0 3 9\na 1 2 0 5 1\n", "s 0\nf 1 2 6\n"), "s 0\nf 1 2 1\nf 1 2 5\n")
+        self.assertEqual(
+            dimacs.spread_min("p min 2 2\na 1 2 0 3 9\na 1 2 0 5 1\n", "s 0\nf 1 2 6\n"), "s 0\nf 1 2 1\nf 1 2 5\n"
+        )
         with self.assertRaises(dimacs.Refused) as caught:
             dimacs.spread_max(parallel, "s 6\nf 2 1 6\n")
         self.assertEqual(str(caught.exception), "solution 2 0 UnknownArc")
@@ -177,7 +178,9 @@ class Spreads(unittest.TestCase):
 
     def test_forms_of_arrays(self):
         numbers = (ctypes.c_int64 * 3)(3, 5, 4)
-        self.assertEqual(dimacs.spread_max_arrays(2.0, 1.0, 2, [1, 1, 2], [2, 2, 1], numbers, [1.0], [2], [6]), [3, 3, 0])
+        self.assertEqual(
+            dimacs.spread_max_arrays(2.0, 1.0, 2, [1, 1, 2], [2, 2, 1], numbers, [1.0], [2], [6]), [3, 3, 0]
+        )
         with self.assertRaisesRegex(TypeError, "nodes is '2', not a number"):
             dimacs.spread_max_arrays("2", 1, 2, [], [], [], [], [], [])
         with self.assertRaisesRegex(ValueError, "sink is 4294967296, not"):

@@ -2,25 +2,26 @@
 #![tactic(auto)]
 
 mod files;
+mod misuse;
 mod regular_files;
 mod usage;
 
 use crate::files::SystemFiles;
+use crate::misuse::{complaint_of, complaint_of_bytes};
 use crate::regular_files::RegularFiles;
+use crate::usage::Command;
 use dimacs_explain::{FirstLine, explain_command};
-use dimacs_lines::FileSink;
+use dimacs_lines::{FileSink, Sink, put_all};
 use dimacs_runs::{
-    CommandError, Failure, NO_RUN, RunError, command_status, complaint, exit_status, job,
-    run_command,
+    CommandError, Failure, NO_RUN, Request, RunError, Status, command_status, complaint,
+    exit_status, request, run_command, version,
 };
+use std::alloc::{AllocError, Global};
 use std::fs::File;
 use std::io::ErrorKind;
 use std::os::fd::{AsRawFd, RawFd};
 use std::process::ExitCode;
 use std::{env, io};
-
-/// Before a command, it asks to explain a refusal.
-const EXPLAIN: &str = "explain";
 
 /// The greatest file descriptor of a standard stream.
 const STANDARD_ERROR: RawFd = 2;
@@ -43,22 +44,23 @@ fn stand_in(rt: &HostRuntime) -> Option<File> {
     }
 }
 
-/// Runs the command of these arguments, without the program's name, and returns the exit status.
+/// Does what these arguments, without the program's name, ask for, and returns the exit status.
 fn run(rt: &HostRuntime, arguments: &[String]) -> u8 {
+    let Some(wanted) = request(arguments) else {
+        return refuse(rt, complaint_of(rt.alloc(), arguments));
+    };
     let mut files = SystemFiles::new(rt);
     let mut output = FirstLine::new(FileSink::new(io::writer(rt)));
-    let (arguments, ended) = match arguments {
-        [first, command @ ..] if first.as_str() == EXPLAIN => {
-            let mut regular = RegularFiles::new(rt);
-            (
-                command,
-                explain_command(rt.alloc(), command, &mut files, &mut regular, &mut output),
-            )
+    let ended = match wanted {
+        Request::Help => Some(print(usage::of_all(rt.alloc()), &mut output)),
+        Request::HelpOn(name) => Some(print(help_on(rt.alloc(), name), &mut output)),
+        Request::Version => Some(print(version_line(rt.alloc()), &mut output)),
+        Request::Run(_) => run_command(rt.alloc(), arguments, &mut files, &mut output),
+        Request::Explain(_) => {
+            let command = arguments.get(1..).unwrap_or_default();
+            let again = RegularFiles::new(rt);
+            explain_command(rt.alloc(), command, &mut files, &again, &mut output)
         }
-        _ => (
-            arguments,
-            run_command(rt.alloc(), arguments, &mut files, &mut output),
-        ),
     };
     let status = command_status(&ended);
     complain(rt, status);
@@ -69,10 +71,39 @@ fn run(rt: &HostRuntime, arguments: &[String]) -> u8 {
         };
         print_failure(rt, failure, reason);
     }
-    if let Some(name) = job(arguments).and_then(|job| job.written_twice()) {
+    if let Request::Run(job) | Request::Explain(job) = wanted
+        && let Some(name) = job.written_twice()
+    {
         let _ = eprintln!(rt; "dimacs: {name}: written twice");
     }
     status
+}
+
+/// Prints a text, unless memory ran out.
+fn print<'a, K: Sink>(
+    text: Result<String, AllocError>,
+    output: &mut K,
+) -> Result<Status, CommandError<'a>> {
+    let Ok(text) = text else {
+        return Err(CommandError::Memory);
+    };
+    match put_all(output, text.as_bytes()) {
+        Ok(()) => Ok(Status::Done),
+        Err(_) => Err(CommandError::Device(Failure::Output)),
+    }
+}
+
+/// The line that `--version` prints.
+fn version_line(alloc: Global) -> Result<String, AllocError> {
+    format!(in alloc; "dimacs {}\n", version())
+}
+
+/// The usage of the command with this name.
+fn help_on(alloc: Global, name: &str) -> Result<String, AllocError> {
+    match Command::named(name) {
+        Some(command) => usage::of_one(alloc, command),
+        None => usage::of_all(alloc),
+    }
 }
 
 /// The arguments, the program's name first.
@@ -80,25 +111,30 @@ fn arguments(rt: &HostRuntime) -> io::Result<Vec<String>> {
     Ok(env::args(rt)?.collect(rt.alloc())?)
 }
 
-/// Complains that there are no arguments, and returns the exit status. Arguments that aren't UTF-8 name no run.
+/// Complains that the arguments couldn't be read, and returns the exit status.
 fn without_arguments(rt: &HostRuntime, error: io::Error) -> u8 {
-    let status = if error.kind() == ErrorKind::OutOfMemory {
-        exit_status(&Err(RunError::Memory))
-    } else {
-        NO_RUN
-    };
-    complain(rt, status);
-    status
+    if error.kind() == ErrorKind::OutOfMemory {
+        let status = exit_status(&Err(RunError::Memory));
+        complain(rt, status);
+        return status;
+    }
+    refuse(rt, complaint_of_bytes(rt.alloc()))
 }
 
-/// Writes the complaint for an exit status, if it has one, to the standard error; then the usage text, if the arguments
-/// name no run.
+/// Complains of arguments that ask for nothing, and returns the exit status. If memory runs out, no more than the first
+/// line is written.
+fn refuse(rt: &HostRuntime, text: Result<String, AllocError>) -> u8 {
+    complain(rt, NO_RUN);
+    if let Ok(text) = text {
+        let _ = eprint!(rt; "{text}");
+    }
+    NO_RUN
+}
+
+/// Writes the complaint for an exit status, if it has one, to the standard error.
 fn complain(rt: &HostRuntime, status: u8) {
     if let Some(line) = complaint(status) {
         let _ = eprintln!(rt; "{line}");
-    }
-    if status == NO_RUN {
-        usage::print(rt);
     }
 }
 

@@ -1,99 +1,238 @@
-//! The usage text. clap only renders it: `dimacs_runs::job` reads the arguments.
+//! The usage texts, of one table of commands. clap only renders them: `dimacs_runs::request` reads the arguments.
 
-use clap::Command;
+use dimacs_runs::version;
 use std::alloc::{AllocError, Global};
 
-/// The arguments of each run, and what it does: both fit into 80 columns, with two spaces between them.
-static RUNS: [(&str, &str); 16] = [
-    ("convert KIND FILE", "Prints its canonical form"),
-    ("show KIND FILE", "Prints a line about it"),
-    ("judge-max INSTANCE SOLUTION CUT", "Is the flow maximum?"),
-    (
+/// A command: its name with its arguments, of which those in brackets may be left out, and what it does. Both fit into
+/// 80 columns, with four spaces.
+#[derive(Clone, Copy)]
+pub struct Command(&'static str, &'static str);
+
+impl Command {
+    /// The command with this name.
+    pub fn named(name: &str) -> Option<Command> {
+        COMMANDS
+            .iter()
+            .copied()
+            .find(|command| command.name() == name)
+    }
+
+    /// The word that names it.
+    pub fn name(self) -> &'static str {
+        self.0.split(' ').next().unwrap_or(self.0)
+    }
+
+    /// Its arguments, in the words of the usage text, without the limit.
+    pub fn files(self) -> &'static str {
+        let files = self.0.split_once(' ').map_or("", |(_, files)| files);
+        files.strip_suffix(LIMIT).unwrap_or(files)
+    }
+
+    /// Whether a limit may come last.
+    pub fn has_limit(self) -> bool {
+        self.0.ends_with(LIMIT)
+    }
+
+    /// The least and the greatest number of its files.
+    pub fn counts(self) -> (usize, usize) {
+        let most = self.files().split_whitespace().count();
+        let left_out = self
+            .files()
+            .split_whitespace()
+            .filter(|word| word.starts_with('['))
+            .count();
+        (most.saturating_sub(left_out), most)
+    }
+
+    /// Whether it takes a kind before its file.
+    pub fn has_kind(self) -> bool {
+        self.files().starts_with("KIND")
+    }
+
+    /// Whether each of its arguments, but for the limit, names a file.
+    pub fn has_only_files(self) -> bool {
+        !self.has_kind() && !self.files().contains("COMMAND")
+    }
+}
+
+/// How the words of a command that has a limit end.
+const LIMIT: &str = " [--limit N]";
+
+/// The commands, in the order of the usage text.
+pub static COMMANDS: [Command; 17] = [
+    Command("convert KIND FILE", "Prints its canonical form"),
+    Command("show KIND FILE", "Prints a line about it"),
+    Command("judge-max INSTANCE SOLUTION CUT", "Is the flow maximum?"),
+    Command(
         "judge-min INSTANCE SOLUTION POTENTIALS",
         "Does the flow cost least?",
     ),
-    ("judge-infeasible INSTANCE CUT", "Is no flow feasible?"),
-    ("judge-paths GRAPH QUERY LABELS", "Are these distances?"),
-    (
+    Command("judge-infeasible INSTANCE CUT", "Is no flow feasible?"),
+    Command("judge-paths GRAPH QUERY LABELS", "Are these distances?"),
+    Command(
         "certify-max INSTANCE SOLUTION [CERTIFICATE]",
         "Is the flow maximum?",
     ),
-    (
+    Command(
         "certify-min INSTANCE SOLUTION [CERTIFICATE]",
         "Does the flow cost least?",
     ),
-    (
+    Command(
         "certify-infeasible INSTANCE [CERTIFICATE]",
         "Is no flow feasible?",
     ),
-    (
+    Command(
         "certify-paths GRAPH DISTANCES [LABELS]",
         "Are these distances?",
     ),
-    (
+    Command(
         "solve-max INSTANCE SOLUTION CUT [--limit N]",
         "Writes a maximum flow",
     ),
-    (
+    Command(
         "solve-min INSTANCE SOLUTION CERTIFICATE [--limit N]",
         "Writes a cheapest flow",
     ),
-    ("solve-paths GRAPH QUERY LABELS", "Writes distances"),
-    (
+    Command("solve-paths GRAPH QUERY LABELS", "Writes distances"),
+    Command(
         "spread-max INSTANCE SOLUTION OUT",
-        "Spreads sums over parallel arcs",
+        "Deals out parallel flow",
     ),
-    (
+    Command(
         "spread-min INSTANCE SOLUTION OUT",
         "The same, at least cost",
     ),
-    ("explain COMMAND FILE...", "Does it, and explains a refusal"),
+    Command("explain COMMAND FILE...", "Explains its refusal"),
+    Command("help [COMMAND]", "Prints this, or its usage"),
 ];
 
-/// After the list of runs.
-static NOTES: &str = "\
-A judge is given a certificate, which shows that a claim is true. A certify run
-needs none: it writes one to CERTIFICATE or LABELS, if it is named, or a better
-or a feasible solution, once the other files are read; so do spread runs with
-OUT. A solve run empties the files that it writes before it reads INSTANCE, or
-GRAPH and QUERY, so no other argument may name them. The other runs write no
-file. N limits the flows or steps that are tried: a number from 0 to 1000000000,
-1000000 by default.
+/// What else there is to know about the commands whose names begin like this.
+struct Note {
+    of: &'static [&'static str],
+    text: &'static str,
+}
 
+/// The notes, in the order of the usage text.
+static NOTES: [Note; 6] = [
+    Note {
+        of: &["judge"],
+        text: "\
+A judge run is given a certificate, which shows that a claim is true. It writes
+no file.",
+    },
+    Note {
+        of: &["certify"],
+        text: "\
+A certify run needs no certificate. It writes one to CERTIFICATE or LABELS, if
+it is named, or a better or a feasible solution, once the other files are read.",
+    },
+    Note {
+        of: &["solve"],
+        text: "\
+A solve run empties the files that it writes BEFORE it reads INSTANCE, or GRAPH
+and QUERY: if the files are in another order, it destroys one.",
+    },
+    Note {
+        of: &["solve-m"],
+        text: "\
+N limits the flows or steps that are tried: a number from 0 to 1000000000,
+1000000 by default. It comes last.",
+    },
+    Note {
+        of: &["spread"],
+        text: "\
+A spread run writes OUT once the other files are read.",
+    },
+    Note {
+        of: &["convert", "show"],
+        text: "\
 KIND:
   max    an instance of maximum flow       solution   a claimed flow
   min    an instance of minimum cost flow  distances  claimed distances
   gr     a graph for shortest paths        cut        a set of nodes
   query  queries for shortest paths        pot        potentials of nodes
-                                           dist       distance labels
+                                           dist       distance labels",
+    },
+];
 
+impl Note {
+    /// Whether it concerns a command.
+    fn concerns(&self, command: Command) -> bool {
+        self.of
+            .iter()
+            .any(|front| command.name().starts_with(*front))
+    }
+}
+
+/// The words for the kinds of text.
+pub static KINDS: [&str; 9] = [
+    "max",
+    "min",
+    "gr",
+    "query",
+    "solution",
+    "cut",
+    "pot",
+    "dist",
+    "distances",
+];
+
+/// The end of the usage text of all commands.
+static ENDING: &str = "\
 Exit status:
   0  done; a judge said yes                3  a file failed, or isn't there
   1  refused: the line begins with x       4  out of memory
-  2  the arguments name no run             5  a solve run gave up: g limit
+  2  the arguments ask for nothing         5  a solve run gave up: g limit
 
 Example:
   dimacs judge-max pipes.max pipes.solution pipes.cut
   prints v max 12, or the first fault with its place, as x arc 3 NotSaturated";
 
-static VERSION: &str = "dimacs 0.1.0";
-
-/// Writes the version and the usage text to the standard error, unless memory runs out.
-pub fn print(rt: &HostRuntime) {
-    if let Ok(text) = usage_text(rt.alloc()) {
-        let _ = eprintln!(rt; "{VERSION}\n{text}");
-    }
-}
-
-fn usage_text(alloc: Global) -> Result<String, AllocError> {
-    let mut command = Command::new(alloc, "dimacs")
+/// The usage text of all commands, after the version.
+pub fn of_all(alloc: Global) -> Result<String, AllocError> {
+    let mut notes = notes(alloc, None)?;
+    notes.push_str("\n\n")?;
+    notes.push_str(ENDING)?;
+    let mut program = clap::Command::new(alloc, "dimacs")
         .about("Reads, converts, judges and makes the DIMACS texts of flows and shortest paths")
         .override_usage("dimacs COMMAND FILE...")
-        .after_help(NOTES);
-    for &(arguments, about) in &RUNS {
-        command = command.subcommand(Command::new(alloc, arguments).about(about))?;
+        .after_help(notes.as_str());
+    for &Command(words, about) in &COMMANDS {
+        program = program.subcommand(clap::Command::new(alloc, words).about(about))?;
     }
-    command
+    let text = rendered(program)?;
+    format!(in alloc; "dimacs {}\n{text}", version())
+}
+
+/// The usage text of one command.
+pub fn of_one(alloc: Global, command: Command) -> Result<String, AllocError> {
+    let usage = format!(in alloc; "dimacs {}", command.0)?;
+    let notes = notes(alloc, Some(command))?;
+    let mut program = clap::Command::new(alloc, "dimacs")
+        .about(command.1)
+        .override_usage(usage.as_str());
+    if !notes.is_empty() {
+        program = program.after_help(notes.as_str());
+    }
+    rendered(program)
+}
+
+/// The notes on a command, or on all, with an empty line between them.
+fn notes(alloc: Global, command: Option<Command>) -> Result<String, AllocError> {
+    let mut text = String::new(alloc);
+    for note in &NOTES {
+        if command.is_none_or(|command| note.concerns(command)) {
+            if !text.is_empty() {
+                text.push_str("\n\n")?;
+            }
+            text.push_str(note.text)?;
+        }
+    }
+    Ok(text)
+}
+
+fn rendered(program: clap::Command<'_>) -> Result<String, AllocError> {
+    program
         .disable_help_subcommand(true)
         .disable_help_flag(true)
         .render_help()

@@ -66,7 +66,7 @@ pub(crate) fn misuse(needed: &mut usize) -> u32
 }
 
 /// Copies as much as fits into the buffer, and sets the length of the whole.
-fn hand_out<T: Copy>(items: &[T], buffer: &mut [T], needed: &mut usize)
+pub(crate) fn hand_out<T: Copy>(items: &[T], buffer: &mut [T], needed: &mut usize)
     ensures { HandsOut items.now (handed buffer.old buffer.new needed.new) }
 {
     let count = items.len().min(buffer.len());

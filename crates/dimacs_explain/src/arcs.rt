@@ -1,11 +1,11 @@
 //! Looks up arcs of an instance and entries of a solution.
 
 use crate::quote::Quote;
+use crate::reopen::Reopen;
 use crate::texts::{ANY_LINES, TextFile, TextLines};
 use dimacs_lines::Memory;
 use dimacs_network::ArcView;
 use dimacs_records::Record;
-use dimacs_runs::Files;
 use std::alloc::Global;
 
 /// An arc, with its line.
@@ -68,9 +68,9 @@ pub(crate) fn arc_of(record: Record) -> Option<ArcView> {
 }
 
 /// The arc with this number, from 1. None if the instance can't be read that far.
-pub(crate) fn find_arc<F: Files>(
+pub(crate) fn find_arc<F: Reopen>(
     alloc: Global,
-    files: &mut F,
+    files: &F,
     instance: TextFile<'_>,
     number: u32,
 ) -> Result<Option<FoundArc>, Memory> {
@@ -95,9 +95,9 @@ pub(crate) fn find_arc<F: Files>(
 }
 
 /// The arcs from `tail` to `head`, and how many come before arc `number`, from 1.
-pub(crate) fn parallel_arcs<F: Files>(
+pub(crate) fn parallel_arcs<F: Reopen>(
     alloc: Global,
-    files: &mut F,
+    files: &F,
     instance: TextFile<'_>,
     tail: u32,
     head: u32,
@@ -141,9 +141,9 @@ impl Parallel {
 }
 
 /// The entry with these ends after `before` others with them.
-pub(crate) fn find_entry<F: Files>(
+pub(crate) fn find_entry<F: Reopen>(
     alloc: Global,
-    files: &mut F,
+    files: &F,
     solution: TextFile<'_>,
     tail: u32,
     head: u32,

@@ -1,10 +1,10 @@
 //! Explains a refusal for which there is a better or a feasible flow.
 
 use crate::lookups::{FoundLine, Wanted, find_line};
+use crate::reopen::Reopen;
 use crate::texts::{TextFile, Texts};
 use dimacs_lines::Memory;
 use dimacs_records::{Record, TextKind};
-use dimacs_runs::Files;
 use std::alloc::{AllocError, Global};
 
 /// Explains that a better solution replaced the refused one in its file.
@@ -17,9 +17,9 @@ pub(crate) fn write_replaced(file: &str, out: &mut String) -> Result<(), Memory>
 }
 
 /// Names the file with a feasible flow, if one was written, and quotes its cost.
-pub(crate) fn explain_feasible<F: Files>(
+pub(crate) fn explain_feasible<F: Reopen>(
     alloc: Global,
-    files: &mut F,
+    files: &F,
     texts: Texts<'_>,
     out: &mut String,
 ) -> Result<(), Memory> {
@@ -38,7 +38,7 @@ pub(crate) fn explain_feasible<F: Files>(
         kind: TextKind::Solution,
         file,
     };
-    if files.open(file).is_ok()
+    if files.open(file).is_some()
         && let Some(FoundLine { quote, .. }) = find_line(alloc, files, solution, Wanted::Value)?
     {
         quote.show(out, file)?;
@@ -47,9 +47,9 @@ pub(crate) fn explain_feasible<F: Files>(
 }
 
 /// Names the file with the better flow, if one was written, and by how much it is better.
-pub(crate) fn explain_better<F: Files>(
+pub(crate) fn explain_better<F: Reopen>(
     alloc: Global,
-    files: &mut F,
+    files: &F,
     texts: Texts<'_>,
     claimed: i128,
     out: &mut String,
@@ -65,7 +65,7 @@ pub(crate) fn explain_better<F: Files>(
         kind: TextKind::Solution,
         file,
     };
-    if files.open(file).is_err() {
+    if files.open(file).is_none() {
         writeln!(
             out,
             "the flow is feasible, and there is a better one, which was written to {file}"

@@ -12,6 +12,7 @@ use crate::first_line::FirstLine;
 use crate::flow_tests::{explain_arc, explain_balance, explain_solution};
 use crate::path_tests::{explain_label, explain_query};
 use crate::refusal::{Refusal, RefusalPlace};
+use crate::reopen::Reopen;
 use crate::texts::{TextFile, Texts};
 use crate::whole_tests::{explain_end, explain_whole};
 use dimacs_lines::{Memory, Sink, put_all};
@@ -19,18 +20,18 @@ use dimacs_records::{End, TextKind};
 use dimacs_runs::{CommandError, Files, Status, job, run_command};
 use std::alloc::Global;
 
-/// Runs the command of these arguments, and writes lines that explain its refusal. `again` opens files the second time.
-/// If memory runs out, no explanation is written; if the output fails, at most a part. The result is the command's all
-/// the same.
-pub fn explain_command<'a, F: Files, A: Files, K: Sink>(
+/// Runs the command of these arguments, and, only if it refuses, writes lines that explain the refusal. For these it
+/// reads files again, by `again`. If memory runs out, no explanation is written; if the output fails, at most a part.
+/// The result is the command's all the same.
+pub fn explain_command<'a, F: Files, A: Reopen, K: Sink>(
     alloc: Global,
     arguments: &'a [String],
     files: &mut F,
-    again: &mut A,
+    again: &A,
     output: &mut FirstLine<K>,
 ) -> Option<Result<Status, CommandError<'a>>>
     ensures explains { Explains (map string_bytes arguments.now) (F.holds files.old) F.empty result
-        (seen_by (F.seen files.old) (K.seen output.old.sink)) (F.seen files.new) (K.seen output.new.sink).accepted }
+        (seen_by (F.seen files.old) (K.seen output.old.sink)) (seen_by (F.seen files.new) (K.seen output.new.sink)) }
 {
     let ended = run_command(alloc, arguments, files, output);
     if matches!(ended, Some(Ok(Status::Refused)))
@@ -42,17 +43,32 @@ pub fn explain_command<'a, F: Files, A: Files, K: Sink>(
 }
 
 /// The explanation of the refusal that a command printed; empty if it printed none.
-fn explanation<A: Files>(
+fn explanation<A: Reopen>(
     alloc: Global,
     arguments: &[String],
     printed: &[u8],
-    again: &mut A,
+    again: &A,
 ) -> Result<String, Memory> {
     let mut out = String::new(alloc);
     let (Some(job), Some(refusal)) = (job(arguments), Refusal::read(printed)) else {
         return Ok(out);
     };
     let texts = Texts::of(job);
+    explain_place(alloc, again, texts, refusal, &mut out)?;
+    for file in texts.emptied.unwrap_or_default() {
+        write_emptied(file.as_str(), &mut out)?;
+    }
+    Ok(out)
+}
+
+/// Explains a refusal by its place.
+fn explain_place<A: Reopen>(
+    alloc: Global,
+    again: &A,
+    texts: Texts<'_>,
+    refusal: Refusal<'_>,
+    out: &mut String,
+) -> Result<(), Memory> {
     let reason = refusal.reason;
     match refusal.place {
         RefusalPlace::Text { name, line, field } => {
@@ -61,32 +77,38 @@ fn explanation<A: Files>(
                 field,
                 reason,
             };
-            explain_text(alloc, again, texts, name, fault, &mut out)?;
+            explain_text(alloc, again, texts, name, fault, out)
         }
         RefusalPlace::Arc(number) => {
-            if are_readable(again, texts, &mut out)? {
-                explain_arc(alloc, again, texts, number, reason, &mut out)?;
+            if are_readable(again, texts, out)? {
+                explain_arc(alloc, again, texts, number, reason, out)?;
             }
+            Ok(())
         }
         RefusalPlace::Node(node) => {
-            if are_readable(again, texts, &mut out)? {
-                explain_node(alloc, again, texts, node, reason, &mut out)?;
+            if are_readable(again, texts, out)? {
+                explain_node(alloc, again, texts, node, reason, out)?;
             }
+            Ok(())
         }
     }
-    Ok(out)
+}
+
+/// Reports that a solver has emptied a file.
+fn write_emptied(file: &str, out: &mut String) -> Result<(), Memory> {
+    writeln!(
+        out,
+        "{file} is empty: a solve run creates the files that it writes, or empties them, before it reads the others"
+    )?;
+    Ok(())
 }
 
 /// Whether all texts of a run can be read again. Names those that can't.
-fn are_readable<A: Files>(
-    again: &mut A,
-    texts: Texts<'_>,
-    out: &mut String,
-) -> Result<bool, Memory> {
+fn are_readable<A: Reopen>(again: &A, texts: Texts<'_>, out: &mut String) -> Result<bool, Memory> {
     let mut all = true;
     for text in [texts.instance, texts.claim, texts.certificate] {
         if let Some(TextFile { file, .. }) = text
-            && again.open(file).is_err()
+            && again.open(file).is_none()
         {
             cannot_read(out, file)?;
             all = false;
@@ -96,9 +118,9 @@ fn are_readable<A: Files>(
 }
 
 /// Explains a refusal at a place of a text: a fault of the text, or a test of a claim.
-fn explain_text<A: Files>(
+fn explain_text<A: Reopen>(
     alloc: Global,
-    again: &mut A,
+    again: &A,
     texts: Texts<'_>,
     name: &str,
     fault: Fault<'_>,
@@ -126,9 +148,9 @@ fn explain_text<A: Files>(
 }
 
 /// Explains why the test of a node failed.
-fn explain_node<A: Files>(
+fn explain_node<A: Reopen>(
     alloc: Global,
-    again: &mut A,
+    again: &A,
     texts: Texts<'_>,
     node: u32,
     reason: &str,
@@ -144,9 +166,9 @@ fn explain_node<A: Files>(
 }
 
 /// Explains why a label has no tight arc, or no walk has a claimed distance.
-fn explain_unreached<A: Files>(
+fn explain_unreached<A: Reopen>(
     alloc: Global,
-    again: &mut A,
+    again: &A,
     texts: Texts<'_>,
     node: u32,
     out: &mut String,

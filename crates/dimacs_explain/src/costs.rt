@@ -1,28 +1,28 @@
 //! The cost of a claimed flow.
 
+use crate::reopen::Reopen;
 use crate::texts::TextFile;
 use dimacs_claims::read_solution_into;
 use dimacs_instance::read_plain_min;
 use dimacs_judge::{FlowPlaces, cost_within};
 use dimacs_lines::Memory;
-use dimacs_runs::Files;
 use std::alloc::Global;
 
 /// The cost of a solution's flow; none if a text can't be read again.
-pub(crate) fn cost_of<F: Files>(
+pub(crate) fn cost_of<F: Reopen>(
     alloc: Global,
-    files: &mut F,
+    files: &F,
     instance: TextFile<'_>,
     solution: TextFile<'_>,
 ) -> Result<Option<i128>, Memory> {
-    let Ok(mut source) = files.open(instance.file) else {
+    let Some(mut source) = files.open(instance.file) else {
         return Ok(None);
     };
     let Ok(min) = read_plain_min(alloc, &mut source) else {
         return Ok(None);
     };
     let places = FlowPlaces::new(alloc, min.network())?;
-    let Ok(mut claim) = files.open(solution.file) else {
+    let Some(mut claim) = files.open(solution.file) else {
         return Ok(None);
     };
     let Ok(placed) = read_solution_into(alloc, places, &mut claim) else {

@@ -3,10 +3,10 @@
 use crate::faults::cannot_read;
 use crate::lookups::{FoundLine, line_at};
 use crate::path_tests::arcs_into;
+use crate::reopen::Reopen;
 use crate::texts::{ANY_LINES, TextFile, TextLines};
 use dimacs_lines::Memory;
 use dimacs_records::Record;
-use dimacs_runs::Files;
 use std::alloc::Global;
 
 /// A block of claimed distances, as far as it concerns one node.
@@ -62,9 +62,9 @@ impl ClaimedBlock {
 }
 
 /// Explains why no walk has the claimed distance of a node.
-pub(crate) fn explain_distance<F: Files>(
+pub(crate) fn explain_distance<F: Reopen>(
     alloc: Global,
-    files: &mut F,
+    files: &F,
     graph: TextFile<'_>,
     distances: TextFile<'_>,
     node: u32,
@@ -97,9 +97,9 @@ pub(crate) fn explain_distance<F: Files>(
 }
 
 /// The first block in which the node has a distance, but no tight arc.
-fn block_without_tight_arc<F: Files>(
+fn block_without_tight_arc<F: Reopen>(
     alloc: Global,
-    files: &mut F,
+    files: &F,
     distances: TextFile<'_>,
     arcs: &[(u32, i64)],
     node: u32,

@@ -5,10 +5,10 @@ use crate::forms::{field_name, form_of, forms, kind_words, range_of};
 use crate::numbers::meant_number;
 use crate::oddities::{has_lone_return, oddity, other_kind};
 use crate::quote::{Quote, escape};
+use crate::reopen::Reopen;
 use crate::texts::{ANY_LINES, TextFile, TextLines};
 use dimacs_lines::{Memory, fields};
 use dimacs_records::{End, Record, TextKind};
-use dimacs_runs::Files;
 use std::alloc::{AllocError, Global};
 
 /// A longer word is cut to this many bytes.
@@ -39,9 +39,9 @@ struct FaultContext {
     lone_return: bool,
 }
 
-pub(crate) fn explain_fault<F: Files>(
+pub(crate) fn explain_fault<F: Reopen>(
     alloc: Global,
-    files: &mut F,
+    files: &F,
     text: TextFile<'_>,
     fault: Fault<'_>,
     out: &mut String,
@@ -95,9 +95,9 @@ pub(crate) fn cannot_read(out: &mut String, file: &str) -> Result<(), Memory> {
 }
 
 /// Reads a text up to its fault; none if it can't be read.
-fn read_context<F: Files>(
+fn read_context<F: Reopen>(
     alloc: Global,
-    files: &mut F,
+    files: &F,
     text: TextFile<'_>,
     fault: Fault<'_>,
 ) -> Result<Option<FaultContext>, Memory> {
@@ -179,9 +179,9 @@ fn is_of_other_kind(reason: &str) -> bool {
 }
 
 /// The earlier line that names the same node.
-fn earlier_line<F: Files>(
+fn earlier_line<F: Reopen>(
     alloc: Global,
-    files: &mut F,
+    files: &F,
     text: TextFile<'_>,
     fault: Fault<'_>,
     context: &FaultContext,

@@ -6,11 +6,11 @@ use crate::costs::cost_of;
 use crate::faults::{Fault, cannot_read};
 use crate::lookups::{FoundLine, Wanted, find_line, line_at};
 use crate::path_tests::explain_weight;
+use crate::reopen::Reopen;
 use crate::texts::{ANY_LINES, TextFile, TextLines, Texts};
 use dimacs_lines::Memory;
 use dimacs_network::ArcView;
 use dimacs_records::{End, Record, TextKind};
-use dimacs_runs::Files;
 use std::alloc::{AllocError, Global};
 
 #[derive(Clone, Copy)]
@@ -21,9 +21,9 @@ struct ArcFlow {
 }
 
 /// Explains why the test of an arc failed.
-pub(crate) fn explain_arc<F: Files>(
+pub(crate) fn explain_arc<F: Reopen>(
     alloc: Global,
-    files: &mut F,
+    files: &F,
     texts: Texts<'_>,
     number: u32,
     reason: &str,
@@ -61,9 +61,9 @@ pub(crate) fn explain_arc<F: Files>(
 }
 
 /// Quotes the entry of an arc, and returns its flow.
-fn show_entry<F: Files>(
+fn show_entry<F: Reopen>(
     alloc: Global,
-    files: &mut F,
+    files: &F,
     texts: Texts<'_>,
     arc: ArcView,
     parallel: Parallel,
@@ -121,9 +121,9 @@ fn write_parallel(arc: ArcView, parallel: Parallel, out: &mut String) -> Result<
 }
 
 /// Explains why an arc fails the test of a certificate.
-fn explain_certificate<F: Files>(
+fn explain_certificate<F: Reopen>(
     alloc: Global,
-    files: &mut F,
+    files: &F,
     certificate: TextFile<'_>,
     arc_flow: ArcFlow,
     reason: &str,
@@ -152,9 +152,9 @@ fn explain_certificate<F: Files>(
 }
 
 /// Quotes the potential of a node, and returns it.
-fn potential<F: Files>(
+fn potential<F: Reopen>(
     alloc: Global,
-    files: &mut F,
+    files: &F,
     certificate: TextFile<'_>,
     node: u32,
     out: &mut String,
@@ -206,9 +206,9 @@ struct NodeFlow {
 }
 
 /// None if the solution can't be read.
-fn node_flow<F: Files>(
+fn node_flow<F: Reopen>(
     alloc: Global,
-    files: &mut F,
+    files: &F,
     solution: TextFile<'_>,
     node: u32,
 ) -> Result<Option<NodeFlow>, Memory> {
@@ -244,9 +244,9 @@ impl NodeFlow {
 }
 
 /// Explains why the balance of a node is wrong.
-pub(crate) fn explain_balance<F: Files>(
+pub(crate) fn explain_balance<F: Reopen>(
     alloc: Global,
-    files: &mut F,
+    files: &F,
     texts: Texts<'_>,
     node: u32,
     out: &mut String,
@@ -267,9 +267,9 @@ pub(crate) fn explain_balance<F: Files>(
 }
 
 /// Quotes a node's line, and returns its supply.
-fn supply_of<F: Files>(
+fn supply_of<F: Reopen>(
     alloc: Global,
-    files: &mut F,
+    files: &F,
     instance: TextFile<'_>,
     node: u32,
     out: &mut String,
@@ -286,9 +286,9 @@ fn supply_of<F: Files>(
 }
 
 /// Explains why a solution is refused at a line.
-pub(crate) fn explain_solution<F: Files>(
+pub(crate) fn explain_solution<F: Reopen>(
     alloc: Global,
-    files: &mut F,
+    files: &F,
     texts: Texts<'_>,
     fault: Fault<'_>,
     out: &mut String,
@@ -318,9 +318,9 @@ pub(crate) fn explain_solution<F: Files>(
 }
 
 /// Explains why an entry belongs to no arc.
-fn explain_entry<F: Files>(
+fn explain_entry<F: Reopen>(
     alloc: Global,
-    files: &mut F,
+    files: &F,
     instance: TextFile<'_>,
     tail: u32,
     head: u32,
@@ -345,9 +345,9 @@ fn explain_entry<F: Files>(
 }
 
 /// Compares the value of a flow with the claimed one.
-fn explain_value<F: Files>(
+fn explain_value<F: Reopen>(
     alloc: Global,
-    files: &mut F,
+    files: &F,
     instance: TextFile<'_>,
     solution: TextFile<'_>,
     claimed: i128,

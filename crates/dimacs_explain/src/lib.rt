@@ -18,8 +18,10 @@ mod oddities;
 mod path_tests;
 mod quote;
 mod refusal;
+mod reopen;
 mod texts;
 mod whole_tests;
 
 pub use command::explain_command;
 pub use first_line::FirstLine;
+pub use reopen::Reopen;

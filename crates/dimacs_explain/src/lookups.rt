@@ -1,10 +1,10 @@
 //! Finds single lines of texts.
 
 use crate::quote::Quote;
+use crate::reopen::Reopen;
 use crate::texts::{ANY_LINES, TextFile, TextLines};
 use dimacs_lines::Memory;
 use dimacs_records::{End, Record};
-use dimacs_runs::Files;
 use std::alloc::Global;
 
 #[derive(Drop)]
@@ -63,9 +63,9 @@ pub(crate) fn nodes_of(record: Record) -> Option<u32> {
 }
 
 /// The first such line.
-pub(crate) fn find_line<F: Files>(
+pub(crate) fn find_line<F: Reopen>(
     alloc: Global,
-    files: &mut F,
+    files: &F,
     text: TextFile<'_>,
     wanted: Wanted,
 ) -> Result<Option<FoundLine>, Memory> {
@@ -88,9 +88,9 @@ pub(crate) fn find_line<F: Files>(
 }
 
 /// The line with this number, if it has a record. The quote marks `field`, from 1; 0 marks none.
-pub(crate) fn line_at<F: Files>(
+pub(crate) fn line_at<F: Reopen>(
     alloc: Global,
-    files: &mut F,
+    files: &F,
     text: TextFile<'_>,
     number: u64,
     field: u64,

@@ -3,11 +3,11 @@
 use crate::arcs::{FoundArc, arc_of};
 use crate::faults::cannot_read;
 use crate::lookups::{FoundLine, Wanted, find_line, line_at};
+use crate::reopen::Reopen;
 use crate::texts::{ANY_LINES, TextFile, TextLines, Texts};
 use dimacs_lines::Memory;
 use dimacs_network::ArcView;
 use dimacs_records::{Record, TextKind};
-use dimacs_runs::Files;
 use std::alloc::{AllocError, Global};
 
 /// The most sources of blocks that are listed.
@@ -59,9 +59,9 @@ impl EndLabels {
 }
 
 /// Explains why the test of a graph's arc failed.
-pub(crate) fn explain_weight<F: Files>(
+pub(crate) fn explain_weight<F: Reopen>(
     alloc: Global,
-    files: &mut F,
+    files: &F,
     texts: Texts<'_>,
     number: u32,
     found: &FoundArc,
@@ -97,9 +97,9 @@ fn block_of(record: Record) -> Option<(u32, Option<i128>)> {
 }
 
 /// The first block in which an arc fails its test.
-fn failing_block<F: Files>(
+fn failing_block<F: Reopen>(
     alloc: Global,
-    files: &mut F,
+    files: &F,
     labels: TextFile<'_>,
     arc: ArcView,
 ) -> Result<Option<EndLabels>, Memory> {
@@ -182,9 +182,9 @@ impl LabelLine {
 }
 
 /// Explains why a label has no tight arc.
-pub(crate) fn explain_label<F: Files>(
+pub(crate) fn explain_label<F: Reopen>(
     alloc: Global,
-    files: &mut F,
+    files: &F,
     graph: TextFile<'_>,
     labels: TextFile<'_>,
     node: u32,
@@ -245,9 +245,9 @@ fn has_tight_arc(arcs: &[(u32, i64)], label: LabelLine) -> bool {
 }
 
 /// The labels of a node, still without the distances of their PREDs.
-fn labels_of<F: Files>(
+fn labels_of<F: Reopen>(
     alloc: Global,
-    files: &mut F,
+    files: &F,
     labels: TextFile<'_>,
     node: u32,
 ) -> Result<Vec<LabelLine>, Memory> {
@@ -277,9 +277,9 @@ fn labels_of<F: Files>(
 }
 
 /// Fills in the distances of the PREDs; a source has 0.
-fn add_preds<F: Files>(
+fn add_preds<F: Reopen>(
     alloc: Global,
-    files: &mut F,
+    files: &F,
     labels: TextFile<'_>,
     found: &mut Vec<LabelLine>,
 ) -> Result<(), Memory> {
@@ -307,9 +307,9 @@ fn add_preds<F: Files>(
 }
 
 /// The tails and weights of the arcs into a node, sorted.
-pub(crate) fn arcs_into<F: Files>(
+pub(crate) fn arcs_into<F: Reopen>(
     alloc: Global,
-    files: &mut F,
+    files: &F,
     graph: TextFile<'_>,
     node: u32,
 ) -> Result<Vec<(u32, i64)>, Memory> {
@@ -332,9 +332,9 @@ pub(crate) fn arcs_into<F: Files>(
 }
 
 /// Explains why no block answers a query.
-pub(crate) fn explain_query<F: Files>(
+pub(crate) fn explain_query<F: Reopen>(
     alloc: Global,
-    files: &mut F,
+    files: &F,
     texts: Texts<'_>,
     node: u32,
     reason: &str,
@@ -366,9 +366,9 @@ pub(crate) fn explain_query<F: Files>(
 }
 
 /// Lists sources of the blocks.
-fn list_sources<F: Files>(
+fn list_sources<F: Reopen>(
     alloc: Global,
-    files: &mut F,
+    files: &F,
     labels: TextFile<'_>,
     node: u32,
     out: &mut String,

@@ -1,8 +1,9 @@
 //! The texts of a run, by their files.
 
+use crate::reopen::Reopen;
 use dimacs_lines::{Lines, MAX_LINES, Memory, Source};
 use dimacs_records::{Record, TextKind, record};
-use dimacs_runs::{CertifyKind, Files, Job, JudgeKind, SolveJob, SpreadKind};
+use dimacs_runs::{CertifyKind, Job, JudgeKind, SolveJob, SpreadKind};
 use std::alloc::Global;
 
 /// A text of a run: its kind and its file.
@@ -21,8 +22,10 @@ pub(crate) struct Texts<'a> {
     /// Queries, a solution or distances.
     pub(crate) claim: Option<TextFile<'a>>,
     pub(crate) certificate: Option<TextFile<'a>>,
-    /// The file that the run may write.
+    /// The file that the run may write once it has read the others.
     pub(crate) written_file: Option<&'a str>,
+    /// The files that the run empties before it reads the others.
+    pub(crate) emptied: Option<&'a [String]>,
 }
 
 const NO_TEXTS: Texts<'static> = Texts {
@@ -31,6 +34,7 @@ const NO_TEXTS: Texts<'static> = Texts {
     claim: None,
     certificate: None,
     written_file: None,
+    emptied: None,
 };
 
 impl<'a> Texts<'a> {
@@ -135,18 +139,21 @@ fn instance_texts(instance: TextKind, files: &[String]) -> Texts<'_> {
 }
 
 fn solve_texts(job: SolveJob, files: &[String]) -> Texts<'_> {
-    let (instance, claim) = match job {
-        SolveJob::Max(_) => (TextKind::Max, None),
-        SolveJob::Min(_) => (TextKind::Min, None),
-        SolveJob::Paths => (TextKind::Graph, Some(TextKind::Queries)),
-    };
-    match files {
-        [first, second, ..] => Texts {
-            instance: text_in(instance, first),
-            claim: claim.map(|kind| TextFile {
-                kind,
-                file: second.as_str(),
-            }),
+    match (job, files) {
+        (SolveJob::Max(_), [first, emptied @ ..]) => Texts {
+            instance: text_in(TextKind::Max, first),
+            emptied: Some(emptied),
+            ..NO_TEXTS
+        },
+        (SolveJob::Min(_), [first, emptied @ ..]) => Texts {
+            instance: text_in(TextKind::Min, first),
+            emptied: Some(emptied),
+            ..NO_TEXTS
+        },
+        (SolveJob::Paths, [first, second, emptied @ ..]) => Texts {
+            instance: text_in(TextKind::Graph, first),
+            claim: text_in(TextKind::Queries, second),
+            emptied: Some(emptied),
             ..NO_TEXTS
         },
         _ => NO_TEXTS,
@@ -170,13 +177,13 @@ pub(crate) struct TextLines<I> {
 
 impl<I: Source> TextLines<I> {
     /// Before the first line; none if the file can't be opened.
-    pub(crate) fn open<F: Files<Input = I>>(
+    pub(crate) fn open<F: Reopen<Input = I>>(
         alloc: Global,
-        files: &mut F,
+        files: &F,
         text: TextFile<'_>,
     ) -> Result<Option<TextLines<I>>, Memory> {
         let lines = Lines::new(alloc)?;
-        let Ok(source) = files.open(text.file) else {
+        let Some(source) = files.open(text.file) else {
             return Ok(None);
         };
         let kind = text.kind;

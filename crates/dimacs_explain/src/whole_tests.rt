@@ -3,18 +3,18 @@
 use crate::arcs::arc_of;
 use crate::faults::cannot_read;
 use crate::lookups::{FoundLine, Wanted, find_line};
+use crate::reopen::Reopen;
 use crate::texts::{ANY_LINES, TextFile, TextLines, Texts};
 use dimacs_claims::{Cut, read_cut};
 use dimacs_lines::Memory;
 use dimacs_network::ArcView;
 use dimacs_records::{End, Record};
-use dimacs_runs::Files;
 use std::alloc::Global;
 
 /// Explains that the cut lacks the source, or has the sink.
-pub(crate) fn explain_end<F: Files>(
+pub(crate) fn explain_end<F: Reopen>(
     alloc: Global,
-    files: &mut F,
+    files: &F,
     texts: Texts<'_>,
     node: u32,
     end: End,
@@ -41,9 +41,9 @@ pub(crate) fn explain_end<F: Files>(
 }
 
 /// Explains why a certificate, or distances, are refused as a whole.
-pub(crate) fn explain_whole<F: Files>(
+pub(crate) fn explain_whole<F: Reopen>(
     alloc: Global,
-    files: &mut F,
+    files: &F,
     texts: Texts<'_>,
     reason: &str,
     out: &mut String,
@@ -95,14 +95,14 @@ impl SetSums {
 }
 
 /// Explains why a set isn't violated.
-fn explain_violation<F: Files>(
+fn explain_violation<F: Reopen>(
     alloc: Global,
-    files: &mut F,
+    files: &F,
     instance: TextFile<'_>,
     certificate: TextFile<'_>,
     out: &mut String,
 ) -> Result<(), Memory> {
-    let Ok(mut source) = files.open(certificate.file) else {
+    let Some(mut source) = files.open(certificate.file) else {
         return cannot_read(out, certificate.file);
     };
     let Ok(set) = read_cut(alloc, &mut source) else {
@@ -120,9 +120,9 @@ fn explain_violation<F: Files>(
 }
 
 /// None if the instance can't be read.
-fn set_sums<F: Files>(
+fn set_sums<F: Reopen>(
     alloc: Global,
-    files: &mut F,
+    files: &F,
     instance: TextFile<'_>,
     set: &Cut,
 ) -> Result<Option<SetSums>, Memory> {

@@ -1,5 +1,5 @@
 -- What the arguments ask for.
-use Rattle.std.specs.Prelude.{ℕ, ◌≡◌, ◌≤◌, ◌+◌, ◌++◌, List, [], ◌∷◌, codes, map, length, pos}
+use Rattle.std.specs.Prelude.{ℕ, ◌≡◌, ◌≤◌, ◌+◌, ◌++◌, ◌⊎◌, List, [], ◌∷◌, Contains, codes, map, length, pos}
 use Rattle.std.specs.String.{string_bytes}
 use Rattle.dimacs_lines.specs.Number.{Spells}
 use Rattle.dimacs_records.specs.declared.kinds.TextKind.{TextKind}
@@ -10,6 +10,8 @@ use Rattle.dimacs_runs.specs.declared.jobs.Job.{Job}
 use Rattle.dimacs_runs.specs.declared.jobs.Job.TheVariants.{Convert, Show, Judge, Certify, Spread, Solve}
 use Rattle.dimacs_runs.specs.declared.jobs.JudgeKind.{JudgeKind}
 use Rattle.dimacs_runs.specs.declared.jobs.JudgeKind.TheVariants as judges
+use Rattle.dimacs_runs.specs.declared.jobs.Request.{Request}
+use Rattle.dimacs_runs.specs.declared.jobs.Request.TheVariants.{Help, HelpOn, Version, Run, Explain}
 use Rattle.dimacs_runs.specs.declared.jobs.SolveJob.{SolveJob}
 use Rattle.dimacs_runs.specs.declared.jobs.SolveJob.TheVariants as solves
 use Rattle.dimacs_runs.specs.declared.jobs.SpreadKind.{SpreadKind}
@@ -88,3 +90,17 @@ Asks arguments (Judge kind files) = (arguments ≡ judge_verb kind ∷ map strin
 Asks arguments (Certify kind files) = (arguments ≡ certify_verb kind ∷ map string_bytes files.now) × AreCertifyFiles kind (length files.now)
 Asks arguments (Spread kind files) = (arguments ≡ spread_verb kind ∷ map string_bytes files.now) × (length files.now ≡ 3)
 Asks arguments (Solve job files) = AsksSolver arguments job (map string_bytes files.now)
+
+-- the words that name a command, in the order of the usage text
+abbrev pub command_words : List (List ℕ)
+command_words = codes "convert" ∷ codes "show" ∷ codes "judge-max" ∷ codes "judge-min" ∷ codes "judge-infeasible" ∷ codes "judge-paths"
+    ∷ codes "certify-max" ∷ codes "certify-min" ∷ codes "certify-infeasible" ∷ codes "certify-paths" ∷ codes "solve-max" ∷ codes "solve-min"
+    ∷ codes "solve-paths" ∷ codes "spread-max" ∷ codes "spread-min" ∷ codes "explain" ∷ codes "help" ∷ []
+
+-- help and the version are asked for by one word alone, help on a command by `help` before it
+abbrev pub Requests : List (List ℕ) → Request → Type 0
+Requests arguments Help = (arguments ≡ codes "--help" ∷ []) ⊎ ((arguments ≡ codes "-h" ∷ []) ⊎ (arguments ≡ codes "help" ∷ []))
+Requests arguments (HelpOn command) = Contains command_words command.now × (arguments ≡ codes "help" ∷ command.now ∷ [])
+Requests arguments Version = (arguments ≡ codes "--version" ∷ []) ⊎ (arguments ≡ codes "-V" ∷ [])
+Requests arguments (Run job) = Asks arguments job
+Requests arguments (Explain job) = (command : List (List ℕ)) × (arguments ≡ codes "explain" ∷ command) × Asks command job

@@ -12,4 +12,5 @@ pub mod Runs
 pub mod Solved
 pub mod Spread
 pub mod Verdicts
+pub mod Version
 pub mod inside

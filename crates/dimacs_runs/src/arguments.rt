@@ -1,16 +1,17 @@
 //! The meaning of the command's arguments: a verb, such as `judge-max`, then files and options.
 
-ghost use Rattle.std.specs.Prelude.{◌≡◌, ◌≢◌, ◌∷◌, [], ℕ, List, IfSome, IfNone, length, map};
+ghost use Rattle.std.specs.Prelude.{◌≡◌, ◌≢◌, ◌↔◌, ◌∷◌, [], ℕ, Contains, List, IfSome, IfNone, IsTrue, codes, length, map};
 ghost use Rattle.dimacs_records.specs.declared.kinds.TextKind.{TextKind};
 ghost use Rattle.dimacs_runs.specs.declared.jobs.CertifyKind.{CertifyKind};
 ghost use Rattle.dimacs_runs.specs.declared.jobs.Job.{Job};
 ghost use Rattle.dimacs_runs.specs.declared.jobs.JudgeKind.{JudgeKind};
+ghost use Rattle.dimacs_runs.specs.declared.jobs.Request.{Request};
 ghost use Rattle.dimacs_runs.specs.declared.jobs.SolveJob.{SolveJob};
 ghost use Rattle.dimacs_runs.specs.declared.jobs.SpreadKind.{SpreadKind};
 ghost use Rattle.std.specs.String.{string_bytes};
-ghost use Rattle.dimacs_runs.specs.Jobs.{AreCertifyFiles, AreOptions, Asks, AsksSolver, IsLimit, GiveLimit, certify_verb, file_count, judge_verb, kind_argument, solve_verb, spread_verb};
+ghost use Rattle.dimacs_runs.specs.Jobs.{AreCertifyFiles, AreOptions, Asks, AsksSolver, IsLimit, GiveLimit, Requests, certify_verb, command_words, file_count, judge_verb, kind_argument, solve_verb, spread_verb};
 
-use crate::jobs::{CertifyKind, Job, JudgeKind, SolveJob, SpreadKind};
+use crate::jobs::{CertifyKind, Job, JudgeKind, Request, SolveJob, SpreadKind};
 use dimacs_lines::number;
 use dimacs_records::TextKind;
 
@@ -22,6 +23,82 @@ const LIMIT: u64 = 1_000_000;
 
 /// The greatest limit.
 const GREATEST_LIMIT: i64 = 1_000_000_000;
+
+/// What these arguments, without the program's name, ask for.
+pub fn request(arguments: &[String]) -> Option<Request<'_>>
+    ensures requested { IfSome result (Requests (map string_bytes arguments.now)) }
+    ensures not_requested { IfNone result ((wanted : Request) → ¬ Requests (map string_bytes arguments.now) wanted) }
+{
+    let (first, rest) = arguments.split_first()?;
+    match first.as_str() {
+        "help" => help(rest),
+        "explain" => Some(Request::Explain(job(rest)?)),
+        "--help" | "-h" => alone(Request::Help, rest),
+        "--version" | "-V" => alone(Request::Version, rest),
+        _ => Some(Request::Run(job(arguments)?)),
+    }
+}
+
+/// What `help` with these arguments after it asks for.
+fn help(arguments: &[String]) -> Option<Request<'_>>
+    ensures requested { IfSome result (Requests (codes "help" ∷ map string_bytes arguments.now)) }
+    ensures not_requested { IfNone result ((wanted : Request) → ¬ Requests (codes "help" ∷ map string_bytes arguments.now) wanted) }
+{
+    match arguments {
+        [] => Some(Request::Help),
+        [command] => help_on(command.as_str()),
+        _ => None,
+    }
+}
+
+/// Help on the command with this name.
+fn help_on(command: &str) -> Option<Request<'_>>
+    ensures requested { IfSome result (Requests (codes "help" ∷ command.now ∷ [])) }
+    ensures not_requested { IfNone result (¬ Contains command_words command.now) }
+{
+    if is_command(command) {
+        Some(Request::HelpOn(command))
+    } else {
+        None
+    }
+}
+
+/// What an argument asks for, if none come after it.
+fn alone<'a>(wanted: Request<'a>, rest: &[String]) -> Option<Request<'a>>
+    ensures wanted { IfSome result (λ request. (request ≡ wanted.entry) × (rest.now ≡ [])) }
+    ensures not_alone { IfNone result (rest.now ≢ []) }
+{
+    match rest {
+        [] => Some(wanted),
+        _ => None,
+    }
+}
+
+/// Whether a word names a command.
+fn is_command(word: &str) -> bool
+    ensures { IsTrue result ↔ Contains command_words word.now }
+{
+    matches!(
+        word,
+        "convert"
+            | "show"
+            | "judge-max"
+            | "judge-min"
+            | "judge-infeasible"
+            | "judge-paths"
+            | "certify-max"
+            | "certify-min"
+            | "certify-infeasible"
+            | "certify-paths"
+            | "solve-max"
+            | "solve-min"
+            | "solve-paths"
+            | "spread-max"
+            | "spread-min"
+            | "explain"
+            | "help"
+    )
+}
 
 /// The run that these arguments, without the program's name, ask for. A file may have any name, even one that begins
 /// with `-`.

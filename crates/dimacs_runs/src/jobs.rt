@@ -72,6 +72,21 @@ pub enum Job<'a> {
     Solve(SolveJob, &'a [String]),
 }
 
+/// What the arguments ask for.
+#[derive(Clone, Copy, Debug, PartialEq, Eq)]
+pub enum Request<'a> {
+    /// The usage of all commands.
+    Help,
+    /// The usage of the command with this name.
+    HelpOn(&'a str),
+    /// The version.
+    Version,
+    /// A run.
+    Run(Job<'a>),
+    /// A run, and an explanation if it refuses.
+    Explain(Job<'a>),
+}
+
 impl<'a> Job<'a> {
     /// The name under which the run writes both claim and certificate, if it does: one would destroy the other. Two
     /// different names may still be the same file.

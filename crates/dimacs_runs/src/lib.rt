@@ -2,6 +2,7 @@
 #![tactic(auto)]
 
 mod arguments;
+mod build;
 mod certify;
 mod certify_distances;
 mod certify_infeasible;
@@ -28,12 +29,13 @@ mod text;
 mod texts_in_turn;
 mod verdict;
 
-pub use arguments::job;
+pub use arguments::{job, request};
+pub use build::{PROVED, version};
 pub use certify::run_certify;
 pub use command::{command_status, run_command};
 pub use failure::{CommandError, Failure, FileCall};
 pub use files::Files;
-pub use jobs::{CertifyKind, Job, JudgeKind, SolveJob, SpreadKind};
+pub use jobs::{CertifyKind, Job, JudgeKind, Request, SolveJob, SpreadKind};
 pub use judge::run_judge;
 pub use laws::{certified_is_judged_yes, solved_is_judged_yes};
 pub use solve::run_solve;

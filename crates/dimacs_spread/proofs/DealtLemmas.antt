@@ -17,7 +17,7 @@ use Rattle.dimacs_spread.specs.Spread.{AmountFails, arc_sum, caps, Deals, entry_
 use Rattle.dimacs_spread.specs.inside.Raised.{AreDealt}
 use Rattle.dimacs_spread.specs.inside.Rests.{AddUp, IsFirstParallel, rest_row}
 use Rattle.dimacs_spread.proofs.Cheapest.{none_cheaper}
-use Rattle.dimacs_spread.proofs.EndLemmas.{ends_of, first_between, kth_joins, one_first, own_joins}
+use Rattle.dimacs_spread.proofs.EndLemmas.{ends_of, first_between, kth_joins, one_first}
 use Rattle.dimacs_spread.proofs.SumLemmas.{arc_sum-add, arc_sum-alike, arc_sum-le, arc_sum-one, kept_at, kept_from, kept_long}
 
 -- no arc costs less
@@ -101,25 +101,28 @@ module _ (arcs : List ArcView) (entries : List Entry) (rests x : List ℤ) (deal
         let t = (arc_at arcs k).tail in
         let h = (arc_at arcs k).head in
         let b = has k inside in
-        let whole : IsWhole (arc_at arcs k).cap = b.2 in
-        (inside, at, elim leaves [
-          | inl less ↦ (
-              let low = dealt.within.low k inside in
-              let lack : amount_at rests k <ℤ pos 0 = omega (arith, ints, less.1, low, b.0) in
-              let first = dealt.at_first k inside (λ e. omega (arith, ints, e, lack)) in
-              let e = dealt.low k k inside first lack in
-              let l = low_at arcs k inside in
-              (first, inl (less.0, omega (arith, ints, less.1, e, l, rest_sum t h k first, all_low t h k first lack)))
-              )
-          | inr more ↦ (
-              let cap = dealt.within.cap k inside in
-              let some : pos 0 <ℤ amount_at rests k = omega (arith, ints, more.1, cap, whole.1) in
-              let first = dealt.at_first k inside (λ e. omega (arith, ints, e, some)) in
-              let e = dealt.full k k inside first some in
-              let l = cap_at arcs k inside in
-              (first, inr (more.0, omega (arith, ints, more.1, e, l, rest_sum t h k first, all_full t h k first some)))
-              )
-        ])
+        let whole : IsWhole (arc_at arcs k).cap = b.2 in (
+          inside,
+          at,
+          elim leaves [
+            | inl less ↦ (
+                let low = dealt.within.low k inside in
+                let lack : amount_at rests k <ℤ pos 0 = omega (arith, ints, less.1, low, b.0) in
+                let first = dealt.at_first k inside (λ e. omega (arith, ints, e, lack)) in
+                let e = dealt.low k k inside first lack in
+                let l = low_at arcs k inside in
+                (first, inl (less.0, omega (arith, ints, less.1, e, l, rest_sum t h k first, all_low t h k first lack)))
+                )
+            | inr more ↦ (
+                let cap = dealt.within.cap k inside in
+                let some : pos 0 <ℤ amount_at rests k = omega (arith, ints, more.1, cap, whole.1) in
+                let first = dealt.at_first k inside (λ e. omega (arith, ints, e, some)) in
+                let e = dealt.full k k inside first some in
+                let l = cap_at arcs k inside in
+                (first, inr (more.0, omega (arith, ints, more.1, e, l, rest_sum t h k first, all_full t h k first some)))
+                )
+          ],
+        )
 
     rest_fails : (k : ℕ) (place : Where) (reason : Reason) → arc_row arcs (AmountFails arcs entries) k place reason → rest_row x rests k place reason
     rest_fails k place reason (inside, at, fails) =
@@ -127,21 +130,24 @@ module _ (arcs : List ArcView) (entries : List Entry) (rests x : List ℤ) (deal
         let t = (arc_at arcs k).tail in
         let h = (arc_at arcs k).head in
         let b = has k inside in
-        let whole : IsWhole (arc_at arcs k).cap = b.2 in
-        (omega (arith, inside, dealt.rests_long), at, elim fails.1 [
-          | inl less ↦ (
-              let l = low_at arcs k inside in
-              let lack = too_little_left t h k first (omega (arith, ints, less.1, l, b.0)) in
-              let e = dealt.low k k inside first lack in
-              inl (less.0, omega (arith, ints, less.1, e, l, rest_sum t h k first, all_low t h k first lack))
-              )
-          | inr more ↦ (
-              let l = cap_at arcs k inside in
-              let some = too_much_left t h k first (omega (arith, ints, more.1, l, whole.1)) in
-              let e = dealt.full k k inside first some in
-              inr (more.0, omega (arith, ints, more.1, e, l, rest_sum t h k first, all_full t h k first some))
-              )
-        ])
+        let whole : IsWhole (arc_at arcs k).cap = b.2 in (
+          omega (arith, inside, dealt.rests_long),
+          at,
+          elim fails.1 [
+            | inl less ↦ (
+                let l = low_at arcs k inside in
+                let lack = too_little_left t h k first (omega (arith, ints, less.1, l, b.0)) in
+                let e = dealt.low k k inside first lack in
+                inl (less.0, omega (arith, ints, less.1, e, l, rest_sum t h k first, all_low t h k first lack))
+                )
+            | inr more ↦ (
+                let l = cap_at arcs k inside in
+                let some = too_much_left t h k first (omega (arith, ints, more.1, l, whole.1)) in
+                let e = dealt.full k k inside first some in
+                inr (more.0, omega (arith, ints, more.1, e, l, rest_sum t h k first, all_full t h k first some))
+                )
+          ],
+        )
 
     pub put_fits : (told : Result Unit (Where × Reason)) → TestsRow (rest_row x rests) told → TestsRow (arc_row arcs (AmountFails arcs entries)) told
     put_fits (Ok done) clear = λ k place reason fails. clear k place reason (rest_fails k place reason fails)

@@ -116,12 +116,18 @@ some_rest amount rest fits wide none = wide (omega (arith, ints, none, fits), om
 
 -- the sum of an amount and a rest that doesn't fit is too little if the rest is negative, otherwise too much
 pub leaves_range : (amount was rest : ℤ) (reason : Reason) → SFits w64 amount → amount ≡ was → ¬ IsWhole (amount +ℤ rest) → RestFails rest reason → LeavesRange (was +ℤ rest) reason
-leaves_range amount was rest reason fits same wide (inl less) = inl (less.0, by_lt_z (was +ℤ rest) (neg_ℤ (pos (2 ^ 63)))
-    (λ little. little)
-    (λ not. absurd (wide (omega (arith, ints, not, same), omega (arith, ints, same, fits, less.1)))))
-leaves_range amount was rest reason fits same wide (inr more) = inr (more.0, by_lt_z (was +ℤ rest) (pos (2 ^ 63))
-    (λ not. absurd (wide (omega (arith, ints, same, fits, more.1), omega (arith, ints, not, same))))
-    (λ much. much))
+leaves_range amount was rest reason fits same wide (inl less) = inl (
+  less.0,
+  by_lt_z (was +ℤ rest) (neg_ℤ (pos (2 ^ 63)))
+      (λ little. little)
+      (λ not. absurd (wide (omega (arith, ints, not, same), omega (arith, ints, same, fits, less.1)))),
+)
+leaves_range amount was rest reason fits same wide (inr more) = inr (
+  more.0,
+  by_lt_z (was +ℤ rest) (pos (2 ^ 63))
+      (λ not. absurd (wide (omega (arith, ints, same, fits, more.1), omega (arith, ints, not, same))))
+      (λ much. much),
+)
 
 -- a number of 64 bits doesn't leave their range
 pub fits_none : (sum z : ℤ) (reason : Reason) → SFits w64 sum → sum ≡ z → ¬ LeavesRange z reason

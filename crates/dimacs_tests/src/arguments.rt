@@ -2,7 +2,7 @@
 
 use crate::checks::same;
 use crate::tables::{cell, rows};
-use dimacs_runs::{RunError, Status, exit_status, job};
+use dimacs_runs::{RunError, Status, exit_status, job, request};
 use std::alloc::Global;
 use std::process::Abort;
 use std::test::Fail;
@@ -143,6 +143,71 @@ fn words_ask_for_jobs(rt: HostRuntime) -> Result<(), Fail> {
     }
     let none = Vec::new(rt.alloc());
     same(&rt, "no words at all", job(&none), None);
+    Ok(())
+}
+
+/// Command lines, each with what it asks for.
+static REQUESTS: &str = "\
+--help | Some(Help)
+-h | Some(Help)
+help | Some(Help)
+--version | Some(Version)
+-V | Some(Version)
+help convert | Some(HelpOn(\"convert\"))
+help show | Some(HelpOn(\"show\"))
+help judge-max | Some(HelpOn(\"judge-max\"))
+help judge-min | Some(HelpOn(\"judge-min\"))
+help judge-infeasible | Some(HelpOn(\"judge-infeasible\"))
+help judge-paths | Some(HelpOn(\"judge-paths\"))
+help certify-max | Some(HelpOn(\"certify-max\"))
+help certify-min | Some(HelpOn(\"certify-min\"))
+help certify-infeasible | Some(HelpOn(\"certify-infeasible\"))
+help certify-paths | Some(HelpOn(\"certify-paths\"))
+help solve-max | Some(HelpOn(\"solve-max\"))
+help solve-min | Some(HelpOn(\"solve-min\"))
+help solve-paths | Some(HelpOn(\"solve-paths\"))
+help spread-max | Some(HelpOn(\"spread-max\"))
+help spread-min | Some(HelpOn(\"spread-min\"))
+help explain | Some(HelpOn(\"explain\"))
+help help | Some(HelpOn(\"help\"))
+convert gr --help | Some(Run(Convert(Graph, \"--help\")))
+convert gr help | Some(Run(Convert(Graph, \"help\")))
+judge-infeasible --version -V | Some(Run(Judge(Infeasible, [\"--version\", \"-V\"])))
+explain convert gr file | Some(Explain(Convert(Graph, \"file\")))
+explain convert gr --help | Some(Explain(Convert(Graph, \"--help\")))
+ | None
+--Help | None
+-help | None
+-v | None
+version | None
+convert | None
+--help --help | None
+--help judge-max | None
+-h judge-max | None
+--version judge-max | None
+help judgemax | None
+help --help | None
+help max | None
+help judge-max judge-min | None
+judge-max --help | None
+judge-max help | None
+explain | None
+explain help | None
+explain --version | None
+explain help judge-max | None
+explain judge-max | None
+explain explain convert gr file | None";
+
+#[test]
+fn words_ask_for_help_or_runs(rt: HostRuntime) -> Result<(), Fail> {
+    for row in rows(&rt, REQUESTS, 49) {
+        let (line, wanted) = cell(&rt, row);
+        let arguments = arguments(rt.alloc(), line)?;
+        let actual = format!(in rt.alloc(); "{:?}", request(&arguments))?;
+        same(&rt, line, actual.as_str(), wanted);
+    }
+    let none = Vec::new(rt.alloc());
+    same(&rt, "no words at all", request(&none), None);
     Ok(())
 }
 

@@ -1,9 +1,20 @@
 """Claims about flows and distances, judged, certified and made in this process by functions that are proved.
 
 A yes is returned, and a no is raised as Refused. Nothing is written to files or printed, and other threads run meanwhile.
-Claims are texts (certify_max, ..), arrays (certify_max_arrays, ..) or those of networkx (certify_networkx_max, ..).
+Claims are texts (certify_max, ..), arrays (certify_max_arrays, ..), those of networkx (certify_networkx_max, ..), or in a
+DataFrame of pandas (from_frame); dimacs.scipy has those of SciPy. proved is whether the library that was loaded is proved,
+and __version__ its version.
+
+>>> import dimacs
+>>> dimacs.certify_max_arrays(3, 1, 3, [1, 2], [2, 3], [5, 4], [4, 4])
+Certified(value=4, certificate=[True, True, False])
 """
 
+from __future__ import annotations
+
+from typing import TYPE_CHECKING, Any
+
+from . import library as _library
 from .answers import (
     UNREACHED,
     Beyond,
@@ -62,7 +73,11 @@ from .texts import (
     spread_min,
 )
 
-__version__ = "0.1.0"
+if TYPE_CHECKING:
+    from .frames import from_frame
+
+__version__: str = _library.version
+proved: bool = _library.proved
 
 __all__ = [
     "UNREACHED",
@@ -91,6 +106,7 @@ __all__ = [
     "certify_paths",
     "certify_paths_arrays",
     "convert",
+    "from_frame",
     "judge_infeasible",
     "judge_infeasible_arrays",
     "judge_max",
@@ -101,6 +117,7 @@ __all__ = [
     "judge_networkx_min",
     "judge_paths",
     "judge_paths_arrays",
+    "proved",
     "show",
     "solve_max",
     "solve_max_arrays",
@@ -116,3 +133,16 @@ __all__ = [
     "spread_min",
     "spread_min_arrays",
 ]
+
+
+def __getattr__(name: str) -> Any:
+    """from_frame needs pandas, which is imported if it is asked for."""
+    if name == "from_frame":
+        from .frames import from_frame
+
+        return from_frame
+    raise AttributeError(f"module 'dimacs' has no attribute {name!r}")
+
+
+def __dir__() -> list[str]:
+    return [*__all__, "__version__"]

@@ -198,7 +198,6 @@ class Refused(Placed):
     dimacs.answers.Refused: node 1 Balance: 4 leaves, its supply is 5
     """
 
-
     def is_about_value(self) -> bool:
         """Whether a flow is feasible, and not optimal."""
         return self.reason in ("NotMaximum", "NotLeast")

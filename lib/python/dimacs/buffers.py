@@ -56,7 +56,7 @@ def _address_of(view: memoryview) -> int:
     """The address of the bytes of a view. They stay there as long as the view lives."""
     seen = _View()
     ctypes.pythonapi.PyObject_GetBuffer(ctypes.py_object(view), ctypes.byref(seen), 0)
-    address = seen.address
+    address = int(seen.address or 0)
     ctypes.pythonapi.PyBuffer_Release(ctypes.byref(seen))
     return address
 
@@ -238,7 +238,9 @@ def _array(name: Name) -> str:
 def _gone_through(numbers: Any, name: Name) -> list[Any]:
     """The items of an object without a buffer."""
     if isinstance(numbers, (Mapping, Set)):
-        raise TypeError(f"{_array(name)} is a {type(numbers).__name__}, whose items have no places as those of an array")
+        raise TypeError(
+            f"{_array(name)} is a {type(numbers).__name__}, whose items have no places as those of an array"
+        )
     return list(numbers)
 
 
@@ -332,7 +334,9 @@ class Room:
     def items(self) -> array.array[int]:
         """All items."""
         if self._needed.value != len(self._kept):
-            raise RuntimeError(f"the library handed out {self._needed.value} items, and there is room for {len(self._kept)}")
+            raise RuntimeError(
+                f"the library handed out {self._needed.value} items, and there is room for {len(self._kept)}"
+            )
         return self._kept
 
     def in_form_of(self, came: Any) -> Any:

@@ -113,7 +113,9 @@ def _limitless_ends(given: Given) -> list[tuple[int, int]]:
 def _test_bounded_max(given: Given) -> None:
     """Raises Unbounded if arcs without a limit lead from the source to the sink."""
     tails, heads = zip(*_limitless_ends(given))
-    graph = Given(GRAPH, given.number("nodes"), tails, heads, [0] * len(tails)).add_number("source", given.number("source"))
+    graph = Given(GRAPH, given.number("nodes"), tails, heads, [0] * len(tails)).add_number(
+        "source", given.number("source")
+    )
     with given.named():
         distances = solve_paths(graph, []).distances
         sink = given.number("sink")

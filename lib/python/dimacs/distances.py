@@ -83,6 +83,6 @@ def potentials_of(nodes: int, tails: Sequence[int], heads: Sequence[int], weight
     """
     none, ones = [0] * len(tails), [1] * len(tails)
     try:
-        return certify_min_arrays(nodes, tails, heads, none, ones, weights, [0] * nodes, none).potentials
+        return list(certify_min_arrays(nodes, tails, heads, none, ones, weights, [0] * nodes, none).potentials)
     except NotOptimal:
         raise NegativeCycle() from None

@@ -6,6 +6,7 @@ import ctypes
 import math
 from array import array
 from contextlib import contextmanager
+from functools import partial
 from itertools import compress
 from typing import Any, Callable, Iterable, Iterator, NamedTuple, Sequence
 
@@ -180,7 +181,7 @@ class Given:
         for kind, numbers in self._raw.items():
             if kind.unit == unit:
                 name = self._namer(kind)
-                yield _listed(numbers, name), lambda place, name=name: item(name, place)
+                yield _listed(numbers, name), partial(item, name)
 
     def _test_lengths(self) -> None:
         """The library tests the lengths too, but doesn't report which one is wrong."""
@@ -201,7 +202,9 @@ class Given:
         flows = self.column(FLOWS)
         for place in limitless:
             if flows[place] >= UNLIMITED:
-                raise ValueError(f"{self.names.item('flows', place)} is {flows[place]}, and has to be below {UNLIMITED}")
+                raise ValueError(
+                    f"{self.names.item('flows', place)} is {flows[place]}, and has to be below {UNLIMITED}"
+                )
 
     def bound_limitless(self) -> None:
         """Gives arcs without a limit more than a best flow needs to carry anywhere: without cycles that cost nothing or less
@@ -278,7 +281,8 @@ class Given:
             if it.arc is not None:
                 it.arc = self.names.arc(it.arc - 1)
             if it.node is not None:
-                it.node = self.names.node(it.node - 1) if 0 < it.node <= self.number("nodes") else it.node - 1 + self.names.base
+                is_node = 0 < it.node <= self.number("nodes")
+                it.node = self.names.node(it.node - 1) if is_node else it.node - 1 + self.names.base
             raise
 
 

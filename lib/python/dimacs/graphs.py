@@ -49,7 +49,7 @@ class EdgeNames(Names):
 
 def _entries(flow: Any, shape: str) -> dict[tuple[Any, ...], Any]:
     """The entries of a flow of this shape by their edges."""
-    entries = {(): flow}
+    entries: dict[tuple[Any, ...], Any] = {(): flow}
     for _ in range(shape.count("[")):
         _test_shape(all(isinstance(it, Mapping) for it in entries.values()), shape)
         entries = {(*edge, word): it for edge, more in entries.items() for word, it in more.items()}
@@ -67,7 +67,9 @@ class _Graph:
 
     def __init__(self, graph: Any, scale: Any) -> None:
         if not hasattr(graph, "is_directed"):
-            raise TypeError(f"the graph is a {type(graph).__name__}, and has to be a DiGraph or MultiDiGraph of networkx")
+            raise TypeError(
+                f"the graph is a {type(graph).__name__}, and has to be a DiGraph or MultiDiGraph of networkx"
+            )
         if not graph.is_directed():
             raise ValueError("the graph is undirected: graph.to_directed() has an arc each way")
         self.nodes = list(graph)
@@ -118,7 +120,9 @@ class _Graph:
         is_dict = isinstance(side, Mapping) and not isinstance(side, Set)  # a NodeView of networkx is both
         marks = side if is_dict else dict.fromkeys(unlabelled(side), True)
         if not all(is_bool(it) for it in marks.values()):
-            raise TypeError(f"side is a {type(side).__name__} that doesn't map nodes to bools, and has to be a set of nodes")
+            raise TypeError(
+                f"side is a {type(side).__name__} that doesn't map nodes to bools, and has to be a set of nodes"
+            )
         # True is 1 to a dict: if nodes are numbers, a bool for each node would name the nodes 0 and 1.
         if any(is_bool(it) and not is_bool(self.nodes[self.number(it) - 1]) for it in marks):
             raise TypeError(f"side is a {type(side).__name__} of bools, and has to be a set of nodes")

@@ -25,7 +25,10 @@ def _find() -> Path:
     for place in places:
         if place.is_file():
             return place
-    raise ImportError(f"{places[-1]} isn't there: build it by `make`")
+    raise ImportError(
+        f"{places[-1]} isn't there: build it by `make`, or by `make quick`, unproved, and name it by "
+        "DIMACS_LIBRARY=build/quick/libdimacs.so"
+    )
 
 
 _address, _number, _limit, _size = ctypes.c_void_p, ctypes.c_uint32, ctypes.c_uint64, ctypes.c_size_t
@@ -34,13 +37,33 @@ _room = [_address, _size, ctypes.POINTER(_size)]
 _library = ctypes.CDLL(str(_find()))
 
 
+def _is_proved() -> bool:
+    """Whether the library says that each of its functions was proved; one that has no such call says nothing."""
+    return hasattr(_library, "dimacs_proved") and bool(_library.dimacs_proved())
+
+
+def _version() -> str:
+    """The version of the library, as PEP 440 spells it."""
+    if not hasattr(_library, "dimacs_version_text"):
+        number = _library.dimacs_version()
+        return f"{number // 10000}.{number // 100 % 100}.{number % 100}"
+    out, needed = ctypes.create_string_buffer(LINE), _size()
+    _library.dimacs_version_text(out, _size(LINE), ctypes.byref(needed))
+    return out.raw[: needed.value].decode("ascii").partition(" ")[0].replace("-dev", ".dev0")
+
+
+proved = _is_proved()
+version = _version() + ("" if proved else "+unproved")
+
+
 def _export(name: str, *words: Any, texts: int = 0, more: Sequence[Any] = (), rooms: int = 1) -> Callable[..., int]:
     """A function of the library: it takes these arguments, this many texts or arrays, more arguments, and rooms for its
     output."""
     function = getattr(_library, name)
     function.argtypes = [*words, *[_address, _size] * texts, *more, *_room * rooms]
     function.restype = _number
-    return function
+    made: Callable[..., int] = function
+    return made
 
 
 judge = _export("dimacs_judge", _number, texts=3)
@@ -62,7 +85,9 @@ solve_max_arrays = _export("dimacs_solve_max_arrays", _address, _limit, rooms=3)
 solve_min_arrays = _export("dimacs_solve_min_arrays", _address, _limit, rooms=4)
 solve_paths_arrays = _export("dimacs_solve_paths_arrays", _address, _number, rooms=3)
 
-_Line = ctypes.c_char * LINE
+
+def _if(is_it: bool, number: str) -> int | None:
+    return int(number) if is_it else None
 
 
 def _raise_for(status: int, line: bytes) -> None:
@@ -71,7 +96,7 @@ def _raise_for(status: int, line: bytes) -> None:
         raise MemoryError("there was not enough memory to judge")
     if status == MISUSED and line:
         _, place, number, reason = line.decode("ascii").split()
-        raise PastLimit(reason, **{place: int(number)})
+        raise PastLimit(reason, arc=_if(place == "arc", number), node=_if(place == "node", number))
     if status == MISUSED:
         raise ValueError("the library doesn't take these words")
     if status == GAVE_UP:
@@ -80,7 +105,7 @@ def _raise_for(status: int, line: bytes) -> None:
 
 def call(function: Callable[..., int], *words: Any) -> tuple[int, bytes]:
     """Makes a call that hands out a text, twice if it is longer than a line. Returns its status and the text."""
-    line, room = _Line(), LINE
+    line, room = ctypes.create_string_buffer(LINE), LINE
     while True:
         needed = _size()
         status = function(*words, line, room, ctypes.byref(needed))
@@ -88,7 +113,7 @@ def call(function: Callable[..., int], *words: Any) -> tuple[int, bytes]:
             break
         room = needed.value
         line = ctypes.create_string_buffer(room)
-    output = line[: needed.value]
+    output = line.raw[: needed.value]
     if status != DONE and status != REFUSED:
         _raise_for(status, output)
     return status, output
@@ -112,10 +137,10 @@ def call_for_texts(function: Callable[..., int], *words: Any, rooms: Sequence[in
 
 def call_with_rooms(function: Callable[..., int], words: list[Any], rooms: list[Room]) -> tuple[int, bytes]:
     """Makes a call that hands out items to rooms that are large enough. Returns its status and the line."""
-    line, needed = _Line(), _size()
+    line, needed = ctypes.create_string_buffer(LINE), _size()
     handed = [word for room in rooms for word in room.words()]
     status = function(*words, line, LINE, ctypes.byref(needed), *handed)
-    output = line[: needed.value]
+    output = line.raw[: needed.value]
     _raise_for(status, output)
     return status, output
 
@@ -124,7 +149,7 @@ def refusal(line: bytes) -> Refused:
     """The fields of a line that begins with x."""
     _, place, *numbers, reason = line.decode("ascii").split()
     if place in ("arc", "node"):
-        return Refused(reason, **{place: int(numbers[0])})
+        return Refused(reason, arc=_if(place == "arc", numbers[0]), node=_if(place == "node", numbers[0]))
     return Refused(reason, text=place, line=int(numbers[0]), field=int(numbers[1]))
 
 

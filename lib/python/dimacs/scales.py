@@ -5,6 +5,7 @@ from __future__ import annotations
 import decimal
 import math
 from fractions import Fraction
+from functools import partial
 from typing import Any, Callable, Iterable, NamedTuple, Sequence
 
 #: Digits enough for each product that is shown.
@@ -25,7 +26,8 @@ class Scale(NamedTuple):
     def of(cls, given: Any) -> Scale:
         """The scale that an argument names: a factor, or a decimal as the unit itself."""
         if isinstance(given, float) and not given.is_integer() or isinstance(given, (str, bool)):
-            raise TypeError(f"scale is {given!r}: pass an int or a Fraction, by which numbers are multiplied, or a Decimal, their unit")
+            ways = "pass an int or a Fraction, by which numbers are multiplied, or a Decimal, their unit"
+            raise TypeError(f"scale is {given!r}: {ways}")
         is_decimal = isinstance(given, decimal.Decimal)
         factor = 1 / Fraction(given) if is_decimal and given else Fraction(given)
         if factor <= 0:
@@ -59,10 +61,16 @@ class Scale(NamedTuple):
     def _whole(self, exact: Fraction, number: Any, name: Callable[[], str]) -> int:
         product = exact * self.factor
         found = round(product)
-        if product == found or not isinstance(number, (int, Fraction, decimal.Decimal)) and self._stands_for(found, number):
+        if (
+            product == found
+            or not isinstance(number, (int, Fraction, decimal.Decimal))
+            and self._stands_for(found, number)
+        ):
             return found
         unit = self.shown(1)
-        raise ValueError(f"{name()} is {number}, not a multiple of {unit}: the nearest is {_readable(self.shown(found))}")
+        raise ValueError(
+            f"{name()} is {number}, not a multiple of {unit}: the nearest is {_readable(self.shown(found))}"
+        )
 
     def _stands_for(self, multiple: int, number: Any) -> bool:
         """Whether a float is the nearest one to this multiple of the unit, and to no other."""
@@ -92,15 +100,16 @@ def _readable(number: Any) -> Any:
 def exact_scale(groups: Iterable[tuple[Sequence[Any], Callable[[int], str]]]) -> Scale:
     """The scale by the least common denominator of these numbers. Raises ValueError if one of them has more than 64 bits
     then."""
-    exact = []
+    exact: list[tuple[Fraction, Callable[[], str]]] = []
     for numbers, name in groups:
         for k, number in enumerate(numbers):
             if number != math.inf:
-                exact.append((_fraction(number, lambda: name(k)), lambda k=k, name=name: name(k)))
+                exact.append((_fraction(number, partial(name, k)), partial(name, k)))
     common = math.lcm(*(it.denominator for it, _ in exact))
     for it, named in exact:
         if not -(2**63) <= it * common < 2**63:
-            raise ValueError(f"{named()} is {_readable(it)}: with the least common denominator {common} it has more than 64 bits")
+            shown = f"{named()} is {_readable(it)}"
+            raise ValueError(f"{shown}: with the least common denominator {common} it has more than 64 bits")
     return Scale(Fraction(common))
 
 

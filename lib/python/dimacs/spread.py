@@ -47,8 +47,9 @@ def _limits(*ends: int) -> Iterator[None]:
         if it.line == 1:
             raise PastLimit(it.reason, node=MOST_NODES + 1) from None
         reason = "NodeRange" if it.reason == "NumberRange" else it.reason  # of the end 0
-        place = {"node": ends[it.line - 2]} if it.line - 2 < len(ends) else {"arc": it.line - 1 - len(ends)}
-        raise PastLimit(reason, **place) from None
+        if it.line - 2 < len(ends):
+            raise PastLimit(reason, node=ends[it.line - 2]) from None
+        raise PastLimit(reason, arc=it.line - 1 - len(ends)) from None
 
 
 def _flows(solution: str, came: Any) -> Any:
@@ -72,6 +73,9 @@ def spread_max_arrays(
     Returns the flow of each arc, in the form of sums: arcs with the same ends carry the sum between these, each within its
     bounds if possible. Raises Refused if no arc has the ends of a pair, with its line in a text of the pairs from line 2 on;
     PastLimit as the other calls over arrays.
+
+    >>> spread_max_arrays(2, 1, 2, [1, 1], [2, 2], [3, 5], [1], [2], [6])
+    [3, 3]
     """
     nodes, *ends = (number_of(it, IDS, name) for name, it in (("nodes", nodes), ("source", source), ("sink", sink)))
     arcs = _columns(_MAX_ARCS, tails, heads, caps)
@@ -91,7 +95,11 @@ def spread_min_arrays(
     pair_heads: Any,
     sums: Any,
 ) -> Any:
-    """The same for an instance of least cost: of all such flows within the bounds, one that costs least."""
+    """The same for an instance of least cost: of all such flows within the bounds, one that costs least.
+
+    >>> spread_min_arrays(2, [1, 1], [2, 2], [0, 0], [3, 5], [9, 1], [1], [2], [6])
+    [1, 5]
+    """
     arcs = _columns(_MIN_ARCS, tails, heads, lows, caps, costs)
     instance = f"p min {number_of(nodes, IDS, 'nodes')} {len(arcs[0])}\n" + _lines("a", arcs)
     with _limits():

@@ -44,22 +44,38 @@ def _judge(kind: str, instance: Text, claim: Text, certificate: Text) -> Verdict
 
 
 def judge_max(instance: Text, solution: Text, cut: Text) -> Verdict:
-    """Judges that a solution's flow is maximum, by a cut. Raises Refused if a test fails."""
+    r"""Judges that a solution's flow is maximum, by a cut. Raises Refused if a test fails.
+
+    >>> judge_max("p max 2 1\nn 1 s\nn 2 t\na 1 2 3\n", "s 3\nf 1 2 3\n", "p cut 2 1\nu 1\n")
+    Verdict(kind='max', value=3, pairs=())
+    """
     return _judge("max", instance, solution, cut)
 
 
 def judge_min(instance: Text, solution: Text, potentials: Text) -> Verdict:
-    """Judges that a solution's flow costs least, by potentials. Raises Refused if a test fails."""
+    r"""Judges that a solution's flow costs least, by potentials. Raises Refused if a test fails.
+
+    >>> judge_min("p min 2 1\nn 1 3\nn 2 -3\na 1 2 0 5 7\n", "s 21\nf 1 2 3\n", "p pot 2 1\ny 1 7\n").value
+    21
+    """
     return _judge("min", instance, solution, potentials)
 
 
 def judge_infeasible(instance: Text, cut: Text) -> Verdict:
-    """Judges that no flow is feasible, by a set of nodes. Raises Refused if a test fails."""
+    r"""Judges that no flow is feasible, by a set of nodes. Raises Refused if a test fails.
+
+    >>> judge_infeasible("p min 2 1\nn 1 3\nn 2 -3\na 1 2 0 2 7\n", "p cut 2 1\nu 1\n").kind
+    'infeasible'
+    """
     return _judge("infeasible", instance, b"", cut)
 
 
 def judge_paths(graph: Text, queries: Text, labels: Text) -> Verdict:
-    """Judges that all labels are distances, and answers the queries by them. Raises Refused if a test fails."""
+    r"""Judges that all labels are distances, and answers the queries by them. Raises Refused if a test fails.
+
+    >>> judge_paths("p sp 2 1\na 1 2 5\n", "p aux sp p2p 1\nq 1 2\n", "p dist 2 1\nt 1 1\nd 2 5 1\n").pairs
+    (Pair(source=1, target=2, distance=5),)
+    """
     return _judge("paths", graph, queries, labels)
 
 
@@ -94,37 +110,49 @@ def _value(solution: Text) -> int:
 
 
 def certify_max(instance: Text, solution: Text) -> Certified:
-    """Decides whether a solution's flow is maximum. Returns its value, and the text of a cut that shows it.
+    r"""Decides whether a solution's flow is maximum. Returns its value, and the text of a cut that shows it.
 
     Raises NotOptimal with the text of a better flow if the flow is feasible and has the claimed value, but isn't maximum;
     Refused if a text has a fault, or the flow isn't feasible or has another value. The certificate is str if the instance is.
+
+    >>> certify_max("p max 2 1\nn 1 s\nn 2 t\na 1 2 3\n", "s 3\nf 1 2 3\n")
+    Certified(value=3, certificate='p cut 2 1\nu 1\n')
     """
     return _certify("max", instance, solution)
 
 
 def certify_min(instance: Text, solution: Text) -> Certified:
-    """Decides whether a solution's flow costs least. Returns its cost, and the text of potentials that show it.
+    r"""Decides whether a solution's flow costs least. Returns its cost, and the text of potentials that show it.
 
     Raises NotOptimal with the text of a cheaper flow if the flow is feasible and has the claimed cost, but doesn't cost
     least; Refused as certify_max.
+
+    >>> certify_min("p min 2 1\nn 1 3\nn 2 -3\na 1 2 0 5 7\n", "s 21\nf 1 2 3\n").value
+    21
     """
     return _certify("min", instance, solution)
 
 
 def certify_infeasible(instance: Text) -> Certified:
-    """Decides whether an instance has no feasible flow. Returns the text of a set that shows it.
+    r"""Decides whether an instance has no feasible flow. Returns the text of a set that shows it.
 
     Raises Feasible with the text of a feasible flow if there is one; Refused if the text has a fault. The certificate and the
     flow are str if the instance is.
+
+    >>> certify_infeasible("p min 2 1\nn 1 3\nn 2 -3\na 1 2 0 2 7\n").certificate
+    'p cut 2 1\nu 1\n'
     """
     return _certify("infeasible", instance, b"")
 
 
 def certify_paths(graph: Text, distances: Text) -> Certified:
-    """Decides whether claimed distances are right, and nodes without one unreachable. Returns the text of labels that
+    r"""Decides whether claimed distances are right, and nodes without one unreachable. Returns the text of labels that
     show it.
 
     Raises Refused if a text has a fault, or a test fails. The certificate is str if the graph is.
+
+    >>> certify_paths("p sp 2 1\na 1 2 5\n", "p distances 2 1\nt 1 1\nd 2 5\n").certificate
+    'p dist 2 1\nt 1 1\nd 2 5 1\n'
     """
     return _certify("paths", graph, distances)
 
@@ -139,16 +167,23 @@ def _spread(kind: str, instance: Text, solution: Text) -> Any:
 
 
 def spread_max(instance: Text, solution: Text) -> Any:
-    """Deals a solution out to parallel arcs: adds up the entries with the same ends, and gives each arc with these ends its
+    r"""Deals a solution out to parallel arcs: adds up the entries with the same ends, and gives each arc with these ends its
     share, within its bounds if possible. Returns the text of a solution with the claimed value and an entry for every arc.
 
     Raises Refused if a text has a fault or an entry is of no arc. The text is str if the solution is.
+
+    >>> spread_max("p max 2 2\nn 1 s\nn 2 t\na 1 2 3\na 1 2 5\n", "s 6\nf 1 2 6\n")
+    's 6\nf 1 2 3\nf 1 2 3\n'
     """
     return _spread("max", instance, solution)
 
 
 def spread_min(instance: Text, solution: Text) -> Any:
-    """The same for least cost: of all such flows within the bounds, one that costs least."""
+    r"""The same for least cost: of all such flows within the bounds, one that costs least.
+
+    >>> spread_min("p min 2 2\na 1 2 0 3 9\na 1 2 0 5 1\n", "s 0\nf 1 2 6\n")
+    's 0\nf 1 2 1\nf 1 2 5\n'
+    """
     return _spread("min", instance, solution)
 
 
@@ -172,26 +207,35 @@ def _solve(kind: str, instance: Text, queries: Text, limit: int) -> Solved:
 
 
 def solve_max(instance: Text, limit: int = LIMIT) -> Solved:
-    """Makes a maximum flow. Returns its value, and the texts of a solution and of a cut that shows it, str if the instance is.
+    r"""Makes a maximum flow. Returns its value, and the texts of a solution and of a cut that shows it, str if the instance is.
 
     Raises GaveUp after `limit` flows that aren't maximum, and Refused if the text has a fault.
+
+    >>> solve_max("p max 2 1\nn 1 s\nn 2 t\na 1 2 3\n")
+    Solved(value=3, solution='s 3\nf 1 2 3\n', certificate='p cut 2 1\nu 1\n')
     """
     return _solve("max", instance, b"", limit)
 
 
 def solve_min(instance: Text, limit: int = LIMIT) -> Solved:
-    """Makes a flow of least cost. Returns its cost, and the texts of a solution and of potentials that show it.
+    r"""Makes a flow of least cost. Returns its cost, and the texts of a solution and of potentials that show it.
 
     Raises Infeasible with the text of a set if no flow is feasible; GaveUp after `limit` steps to better flows, or if the
     least cost is out of range; Refused as solve_max.
+
+    >>> solve_min("p min 2 1\nn 1 3\nn 2 -3\na 1 2 0 5 7\n").value
+    21
     """
     return _solve("min", instance, b"", limit)
 
 
 def solve_paths(graph: Text, queries: Text) -> Solved:
-    """Makes labels that answer the queries. Returns the answers to queries for pairs, and the text of the labels.
+    r"""Makes labels that answer the queries. Returns the answers to queries for pairs, and the text of the labels.
 
     Raises Refused if a text has a fault, a query names no node, or a weight is negative.
+
+    >>> solve_paths("p sp 2 1\na 1 2 5\n", "p aux sp p2p 1\nq 1 2\n").solution
+    (Pair(source=1, target=2, distance=5),)
     """
     return _solve("paths", graph, queries, LIMIT)
 
@@ -208,13 +252,20 @@ def _printed(call: str, function: Any, kind: str, text: Text) -> Any:
 
 
 def convert(kind: str, text: Text) -> Any:
-    """The canonical form of a text: str if the text is str, else bytes. Raises Refused if it has a fault.
+    r"""The canonical form of a text: str if the text is str, else bytes. Raises Refused if it has a fault.
 
     kind is "max", "min", "gr", "query", "solution", "cut", "pot", "dist" or "distances".
+
+    >>> convert("gr", "c a road\np  sp 2 1\na 1 2 05\n")
+    'p sp 2 1\na 1 2 5\n'
     """
     return _printed("convert", library.convert, kind, text)
 
 
 def show(kind: str, text: Text) -> Any:
-    """A line that describes a text, as `i max 4 5 1 4`. The kinds and what is raised are those of convert."""
+    r"""A line that describes a text, as `i max 4 5 1 4`. The kinds and what is raised are those of convert.
+
+    >>> show("gr", "p sp 2 1\na 1 2 5\n")
+    'i sp 2 1\n'
+    """
     return _printed("show", library.show, kind, text)

@@ -50,7 +50,7 @@ def _network(given: Any, demand: Any, capacity: Any, weight: Any) -> Network:
 def _loops_last(given: Network) -> list[tuple[Any, Any, Any]]:
     """The name, capacity and weight of each arc, in the order in which networkx tests them."""
     every = zip(edges_of(given.arcs.graph), given.caps, given.weights)
-    return sorted(every, key=lambda it: it[0][0] == it[0][1])
+    return sorted(every, key=lambda it: bool(it[0][0] == it[0][1]))
 
 
 def _test_finite(given: Network) -> None:
@@ -126,9 +126,7 @@ def network_simplex(
     return given.shown(*solved(given))
 
 
-def min_cost_flow(
-    G: Any, demand: Any = "demand", capacity: Any = "capacity", weight: Any = "weight"
-) -> dict[Any, Any]:
+def min_cost_flow(G: Any, demand: Any = "demand", capacity: Any = "capacity", weight: Any = "weight") -> dict[Any, Any]:
     """A flow of least cost that meets all demands."""
     return network_simplex(G, demand, capacity, weight)[1]
 

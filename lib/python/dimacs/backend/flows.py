@@ -82,7 +82,7 @@ def maximum_flow(
 
 def maximum_flow_value(
     flowG: Any, _s: Any, _t: Any, capacity: Any = "capacity", flow_func: Any = None, **kwargs: Any
-) -> int:
+) -> Any:
     """The value of a maximum flow."""
     _test_words(flowG, flow_func, kwargs)
     return solved(flowG, _s, _t, capacity).shown_value()
@@ -100,7 +100,7 @@ def minimum_cut(
 
 def minimum_cut_value(
     flowG: Any, _s: Any, _t: Any, capacity: Any = "capacity", flow_func: Any = None, **kwargs: Any
-) -> int:
+) -> Any:
     """The capacity of a minimum cut."""
     return maximum_flow_value(flowG, _s, _t, capacity, flow_func, **kwargs)
 

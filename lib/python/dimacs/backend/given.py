@@ -31,10 +31,10 @@ class Graph:
         self.graph = graph
 
     def is_directed(self) -> bool:
-        return self.graph.is_directed()
+        return bool(self.graph.is_directed())
 
     def is_multigraph(self) -> bool:
-        return self.graph.is_multigraph()
+        return bool(self.graph.is_multigraph())
 
 
 def graph_of(given: Any) -> Any:
@@ -118,7 +118,7 @@ def of_edges(graph: Any, attribute: Any, missing: Any, name: str, infinite: bool
 def of_nodes(graph: Any, attribute: Any, missing: int, name: str) -> Numbers:
     """The number that each node has, as those of edges."""
     numbers = [data.get(attribute, missing) for _, data in graph.nodes(data=True)]
-    return whole_ones(numbers, lambda: graph, f"the {name} of node", True)
+    return whole_ones(numbers, lambda: list(graph), f"the {name} of node", True)
 
 
 def whole_ones(numbers: list[Any], names: Callable[[], Iterable[Any]], what: str, infinite: bool = False) -> Numbers:

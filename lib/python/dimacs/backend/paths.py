@@ -10,6 +10,9 @@ from ..answers import UNREACHED
 from ..distances import NegativeCycle, distances_from, potentials_of
 from .given import Arcs, Numbers, Unable, answered, edges_of, graph_of, of_edges, unable
 
+Lengths = dict[Any, Any]
+Paths = dict[Any, list[Any]]
+
 
 def weights_of(graph: Any, weight: Any, signed: bool) -> Numbers:
     """The weight of each arc; if they aren't signed, none is negative."""
@@ -46,13 +49,13 @@ class _Tree:
         reached = (place for place in range(len(self._nodes)) if distances[place] <= most)
         return sorted(reached, key=distances.__getitem__)
 
-    def lengths(self, cutoff: Any = None) -> dict[Any, Any]:
+    def lengths(self, cutoff: Any = None) -> Lengths:
         """The distances up to a cutoff, and those of the sources, which have one whatever the cutoff is."""
         places = self.within(cutoff)
         lengths = answered((self._distances[place] for place in places), self._are_floats)
         return {**dict.fromkeys(self._sources, 0), **dict(zip((self._nodes[place] for place in places), lengths))}
 
-    def paths(self, cutoff: Any = None) -> dict[Any, list[Any]]:
+    def paths(self, cutoff: Any = None) -> Paths:
         """Shortest paths to the nodes up to a cutoff, and those to the sources."""
         places, found = self.within(cutoff), {source: [source] for source in self._sources}
         for place in places:
@@ -116,12 +119,12 @@ def multi_source_dijkstra(
     return tree.to(target, f"No path to {target}.", cutoff)
 
 
-def multi_source_dijkstra_path(G: Any, sources: Any, cutoff: Any = None, weight: Any = "weight") -> dict[Any, list[Any]]:
+def multi_source_dijkstra_path(G: Any, sources: Any, cutoff: Any = None, weight: Any = "weight") -> Paths:
     """Shortest paths from the nearest source."""
     return _nearest(G, sources, weight).paths(cutoff)
 
 
-def multi_source_dijkstra_path_length(G: Any, sources: Any, cutoff: Any = None, weight: Any = "weight") -> dict[Any, Any]:
+def multi_source_dijkstra_path_length(G: Any, sources: Any, cutoff: Any = None, weight: Any = "weight") -> Lengths:
     """The distances from the nearest source."""
     return _nearest(G, sources, weight).lengths(cutoff)
 
@@ -133,12 +136,12 @@ def single_source_dijkstra(
     return multi_source_dijkstra(G, [source], target, cutoff, weight)
 
 
-def single_source_dijkstra_path(G: Any, source: Any, cutoff: Any = None, weight: Any = "weight") -> dict[Any, list[Any]]:
+def single_source_dijkstra_path(G: Any, source: Any, cutoff: Any = None, weight: Any = "weight") -> Paths:
     """Shortest paths from a node."""
     return multi_source_dijkstra_path(G, [source], cutoff, weight)
 
 
-def single_source_dijkstra_path_length(G: Any, source: Any, cutoff: Any = None, weight: Any = "weight") -> dict[Any, Any]:
+def single_source_dijkstra_path_length(G: Any, source: Any, cutoff: Any = None, weight: Any = "weight") -> Lengths:
     """The distances from a node."""
     return multi_source_dijkstra_path_length(G, [source], cutoff, weight)
 
@@ -178,9 +181,7 @@ def _nearest_signed(graph: Any, source: Any, weight: Any) -> _Tree:
         raise nx.NetworkXUnbounded("Negative cycle detected.") from None
 
 
-def single_source_bellman_ford(
-    G: Any, source: Any, target: Any = None, weight: Any = "weight"
-) -> tuple[Any, Any]:
+def single_source_bellman_ford(G: Any, source: Any, target: Any = None, weight: Any = "weight") -> tuple[Any, Any]:
     """The distances from a node and shortest paths, or one distance and path; weights may be negative."""
     if source == target:
         _test_nodes(G, "Node {} is not found in the graph", source)
@@ -191,12 +192,12 @@ def single_source_bellman_ford(
     return tree.to(target, f"Target {target} cannot be reached from given sources")
 
 
-def single_source_bellman_ford_path(G: Any, source: Any, weight: Any = "weight") -> dict[Any, list[Any]]:
+def single_source_bellman_ford_path(G: Any, source: Any, weight: Any = "weight") -> Paths:
     """Shortest paths from a node; weights may be negative."""
     return _nearest_signed(G, source, weight).paths()
 
 
-def single_source_bellman_ford_path_length(G: Any, source: Any, weight: Any = "weight") -> dict[Any, Any]:
+def single_source_bellman_ford_path_length(G: Any, source: Any, weight: Any = "weight") -> Lengths:
     """The distances from a node; weights may be negative."""
     return _nearest_signed(G, source, weight).lengths()
 
@@ -226,13 +227,13 @@ def negative_edge_cycle(G: Any, weight: Any = "weight", heuristic: bool = True) 
     return False
 
 
-def single_source_shortest_path(G: Any, source: Any, cutoff: Any = None) -> dict[Any, list[Any]]:
+def single_source_shortest_path(G: Any, source: Any, cutoff: Any = None) -> Paths:
     """Paths of the fewest edges from a node."""
     _test_nodes(G, "Source {} not in G", source)
     return _Tree(G, [source], None).paths(cutoff)
 
 
-def single_source_shortest_path_length(G: Any, source: Any, cutoff: Any = None) -> dict[Any, Any]:
+def single_source_shortest_path_length(G: Any, source: Any, cutoff: Any = None) -> Lengths:
     """The fewest edges of paths from a node."""
     _test_nodes(G, "Source {} is not in G", source)
     return _Tree(G, [source], None).lengths(cutoff)

@@ -13,8 +13,8 @@ _GOES_ON = tuple(int(it) for it in nx.__version__.split(".")[:2]) >= (3, 4)
 
 
 def can_run(name: str, args: tuple[Any, ...], kwargs: dict[str, Any]) -> bool:
-    """Whether a call is answered here. A function raises Unable, with the reason, if it doesn't answer; then networkx goes on
-    by itself, but not before version 3.4: there the call is tried."""
+    """Whether a call is answered here. If it isn't, the function raises Unable with the reason, and networkx goes on by
+    itself; but not before version 3.4: there the call is tried."""
     if _GOES_ON:
         return True
     function = next(getattr(it, name) for it in (costs, flows, paths) if hasattr(it, name))

@@ -89,6 +89,11 @@ def maximum_flow(csgraph: Any, source: int, sink: int, *, method: str = "dinic")
 
     Capacities are integers of up to 64 bits, and none is negative. The method isn't used: the flow may differ from SciPy's,
     but not its value. TypeError and ValueError are raised as by SciPy, GaveUp as by solve_max_arrays.
+
+    >>> from scipy.sparse import csr_matrix
+    >>> found = maximum_flow(csr_matrix([[0, 5, 0], [0, 0, 4], [0, 0, 0]]), 0, 2)
+    >>> int(found.flow_value), found.inside.tolist()
+    (4, [True, True, False])
     """
     given = _Network(csgraph, source, sink)
     if method not in ("edmonds_karp", "dinic"):
@@ -105,6 +110,11 @@ def certify_maximum_flow(csgraph: Any, source: int, sink: int, flow: Any) -> Cer
     (i, j) negated. Raises NotOptimal with such a matrix of greater value if the flow is feasible, but not maximum; Refused
     if the flow isn't feasible, or doesn't have the value of the result; ValueError if it is no such matrix. A refusal names a
     vertex, or an edge as (i, j).
+
+    >>> from scipy.sparse import csgraph, csr_matrix
+    >>> capacities = csr_matrix([[0, 5, 0], [0, 0, 4], [0, 0, 0]])
+    >>> certify_maximum_flow(capacities, 0, 2, csgraph.maximum_flow(capacities, 0, 2)).value
+    4
     """
     given = _Network(csgraph, source, sink)
     given.tails, given.heads, given.caps, flows = _by_pair(given, getattr(flow, "flow", flow))

@@ -5,12 +5,15 @@ from __future__ import annotations
 from typing import Any
 
 import numpy as np
+from numpy.typing import NDArray
 from scipy import sparse
 from scipy.sparse import csgraph as scipy_graphs
 
+from .. import calls, library
 from ..answers import UNREACHED, GaveUp
 from ..arrays import solve_paths_arrays
 from ..distances import NegativeCycle, distances_from, potentials_of
+from ..given import DISTANCES_, GRAPH, PREDECESSORS, Given, Names
 from .entries import Places, entries_of, numbers_of, whole
 
 #: SciPy's predecessor of a vertex that has none.
@@ -33,7 +36,8 @@ def _stored(matrix: Any) -> tuple[Any, Any, Any]:
 
 def _shown(csgraph: Any) -> tuple[Any, Any, Any, Any]:
     """The shape of a matrix that isn't sparse, and its entries that are edges."""
-    matrix = np.ma.masked_invalid(np.ma.asarray(csgraph), copy=True)
+    masked: Any = np.ma
+    matrix = masked.masked_invalid(masked.asarray(csgraph), copy=True)
     if matrix.ndim != 2:
         raise ValueError("compressed-sparse graph must be 2-D")
     filled = matrix.filled(0)
@@ -67,21 +71,30 @@ def _sources(indices: Any, vertices: int) -> Any:
     return found
 
 
+def _arcs(csgraph: Any, directed: bool, unweighted: bool) -> tuple[int, Any, Any, Any]:
+    """The number of vertices, and the arcs: an edge of a graph that isn't directed is two."""
+    vertices, tails, heads, weights = _edges(csgraph, unweighted)
+    if not directed:
+        tails, heads, weights = np.append(tails, heads), np.append(heads, tails), np.append(weights, weights)
+    return vertices, tails, heads, weights
+
+
 class _Distances:
     """How the distances from a source are made: by one call, or by more if weights are negative."""
 
     def __init__(self, vertices: int, tails: Any, heads: Any, weights: Any, method: str) -> None:
-        self._words = vertices, numbers_of(tails), numbers_of(heads), weights
+        self._words: tuple[int, Any, Any, Any] = vertices, numbers_of(tails), numbers_of(heads), weights
         self._is_signed = len(weights) > 0 and weights.min() < 0
         self._potentials = None
         if self._is_signed:
-            self._words = vertices, *(it.tolist() for it in self._words[1:])
+            self._words = vertices, *(it.tolist() for it in self._words[1:])  # type: ignore[assignment]
             # By this method SciPy asks only of what the sources reach whether there is a negative cycle.
             self._potentials = None if method == "BF" else potentials_of(*self._words)
 
     def from_source(self, source: int) -> tuple[Any, Any]:
         if self._is_signed:
-            return tuple(map(np.array, distances_from(*self._words, source + 1, self._potentials)))
+            found, before = distances_from(*self._words, source + 1, self._potentials)
+            return np.array(found), np.array(before)
         return solve_paths_arrays(*self._words, source + 1)[1:]
 
 
@@ -112,14 +125,15 @@ def shortest_path(
     that "BF" allows a negative cycle that no source reaches. Raises ValueError and NegativeCycleError as SciPy, ValueError
     if a weight isn't whole, and GaveUp if a distance is above 2^53 and no float, or if it, or a number that is needed for
     negative weights, is out of the range of 64 bits.
+
+    >>> shortest_path([[0, 5, 0], [0, 0, 4], [0, 0, 0]], indices=0)
+    array([0., 5., 9.])
     """
     if method not in _METHODS:
         raise ValueError(f"unrecognized method '{method}'")
     if method == "FW" and indices is not None:
         raise ValueError("Cannot specify indices with method == 'FW'.")
-    vertices, tails, heads, weights = _edges(csgraph, unweighted)
-    if not directed:
-        tails, heads, weights = np.append(tails, heads), np.append(heads, tails), np.append(weights, weights)
+    vertices, tails, heads, weights = _arcs(csgraph, directed, unweighted)
     sources = _sources(indices, vertices)
     distances = np.empty((sources.size, vertices), np.float64)
     predecessors = np.empty((sources.size, vertices), np.int32)
@@ -135,3 +149,69 @@ def shortest_path(
     if return_predecessors:
         return distances.reshape(shape), predecessors.reshape(shape)
     return distances.reshape(shape)
+
+
+class _TableNames(Names):
+    """The entries of a table of distances, and arcs by their two vertices."""
+
+    has_inf_alone = True
+
+    def __init__(self, tails: Any, heads: Any, source: int) -> None:
+        super().__init__()
+        self._ends, self._source = (tails, heads), source
+
+    def arc(self, place: int) -> Any:
+        return tuple(int(it[place]) for it in self._ends)
+
+    def node(self, place: int) -> Any:
+        return self._source, place
+
+    def item(self, name: str, place: int) -> str:
+        return f"{name}[{self._source}, {place}]"
+
+
+def certify_shortest_path(
+    csgraph: Any,
+    dist: Any,
+    predecessors: Any = None,
+    *,
+    directed: bool = True,
+    unweighted: bool = False,
+    indices: Any = None,
+) -> NDArray[np.int32]:
+    """Decides whether these are the distances that shortest_path returns, with its predecessors if they are given.
+
+    dist has a row for each source, as predecessors: for each vertex, or for those that indices names. Returns predecessors
+    by which the rows were judged. Raises Refused if an entry isn't true, which it names as (source, vertex), or an arc by
+    its two vertices; ValueError if an entry isn't a whole number below 2^63 - 1, or inf.
+
+    >>> certify_shortest_path([[0, 5, 0], [0, 0, 4], [0, 0, 0]], [[0, 5, 9]], indices=[0])
+    array([[-9999,     0,     1]], dtype=int32)
+    """
+    vertices, tails, heads, weights = _arcs(csgraph, directed, unweighted)
+    sources = _sources(indices, vertices)
+    rows, before = _table(dist, "dist", sources, vertices), None
+    if predecessors is not None:
+        before = _table(predecessors, "predecessors", sources, vertices)
+    found = np.empty((sources.size, vertices), np.int32)
+    ends = numbers_of(tails), numbers_of(heads)
+    for row, source in enumerate(map(int, sources.flat)):
+        given = Given(GRAPH, vertices, *ends, weights, names=_TableNames(tails, heads, source))
+        given.add_number("source", source + 1).add(DISTANCES_, rows[row])
+        if before is None:
+            shown = calls.certify(library.certify_paths_arrays, given, rows[row], PREDECESSORS).predecessors
+            found[row] = np.where(shown > 0, shown.astype(np.int64) - 1, NO_PREDECESSOR)
+        else:
+            found[row] = before[row]
+            calls.judge(
+                library.judge_paths_arrays, given.add(PREDECESSORS, np.maximum(before[row].astype(np.int64) + 1, 0))
+            )
+    return found.reshape((*sources.shape, vertices))
+
+
+def _table(given: Any, name: str, sources: Any, vertices: int) -> Any:
+    """A table with a row for each source."""
+    found, wanted = np.asarray(given), (*sources.shape, vertices)
+    if found.shape != wanted:
+        raise ValueError(f"{name} has the shape {found.shape}, and has to have {wanted}")
+    return found.reshape((sources.size, vertices))

@@ -1,4 +1,4 @@
-use Rattle.std.proofs.Common.{rules, ◌≡◌, ◌≢◌, ◌<◌, inl, inr, length, get_or, pos, ◌+ℤ◌, SFits, w64, refl, ◌∙◌, arith, below_more}
+use Rattle.std.proofs.Common.{rules, ◌≡◌, ◌<◌, inl, inr, length, get_or, pos, ◌+ℤ◌, SFits, w64, refl, ◌∙◌, arith, below_more}
 use Rattle.std.specs.Int.{w128}
 use Rattle.std.proofs.lemmas.Int.{ints, to_z-of_z}
 use Rattle.std.proofs.lemmas.Bool.{cases_eq, cases_lt}

@@ -15,3 +15,6 @@ returns-clause-least g c =
     let least : NoneCheaper (g.N.Network.list c.args.network.now) c.args.solution.now.entries.items c.deal.new.amounts = rw (c.in_ok-arcs.ensures, c.deref-2.ensures.value) at c.in_ok-deal.ensures.least in
     let same : c.from_vec.result ≡ c.deal.new.amounts = c.from_vec.ensures ∙ take_at c.deal.new.amounts _ c.in_ok-amounts.amounts.len (c.deal.auto.amounts ∙ c.deref_mut-2.ensures.len) in
     rw same least
+
+pub returns-clause-tested : goal.returns-clause-tested
+returns-clause-tested g c = rw (c.in_ok-arcs.ensures, c.deref-2.ensures.value) at c.in_ok-deal.ensures.tested

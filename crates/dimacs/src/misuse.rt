@@ -1,0 +1,168 @@
+//! What is wrong with arguments that ask for nothing. `dimacs_runs::request` decides that they do.
+
+use crate::usage;
+use crate::usage::{COMMANDS, Command, KINDS};
+use std::alloc::{AllocError, Global};
+use strsim::osa_distance;
+
+/// What is wrong with arguments.
+#[derive(Drop)]
+struct Misuse {
+    /// One line, without its end; empty if there are no arguments.
+    line: String,
+    /// The command that they name, if it is one.
+    command: Option<Command>,
+}
+
+impl Misuse {
+    fn of_no_command(line: String) -> Misuse {
+        Misuse {
+            line,
+            command: None,
+        }
+    }
+
+    /// The line, and the usage of the command that the arguments name, or of all.
+    fn text(self, alloc: Global) -> Result<String, AllocError> {
+        let usage = match self.command {
+            Some(command) => usage::of_one(alloc, command)?,
+            None => usage::of_all(alloc)?,
+        };
+        if self.line.is_empty() {
+            return Ok(usage);
+        }
+        format!(in alloc; "{}\n{usage}", self.line)
+    }
+}
+
+/// The complaint of arguments that ask for nothing, given without the program's name.
+pub fn complaint_of(alloc: Global, arguments: &[String]) -> Result<String, AllocError> {
+    misuse_of(alloc, arguments)?.text(alloc)
+}
+
+/// The complaint of arguments that aren't text.
+pub fn complaint_of_bytes(alloc: Global) -> Result<String, AllocError> {
+    Misuse::of_no_command(String::from_str(alloc, "an argument isn't UTF-8")?).text(alloc)
+}
+
+/// What is wrong with these arguments.
+fn misuse_of(alloc: Global, arguments: &[String]) -> Result<Misuse, AllocError> {
+    let Some((first, rest)) = arguments.split_first() else {
+        return Ok(Misuse::of_no_command(String::new(alloc)));
+    };
+    match (first.as_str(), rest) {
+        ("explain", []) => Ok(Misuse {
+            line: String::from_str(alloc, "explain takes a command and its files")?,
+            command: Command::named("explain"),
+        }),
+        ("explain", [name, files @ ..]) => explained_misuse(alloc, name.as_str(), files),
+        (option @ ("--help" | "-h" | "--version" | "-V"), _) => {
+            Ok(Misuse::of_no_command(format!(in alloc; "{option} comes alone")?))
+        }
+        ("help", [name]) => unknown_command(alloc, name.as_str()),
+        (name, files) => command_misuse(alloc, name, files),
+    }
+}
+
+/// What is wrong with the arguments after `explain`.
+fn explained_misuse(alloc: Global, name: &str, files: &[String]) -> Result<Misuse, AllocError> {
+    if matches!(name, "explain" | "help") {
+        return Ok(Misuse {
+            line: format!(in alloc; "explain takes a command that runs, and {name} doesn't")?,
+            command: Command::named("explain"),
+        });
+    }
+    command_misuse(alloc, name, files)
+}
+
+/// What is wrong with the arguments of the command of this name.
+fn command_misuse(alloc: Global, name: &str, arguments: &[String]) -> Result<Misuse, AllocError> {
+    let Some(command) = Command::named(name) else {
+        return unknown_command(alloc, name);
+    };
+    let line = match arguments {
+        [kind, _] if command.has_kind() => unknown(alloc, "kind", kind.as_str(), &KINDS)?,
+        _ if command.has_limit() => limit_misuse(alloc, command, arguments)?,
+        _ => wrong_count(alloc, command, arguments.len())?,
+    };
+    Ok(Misuse {
+        line,
+        command: Some(command),
+    })
+}
+
+/// What is wrong with the arguments of a command that may have a limit.
+fn limit_misuse(
+    alloc: Global,
+    command: Command,
+    arguments: &[String],
+) -> Result<String, AllocError> {
+    match arguments {
+        [files @ .., option, _] if option.as_str() == "--limit" => {
+            if command.counts().0 == files.len() {
+                String::from_str(alloc, "N is from 0 to 1000000000")
+            } else {
+                wrong_count(alloc, command, files.len())
+            }
+        }
+        _ if arguments.iter().any(|it| it.as_str() == "--limit") => {
+            String::from_str(alloc, "--limit N comes last")
+        }
+        _ => wrong_count(alloc, command, arguments.len()),
+    }
+}
+
+/// How many files a command takes, which ones, and how many were given.
+fn wrong_count(alloc: Global, command: Command, given: usize) -> Result<String, AllocError> {
+    let (least, most) = command.counts();
+    let mut line = format!(in alloc; "{} takes {least}", command.name())?;
+    if most > least {
+        write!(line, " or {most}")?;
+    }
+    let what = if command.has_only_files() {
+        "files"
+    } else {
+        "arguments"
+    };
+    let were = if given == 1 { "was" } else { "were" };
+    write!(line, " {what}: {}; {given} {were} given", command.files())?;
+    Ok(line)
+}
+
+fn unknown_command(alloc: Global, name: &str) -> Result<Misuse, AllocError> {
+    let names = COMMANDS.map(Command::name);
+    Ok(Misuse::of_no_command(unknown(alloc, "command", name, &names)?))
+}
+
+/// That an argument is none of these words, and the nearest of them, if one is near.
+fn unknown(
+    alloc: Global,
+    what: &str,
+    given: &str,
+    words: &[&'static str],
+) -> Result<String, AllocError> {
+    let mut line = format!(in alloc; "no {what} {given}")?;
+    if let Some(word) = nearest(alloc, given, words)? {
+        write!(line, ": {word}?")?;
+    }
+    Ok(line)
+}
+
+/// The word that the fewest edits lead to, apart from case: at most one for each three of its characters.
+fn nearest(
+    alloc: Global,
+    given: &str,
+    words: &[&'static str],
+) -> Result<Option<&'static str>, AllocError> {
+    let given = given.to_ascii_lowercase(alloc)?;
+    let mut best = None;
+    let mut fewest = usize::MAX;
+    for &word in words {
+        let edits = osa_distance(alloc, given.as_str(), word)?;
+        if edits <= word.len() / 3 && edits < fewest {
+            fewest = edits;
+            best = Some(word);
+        }
+    }
+    Ok(best)
+}

@@ -1,0 +1,213 @@
+"""Edges in a DataFrame of pandas, with nodes of any name; and answers on the same index."""
+
+from __future__ import annotations
+
+import math
+from contextlib import contextmanager
+from typing import Any, Iterator, NamedTuple
+
+import pandas as pd
+
+from . import calls, library
+from .answers import Feasible, Infeasible, NotOptimal
+from .buffers import LIMIT, LIMITS
+from .given import DISTANCES_, FLOWS, GRAPH, INSIDE, MAX, MIN, POTENTIALS, PREDECESSORS, Given, Names
+
+
+class FrameAnswer(NamedTuple):
+    """An answer, which was judged: its value or cost, None for distances; a Series of flows on the index of the frame, None
+    for distances; and a DataFrame by node, with what shows it: "inside", "potential", or "distance" and "predecessor".
+    """
+
+    value: Any
+    flows: Any
+    nodes: pd.DataFrame
+
+
+class _FrameNames(Names):
+    """Arcs by the index of the frame, nodes by their names."""
+
+    has_inf_alone = True
+
+    def __init__(self, frame: Frame) -> None:
+        super().__init__()
+        self._frame = frame
+
+    def arc(self, place: int) -> Any:
+        return self._frame.edges.index[place]
+
+    def node(self, place: int) -> Any:
+        return self._frame.nodes[place]
+
+    def item(self, name: str, place: int) -> str:
+        if name in ("supplies", "distances"):
+            return f"{name}[{self.node(place)!r}]"
+        return f"{self._frame.columns.get(name, name)} of row {self.arc(place)!r}"
+
+
+class Frame:
+    """A network of edges in a DataFrame. See from_frame."""
+
+    def __init__(
+        self, edges: pd.DataFrame, tail: Any, head: Any, columns: dict[str, Any], supply: Any, scale: Any
+    ) -> None:
+        self.edges, self.columns, self._scale = edges, columns, scale
+        for name in (tail, head, *columns.values()):
+            if name not in edges.columns:
+                raise ValueError(f"the frame has no column {name!r}: it has {', '.join(map(repr, edges.columns))}")
+        supplies = {} if supply is None else dict(supply.items())
+        if edges[[tail, head]].isna().to_numpy().any():
+            raise ValueError("an edge has an end without a name")
+        tails, heads = edges[tail].tolist(), edges[head].tolist()
+        self._numbers = {node: k for k, node in enumerate(dict.fromkeys([*tails, *heads, *supplies]), 1)}
+        self.nodes = list(self._numbers)
+        self._tails, self._heads = ([self._numbers[it] for it in ends] for ends in (tails, heads))
+        self._supplies = [supplies.get(node, 0) for node in self.nodes]
+
+    def __repr__(self) -> str:
+        return f"Frame of {len(self.edges)} edges between {len(self.nodes)} nodes"
+
+    def _number(self, node: Any) -> int:
+        if node not in self._numbers:
+            raise ValueError(f"{node!r} is no node of the frame")
+        return self._numbers[node]
+
+    def _column(self, name: str, missing: Any) -> Any:
+        if name not in self.columns:
+            return [missing] * len(self.edges)
+        return self.edges[self.columns[name]].tolist()
+
+    def _given(self, form: Any, *numbers: Any) -> Given:
+        return Given(form, len(self.nodes), *numbers, scale=self._scale, names=_FrameNames(self))
+
+    def _max(self, source: Any, sink: Any) -> Given:
+        ends = self._number(source), self._number(sink)
+        return self._given(MAX, *ends, self._tails, self._heads, self._column("caps", math.inf))
+
+    def _min(self) -> Given:
+        arcs = (
+            self._tails,
+            self._heads,
+            self._column("lows", 0),
+            self._column("caps", math.inf),
+            self._column("costs", 0),
+        )
+        return self._given(MIN, *arcs, self._supplies)
+
+    def _paths(self, source: Any) -> Given:
+        graph = self._given(GRAPH, self._tails, self._heads, self._column("costs", 1))
+        return graph.add_number("source", self._number(source))
+
+    def _flows(self, flows: Any) -> Any:
+        """Claimed flows: a column of the frame, a Series on its index, or an array."""
+        if isinstance(flows, (str, int)) and flows in self.edges.columns:
+            flows = self.edges[flows]
+        if isinstance(flows, pd.Series):
+            if not flows.index.equals(self.edges.index):
+                raise ValueError("flows has another index than the frame")
+            return flows.tolist()
+        return flows
+
+    def _by_edge(self, flows: Any) -> pd.Series:
+        return pd.Series(list(flows), index=self.edges.index, name="flow")
+
+    def _by_node(self, **columns: Any) -> pd.DataFrame:
+        made = {name: list(it) for name, it in columns.items()}
+        return pd.DataFrame(made, index=pd.Index(self.nodes, name="node", tupleize_cols=False))
+
+    @contextmanager
+    def _shown(self) -> Iterator[None]:
+        """Exceptions raised inside have flows and sets as a frame has them."""
+        try:
+            yield
+        except NotOptimal as it:
+            it.better = self._by_edge(it.better)
+            raise
+        except Infeasible as it:
+            it.certificate = self._by_node(inside=it.certificate)
+            raise
+        except Feasible as it:
+            it.flow = self._by_edge(it.flow)
+            raise
+
+    def solve_max(self, source: Any, sink: Any, limit: int = LIMIT) -> FrameAnswer:
+        """A maximum flow, and which nodes are on the source's side of a cut that shows it. Raises as solve_max_arrays."""
+        with self._shown():
+            value, flows, inside = calls.solve_max(self._max(source, sink).add_number("limit", limit, LIMITS), [])
+        return FrameAnswer(value, self._by_edge(flows), self._by_node(inside=inside))
+
+    def solve_min(self, limit: int = LIMIT) -> FrameAnswer:
+        """A flow of least cost, and potentials that show it. Raises as solve_min_arrays."""
+        with self._shown():
+            cost, flows, prices = calls.solve_min(self._min().add_number("limit", limit, LIMITS), [])
+        return FrameAnswer(cost, self._by_edge(flows), self._by_node(potential=prices))
+
+    def solve_paths(self, source: Any) -> FrameAnswer:
+        """The distances from a node, by the column of costs, and predecessors; inf and None of a node that isn't reached."""
+        _, found, before = calls.solve_paths(self._paths(source), [])
+        reached = [it != 0 or self.nodes[place] == source for place, it in enumerate(before)]
+        distances = [it if is_reached else math.inf for it, is_reached in zip(found, reached)]
+        return FrameAnswer(None, None, self._by_node(distance=distances, predecessor=self._before(before)))
+
+    def _before(self, numbers: Any) -> list[Any]:
+        return [self.nodes[it - 1] if it else None for it in numbers]
+
+    def certify_max(self, source: Any, sink: Any, flows: Any) -> FrameAnswer:
+        """Decides whether flows, a column or a Series, are maximum. Raises as certify_max_arrays."""
+        claim = self._max(source, sink).add(FLOWS, self._flows(flows))
+        with self._shown():
+            value, inside = calls.certify(library.certify_max_arrays, claim, [], INSIDE, FLOWS)
+        return FrameAnswer(value, self._by_edge(self._flows(flows)), self._by_node(inside=inside))
+
+    def certify_min(self, flows: Any) -> FrameAnswer:
+        """Decides whether flows, a column or a Series, cost least. Raises as certify_min_arrays."""
+        claim = self._min().add(FLOWS, self._flows(flows))
+        with self._shown():
+            cost, prices = calls.certify(library.certify_min_arrays, claim, [], POTENTIALS, FLOWS)
+        return FrameAnswer(cost, self._by_edge(self._flows(flows)), self._by_node(potential=prices))
+
+    def certify_infeasible(self) -> FrameAnswer:
+        """Decides whether no flow meets the supplies. Raises Feasible with flows if one does."""
+        with self._shown():
+            inside = calls.certify_infeasible(self._min(), []).inside
+        return FrameAnswer(None, None, self._by_node(inside=inside))
+
+    def certify_paths(self, source: Any, distances: Any) -> FrameAnswer:
+        """Decides whether these are the distances from a node: a dict or Series by node, without those that aren't reached,
+        or with inf. Raises Refused if one isn't true."""
+        claimed = dict(distances.items())
+        for node in claimed:
+            self._number(node)
+        by_node = [claimed.get(node, math.inf) for node in self.nodes]
+        before = calls.certify(
+            library.certify_paths_arrays, self._paths(source).add(DISTANCES_, by_node), [], PREDECESSORS
+        )
+        return FrameAnswer(None, None, self._by_node(distance=by_node, predecessor=self._before(before.predecessors)))
+
+
+def from_frame(
+    edges: pd.DataFrame,
+    tail: Any,
+    head: Any,
+    *,
+    capacity: Any = None,
+    cost: Any = None,
+    low: Any = None,
+    supply: Any = None,
+    scale: Any = None,
+) -> Frame:
+    """The network of a DataFrame, each row of which is an edge between the nodes that two columns name.
+
+    capacity, cost and low name columns of numbers. Without one, edges carry any amount, cost 0 (for distances they are 1
+    long), and may carry 0. supply is a dict or a Series by node: what leaves it less what enters it. With scale= (see
+    dimacs.arrays) numbers are multiples of a unit. Answers are on the index of the frame, or on that of the nodes.
+
+    >>> import pandas
+    >>> table = {"from": ["mine", "mine"], "to": ["port", "port"], "tons": [5, 5], "price": [3, 7]}
+    >>> supply = {"mine": 6, "port": -6}
+    >>> network = from_frame(pandas.DataFrame(table), "from", "to", capacity="tons", cost="price", supply=supply)
+    >>> network.solve_min().flows.tolist()
+    [5, 1]
+    """
+    columns = {"caps": capacity, "costs": cost, "weights": cost, "lows": low}
+    return Frame(edges, tail, head, {name: it for name, it in columns.items() if it is not None}, supply, scale)

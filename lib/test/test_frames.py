@@ -1,0 +1,101 @@
+"""Networks in DataFrames of pandas."""
+
+import random
+import unittest
+from fractions import Fraction
+
+import dimacs
+
+try:
+    import pandas
+except ImportError:
+    pandas = None
+
+
+@unittest.skipUnless(pandas, "no pandas")
+class Frames(unittest.TestCase):
+    def setUp(self):
+        rows = [("spring", "mill", 6, 2), ("spring", "farm", 8, 1), ("mill", "town", 4, 3), ("farm", "town", 5, 1)]
+        self.edges = pandas.DataFrame(rows, columns=["from", "to", "room", "price"], index=list("abcd"))
+
+    def network(self, **more):
+        return dimacs.from_frame(self.edges, "from", "to", capacity="room", cost="price", **more)
+
+    def refused(self, kind, call, *words):
+        with self.assertRaises(kind) as caught:
+            call(*words)
+        return caught.exception
+
+    def test_a_maximum_flow(self):
+        value, flows, nodes = self.network().solve_max("spring", "town")
+        self.assertEqual((value, flows.to_dict()), (9, {"a": 4, "b": 5, "c": 4, "d": 5}))
+        self.assertEqual(nodes["inside"].to_dict(), {"spring": True, "mill": True, "farm": True, "town": False})
+        self.edges["flow"] = flows
+        for claim in "flow", flows, flows.tolist():
+            self.assertEqual(self.network().certify_max("spring", "town", claim).value, 9)
+        self.edges["flow"] -= [1, 0, 1, 0]
+        no = self.refused(dimacs.NotOptimal, self.network().certify_max, "spring", "town", "flow")
+        self.assertEqual((no.value, no.better.to_dict()), (8, flows.to_dict()))
+        self.edges.loc["d", "flow"] = 6
+        no = self.refused(dimacs.Refused, self.network().certify_max, "spring", "town", "flow")
+        self.assertEqual(str(no), "arc 'd' AboveCap: it carries 6, its capacity is 5")
+
+    def test_least_cost(self):
+        network = self.network(supply=pandas.Series({"spring": 7, "town": -7}))
+        cost, flows, nodes = network.solve_min()
+        self.assertEqual((cost, flows.to_dict()), (20, {"a": 2, "b": 5, "c": 2, "d": 5}))
+        self.assertEqual(nodes.loc["spring", "potential"] - nodes.loc["town", "potential"], 5)
+        self.assertEqual(network.certify_min(flows).value, 20)
+        no = self.refused(dimacs.Refused, network.certify_min, flows * 0)
+        self.assertEqual(str(no), "node 'spring' Balance: 0 leaves, its supply is 7")
+        no = self.refused(dimacs.Feasible, network.certify_infeasible)
+        self.assertEqual(list(no.flow.index), list("abcd"))
+
+    def test_no_flow(self):
+        network = self.network(supply={"spring": 10, "town": -10})
+        no = self.refused(dimacs.Infeasible, network.solve_min)
+        self.assertEqual(no.inside["inside"].to_dict(), network.certify_infeasible().nodes["inside"].to_dict())
+        self.assertFalse(no.inside.loc["town", "inside"])
+
+    def test_distances(self):
+        found = self.network().solve_paths("mill").nodes
+        self.assertEqual(
+            found["distance"].to_dict(), {"spring": float("inf"), "mill": 0, "farm": float("inf"), "town": 3}
+        )
+        self.assertEqual(found["predecessor"].to_dict(), {"spring": None, "mill": None, "farm": None, "town": "mill"})
+        again = self.network().certify_paths("mill", found["distance"]).nodes
+        self.assertEqual(again["predecessor"].to_dict(), found["predecessor"].to_dict())
+        no = self.refused(dimacs.Refused, self.network().certify_paths, "mill", {"mill": 0, "town": 2})
+        self.assertEqual(str(no), "node 'town' NoTightArc: no arc gives its distance 2")
+
+    def test_numbers(self):
+        self.edges["room"] = [0.6, 0.8, 0.4, 0.5]
+        self.assertEqual(self.network(scale=10).solve_max("spring", "town").value, Fraction(9, 10))
+        no = self.refused(ValueError, self.network().solve_max, "spring", "town")
+        self.assertEqual(str(no), "room of row 'a' is 0.6, not a whole number")
+        no = self.refused(ValueError, self.network().solve_max, "spring", "sea")
+        self.assertEqual(str(no), "'sea' is no node of the frame")
+        no = self.refused(ValueError, dimacs.from_frame, self.edges, "from", "where")
+        self.assertEqual(str(no), "the frame has no column 'where': it has 'from', 'to', 'room', 'price'")
+
+    def test_nodes_of_any_name(self):
+        edges = pandas.DataFrame({"u": [(0, 0), 1, "x"], "v": [1, "x", (0, 0)]})
+        self.assertEqual(dimacs.from_frame(edges, "u", "v").solve_paths((0, 0)).nodes["distance"].tolist(), [0, 1, 2])
+
+    def test_what_arrays_find(self):
+        chance = random.Random(1)
+        for _ in range(100):
+            nodes, count = chance.randrange(2, 6), chance.randrange(1, 9)
+            ends = [[chance.randrange(nodes) for _ in range(count)] for _ in range(2)]
+            numbers = [chance.randrange(9) for _ in range(count)]
+            edges = pandas.DataFrame({"u": ends[0], "v": ends[1], "n": numbers}, index=chance.sample(range(99), count))
+            present = sorted(set(ends[0] + ends[1]))
+            if len(present) < 2:
+                continue
+            found = dimacs.from_frame(edges, "u", "v", capacity="n").solve_max(present[0], present[-1])
+            theirs = dimacs.solve_max_arrays(nodes, present[0], present[-1], *ends, numbers, base=0)
+            self.assertEqual(found.value, theirs.value)
+
+
+if __name__ == "__main__":
+    unittest.main()

@@ -1,0 +1,125 @@
+#!/usr/bin/env python3
+"""Asks for help and the version, and gives arguments that ask for nothing: tests/usage.py [BINARY]
+
+Help goes to the standard output, with the status 0, and what is wrong with arguments to the standard error, after the
+line `dimacs: usage` and before a usage text, with the status 2. BINARY is the built program; crates/dimacs/out/dimacs by
+default.
+"""
+import os
+import re
+import subprocess
+import sys
+
+from instances import BINARY
+
+TOP = os.path.join(os.path.dirname(os.path.abspath(__file__)), "..")
+
+VERSION = r"dimacs \d+\.\d+\.\d+\S* \((?:not proved|proved by .*)\)\n"
+WHOLE = VERSION + r"Reads, .*\n\nUsage: dimacs COMMAND FILE\.\.\.\n\nCommands:\n  convert KIND FILE .*"
+
+# What is asked for: the arguments, and what is printed, as a pattern.
+ASKED = [
+    ("help", WHOLE),
+    ("--help", WHOLE),
+    ("-h", WHOLE),
+    ("--version", VERSION),
+    ("-V", VERSION),
+]
+
+# Arguments that ask for nothing: what is wrong with them, and the command whose usage follows; none if that of all does.
+WRONG = [
+    (["judgemax"], "no command judgemax: judge-max?", None),
+    (["judgemax", "a", "b", "c"], "no command judgemax: judge-max?", None),
+    (["Convert", "gr", "a"], "no command Convert: convert?", None),
+    (["help", "judgemax"], "no command judgemax: judge-max?", None),
+    (["explain", "judgemax", "a"], "no command judgemax: judge-max?", None),
+    (["--halp"], "no command --halp", None),
+    ([""], "no command ", None),
+    (["judge-max", "a", "b"], "judge-max takes 3 files: INSTANCE SOLUTION CUT; 2 were given", "judge-max"),
+    (["judge-max", "--help"], "judge-max takes 3 files: INSTANCE SOLUTION CUT; 1 was given", "judge-max"),
+    (["judge-infeasible"], "judge-infeasible takes 2 files: INSTANCE CUT; 0 were given", "judge-infeasible"),
+    (["explain", "judge-max", "a", "b"], "judge-max takes 3 files: INSTANCE SOLUTION CUT; 2 were given", "judge-max"),
+    (["certify-max", "a"], "certify-max takes 2 or 3 files: INSTANCE SOLUTION [CERTIFICATE]; 1 was given", "certify-max"),
+    (["certify-min", "a", "b", "c", "--limit", "5"], "certify-min takes 2 or 3 files: INSTANCE SOLUTION [CERTIFICATE]; 5 were given", "certify-min"),
+    (["solve-paths", "a", "b", "c", "--limit", "5"], "solve-paths takes 3 files: GRAPH QUERY LABELS; 5 were given", "solve-paths"),
+    (["convert", "gr"], "convert takes 2 arguments: KIND FILE; 1 was given", "convert"),
+    (["convert", "MAX", "a"], "no kind MAX: max?", "convert"),
+    (["show", "soluton", "a"], "no kind soluton: solution?", "show"),
+    (["convert", "foo", "a"], "no kind foo", "convert"),
+    (["solve-max", "--limit", "5", "a", "b", "c"], "--limit N comes last", "solve-max"),
+    (["solve-max", "a", "b", "c", "--limit"], "--limit N comes last", "solve-max"),
+    (["solve-min", "a", "b", "c", "5", "--limit"], "--limit N comes last", "solve-min"),
+    (["solve-max", "a", "b", "c", "--limit", "1000000001"], "N is from 0 to 1000000000", "solve-max"),
+    (["solve-min", "a", "b", "c", "--limit", "-1"], "N is from 0 to 1000000000", "solve-min"),
+    (["solve-max", "a", "b", "c", "--limit", "many"], "N is from 0 to 1000000000", "solve-max"),
+    (["solve-max", "a", "b", "--limit", "5"], "solve-max takes 3 files: INSTANCE SOLUTION CUT; 2 were given", "solve-max"),
+    (["help", "a", "b"], "help takes 0 or 1 arguments: [COMMAND]; 2 were given", "help"),
+    (["--help", "judge-max"], "--help comes alone", None),
+    (["explain"], "explain takes a command and its files", "explain"),
+    (["explain", "help"], "explain takes a command that runs, and help doesn't", "explain"),
+    ([b"judge-\xff"], "an argument isn't UTF-8", None),
+    (["judge-max", "a", "b", b"\xff"], "an argument isn't UTF-8", None),
+]
+
+
+def usages():
+    """The words of each command in the table of usage.rt, by its name."""
+    with open(f"{TOP}/crates/dimacs/src/usage.rt", encoding="utf-8") as it:
+        words = re.findall(r'\(\s*"([a-z][^"]*)",\s*"[^"]*",?\s*\)', it.read())
+    return {it.split()[0]: it for it in words}
+
+
+def usage_of(words):
+    """The usage of one command, as a pattern."""
+    return rf".+\n\nUsage: dimacs {re.escape(words)}\n.*"
+
+
+def run(binary, words):
+    ran = subprocess.run([binary, *words], capture_output=True, check=False)
+    return ran.returncode, ran.stdout.decode(), ran.stderr.decode()
+
+
+def is_like(text, pattern):
+    return bool(re.fullmatch(pattern, text, re.DOTALL))
+
+
+def is_narrow(text):
+    """Whether a text fits into 80 columns."""
+    return all(len(line) <= 80 for line in text.split("\n"))
+
+
+def cases(binary):
+    """Yields what was asked, the answer, and whether that is right."""
+    commands = usages()
+    helped = [(f"help {name}", usage_of(words)) for name, words in commands.items()]
+    for words, pattern in ASKED + helped:
+        status, printed, complaint = answer = run(binary, words.split())
+        yield words, answer, status == 0 and is_like(printed, pattern) and is_narrow(printed) and not complaint
+    for words, line, command in WRONG:
+        usage = usage_of(commands[command]) if command else WHOLE
+        status, printed, complaint = answer = run(binary, words)
+        wanted = f"dimacs: usage\n{re.escape(line)}\n{usage}"
+        yield words, answer, status == 2 and not printed and is_like(complaint, wanted)
+    status, printed, complaint = answer = run(binary, [])
+    yield "no arguments", answer, status == 2 and not printed and is_like(complaint, f"dimacs: usage\n{WHOLE}")
+    for words in (["help"], ["--version"]):
+        with open("/dev/full", "wb") as full:
+            ran = subprocess.run([binary, *words], stdout=full, stderr=subprocess.PIPE, check=False)
+        right = "dimacs: device fault\ndimacs: standard output: cannot be written: No space left on device (os error 28)\n"
+        yield f"{words} to a full device", ran, ran.returncode == 3 and ran.stderr.decode() == right
+
+
+def main():
+    binary = os.path.abspath(sys.argv[1] if len(sys.argv) > 1 else BINARY)
+    passed = failed = 0
+    for words, answer, is_right in cases(binary):
+        passed += is_right
+        failed += not is_right
+        if not is_right:
+            print(f"{words}: {answer}")
+    print(f"{passed} passed, {failed} failed")
+    return 1 if failed or not passed else 0
+
+
+if __name__ == "__main__":
+    sys.exit(main())
