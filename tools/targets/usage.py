@@ -10,9 +10,9 @@ import sys
 
 
 def printed(*words):
-    """What the program prints if it is done, else what it complains."""
+    """What the program prints of its use; None if it isn't asked for that by these words."""
     ran = subprocess.run(words, capture_output=True, text=True, check=False)
-    return ran.stdout if ran.returncode == 0 else ran.stderr.removeprefix("dimacs: usage\n")
+    return ran.stdout if ran.returncode == 0 else None
 
 
 def without_explain(text):
@@ -24,9 +24,7 @@ def main():
     program, out = sys.argv[1:]
     texts = {"": without_explain(printed(program, "help"))}
     for name in re.findall(r"^ +([a-z]+-?[a-z]*) [A-Z]", texts[""], re.MULTILINE):
-        text = printed(program, "help", name)
-        if text.partition("\n")[0] != texts[""].partition("\n")[0]:
-            texts[name] = text
+        texts[name] = printed(program, "help", name)
     with open(out, "w", encoding="utf-8") as it:
         json.dump(texts, it, indent=1)
 
