@@ -1,7 +1,7 @@
 pub mod BegunLemmas
 pub mod BlockLemmas
 pub mod ByIdLemmas
-mod CutLemmas
+pub mod CutLemmas
 mod DistanceLaws
 mod DistanceStates
 pub mod LabelLaws
@@ -9,6 +9,6 @@ pub mod LabelRecords
 pub mod LabelStates
 pub mod LineCounts
 mod NodeLists
-mod PotentialsLemmas
+pub mod PotentialsLemmas
 pub mod SolutionLemmas
 mod ValueLemmas

@@ -21,5 +21,5 @@ pub mod PathsPassing
 mod OnePass
 pub mod MaxJudge
 pub mod MinJudge
-mod SolutionLemmas
+pub mod SolutionLemmas
 pub mod LeastLemmas
