@@ -1,10 +1,10 @@
 -- The outcomes of certifying.
 use Rattle.std.proofs.Common.{◌≡◌, ◌≢◌, ◌∙◌, ℕ, ℤ, List, [], ◌∷◌, Ok, Err, refl, sym, subst, ap, inl, inr, ◌⊎◌, length}
 use Rattle.std.specs.Prelude.{codes}
-use Rattle.dimacs_claims.specs.Cuts.{CutValue, canonical_cut}
+use Rattle.dimacs_claims.specs.Cuts.{CutValue, SpellsCut, canonical_cut}
 use Rattle.dimacs_claims.specs.Labels.{LabelsValue}
-use Rattle.dimacs_claims.specs.LabelTexts.{canonical_labels}
-use Rattle.dimacs_claims.specs.Potentials.{PotentialsValue, canonical_potentials}
+use Rattle.dimacs_claims.specs.LabelTexts.{SpellsLabels, canonical_labels}
+use Rattle.dimacs_claims.specs.Potentials.{PotentialsValue, SpellsPotentials, canonical_potentials}
 use Rattle.dimacs_claims.specs.SolutionTexts.{SolutionValue, canonical_solution, claimed}
 use Rattle.dimacs_claims.specs.declared.solution.Solution.{Solution}
 use Rattle.dimacs_network.specs.Arcs.{NetworkValue}
@@ -90,8 +90,8 @@ module _ (i : MaxValue) (law : IsMax i) (s : SolutionValue) where
   }
 
   -- a cut shows the claim
-  pub cut_certifies : (cut : CutValue) (value : ℤ) → value ≡ s.value → ShowsMaximum i s cut → MayCertify (CertifiesMaximum i s) (Ok (with_text (output_texts.Cut cut) (reports.Yes (verdicts.Max value))))
-  cut_certifies cut value is shown = rw is (yes_writes cut_apart (canonical_cut cut) (cut, shown, refl))
+  pub cut_certifies : (cut : CutValue) (value : ℤ) → value ≡ s.value → ShowsMaximum i s cut → SpellsCut (canonical_cut cut) cut → MayCertify (CertifiesMaximum i s) (Ok (with_text (output_texts.Cut cut) (reports.Yes (verdicts.Max value))))
+  cut_certifies cut value is shown spelled = rw is (yes_writes cut_apart (canonical_cut cut) (cut, shown, refl, spelled))
 
   -- a solution is better
   pub greater_certifies : (solution : Solution) (place : Where) → place ≡ places.Solution s.value_line 2 → IsGreaterText i s (canonical_solution (claimed solution))
@@ -111,8 +111,9 @@ module _ (i : MinValue) (s : SolutionValue) where
   }
 
   -- potentials show the claim
-  pub potentials_certify : (potentials : PotentialsValue) (cost : ℤ) → cost ≡ s.value → ShowsLeast i s potentials → MayCertify (CertifiesLeast i s) (Ok (with_text (output_texts.Potentials potentials) (reports.Yes (verdicts.Min cost))))
-  potentials_certify potentials cost is shown = rw is (yes_writes potentials_apart (canonical_potentials potentials) (potentials, shown, refl))
+  pub potentials_certify : (potentials : PotentialsValue) (cost : ℤ) → cost ≡ s.value → ShowsLeast i s potentials → SpellsPotentials (canonical_potentials potentials) potentials
+      → MayCertify (CertifiesLeast i s) (Ok (with_text (output_texts.Potentials potentials) (reports.Yes (verdicts.Min cost))))
+  potentials_certify potentials cost is shown spelled = rw is (yes_writes potentials_apart (canonical_potentials potentials) (potentials, shown, refl, spelled))
 
   -- a solution is better
   pub cheaper_certifies : (solution : Solution) (place : Where) → place ≡ places.Solution s.value_line 2 → IsCheaperText i s (canonical_solution (claimed solution))
@@ -141,8 +142,8 @@ module _ (i : MinValue) where
   }
 
   -- a set shows it
-  pub set_certifies : (set : CutValue) → ShowsNoFlow i set → MayCertify (CertifiesInfeasible i) (Ok (with_text (output_texts.Cut set) (reports.Yes verdicts.Infeasible)))
-  set_certifies set shown = yes_writes set_apart (canonical_cut set) (set, shown, refl)
+  pub set_certifies : (set : CutValue) → ShowsNoFlow i set → SpellsCut (canonical_cut set) set → MayCertify (CertifiesInfeasible i) (Ok (with_text (output_texts.Cut set) (reports.Yes verdicts.Infeasible)))
+  set_certifies set shown spelled = yes_writes set_apart (canonical_cut set) (set, shown, refl, spelled)
 
   -- a flow is feasible
   pub feasible_certifies : (solution : Solution) → IsFeasibleText i (canonical_solution (claimed solution)) → MayCertify (CertifiesInfeasible i) (Ok (with_text (output_texts.Solution solution) (reports.Fault kinds.Min start Feasible)))
@@ -165,8 +166,8 @@ module _ (g : NetworkValue) (d : LabelsValue) where
 
   -- labels show that the distances are right
   pub labels_certify : (labels : LabelsValue) (sources : ℕ) → sources ≡ length d.blocks → d.nodes ≡ g.nodes → AreAllDistances g d.blocks × AreLabelsOfAll g d.blocks labels
-      → MayCertify (CertifiesDistances g d) (Ok (with_text (output_texts.Labels labels) (reports.Distances sources)))
-  labels_certify labels sources count same shown = rw count ((same, (canonical_labels labels, (shown.0, (labels, shown.1, refl)), refl)), alike)
+      → SpellsLabels (canonical_labels labels) labels → MayCertify (CertifiesDistances g d) (Ok (with_text (output_texts.Labels labels) (reports.Distances sources)))
+  labels_certify labels sources count same shown spelled = rw count ((same, (canonical_labels labels, (shown.0, (labels, shown.1, refl, spelled)), refl)), alike)
     where
       alike : (s : Status) (out : List (List ℕ)) → CertifiesDistances g d s out → (s ≡ Done) × (report_of out ≡ distances_line (length d.blocks))
       alike Done out h = (refl, ap report_of h.1.2)

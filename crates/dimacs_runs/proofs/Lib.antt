@@ -9,3 +9,6 @@ pub mod CertifyingLemmas
 pub mod TextLemmas
 pub mod MakingLemmas
 pub mod SpreadLemmas
+mod LabelCounts
+mod SolutionTexts
+mod JudgedYes

@@ -1,5 +1,5 @@
 -- The outcomes of solvers.
-use Rattle.std.proofs.Common.{◌≡◌, ◌≢◌, ◌∙◌, ◌+◌, ℕ, List, Result, Ok, Err, refl, sym, ap, inl, inr, arith}
+use Rattle.std.proofs.Common.{◌≡◌, ◌≢◌, ◌∙◌, ◌+◌, ℕ, List, Result, Ok, Err, IfOk, refl, sym, ap, inl, inr, arith}
 use Rattle.std.proofs.lemmas.Int.{ints}
 use Rattle.std.proofs.lemmas.Bool.{cases_order}
 use Rattle.dimacs_network.specs.declared.network.ArcView.{ArcView}
@@ -29,24 +29,29 @@ use Rattle.dimacs_runs.specs.declared.status.RunError.{RunError}
 use Rattle.dimacs_runs.specs.declared.status.RunError.TheVariants.{Device}
 use Rattle.dimacs_runs.specs.Judgings.{CountsDevices}
 use Rattle.dimacs_runs.specs.Outputs.{MayWrite}
-use Rattle.dimacs_runs.specs.inside.Outcomes.{MaySolve, least_outcome, maximum_outcome, outcome_of, solve_stop}
+use Rattle.dimacs_runs.specs.declared.outcome.Outcome.{Outcome}
+use Rattle.dimacs_runs.specs.inside.Outcomes.{IsReadable, MaySolve, least_outcome, maximum_outcome, outcome_of, solve_stop}
 use Rattle.dimacs_runs.specs.Solved.{FindsLeast, FindsMaximum, FindsPaths, RefusesPaths, report_alone}
 use Rattle.dimacs_runs.specs.Verdicts.{failure_line}
 
+-- the certificate of the outcome can be read again
+abbrev Readable : Outcome → Type 0
+Readable outcome = IsReadable outcome.certificate
+
 -- the solver of maximum flows answered
-pub maximum_ends : (i : MaxValue) (limit : ℕ) (answer : Result MaxAnswer SolveError) → SolvesMax i limit answer → MaySolve (FindsMaximum i limit) (outcome_of (maximum_outcome answer))
-maximum_ends i limit (Ok (answers.Optimal solution cut)) found = ((found.0, claimed solution, cut, found.1, refl), λ refusal never. absurd never)
-maximum_ends i limit (Ok answers.GaveUp) gave_up = ((gave_up, refl), λ refusal never. absurd never)
-maximum_ends i limit (Err solve_errors.Memory) nothing = tt
-maximum_ends i limit (Err other) never = absurd never
+pub maximum_ends : (i : MaxValue) (limit : ℕ) (answer : Result MaxAnswer SolveError) → SolvesMax i limit answer → IfOk (maximum_outcome answer) Readable → MaySolve (FindsMaximum i limit) (outcome_of (maximum_outcome answer))
+maximum_ends i limit (Ok (answers.Optimal solution cut)) found readable = ((found.0, claimed solution, cut, found.1, readable, refl), λ refusal never. absurd never)
+maximum_ends i limit (Ok answers.GaveUp) gave_up readable = ((gave_up, refl), λ refusal never. absurd never)
+maximum_ends i limit (Err solve_errors.Memory) nothing readable = tt
+maximum_ends i limit (Err other) never readable = absurd never
 
 -- the solver of minimum cost flows answered
-pub least_ends : (i : MinValue) (limit : ℕ) (answer : Result MinAnswer SolveError) → SolvesMin i limit answer → MaySolve (FindsLeast i limit) (outcome_of (least_outcome answer))
-least_ends i limit (Ok (min_answers.Optimal solution potentials)) found = (inl (claimed solution, potentials, found, refl), λ refusal never. absurd never)
-least_ends i limit (Ok (min_answers.Infeasible set)) found = (inr (set, found, refl), λ refusal never. absurd never)
-least_ends i limit (Ok min_answers.GaveUp) gave_up = ((gave_up, refl), λ refusal never. absurd never)
-least_ends i limit (Err solve_errors.Memory) nothing = tt
-least_ends i limit (Err other) never = absurd never
+pub least_ends : (i : MinValue) (limit : ℕ) (answer : Result MinAnswer SolveError) → SolvesMin i limit answer → IfOk (least_outcome answer) Readable → MaySolve (FindsLeast i limit) (outcome_of (least_outcome answer))
+least_ends i limit (Ok (min_answers.Optimal solution potentials)) found readable = (inl (claimed solution, potentials, found, readable, refl), λ refusal never. absurd never)
+least_ends i limit (Ok (min_answers.Infeasible set)) found readable = (inr (set, found, readable, refl), λ refusal never. absurd never)
+least_ends i limit (Ok min_answers.GaveUp) gave_up readable = ((gave_up, refl), λ refusal never. absurd never)
+least_ends i limit (Err solve_errors.Memory) nothing readable = tt
+least_ends i limit (Err other) never readable = absurd never
 
 same_first : (arcs : List ArcView) (j k : ℕ) → IsFirstNegative arcs j → IsFirstNegative arcs k → j ≡ k
 same_first arcs j k f g = elim (cases_order f.index g.index) [

@@ -4,11 +4,11 @@ use Rattle.dimacs_records.specs.declared.kinds.TextKind.{TextKind}
 use Rattle.dimacs_records.specs.declared.kinds.TextKind.TheVariants as kinds
 use Rattle.dimacs_records.specs.declared.reasons.Reason.{Reason}
 use Rattle.dimacs_records.specs.declared.reasons.Reason.TheVariants.{Feasible, NodesDiffer, NotLeast, NotMaximum}
-use Rattle.dimacs_claims.specs.Cuts.{CutValue, canonical_cut}
+use Rattle.dimacs_claims.specs.Cuts.{CutValue, SpellsCut, canonical_cut}
 use Rattle.dimacs_claims.specs.DistanceTexts.{GivesDistances}
 use Rattle.dimacs_claims.specs.Labels.{BlockValue, LabelsValue}
-use Rattle.dimacs_claims.specs.LabelTexts.{canonical_labels}
-use Rattle.dimacs_claims.specs.Potentials.{PotentialsValue, canonical_potentials}
+use Rattle.dimacs_claims.specs.LabelTexts.{SpellsLabels, canonical_labels}
+use Rattle.dimacs_claims.specs.Potentials.{PotentialsValue, SpellsPotentials, canonical_potentials}
 use Rattle.dimacs_claims.specs.SolutionTexts.{SolutionValue, GivesSolution, canonical_solution}
 use Rattle.dimacs_network.specs.Arcs.{NetworkValue}
 use Rattle.dimacs_instance.specs.Graph.{GivesGraph}
@@ -55,7 +55,7 @@ value_refused s reason = failure_line (Solution s.value_line 2) reason
 
 -- the text of a cut that shows the claimed flow maximum
 abbrev pub IsCutText : MaxValue → SolutionValue → List ℕ → Type 0
-IsCutText i s text = (c : CutValue) × ShowsMaximum i s c × (text ≡ canonical_cut c)
+IsCutText i s text = (c : CutValue) × ShowsMaximum i s c × (text ≡ canonical_cut c) × SpellsCut text c
 
 -- the claimed flow isn't maximum, and this is the text of a solution with a greater value
 abbrev pub IsGreaterText : MaxValue → SolutionValue → List ℕ → Type 0
@@ -64,7 +64,7 @@ IsGreaterText i s text =
 
 -- the text of potentials that show that the claimed flow costs least
 abbrev pub IsPotentialsText : MinValue → SolutionValue → List ℕ → Type 0
-IsPotentialsText i s text = (p : PotentialsValue) × ShowsLeast i s p × (text ≡ canonical_potentials p)
+IsPotentialsText i s text = (p : PotentialsValue) × ShowsLeast i s p × (text ≡ canonical_potentials p) × SpellsPotentials text p
 
 -- the text of a solution with this flow; empty if its sums of costs are out of range, so that a judge would refuse it
 abbrev pub IsFlowText : MinValue → List ℤ → List ℕ → Type 0
@@ -76,7 +76,7 @@ IsCheaperText i s text = (x : List ℤ) × (y : List ℤ) × IsMinImproved i s x
 
 -- the text of a set that shows that no flow is feasible
 abbrev pub IsSetText : MinValue → List ℕ → Type 0
-IsSetText i text = (c : CutValue) × ShowsNoFlow i c × (text ≡ canonical_cut c)
+IsSetText i text = (c : CutValue) × ShowsNoFlow i c × (text ≡ canonical_cut c) × SpellsCut text c
 
 -- the text of a feasible flow
 abbrev pub IsFeasibleText : MinValue → List ℕ → Type 0
@@ -84,7 +84,7 @@ IsFeasibleText i text = (x : List ℤ) × FeasibleMin i x × IsFlowText i x text
 
 -- all claimed distances are right, and this is the text of labels that show it
 abbrev pub IsLabelsText : NetworkValue → List BlockValue → List ℕ → Type 0
-IsLabelsText g blocks text = AreAllDistances g blocks × ((l : LabelsValue) × AreLabelsOfAll g blocks l × (text ≡ canonical_labels l))
+IsLabelsText g blocks text = AreAllDistances g blocks × ((l : LabelsValue) × AreLabelsOfAll g blocks l × (text ≡ canonical_labels l) × SpellsLabels text l)
 
 abbrev pub CertifiesMaximum : MaxValue → SolutionValue → Status → List (List ℕ) → Type 0
 CertifiesMaximum i s = CertificateOr (IsCutText i s) (max_line s.value) (max_claim_rows i s) (IsGreaterText i s) (value_refused s NotMaximum)

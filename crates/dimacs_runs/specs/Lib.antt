@@ -4,6 +4,7 @@ pub mod Files
 pub mod Jobs
 pub mod Judged
 pub mod Judgings
+pub mod Laws
 pub mod Outcomes
 pub mod Outputs
 pub mod Refusals

@@ -5,10 +5,10 @@ use Rattle.dimacs_records.specs.declared.kinds.TextKind.{TextKind}
 use Rattle.dimacs_records.specs.declared.kinds.TextKind.TheVariants as kinds
 use Rattle.dimacs_records.specs.declared.reasons.Reason.{Reason}
 use Rattle.dimacs_records.specs.declared.reasons.Reason.TheVariants.{NegativeWeight}
-use Rattle.dimacs_claims.specs.Cuts.{CutValue, canonical_cut}
+use Rattle.dimacs_claims.specs.Cuts.{CutValue, SpellsCut, canonical_cut}
 use Rattle.dimacs_claims.specs.LabelTexts.{canonical_labels}
-use Rattle.dimacs_claims.specs.Labels.{LabelsValue}
-use Rattle.dimacs_claims.specs.Potentials.{PotentialsValue, canonical_potentials}
+use Rattle.dimacs_claims.specs.Labels.{AreLabels, LabelsValue}
+use Rattle.dimacs_claims.specs.Potentials.{PotentialsValue, SpellsPotentials, canonical_potentials}
 use Rattle.dimacs_claims.specs.SolutionTexts.{SolutionValue, canonical_solution}
 use Rattle.dimacs_network.specs.Arcs.{NetworkValue}
 use Rattle.dimacs_instance.specs.Graph.{GivesGraph}
@@ -49,15 +49,15 @@ FaultAloneOr alone text next status out =
 -- a solution, a cut that shows it maximum, and the verdict; or none of `limit` flows is maximum
 abbrev pub FindsMaximum : MaxValue → ℕ → Status → List (List ℕ) → Type 0
 FindsMaximum i limit Done out =
-    (0 < limit) × (s : SolutionValue) × (c : CutValue) × IsOptimal i s c × (out ≡ canonical_solution s ∷ canonical_cut c ∷ max_line s.value ∷ [])
+    (0 < limit) × (s : SolutionValue) × (c : CutValue) × IsOptimal i s c × SpellsCut (canonical_cut c) c × (out ≡ canonical_solution s ∷ canonical_cut c ∷ max_line s.value ∷ [])
 FindsMaximum i limit Refused out = ⊥
 FindsMaximum i limit GaveUp out = GivesUp i limit × (out ≡ report_alone gave_up_line)
 
 -- a solution with potentials or a set of nodes, and the verdict; or no flow is least in `limit` steps, or in range
 abbrev pub FindsLeast : MinValue → ℕ → Status → List (List ℕ) → Type 0
 FindsLeast i limit Done out =
-    ((s : SolutionValue) × (p : PotentialsValue) × IsLeastAnswer i limit s p × (out ≡ canonical_solution s ∷ canonical_potentials p ∷ min_line s.value ∷ []))
-    ⊎ ((c : CutValue) × ShowsNoFlow i c × (out ≡ [] ∷ canonical_cut c ∷ infeasible_line ∷ []))
+    ((s : SolutionValue) × (p : PotentialsValue) × IsLeastAnswer i limit s p × SpellsPotentials (canonical_potentials p) p × (out ≡ canonical_solution s ∷ canonical_potentials p ∷ min_line s.value ∷ []))
+    ⊎ ((c : CutValue) × ShowsNoFlow i c × SpellsCut (canonical_cut c) c × (out ≡ [] ∷ canonical_cut c ∷ infeasible_line ∷ []))
 FindsLeast i limit Refused out = ⊥
 FindsLeast i limit GaveUp out = GivesUpMin i limit × (out ≡ report_alone gave_up_line)
 
@@ -71,7 +71,7 @@ RefusesPaths g q place reason =
 abbrev pub FindsPaths : NetworkValue → QueriesValue → Status → List (List ℕ) → Type 0
 FindsPaths g q Done out =
     (l : LabelsValue) × (Clear (query_node_row g.nodes q) × All HasNoNegativeWeight g.arcs × AreProduced g q l)
-    × (out ≡ [] ∷ canonical_labels l ∷ paths_lines l.blocks q ∷ [])
+    × AreLabels l × (out ≡ [] ∷ canonical_labels l ∷ paths_lines l.blocks q ∷ [])
 FindsPaths g q Refused out = (place : Where) × (reason : Reason) × RefusesPaths g q place reason × (out ≡ report_alone (failure_line place reason))
 FindsPaths g q GaveUp out = ⊥
 

@@ -147,7 +147,7 @@ fn answer_maximum<N: Network>(
     match certify_max_placed(alloc, instance, placed)? {
         MaxDecision::Optimal(cut) => {
             let report = Report::Yes(Verdict::Max(placed.value));
-            Ok(Outcome::with_text(OutputText::Cut(cut), report))
+            Ok(Outcome::certified(OutputText::Nothing, OutputText::Cut(cut), report))
         }
         MaxDecision::Better(flow) => refuse_maximum(alloc, instance, flow, placed.value_line),
     }
@@ -168,7 +168,8 @@ fn answer_least<N: Network>(
     match certify_min_placed(alloc, instance, placed)? {
         MinDecision::Optimal(potentials) => {
             let report = Report::Yes(Verdict::Min(placed.value));
-            Ok(Outcome::with_text(OutputText::Potentials(potentials), report))
+            let certificate = OutputText::Potentials(potentials);
+            Ok(Outcome::certified(OutputText::Nothing, certificate, report))
         }
         MinDecision::Better(flow) => refuse_least(alloc, instance, &flow, placed.value_line),
     }

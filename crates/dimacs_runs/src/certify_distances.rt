@@ -2,6 +2,7 @@
 
 ghost use Rattle.std.specs.Prelude.{◌≡◌, ◌≢◌, ◌∷◌, [], ℕ, List, Some, Err};
 ghost use Rattle.dimacs_records.specs.declared.kinds.TextKind.TheVariants as kinds;
+ghost use Rattle.dimacs_claims.specs.LabelTexts.{FitText};
 ghost use Rattle.dimacs_runs.specs.declared.jobs.CertifyKind.TheVariants as certifies;
 ghost use Rattle.dimacs_runs.specs.declared.status.RunError.TheVariants.{Device};
 ghost use Rattle.dimacs_runs.specs.Certified.{Certified, CertifiesDistances};
@@ -43,7 +44,7 @@ fn answer_distances<N: Network>(
     graph: &Graph<N>,
     distances: &Distances,
 ) -> Result<Outcome, Stop>
-    ensures certifies { MayCertify (CertifiesDistances graph.now distances.now) (outcome_of result) }
+    ensures certifies { FitText distances.now → MayCertify (CertifiesDistances graph.now distances.now) (outcome_of result) }
     ensures no_device { outcome_of result ≢ Err Device }
 {
     if distances.nodes() != graph.network().nodes() {
@@ -61,10 +62,10 @@ fn answer_blocks<N: Network>(
     distances: &Distances,
 ) -> Result<Outcome, Stop>
     requires { distances.now.nodes ≡ graph.now.nodes }
-    ensures certifies { MayCertify (CertifiesDistances graph.now distances.now) (outcome_of result) }
+    ensures certifies { FitText distances.now → MayCertify (CertifiesDistances graph.now distances.now) (outcome_of result) }
     ensures no_device { outcome_of result ≢ Err Device }
 {
     let labels = certify_paths(alloc, graph, distances)?;
     let report = Report::Distances(distances.blocks().len() as u32);
-    Ok(Outcome::with_text(OutputText::Labels(labels), report))
+    Ok(Outcome::certified(OutputText::Nothing, OutputText::Labels(labels), report))
 }

@@ -40,7 +40,7 @@ fn answer_infeasible<N: Network>(alloc: Global, instance: &MinInstance<N>) -> Re
     match decide_infeasible(alloc, instance)? {
         Feasibility::Infeasible(set) => {
             let report = Report::Yes(Verdict::Infeasible);
-            Ok(Outcome::with_text(OutputText::Cut(set), report))
+            Ok(Outcome::certified(OutputText::Nothing, OutputText::Cut(set), report))
         }
         Feasibility::Feasible(flow) => refuse_infeasible(alloc, instance, &flow),
     }

@@ -3,7 +3,7 @@
 ghost use Rattle.std.specs.Prelude.{◌≡◌, ◌↔◌, ◌∷◌, [], IfOk, IsTrue};
 ghost use Rattle.dimacs_lines.specs.Puts.{Puts};
 ghost use Rattle.dimacs_runs.specs.declared.outcome.OutputText.TheVariants.{Nothing};
-ghost use Rattle.dimacs_runs.specs.inside.Outcomes.{EndsWriting, text_bytes};
+ghost use Rattle.dimacs_runs.specs.inside.Outcomes.{EndsWriting, IsReadable, text_bytes};
 ghost use Rattle.dimacs_runs.specs.inside.Outcomes as outcomes;
 
 use crate::report::Report;
@@ -28,6 +28,24 @@ impl OutputText {
         ensures { IsTrue result ↔ (self.now ≡ Nothing) }
     {
         matches!(self, OutputText::Nothing)
+    }
+
+    /// Promises that a certificate can be read again, since its type keeps it lawful. Computes nothing.
+    fn be_readable(&self)
+        ensures { IsReadable self.now }
+    {
+        match self {
+            OutputText::Nothing | OutputText::Solution(_) => {}
+            OutputText::Cut(cut) => {
+                cut.len();
+            }
+            OutputText::Potentials(potentials) => {
+                potentials.nodes();
+            }
+            OutputText::Labels(labels) => {
+                labels.blocks();
+            }
+        }
     }
 
     fn write<K: Sink>(&self, sink: &mut K) -> Result<(), DeviceFault>
@@ -61,6 +79,19 @@ impl Outcome {
         ensures { result ≡ outcomes.reporting report }
     {
         Outcome::with_text(OutputText::Nothing, report)
+    }
+
+    /// A yes with its certificate, and with the claim of a solver.
+    pub(crate) fn certified(claim: OutputText, certificate: OutputText, report: Report) -> Outcome
+        ensures outcome { result ≡ record { claim = claim; certificate = certificate; report = report } }
+        ensures readable { IsReadable certificate }
+    {
+        certificate.be_readable();
+        Outcome {
+            claim,
+            certificate,
+            report,
+        }
     }
 
     /// A report with a certificate, or with a solution in its place.

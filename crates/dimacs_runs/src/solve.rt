@@ -12,7 +12,7 @@ ghost use Rattle.dimacs_runs.specs.declared.status.RunError.TheVariants.{Device,
 ghost use Rattle.dimacs_runs.specs.Judgings.{CountsDevices};
 ghost use Rattle.dimacs_runs.specs.Outputs.{MayWrite, ReportsAll};
 ghost use Rattle.dimacs_runs.specs.inside.Judgings.{HasFault};
-ghost use Rattle.dimacs_runs.specs.inside.Outcomes.{MaySolve, outcome_of};
+ghost use Rattle.dimacs_runs.specs.inside.Outcomes.{IsReadable, MaySolve, outcome_of};
 ghost use Rattle.dimacs_runs.specs.inside.Outcomes as outcomes;
 ghost use Rattle.dimacs_runs.specs.Solved.{AreQueries, FindsPaths, Solved, solved_kind};
 
@@ -113,21 +113,20 @@ fn label<N: Network>(alloc: Global, graph: &Graph<N>, queries: &Queries) -> Resu
     let mut labels = solve_paths(alloc, graph, queries)?;
     index_for(queries, &mut labels)?;
     let answers = answer_queries(alloc, queries, &labels)?;
-    Ok(Outcome::with_text(OutputText::Labels(labels), Report::Yes(answers)))
+    let certificate = OutputText::Labels(labels);
+    Ok(Outcome::certified(OutputText::Nothing, certificate, Report::Yes(answers)))
 }
 
 /// The outcome of a solver's answer.
 fn maximum_outcome(answer: Result<MaxAnswer, SolveError>) -> Result<Outcome, Stop>
-    ensures { result ≡ outcomes.maximum_outcome answer }
+    ensures outcome { result ≡ outcomes.maximum_outcome answer }
+    ensures readable { IfOk result (λ outcome. IsReadable outcome.certificate) }
 {
     match answer? {
         MaxAnswer::Optimal(solution, cut) => {
             let report = Report::Yes(Verdict::Max(solution.value));
-            Ok(Outcome {
-                claim: OutputText::Solution(solution),
-                certificate: OutputText::Cut(cut),
-                report,
-            })
+            let claim = OutputText::Solution(solution);
+            Ok(Outcome::certified(claim, OutputText::Cut(cut), report))
         }
         MaxAnswer::GaveUp => Ok(Outcome::reporting(Report::GaveUp)),
     }
@@ -135,20 +134,18 @@ fn maximum_outcome(answer: Result<MaxAnswer, SolveError>) -> Result<Outcome, Sto
 
 /// The outcome of a solver's answer.
 fn least_outcome(answer: Result<MinAnswer, SolveError>) -> Result<Outcome, Stop>
-    ensures { result ≡ outcomes.least_outcome answer }
+    ensures outcome { result ≡ outcomes.least_outcome answer }
+    ensures readable { IfOk result (λ outcome. IsReadable outcome.certificate) }
 {
     match answer? {
         MinAnswer::Optimal(solution, potentials) => {
             let report = Report::Yes(Verdict::Min(solution.value));
-            Ok(Outcome {
-                claim: OutputText::Solution(solution),
-                certificate: OutputText::Potentials(potentials),
-                report,
-            })
+            let claim = OutputText::Solution(solution);
+            Ok(Outcome::certified(claim, OutputText::Potentials(potentials), report))
         }
         MinAnswer::Infeasible(set) => {
             let report = Report::Yes(Verdict::Infeasible);
-            Ok(Outcome::with_text(OutputText::Cut(set), report))
+            Ok(Outcome::certified(OutputText::Nothing, OutputText::Cut(set), report))
         }
         MinAnswer::GaveUp => Ok(Outcome::reporting(Report::GaveUp)),
     }

@@ -1,9 +1,10 @@
 -- Inside: the outcomes of runs, their texts, and what ends a run early.
 use Rattle.std.specs.Prelude.{ℕ, ℤ, ◌≡◌, List, [], ◌∷◌, Option, None, Result, Ok, Err, map}
 use Rattle.dimacs_lines.specs.Devices.{Written}
-use Rattle.dimacs_claims.specs.Cuts.{canonical_cut}
+use Rattle.dimacs_claims.specs.Cuts.{SpellsCut, canonical_cut}
+use Rattle.dimacs_claims.specs.Labels.{AreLabels}
 use Rattle.dimacs_claims.specs.LabelTexts.{canonical_labels}
-use Rattle.dimacs_claims.specs.Potentials.{canonical_potentials}
+use Rattle.dimacs_claims.specs.Potentials.{SpellsPotentials, canonical_potentials}
 use Rattle.dimacs_claims.specs.SolutionTexts.{SolutionValue, canonical_solution, claimed}
 use Rattle.dimacs_optimality.specs.declared.verdict.JudgeError.{JudgeError}
 use Rattle.dimacs_optimality.specs.declared.verdict.JudgeError.TheVariants as judge_errors
@@ -47,6 +48,14 @@ text_bytes (Solution solution) = canonical_solution (claimed solution)
 text_bytes (Cut cut) = canonical_cut cut
 text_bytes (Potentials potentials) = canonical_potentials potentials
 text_bytes (Labels labels) = canonical_labels labels
+
+-- the certificate's text spells it; labels are lawful, so theirs does if they fit a text
+abbrev pub IsReadable : OutputText → Type 0
+IsReadable Nothing = Unit {0}
+IsReadable (Solution solution) = Unit {0}
+IsReadable (Cut cut) = SpellsCut (canonical_cut cut) cut
+IsReadable (Potentials potentials) = SpellsPotentials (canonical_potentials potentials) potentials
+IsReadable (Labels labels) = AreLabels labels
 
 -- the texts without the claim, and all: the claim, the certificate and the report
 abbrev pub unclaimed_texts : Outcome → List (List ℕ)

@@ -19,7 +19,7 @@ pub returns-in-Optimal-clause-certifies : goal.returns-in-Optimal-clause-certifi
 returns-in-Optimal-clause-certifies g c = λ s placed.
     let decided : CertifiesMax c.args.instance.now s (Optimal c.in-Optimal.cut) = rw c.in-Optimal.is at (c.in_ok-cut.ensures s placed) in
     let fits : SFits w128 c.args.placed.now.value = search rules in
-    rw (c.with_text.ensures, to_z-of_z w128 c.args.placed.now.value fits) (cut_certifies c.args.instance.now c.requires.lawful s c.in-Optimal.cut c.args.placed.now.value placed.value_is decided)
+    rw (c.certified.ensures.outcome, to_z-of_z w128 c.args.placed.now.value fits) (cut_certifies c.args.instance.now c.requires.lawful s c.in-Optimal.cut c.args.placed.now.value placed.value_is decided c.certified.ensures.readable)
 
 pub returns-in-Better-clause-certifies : goal.returns-in-Better-clause-certifies
 returns-in-Better-clause-certifies g c = λ s placed.

@@ -1,12 +1,20 @@
 use Rattle.std.proofs.Common.{ap, length}
 use Rattle.std.proofs.lemmas.Result.{err_from_is_err_and}
+use Rattle.dimacs_claims.specs.LabelTexts.{FitText}
+use Rattle.dimacs_claims.proofs.LabelLaws.{labels_round_trip}
+use Rattle.dimacs_runs.proofs.LabelCounts.{labels_fit}
 use Rattle.dimacs_runs.proofs.CertifyingLemmas.{distances_error, labels_certify}
 use Rattle.dimacs_runs.proofs.certify_distances.answer_blocks.Goals as goal
 
 pub returns-clause-certifies : goal.returns-clause-certifies
-returns-clause-certifies g c = rw c.with_text.ensures (labels_certify c.args.graph.now c.args.distances.now c.in_ok-labels.labels _ (ap length c.blocks-2.ensures.blocks) c.requires c.in_ok-labels.ensures)
+returns-clause-certifies g c = λ fits.
+    let d = c.args.distances.now in
+    let labels = c.in_ok-labels.labels in
+    let readable = c.certified.ensures.readable in
+    let few : FitText labels = labels_fit c.args.graph.now d labels c.blocks-2.ensures.lawful.0 readable c.requires c.in_ok-labels.ensures.1 fits in
+    rw c.certified.ensures.outcome (labels_certify c.args.graph.now d labels _ (ap length c.blocks-2.ensures.blocks) c.requires c.in_ok-labels.ensures (labels_round_trip labels readable few))
 
 pub returns-in_err-labels-clause-certifies : goal.returns-in_err-labels-clause-certifies
-returns-in_err-labels-clause-certifies g c =
+returns-in_err-labels-clause-certifies g c = λ fits.
     let (stop, is, same) = err_from_is_err_and c.from_residual.result c.from_residual.ensures.1 in
     rw (is, same) (distances_error c.args.graph.now c.args.distances.now _ c.requires c.in_err-labels.ensures)

@@ -10,7 +10,7 @@ use Rattle.dimacs_runs.proofs.solve.solve_least.Goals as goal
 pub returns-clause-solves : goal.returns-clause-solves
 returns-clause-solves g c = λ a coming.
     let i = c.in_ok-instance.instance in
-    rw c.least_outcome.ensures (value_ends solving (text_of kinds.Min GivesMin a) (λ i. FindsLeast i c.args.limit) i _ (c.in_ok-instance.ensures.reads a coming) (least_ends i c.args.limit c.solve_min.result c.solve_min.ensures))
+    rw c.least_outcome.ensures.outcome (value_ends solving (text_of kinds.Min GivesMin a) (λ i. FindsLeast i c.args.limit) i _ (c.in_ok-instance.ensures.reads a coming) (least_ends i c.args.limit c.solve_min.result c.solve_min.ensures (rw c.least_outcome.ensures.outcome at c.least_outcome.ensures.readable)))
 
 -- the instance could not be read
 pub returns-in_err-instance-clause-solves : goal.returns-in_err-instance-clause-solves

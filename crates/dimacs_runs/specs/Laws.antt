@@ -1,0 +1,62 @@
+-- The theorems: what runs write with `Done`, the judge's run answers yes.
+use Rattle.std.specs.Prelude.{ℕ, ◌≡◌, ◌≤◌, ◌⊎◌, List, [], ◌∷◌}
+use Rattle.std.specs.List.{All, Contains}
+use Rattle.dimacs_claims.specs.DistanceTexts.{SpellsDistances}
+use Rattle.dimacs_claims.specs.Labels.{BlockValue, LabelsValue}
+use Rattle.dimacs_claims.specs.LabelTexts.{FitText, canonical_labels}
+use Rattle.dimacs_network.specs.Arcs.{NetworkValue}
+use Rattle.dimacs_instance.specs.Graph.{SpellsGraph}
+use Rattle.dimacs_instance.specs.QueryTexts.{QueriesValue, SpellsQueries}
+use Rattle.dimacs_optimality.specs.QueryTests.{nodes_asked, sources_asked}
+use Rattle.dimacs_decide.specs.CertifiedPaths.{sources_of}
+use Rattle.dimacs_runs.specs.declared.jobs.CertifyKind.{CertifyKind}
+use Rattle.dimacs_runs.specs.declared.jobs.CertifyKind.TheVariants as certifies
+use Rattle.dimacs_runs.specs.declared.jobs.JudgeKind.TheVariants.{Max, Min, Infeasible, Paths}
+use Rattle.dimacs_runs.specs.declared.jobs.SolveJob.{SolveJob}
+use Rattle.dimacs_runs.specs.declared.jobs.SolveJob.TheVariants as solves
+use Rattle.dimacs_runs.specs.declared.status.Status.TheVariants.{Done}
+use Rattle.dimacs_runs.specs.Certified.{Certified}
+use Rattle.dimacs_runs.specs.Judged.{Judged, paths_lines}
+use Rattle.dimacs_runs.specs.Solved.{Solved}
+
+-- each query is about the source of a block and nodes of the graph
+pub record AskOf (nodes : ℕ) (blocks : List BlockValue) (q : QueriesValue) : Type 0 where
+  pub sources : All (λ source. Contains (sources_of blocks) source) (sources_asked q)
+  pub within : All (λ id. id ≤ nodes) (nodes_asked q)
+
+-- the judge's run over the graph, any queries about the claim's sources and the certificate answers yes, and prints the
+-- claimed distances
+abbrev pub PathsJudgedYes : List ℕ → List ℕ → List ℕ → Type 0
+PathsJudgedYes graph claim certificate =
+    (g : NetworkValue) × (d : LabelsValue) × SpellsGraph graph g × SpellsDistances claim d
+    × ((queries : List ℕ) (q : QueriesValue) → SpellsQueries queries q → AskOf g.nodes d.blocks q
+    → Judged Paths graph queries certificate Done (paths_lines d.blocks q))
+
+-- the judge's run over the instance, the claim and the certificate answers yes, and prints the same report
+abbrev pub CertifiedYes : CertifyKind → List ℕ → List ℕ → List ℕ → List ℕ → Type 0
+CertifiedYes certifies.Max instance claim certificate report = Judged Max instance claim certificate Done report
+CertifiedYes certifies.Min instance claim certificate report = Judged Min instance claim certificate Done report
+CertifiedYes certifies.Infeasible instance claim certificate report = Judged Infeasible instance claim certificate Done report
+CertifiedYes certifies.Paths graph claim certificate report = PathsJudgedYes graph claim certificate
+
+-- with `Done`, `run_certify` writes a certificate by which the judge's run answers yes
+abbrev pub CertifiedLaw : Type 0
+CertifiedLaw =
+    (kind : CertifyKind) (instance claim : List ℕ) (out : List (List ℕ)) → Certified kind instance claim Done out
+    → (certificate : List ℕ) × (report : List ℕ) × (out ≡ certificate ∷ report ∷ []) × CertifiedYes kind instance claim certificate report
+
+-- the judge's run over the instance and what was written answers yes, and prints the same report; labels must have no
+-- more lines than a text may have
+abbrev pub SolvedYes : SolveJob → List ℕ → List ℕ → List ℕ → List ℕ → List ℕ → Type 0
+SolvedYes (solves.Max limit) instance queries claim certificate report = Judged Max instance claim certificate Done report
+SolvedYes (solves.Min limit) instance queries claim certificate report =
+    Judged Min instance claim certificate Done report ⊎ ((claim ≡ []) × Judged Infeasible instance claim certificate Done report)
+SolvedYes solves.Paths graph queries claim certificate report =
+    (l : LabelsValue) × (certificate ≡ canonical_labels l) × (FitText l → Judged Paths graph queries certificate Done report)
+
+-- with `Done`, `run_solve` writes a claim and a certificate by which the judge's run answers yes
+abbrev pub SolvedLaw : Type 0
+SolvedLaw =
+    (job : SolveJob) (instance queries : List ℕ) (out : List (List ℕ)) → Solved job instance queries Done out
+    → (claim : List ℕ) × (certificate : List ℕ) × (report : List ℕ) × (out ≡ claim ∷ certificate ∷ report ∷ [])
+    × SolvedYes job instance queries claim certificate report
