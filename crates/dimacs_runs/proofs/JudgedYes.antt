@@ -1,13 +1,13 @@
 -- What runs write with `Done` is judged yes.
-use Rattle.std.proofs.Common.{◌≡◌, ◌∙◌, ℕ, ◌≤◌, ◌<◌, List, [], ◌∷◌, Option, None, length, map, get_or, inl, inr, refl, ap, ap₂, sym, subst, arith}
+use Rattle.std.proofs.Common.{◌≡◌, ◌∙◌, ℕ, ◌≤◌, ◌<◌, List, [], ◌∷◌, Option, None, length, map, inl, inr, refl, ap, ap₂, sym, subst, arith}
 use Rattle.std.specs.Prelude.{ℤ, if◌then◌else◌, is_some}
 use Rattle.std.specs.List.{All, Contains, flat_map}
 use Rattle.std.proofs.lemmas.List.{get_or-map, get_or_default, length-map}
 use Rattle.std.proofs.lemmas.List.Elements.{All-cons, All-head, All-tail, All-weaker}
 use Rattle.dimacs_lines.specs.Limits.{IsNode}
 use Rattle.dimacs_claims.specs.Cuts.{CutValue, SpellsCut, canonical_cut}
-use Rattle.dimacs_claims.specs.DistanceTexts.{AreBare, IsBare, SpellsDistances}
-use Rattle.dimacs_claims.specs.Labels.{AreLabels, BlockValue, LabelsValue, label, label_in}
+use Rattle.dimacs_claims.specs.DistanceTexts.{AreBare, IsBare}
+use Rattle.dimacs_claims.specs.Labels.{BlockValue, LabelsValue, label, label_in}
 use Rattle.dimacs_claims.specs.LabelTexts.{SpellsLabels, canonical_labels}
 use Rattle.dimacs_claims.specs.Potentials.{PotentialsValue, SpellsPotentials, canonical_potentials}
 use Rattle.dimacs_claims.specs.SolutionTexts.{SolutionValue, SpellsSolution, canonical_solution}
@@ -25,7 +25,7 @@ use Rattle.dimacs_optimality.specs.InfeasibleJudge.{ShowsNoFlow}
 use Rattle.dimacs_optimality.specs.MaxJudge.{ShowsMaximum}
 use Rattle.dimacs_optimality.specs.MinJudge.{ShowsLeast}
 use Rattle.dimacs_optimality.specs.PathsJudge.{PassesPaths, ShowsDistances}
-use Rattle.dimacs_optimality.specs.QueryTests.{HasBlock, HasFullBlock, IsServed, ends_of, nodes_asked, sources_asked}
+use Rattle.dimacs_optimality.specs.QueryTests.{HasBlock, HasFullBlock, IsServed, ends_of, sources_asked}
 use Rattle.dimacs_optimality.specs.inside.Labels.{block_at}
 use Rattle.dimacs_optimality.proofs.BlockNumbers.{block_found}
 use Rattle.dimacs_optimality.proofs.PathsPassing.{passing_shows}

@@ -1,7 +1,7 @@
 -- The labels of certified distances have as few lines as the distances, so that they fit a text.
-use Rattle.std.proofs.Common.{◌≡◌, ◌≢◌, inl, inr, eqb, ℕ, zero, suc, ◌<◌, ◌≤◌, ◌∷◌, ◌++◌, [], List, Bool, true, false, Option, Some, None, Ok, length, take, drop, map, get_or, refl, ap, ap₂, sym, ◌∙◌, subst, arith}
+use Rattle.std.proofs.Common.{◌≡◌, ◌≢◌, inl, inr, eqb, ℕ, suc, ◌<◌, ◌≤◌, ◌∷◌, [], List, Bool, true, false, Option, Some, None, Ok, length, take, drop, map, get_or, refl, ap, ap₂, sym, ◌∙◌, subst, arith}
 use Rattle.std.specs.Prelude.{is_some, ◌==◌, ◌||◌}
-use Rattle.std.specs.List.{All, IsDistinct, flat_map, list_any}
+use Rattle.std.specs.List.{IsDistinct, flat_map, list_any}
 use Rattle.std.specs.Map.{keys_of, lookup}
 use Rattle.std.specs.Option.{IsSome}
 use Rattle.std.proofs.Math.Seq.{split_at}
@@ -26,10 +26,9 @@ use Rattle.dimacs_claims.proofs.BlockLemmas.{is_some-label, label_id}
 use Rattle.dimacs_claims.proofs.ByIdLemmas.{fresh_apart}
 use Rattle.dimacs_claims.proofs.LabelLaws.{fit_read}
 use Rattle.dimacs_optimality.specs.inside.Labels.{block_at}
-use Rattle.dimacs_optimality.specs.Answers.{block_of, distance_from}
 use Rattle.dimacs_optimality.specs.QueryTests.{HasBlock}
 use Rattle.dimacs_optimality.proofs.BlockNumbers.{block_found}
-use Rattle.dimacs_decide.specs.CertifiedPaths.{AreLabelsOfAll, block_source, sources_of}
+use Rattle.dimacs_decide.specs.CertifiedPaths.{AreLabelsOfAll, block_source}
 use Rattle.dimacs_decide.proofs.CertifiedPathsLemmas.{same_place}
 
 -- ---- one block

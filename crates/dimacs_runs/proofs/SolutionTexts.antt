@@ -1,5 +1,5 @@
 -- The texts of solutions with an entry for every arc spell them.
-use Rattle.std.proofs.Common.{◌≡◌, ℕ, zero, suc, ◌+◌, ◌-◌, ◌*◌, ◌^◌, ◌<◌, ◌≤◌, ◌==◌, ◌∷◌, [], List, Bool, true, false, ℤ, pos, ◌≤ℤ◌, length, map, take, get_or, refl, ap, ap₂, sym, ◌∙◌, subst, arith}
+use Rattle.std.proofs.Common.{◌≡◌, ℕ, suc, ◌+◌, ◌-◌, ◌*◌, ◌^◌, ◌<◌, ◌≤◌, ◌==◌, ◌∷◌, [], List, Bool, true, false, ℤ, pos, ◌≤ℤ◌, length, take, refl, ap, ap₂, sym, ◌∙◌, subst, arith}
 use Rattle.std.specs.List.{All, AllZip}
 use Rattle.std.proofs.Math.ListN.{get_or-map}
 use Rattle.std.proofs.lemmas.Int.{ints}
@@ -7,12 +7,12 @@ use Rattle.std.proofs.lemmas.List.{length-map, take_all}
 use Rattle.std.proofs.lemmas.List.Elements.{All-cons, All-from_get_or, All-head, All-nil, All-tail}
 use Rattle.std.proofs.lemmas.Slice.Zip.{AllZip-long}
 use Rattle.dimacs_lines.specs.Limits.{most_count, most_nodes}
-use Rattle.dimacs_records.specs.Ranges.{IsWide, IsWhole}
+use Rattle.dimacs_records.specs.Ranges.{IsWide}
 use Rattle.dimacs_claims.specs.declared.solution.Entry.{Entry}
 use Rattle.dimacs_claims.specs.SolutionTexts.{IsLawful, IsLawfulEntry, SolutionValue, SpellsSolution, canonical_solution, on_lines_from, renumbered}
 use Rattle.dimacs_claims.proofs.SolutionLemmas.{solution_round_trip}
 use Rattle.dimacs_network.specs.declared.network.ArcView.{ArcView}
-use Rattle.dimacs_network.specs.Arcs.{JoinsNodes, arc_at, no_arc}
+use Rattle.dimacs_network.specs.Arcs.{JoinsNodes, no_arc}
 use Rattle.dimacs_instance.specs.MaxFlows.{HasCapacityAlone, IsMax, MaxValue}
 use Rattle.dimacs_instance.specs.MinFlows.{HasBounds, IsMin, MinValue}
 use Rattle.dimacs_optimality.specs.Claims.{Carries, entry_at, no_entry}
