@@ -13,8 +13,8 @@ lies outside of functions is tried by a check of the whole crate, as is what suc
 A wrong body is refused if the proof of the function fails. It fails this script if it is proved, and where it is bad: it
 can't be applied or compiled, or the proof fails only since a proof file names what the edit took away.
 
-The checks go over the libraries below, which rt check builds if they aren't there; with --over-ci over those that rt ci
-left. What they print is kept in crates/CRATE/out/wrong-bodies.
+The checks go over what rt lib proves and builds first, of the crate and of those below it; with --over-ci over what rt
+ci left. What they print is kept in crates/CRATE/out/wrong-bodies.
 
 With --apply nothing is tried, and what shows nothing is refused: its old text doesn't stand once in the file, or it
 doesn't parse, or changes no code.
@@ -288,6 +288,16 @@ def twin_of(edit, name):
     return ["", *lines[above : own.head], head, *lines[own.head + 1 : own.last + 1]]
 
 
+def is_static(crate):
+    return bool(re.search(rf"^{crate} staticlib", text_of(f"{TOP}/crates.txt"), re.M))
+
+
+def build(crate):
+    """Proves a crate, and builds it and the libraries below it, where they aren't built."""
+    is_library = os.path.exists(f"{TOP}/crates/{crate}/src/lib.rt") and not is_static(crate)
+    subprocess.run(["rt", "lib" if is_library else "check"], cwd=f"{TOP}/crates/{crate}", check=True)
+
+
 def check_words(crate):
     """The command that checks a crate in the current folder, over the libraries of this checkout."""
     kit, listed = kits.folder("bin/rattle"), kits.crates()
@@ -298,7 +308,7 @@ def check_words(crate):
         words += ["--extern", f"{name}={folder}/{name}.rlib"]
     for name in kits.below(listed, crate):
         words += ["-L", f"dependency={TOP}/crates/{name}/out/rlib"]
-    words += ["--crate-type", "staticlib"] if re.search(rf"^{crate} staticlib", text_of(f"{TOP}/crates.txt"), re.M) else []
+    words += ["--crate-type", "staticlib"] if is_static(crate) else []
     return words + ["--antt-project", f"{kit}/rattle/logic/antt-project.json", "--logic-built", f"{kit}/logic_built"]
 
 
@@ -461,7 +471,7 @@ def attempt(crates, seed, is_over_ci):
         print(f"--tenth {seed} tries these again")
         of_crates = {crate: tenth_of(edits, seed) for crate, edits in of_crates.items()}
     for crate in [] if is_over_ci else crates:
-        subprocess.run(["rt", "check"], cwd=f"{TOP}/crates/{crate}", check=True)
+        build(crate)
     edits = [it for edits in of_crates.values() for it in edits]
     return print_results(edits, try_all(edits))
 
