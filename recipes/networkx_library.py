@@ -43,7 +43,7 @@ def main():
         _, flow = nx.maximum_flow(graph, source, sink)
         value, _cut = dimacs.certify_networkx_max(graph, source, sink, flow)
     except dimacs.Refused as refused:
-        print("x", refused)
+        print(refused.printed)
         return 1
     print("v max", value)
     return 0

@@ -71,7 +71,7 @@ def main():
         sources = dict.fromkeys(nodes[0] for nodes in queries)
         distances = {source: certify(graph, weights, source) for source in sources}
     except dimacs.Refused as refused:
-        print("x", refused)
+        print(refused.printed)
         return 1
     if queries and len(queries[0]) == 1:
         print("v sp ss", len(queries))

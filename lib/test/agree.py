@@ -274,7 +274,7 @@ def line_of(call, *words):
     except dimacs.Feasible as it:
         return f"x {it.text} {it.line} {it.field} {it.reason}"
     except dimacs.Refused as it:
-        return f"x {it}"
+        return it.printed
 
 
 class Texts:
@@ -358,7 +358,7 @@ def certified(name, it, certify, command, judge, certificate, texts):
         is_feasible = again.startswith("v ") or again.endswith((no.reason, "CostRange"))
         yield f"{name}, what is better", "better" if is_better and is_feasible else again, "better"
     except dimacs.Refused as no:
-        yield name, f"x {no}", other
+        yield name, no.printed, other
     except OverflowError:
         yield f"{name}, past 64 bits", other.split()[0], "v"
 
@@ -396,7 +396,7 @@ def certified_paths(chance, texts):
         yield "certify paths", "v sp ss 1", it.first_fault()
         yield "certify paths, its predecessors", "v sp ss 1", texts.line("judge-paths", *it.texts(before)[0])
     except dimacs.Refused as no:
-        yield "certify paths", f"x {no}", it.first_fault()
+        yield "certify paths", no.printed, it.first_fault()
 
 
 def solved(name, it, solve, other, judge, certificate, texts):
@@ -449,7 +449,7 @@ def solved_paths(chance, texts):
         yield "solve paths, what was made", "v sp ss 1", texts.line("judge-paths", *it.texts()[0])
     except dimacs.Refused as no:
         negative = [number for number, weight in enumerate(it.costs, 1) if weight < 0]
-        yield "solve paths", f"x {no}", f"x arc {negative[0]} NegativeWeight"
+        yield "solve paths", no.printed, f"x arc {negative[0]} NegativeWeight"
 
 
 COMPARED = [judged_max, judged_min, judged_infeasible, judged_paths]

@@ -50,6 +50,9 @@ class Docs(unittest.TestCase):
                 self.assertEqual(found.failed, 0)
                 tried += found.attempted
         self.assertGreater(tried, 30)
+        readme = PACKAGE.parent / "README.md"
+        if readme.is_file():
+            self.assertEqual(doctest.testfile(str(readme), module_relative=False), (0, 3))
 
     def test_each_function_has_an_example(self):
         for name, it in public():

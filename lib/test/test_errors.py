@@ -207,6 +207,10 @@ class Arrays(Errors):
                 ),
                 (f"node 4 NodeRange: {base}", certify, *changed(MAX, 2, 4), flows),
                 ("node 1 NodeTwice: it is the source and the sink", certify, *changed(MAX, 2, 1), flows),
+                (
+                    f"arc 2 NodeRange: it goes from 2 to 4; {base}",
+                    *(dimacs.solve_max_arrays, 3, 1, 3, [1, 2], [2, 4], [5, INF]),
+                ),
                 ("arc 2 BoundOrder: its lower bound is 0, its capacity -1", certify, *changed(MAX, 5, [1, -1]), flows),
                 (
                     "arc 1 BoundOrder: its lower bound is 6, its capacity 5",

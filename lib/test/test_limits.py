@@ -265,6 +265,8 @@ class Arrays(Limits):
             return self.is_wanted(found, "past")
         self.assertEqual(solved[1].value, maximum(net))
         self.is_certified_max(net, list(map(int, solved[1].flows)), ("yes", solved[1]), None)
+        judged = dimacs.judge_max_arrays(nodes, 1, nodes, *arcs, solved[1].flows, solved[1].inside)
+        self.assertEqual(judged.value, maximum(net))
         if not fits(flows):
             return self.is_wanted(found, "past")
         self.is_certified_max(net, flows, found, list)
@@ -517,7 +519,19 @@ class Scipy(Limits):
         is_near = all(abs(it) < 2**60 for *_, it in arcs)
         self.is_wanted(found, *(("yes",) if is_near or min(it for *_, it in arcs) >= 0 else ("yes", "gave up")))
         if found[0] == "yes":
-            self.assertEqual(found[1].tolist(), [[math.inf if it is None else it for it in row] for row in true])
+            table = [[math.inf if it is None else it for it in row] for row in true]
+            self.assertEqual(found[1].tolist(), table)
+            self.is_table(chance, graph, table)
+
+    def is_table(self, chance, graph, table):
+        """The whole table is certified, and refused or past the limit once it is changed."""
+        ours.certify_shortest_path(graph, numpy.array(table, object))
+        row, column = chance.randrange(len(table)), chance.randrange(len(table))
+        true, offset = table[row][column], chance.choice(OFFSETS[2:])
+        table[row][column] = offset + (chance.choice([LAST, near(chance)]) if true == math.inf else true)
+        found = self.outcome(ours.certify_shortest_path, graph, numpy.array(table, object))
+        claim = table[row][column]
+        self.is_wanted(found, "no" if fits([claim]) and claim != LAST else "past")
 
 
 class Solver:

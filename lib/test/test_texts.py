@@ -186,6 +186,16 @@ class Spreads(unittest.TestCase):
         with self.assertRaisesRegex(ValueError, "sink is 4294967296, not"):
             dimacs.spread_max_arrays(2, 1, 2**32, [], [], [], [], [], [])
 
+    def test_numbers_from_0(self):
+        arcs = [0, 0, 1], [1, 1, 0], [3, 5, 4]
+        self.assertEqual(dimacs.spread_max_arrays(2, 0, 1, *arcs, [0, 1], [1, 0], [6, 1], base=0), [3, 3, 1])
+        with self.assertRaises(dimacs.PastLimit) as caught:
+            dimacs.spread_max_arrays(2, 0, 1, [0, 0], [1, 2], [3, 5], [], [], [], base=0)
+        self.assertEqual(str(caught.exception), "arc 1 NodeRange")
+        with self.assertRaises(dimacs.Refused) as caught:
+            dimacs.spread_min_arrays(3, [0], [1], [0], [3], [1], [0, 2], [1, 1], [3, 1], base=0)
+        self.assertEqual(str(caught.exception), "solution 3 0 UnknownArc: no arc goes from 2 to 1")
+
     def test_limits_of_arrays(self):
         none = [[]] * 3
         for call, words, message in [

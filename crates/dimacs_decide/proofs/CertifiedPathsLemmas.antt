@@ -36,7 +36,7 @@ apart_before blocks new i j before inside =
     let within : i < length (take j blocks) = omega (arith, before, length-take-le j blocks (omega (arith, inside))) in
     new (take j blocks) (drop (j + 1) blocks) (block_at blocks j) split (block_at blocks i) (i, within, get_or-take j blocks i (block_at blocks i) before ∙ get_or_default blocks i (block_at blocks i) no_block (omega (arith, before, inside)))
 
-same_place : (blocks : List BlockValue) → EachAfter IsNewSource blocks → (i j : ℕ) → i < length blocks → j < length blocks → (block_at blocks i).source ≡ (block_at blocks j).source → i ≡ j
+pub same_place : (blocks : List BlockValue) → EachAfter IsNewSource blocks → (i j : ℕ) → i < length blocks → j < length blocks → (block_at blocks i).source ≡ (block_at blocks j).source → i ≡ j
 same_place blocks new i j here there same = elim (cases_order i j) [
   | inl is ↦ is
   | inr other ↦ elim other [

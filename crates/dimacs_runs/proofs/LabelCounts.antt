@@ -50,16 +50,16 @@ flipped q (n ∷ ns) = ap₂ (λ (a b : Bool). a || b) (nat_eq_equiv.symm n q) (
 found : (q : ℕ) (labels : List Label) → list_any (eqb q) (ids labels) ≡ true → (k : ℕ) × (k < length labels) × (q ≡ id_at labels k)
 found q [] h = absurd cc
 found q (l ∷ labels) h = elim (cases_Bool (eqb q l.id)) [
-  | inl yes ↦ (0, omega arith, eqb-true q l.id yes)
-  | inr no ↦
-      let rest : list_any (eqb q) (ids labels) ≡ true = sym (ap (λ (b : Bool). b || list_any (eqb q) (ids labels)) no) ∙ h in
+  | inl here ↦ (0, omega arith, eqb-true q l.id here)
+  | inr other ↦
+      let rest : list_any (eqb q) (ids labels) ≡ true = sym (ap (λ (b : Bool). b || list_any (eqb q) (ids labels)) other) ∙ h in
       let (k, inside, is) = found q labels rest in
       (suc k, omega (arith, inside), is)
 ]
 
 some_is : {X : Type 0} (x : Option X) → is_some x ≡ true → IsSome x
 some_is None h = absurd cc
-some_is (Some x) h = tt
+some_is (Some x) h = refl
 
 module _ (nodes : ℕ) (made claimed : BlockValue) (is : IsBlock nodes made) (from : made.source ≡ claimed.source) (same : (v : ℕ) → IsNode nodes v → label made v ≡ label claimed v) where
   distinct : IsDistinct eqb (ids made.labels)

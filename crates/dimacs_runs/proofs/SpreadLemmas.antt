@@ -37,7 +37,7 @@ module _ (arcs : List ArcView) (s : SolutionValue) where
   solution_alike kind out written = (written, alike)
     where
       alike : (status : Status) (other : List (List ℕ)) → SpreadsClaim kind arcs s status other → (status ≡ Done) × (report_of other ≡ report_of out)
-      alike Done other also = (refl, rw (also.1.4.2, written.1.4.2) refl)
+      alike Done other also = (refl, rw (also.1.5, written.1.5) refl)
       alike Refused other also = absurd (none_first (spread_rows arcs s.entries) also.0 also.1 written.0 also.2)
       alike GaveUp other also = absurd also
 

@@ -133,6 +133,7 @@ _SAID = {
     "NotViolated": ["the set supplies {supply}, and from {least} to {most} can leave it"],
     "NumberRange": ["at most {most} nodes"],
     "PredUnknown": ["its predecessors don't lead back to the source"],
+    "UnknownArc": ["no arc goes from {tail} to {head}"],
     "ValueDiffers": ["{claimed} is claimed, it is {value}"],
 }
 
@@ -171,11 +172,18 @@ class Placed(Exception):
         self.node = node
         self.numbers = numbers or {}
 
-    def __str__(self) -> str:
-        place = f"arc {self.arc!r}" if self.arc is not None else f"node {self.node!r}"
+    @property
+    def printed(self) -> str:
+        """The line that the command prints, as "x arc 3 AboveCap"."""
+        return f"x {self._place()} {self.reason}"
+
+    def _place(self) -> str:
         if self.text:
-            place = f"{self.text} {self.line} {self.field}"
-        return f"{place} {self.reason}{_said(self.reason, self.numbers)}"
+            return f"{self.text} {self.line} {self.field}"
+        return f"arc {self.arc!r}" if self.arc is not None else f"node {self.node!r}"
+
+    def __str__(self) -> str:
+        return f"{self._place()} {self.reason}{_said(self.reason, self.numbers)}"
 
     def __repr__(self) -> str:
         fields = [repr(self.reason)]

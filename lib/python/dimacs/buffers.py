@@ -263,6 +263,8 @@ def is_numpy(given: Any) -> bool:
 
 def is_single(given: Any) -> bool:
     """Whether this is one number, or nothing, where there has to be an array."""
+    if type(given) in (list, tuple):
+        return False
     return given is None or isinstance(given, Number) or is_numpy(given) and given.ndim == 0
 
 
@@ -297,6 +299,8 @@ def array_of(numbers: Any, items: Items, name: Name) -> Buffer:
 
 def list_of(numbers: Any, items: Items, name: Name) -> list[int]:
     """The items of an array as ints."""
+    if is_single(numbers):
+        raise TypeError(f"{_array(name)}: {'None' if numbers is None else 'one number'}, an array is wanted")
     return array_of(numbers, items, name).listed(items)
 
 

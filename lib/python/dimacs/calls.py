@@ -55,34 +55,38 @@ def certify_infeasible(given: Given, came: Any) -> Certified:
 
 def solve_max(given: Given, came: Any) -> Solved:
     words = given.words()
-    if given.limitless():
-        _test_bounded_max(given)
-        given.bound_limitless()
-    found, (flows, inside) = _solve(library.solve_max_arrays, given, words, FLOWS, INSIDE)
+    found, (flows, inside) = _solve_bounded(library.solve_max_arrays, given, words, _test_bounded_max, FLOWS, INSIDE)
     if any(inside.items()[tail - 1] and not inside.items()[head - 1] for tail, head in _limitless_ends(given)):
+        _test_bounded_max(given)
         raise GaveUp("the capacities have a sum that is out of range")
     return Solved(given.value(found.value), given.shown(FLOWS, flows, came), given.shown(INSIDE, inside, came))
 
 
 def solve_min(given: Given, came: Any) -> Solved:
-    words = given.words()
-    limitless = given.limitless()
-    if limitless:
-        given.bound_limitless()
-    try:
-        found, (flows, prices, inside) = _solve(library.solve_min_arrays, given, words, FLOWS, POTENTIALS, INSIDE)
-    except GaveUp:
-        if limitless:
-            _test_bounded_min(given)
-        raise
+    words, handed = given.words(), (FLOWS, POTENTIALS, INSIDE)
+    found, (flows, prices, inside) = _solve_bounded(library.solve_min_arrays, given, words, _test_bounded_min, *handed)
     if found.kind == "infeasible":
         raise Infeasible(_found_set(given, inside, came))
     costs, potentials = given.column(COSTS), prices.items()
-    for arc, (tail, head) in zip(limitless, _limitless_ends(given)):
+    for arc, (tail, head) in zip(given.limitless(), _limitless_ends(given)):
         if costs[arc] - potentials[tail - 1] + potentials[head - 1] < 0:
             _test_bounded_min(given)
             raise GaveUp("the capacities and supplies have a sum that is out of range")
     return Solved(given.value(found.value), given.shown(FLOWS, flows, came), given.shown(POTENTIALS, prices, came))
+
+
+def _solve_bounded(
+    function: Callable[..., int], given: Given, words: list[Any], test: Callable[[Given], None], *handed: Array
+) -> tuple[Verdict, list[Room]]:
+    """Solves with a bound in place of inf. If the library gives up, the bound may be why: then the test raises Unbounded."""
+    if not given.limitless():
+        return _solve(function, given, words, *handed)
+    given.bound_limitless()
+    try:
+        return _solve(function, given, words, *handed)
+    except GaveUp:
+        test(given)
+        raise
 
 
 def solve_paths(given: Given, came: Any) -> Solved:
@@ -113,14 +117,10 @@ def _limitless_ends(given: Given) -> list[tuple[int, int]]:
 def _test_bounded_max(given: Given) -> None:
     """Raises Unbounded if arcs without a limit lead from the source to the sink."""
     tails, heads = zip(*_limitless_ends(given))
-    graph = Given(GRAPH, given.number("nodes"), tails, heads, [0] * len(tails)).add_number(
-        "source", given.number("source")
-    )
-    with given.named():
-        distances = solve_paths(graph, []).distances
-        sink = given.number("sink")
-        if 0 < sink <= len(distances) and distances[sink - 1] != UNREACHED:
-            raise Unbounded("arcs without a limit lead from the source to the sink")
+    graph = Given(GRAPH, given.number("nodes"), tails, heads, [0] * len(tails))
+    distances = solve_paths(graph.add_number("source", given.number("source")), []).distances
+    if distances[given.number("sink") - 1] != UNREACHED:
+        raise Unbounded("arcs without a limit lead from the source to the sink")
 
 
 def _test_bounded_min(given: Given) -> None:

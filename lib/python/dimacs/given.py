@@ -4,10 +4,11 @@ from __future__ import annotations
 
 import ctypes
 import math
+import operator
+import sys
 from array import array
 from contextlib import contextmanager
 from functools import partial
-from itertools import compress
 from typing import Any, Callable, Iterable, Iterator, NamedTuple, Sequence
 
 from .answers import UNREACHED, PastLimit, Refused
@@ -20,6 +21,8 @@ MOST_NODES = 2**27
 
 #: A demand is a supply negated.
 _DEMANDS = NUMBERS._replace(least=-NUMBERS.greatest, greatest=-NUMBERS.least)
+
+_UNLIMITED_BYTES = UNLIMITED.to_bytes(CAPACITIES.width, sys.byteorder)
 
 #: Predecessors that count from 0: -1 is none.
 _FROM_ZERO = Items("q", 8, -1, 2**32 - 2)
@@ -96,6 +99,7 @@ class Given:
         self._raw: dict[Array, Any] = {}
         self._words: list[Any] = []
         self._buffers: dict[str, Buffer] = {}
+        self._limitless: list[int] | None = None
         for kind, numbers in zip(form.arrays, given[count:]):
             self._keep(kind, numbers)
 
@@ -194,7 +198,13 @@ class Given:
 
     def limitless(self) -> list[int]:
         """The places of the arcs whose capacity is inf."""
-        return infinite(self._raw[CAPS]) if CAPS in self._raw else []
+        if self._limitless is None:
+            caps = self._buffers.get(CAPS.name)
+            may_be = caps is not None and _UNLIMITED_BYTES in ctypes.string_at(
+                caps.address, caps.length * CAPACITIES.width
+            )
+            self._limitless = infinite(self._raw[CAPS]) if may_be else []
+        return self._limitless
 
     def _test_limitless(self) -> None:
         if FLOWS not in self._raw or not (limitless := self.limitless()):
@@ -257,13 +267,20 @@ class Given:
     def value_of(self, flows: Sequence[int]) -> int:
         """The value or the cost of a flow."""
         if self.form is MIN:
-            return sum(amount * cost for amount, cost in zip(flows, self.column(COSTS)))
+            return sum(map(operator.mul, flows, self.column(COSTS)))
         return self.sent(self.number("source"), flows)
 
     def sent(self, node: int, flows: Sequence[int]) -> int:
         """What leaves a node less what enters it."""
-        leaving = sum(compress(flows, (it == node for it in self.column(TAILS))))
-        return leaving - sum(compress(flows, (it == node for it in self.column(HEADS))))
+        return sum(flows[k] for k in self._at(TAILS, node)) - sum(flows[k] for k in self._at(HEADS, node))
+
+    def _at(self, kind: Array, node: int) -> list[int]:
+        """The places of an array that have this node."""
+        numpy, buffer = sys.modules.get("numpy"), self._buffers[kind.name]
+        if numpy is None:
+            return [k for k, it in enumerate(self.column(kind)) if it == node]
+        ids = numpy.frombuffer(ctypes.string_at(buffer.address, buffer.length * kind.items.width), kind.items.code)
+        return list(numpy.flatnonzero(ids == node).tolist())
 
     def amount(self, unit: str, number: int) -> Any:
         """A number of this unit, in the user's numbers."""
@@ -272,11 +289,11 @@ class Given:
     @contextmanager
     def named(self) -> Iterator[None]:
         """Exceptions raised inside name arcs and nodes as the caller does, with the numbers that were compared."""
-        from .compared import compared
-
         try:
             yield
         except (Refused, PastLimit) as it:
+            from .compared import compared
+
             it.numbers = {**it.numbers, **compared(self, it)}
             if it.arc is not None:
                 it.arc = self.names.arc(it.arc - 1)

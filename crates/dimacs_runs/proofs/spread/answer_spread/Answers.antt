@@ -20,4 +20,4 @@ returns-clause-spreads g c = λ kind s value deals.
     let solution : SolutionValue = record { value = c.args.value; value_line = 1; entries = entries.entries.items } in
     let fits : SFits w128 c.args.value = search rules in
     rw (c.with_text.ensures, to_z-of_z w128 c.args.value fits) (solution_alike arcs s kind _
-    (dealt.0, c.in_ok-flow.flow, dealt.1, dealt.2, solution, record { value = value; all_arcs = record { value_first = refl; all_arcs = entries.ensures.all }; flows = entries.ensures.flows }, refl))
+    (dealt.0, (c.in_ok-flow.flow, dealt.1, dealt.2, solution, record { value = value; all_arcs = record { value_first = refl; all_arcs = entries.ensures.all }; flows = entries.ensures.flows }, refl)))
