@@ -194,6 +194,11 @@ solve-min examples/freight.min out out
 solve-max examples/missing.max out cut
 solve-max examples/pipes.max out missing/cut
 solve-paths examples/road.gr examples/road.query labels --limit 5
+help show
+help solve-max
+help frobnicate
+help show gr
+--help show
 """
 
 

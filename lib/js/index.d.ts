@@ -41,7 +41,7 @@ export interface Graph {
 /** The distance of a node that isn't reached, 2^63 - 1. Its predecessor is 0. */
 export const UNREACHED: bigint;
 
-/** The version of the module, as "0.1.0". */
+/** The version of the module, as "0.2.0". */
 export const version: string;
 
 /** Whether the module was compiled from code that is proved. The translation to WebAssembly isn't proved. */

@@ -113,21 +113,17 @@ export class Library {
 
     /** Whether the module was compiled from code that is proved. */
     get proved() {
-        return (this.#calls().dimacs_proved?.() ?? 0) !== 0;
+        return this.#calls().dimacs_proved() !== 0;
     }
 
-    /** The version, such as "0.1.0". */
+    /** The version, such as "0.2.0". */
     get version() {
         return this.description.split(" ")[0];
     }
 
-    /** The version, and what proved the code that was compiled, such as "0.1.0 (not proved)". */
+    /** The version, and what proved the code that was compiled, such as "0.2.0 (not proved)". */
     get description() {
-        if (this.#calls().dimacs_version_text) {
-            return String.fromCharCode(...this.call("dimacs_version_text", [], [new Room(Uint8Array, LINE)]).handed[0]);
-        }
-        const number = this.#calls().dimacs_version();
-        return `${Math.trunc(number / 10000)}.${Math.trunc(number / 100) % 100}.${number % 100} (not proved)`;
+        return String.fromCharCode(...this.call("dimacs_version_text", [], [new Room(Uint8Array, LINE)]).handed[0]);
     }
 
     /**

@@ -314,11 +314,18 @@ function solved(claim, claimed) {
     return {...answer, names: ["solution", isInfeasible ? "cut" : CERTIFICATES[kind]]};
 }
 
+/** The bytes of a text in base 64. */
+function decoded(text) {
+    const letters = atob(text), bytes = new Uint8Array(letters.length);
+    for (let i = 0; i < letters.length; i++) bytes[i] = letters.charCodeAt(i);
+    return bytes;
+}
+
 const ASKED = {
     async start({module}) {
-        const packed = Uint8Array.from(atob(module), (it) => it.charCodeAt(0));
-        const plain = new Blob([packed]).stream().pipeThrough(new DecompressionStream("gzip"));
-        const library = new Library(await WebAssembly.compile(await new Response(plain).arrayBuffer()));
+        const plain = new Blob([decoded(module)]).stream().pipeThrough(new DecompressionStream("gzip"));
+        const headers = {"content-type": "application/wasm"};
+        const library = new Library(await WebAssembly.compileStreaming(new Response(plain, {headers})));
         texts = new Texts(library);
         return {version: library.version, proved: library.proved};
     },

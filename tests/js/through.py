@@ -50,6 +50,11 @@ def address(it):
     return it.value or 0 if isinstance(it, ctypes.c_void_p) else ctypes.addressof(it)
 
 
+def number(it):
+    """A number, which may be one of ctypes."""
+    return it if isinstance(it, int) else it.value
+
+
 def content(at, length):
     return ctypes.string_at(at, length) if length else b""
 
@@ -103,14 +108,15 @@ def described(parameters, given):
         if struct:
             words.append(instance(struct[1], address(given.pop(0))))
         elif array:
-            width, at, length = WIDTHS[array[2]], address(given.pop(0)), given.pop(0)
+            width, at, length = WIDTHS[array[2]], address(given.pop(0)), number(given.pop(0))
             parameters.pop(0)
             words.append({"b" if array[1] else "r": encoded(at, width * length), "w": width})
             if not array[1]:
                 parameters.pop(0)
                 rooms.append(Room(at, width * length, address(given.pop(0))))
         else:
-            words.append({"n": given.pop(0)} if kind == "uint32_t" else {"q": str(given.pop(0))})
+            given_number = number(given.pop(0))
+            words.append({"n": given_number} if kind == "uint32_t" else {"q": str(given_number)})
     return words, rooms
 
 
