@@ -61,16 +61,16 @@ class Scale(NamedTuple):
     def _whole(self, exact: Fraction, number: Any, name: Callable[[], str]) -> int:
         product = exact * self.factor
         found = round(product)
-        if (
-            product == found
-            or not isinstance(number, (int, Fraction, decimal.Decimal))
-            and self._stands_for(found, number)
-        ):
-            return found
-        unit = self.shown(1)
-        raise ValueError(
-            f"{name()} is {number}, not a multiple of {unit}: the nearest is {_readable(self.shown(found))}"
-        )
+        is_exact = isinstance(number, (int, Fraction, decimal.Decimal))
+        if product != found and (is_exact or not self._stands_for(found, number)):
+            nearest = _readable(self.shown(found))
+            raise ValueError(f"{name()} is {number}, not a multiple of {self._unit()}: the nearest is {nearest}")
+        if not -(2**63) <= found < 2**63:
+            raise ValueError(f"{name()} is {number}, which has more than 64 bits in units of {self._unit()}")
+        return found
+
+    def _unit(self) -> Any:
+        return self.shown(1)
 
     def _stands_for(self, multiple: int, number: Any) -> bool:
         """Whether a float is the nearest one to this multiple of the unit, and to no other."""
@@ -129,5 +129,7 @@ def units_of(scale: Any, groups: Callable[[str], Iterable[tuple[Sequence[Any], C
         return None
     if isinstance(scale, str) and scale == "exact":
         return Units(exact_scale(groups("amount")), exact_scale(groups("cost")))
+    if isinstance(scale, tuple) and len(scale) != 2:
+        raise TypeError(f"scale is {scale!r}: a pair is one for amounts and one for costs")
     amount, cost = scale if isinstance(scale, tuple) else (scale, scale)
     return Units(Scale.of(amount), Scale.of(cost))
