@@ -184,6 +184,37 @@ class Limitless(unittest.TestCase):
             "infeasible",
         )
 
+    def test_what_costs_least(self):
+        """As with a great capacity, unless a greater one makes it cheaper."""
+        chance = random.Random(5)
+        kinds = {"yes": 0, "unbounded": 0, "infeasible": 0}
+        for _ in range(1500):
+            nodes, count = chance.randrange(2, 5), chance.randrange(1, 7)
+            ends = [[chance.randrange(nodes) for _ in range(count)] for _ in range(2)]
+            caps = [chance.choice([INF, chance.randrange(4)]) for _ in range(count)]
+            costs = [chance.randrange(-2, 6) for _ in range(count)]
+            supplies = [0] * nodes
+            for tail, head, cap in zip(*ends, caps):
+                amount = chance.randrange(min(cap, 3) + 1 + (chance.random() < 0.1))
+                supplies[tail] += amount
+                supplies[head] -= amount
+            wanted = [self.least(nodes, ends, caps, costs, supplies, most) for most in (1000, 2000)]
+            found = self.least(nodes, ends, caps, costs, supplies, INF)
+            self.assertEqual(found, wanted[0] if wanted[0] == wanted[1] else "unbounded")
+            kinds[found if isinstance(found, str) else "yes"] += 1
+        self.assertGreater(min(kinds.values()), 20, kinds)
+
+    def least(self, nodes, ends, caps, costs, supplies, most):
+        caps = [min(it, most) for it in caps]
+        words = nodes, *ends, [0] * len(caps), caps, costs, supplies
+        try:
+            cost, flows, prices = dimacs.solve_min_arrays(*words, base=0)
+        except (dimacs.Unbounded, dimacs.Infeasible) as it:
+            return type(it).__name__.lower()
+        self.assertEqual(dimacs.judge_min_arrays(*words, flows, prices, base=0).value, cost)
+        self.assertEqual(dimacs.certify_min_arrays(*words, flows, base=0).value, cost)
+        return cost
+
     def test_a_set_that_shows_nothing(self):
         """It is violated by less than 2^63, and not by an arc without a limit."""
         supplies = [2**63 - 1, 2**62, -(2**63) + 1, -(2**62)]

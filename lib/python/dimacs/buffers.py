@@ -106,7 +106,7 @@ MARKS = Items("B", 1, 0, 2**8 - 1)
 #: no limit, and so it is as good as it would be then.
 UNLIMITED = 2**63 - 1
 CAPACITIES = NUMBERS._replace(infinity=UNLIMITED)
-DISTANCES = NUMBERS._replace(infinity=UNREACHED)
+LENGTHS = NUMBERS._replace(infinity=UNREACHED)
 LIMITS = Items("Q", 8, 0, 2**64 - 1)
 
 #: The limit if none is given.

@@ -8,7 +8,7 @@ from typing import Any, Callable
 from . import library
 from .answers import UNREACHED, Certified, Feasible, GaveUp, Infeasible, NotOptimal, Refused, Solved, Unbounded, Verdict
 from .buffers import Room
-from .given import COSTS, DISTANCES_, FLOWS, GRAPH, HEADS, INSIDE, MIN, POTENTIALS, PREDECESSORS, SUPPLIES, TAILS
+from .given import COSTS, DISTANCES, FLOWS, GRAPH, HEADS, INSIDE, MIN, POTENTIALS, PREDECESSORS, SUPPLIES, TAILS
 from .given import Array, Given
 
 
@@ -90,8 +90,8 @@ def _solve_bounded(
 
 
 def solve_paths(given: Given, came: Any) -> Solved:
-    _, (distances, before) = _solve(library.solve_paths_arrays, given, given.words(), DISTANCES_, PREDECESSORS)
-    return Solved(None, given.shown(DISTANCES_, distances, came), given.shown(PREDECESSORS, before, came))
+    _, (distances, before) = _solve(library.solve_paths_arrays, given, given.words(), DISTANCES, PREDECESSORS)
+    return Solved(None, given.shown(DISTANCES, distances, came), given.shown(PREDECESSORS, before, came))
 
 
 def _solve(function: Callable[..., int], given: Given, words: list[Any], *handed: Array) -> tuple[Verdict, list[Room]]:

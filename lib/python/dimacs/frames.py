@@ -11,7 +11,7 @@ import pandas as pd
 from . import calls, library
 from .answers import Feasible, Infeasible, NotOptimal
 from .buffers import LIMIT, LIMITS
-from .given import DISTANCES_, FLOWS, GRAPH, INSIDE, MAX, MIN, POTENTIALS, PREDECESSORS, Given, Names
+from .given import DISTANCES, FLOWS, GRAPH, INSIDE, MAX, MIN, POTENTIALS, PREDECESSORS, Given, Names
 
 
 class FrameAnswer(NamedTuple):
@@ -46,7 +46,23 @@ class _FrameNames(Names):
 
 
 class Frame:
-    """A network of edges in a DataFrame. See from_frame."""
+    """A network of edges in a DataFrame. See from_frame.
+
+    >>> table = {"from": ["mine", "mine"], "to": ["port", "port"], "tons": [5, 5], "price": [3, 7]}
+    >>> supply = {"mine": 6, "port": -6}
+    >>> network = from_frame(pd.DataFrame(table), "from", "to", capacity="tons", cost="price", supply=supply)
+    >>> network
+    Frame of 2 edges between 2 nodes
+    >>> network.solve_max("mine", "port").value
+    10
+    >>> network.certify_min([5, 1]).value
+    22
+    >>> network.certify_max("mine", "port", [5, 1])
+    Traceback (most recent call last):
+    dimacs.answers.NotOptimal: solution 0 0 NotMaximum: its value is 6, and that of a better flow 10
+    >>> network.certify_paths("mine", {"mine": 0, "port": 3}).nodes["predecessor"].to_dict()
+    {'mine': None, 'port': 'mine'}
+    """
 
     def __init__(
         self, edges: pd.DataFrame, tail: Any, head: Any, columns: dict[str, Any], supply: Any, scale: Any
@@ -180,7 +196,7 @@ class Frame:
             self._number(node)
         by_node = [claimed.get(node, math.inf) for node in self.nodes]
         before = calls.certify(
-            library.certify_paths_arrays, self._paths(source).add(DISTANCES_, by_node), [], PREDECESSORS
+            library.certify_paths_arrays, self._paths(source).add(DISTANCES, by_node), [], PREDECESSORS
         )
         return FrameAnswer(None, None, self._by_node(distance=by_node, predecessor=self._before(before.predecessors)))
 

@@ -12,7 +12,7 @@ from functools import partial
 from typing import Any, Callable, Iterable, Iterator, NamedTuple, Sequence
 
 from .answers import UNREACHED, PastLimit, Refused
-from .buffers import CAPACITIES, DISTANCES, IDS, MARKS, NUMBERS, UNLIMITED, Buffer, Items, Room
+from .buffers import CAPACITIES, LENGTHS, IDS, MARKS, NUMBERS, UNLIMITED, Buffer, Items, Room
 from .buffers import array_of, is_numpy, is_single, item, number_of, unlabelled
 from .scales import units_of
 
@@ -44,7 +44,7 @@ COSTS, WEIGHTS = (Array(name, NUMBERS, "arcs", "cost") for name in ("costs", "we
 SUPPLIES = Array("supplies", NUMBERS, "nodes", "amount")
 POTENTIALS = Array("potentials", NUMBERS, "nodes", "cost")
 INSIDE = Array("inside", MARKS, "nodes")
-DISTANCES_ = Array("distances", DISTANCES, "nodes", "cost")
+DISTANCES = Array("distances", LENGTHS, "nodes", "cost")
 PREDECESSORS = Array("predecessors", IDS, "nodes")
 
 
@@ -154,7 +154,7 @@ class Given:
             scale, name = self._units.of(kind.unit), self._namer(kind)
             numbers = [scale.whole(it, lambda: item(name, k)) for k, it in enumerate(_listed(numbers, name))]
         self._buffers[kind.name] = found = self._buffer(kind, numbers)
-        if kind.items is DISTANCES and (self._units or self.names.has_inf_alone):
+        if kind.items is LENGTHS and (self._units or self.names.has_inf_alone):
             self._test_reached(kind, numbers)
         self._count.setdefault("arcs", found.length)  # one arc for each tail, which are the first
 
@@ -253,7 +253,7 @@ class Given:
         if not (self._units and kind.unit):
             return room.in_form_of(unlabelled(came))
         scale = self._units.of(kind.unit)
-        is_distance = kind.items is DISTANCES
+        is_distance = kind.items is LENGTHS
         shown = [math.inf if is_distance and it == UNREACHED else scale.shown(it) for it in room.items()]
         return _in_form_of(shown, came, "O")
 

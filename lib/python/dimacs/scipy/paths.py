@@ -13,7 +13,7 @@ from .. import calls, library
 from ..answers import UNREACHED, GaveUp
 from ..arrays import solve_paths_arrays
 from ..distances import NegativeCycle, distances_from, potentials_of
-from ..given import DISTANCES_, GRAPH, PREDECESSORS, Given, Names
+from ..given import DISTANCES, GRAPH, PREDECESSORS, Given, Names
 from .entries import Places, entries_of, numbers_of, whole
 
 #: SciPy's predecessor of a vertex that has none.
@@ -197,7 +197,7 @@ def certify_shortest_path(
     ends = numbers_of(tails), numbers_of(heads)
     for row, source in enumerate(map(int, sources.flat)):
         given = Given(GRAPH, vertices, *ends, weights, names=_TableNames(tails, heads, source))
-        given.add_number("source", source + 1).add(DISTANCES_, rows[row])
+        given.add_number("source", source + 1).add(DISTANCES, rows[row])
         if before is None:
             shown = calls.certify(library.certify_paths_arrays, given, rows[row], PREDECESSORS).predecessors
             found[row] = np.where(shown > 0, shown.astype(np.int64) - 1, NO_PREDECESSOR)
