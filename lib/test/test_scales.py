@@ -58,7 +58,7 @@ class Floats(unittest.TestCase):
         self.assertEqual(repr(Scale.of(Decimal("0.01")).shown(7)), "Decimal('0.07')")
         self.assertEqual(repr(Scale.of(100).shown(7)), "Fraction(7, 100)")
         self.assertEqual(Scale.of(Decimal("0.01")).shown(10**40 + 7), Decimal(f"{10**38}.07"))
-        for number in Decimal("0.075"), Fraction(1, 3), Decimal("NaN"):
+        for number in Decimal("0.075"), Fraction(1, 3), Decimal("NaN"), Decimal("sNaN"):
             with self.assertRaises(ValueError):
                 Scale.of(100).whole(number, str)
 
@@ -193,20 +193,21 @@ class Limitless(unittest.TestCase):
             ends = [[chance.randrange(nodes) for _ in range(count)] for _ in range(2)]
             caps = [chance.choice([INF, chance.randrange(4)]) for _ in range(count)]
             costs = [chance.randrange(-2, 6) for _ in range(count)]
+            lows = [chance.choice([0, 0, min(cap, chance.randrange(3))]) for cap in caps]
             supplies = [0] * nodes
             for tail, head, cap in zip(*ends, caps):
                 amount = chance.randrange(min(cap, 3) + 1 + (chance.random() < 0.1))
                 supplies[tail] += amount
                 supplies[head] -= amount
-            wanted = [self.least(nodes, ends, caps, costs, supplies, most) for most in (1000, 2000)]
-            found = self.least(nodes, ends, caps, costs, supplies, INF)
+            words = nodes, ends, lows, caps, costs, supplies
+            wanted = [self.least(*words, most) for most in (1000, 2000)]
+            found = self.least(*words, INF)
             self.assertEqual(found, wanted[0] if wanted[0] == wanted[1] else "unbounded")
             kinds[found if isinstance(found, str) else "yes"] += 1
         self.assertGreater(min(kinds.values()), 20, kinds)
 
-    def least(self, nodes, ends, caps, costs, supplies, most):
-        caps = [min(it, most) for it in caps]
-        words = nodes, *ends, [0] * len(caps), caps, costs, supplies
+    def least(self, nodes, ends, lows, caps, costs, supplies, most):
+        words = nodes, *ends, lows, [min(it, most) for it in caps], costs, supplies
         try:
             cost, flows, prices = dimacs.solve_min_arrays(*words, base=0)
         except (dimacs.Unbounded, dimacs.Infeasible) as it:
@@ -214,6 +215,20 @@ class Limitless(unittest.TestCase):
         self.assertEqual(dimacs.judge_min_arrays(*words, flows, prices, base=0).value, cost)
         self.assertEqual(dimacs.certify_min_arrays(*words, flows, base=0).value, cost)
         return cost
+
+    def test_bounds(self):
+        """The bound in place of inf is neither below a lower bound nor blamed for another arc."""
+        self.assertEqual(dimacs.solve_min_arrays(2, [1], [2], [10], [INF], [3], [10, -10]).value, 30)
+        with self.assertRaises(dimacs.PastLimit) as no:
+            dimacs.solve_max_arrays(3, 1, 3, [1, 2], [2, 3], [INF, -5])
+        self.assertEqual(no.exception.arc, 2)
+
+    @unittest.skipUnless(numpy, "no numpy")
+    def test_what_is_masked(self):
+        caps = numpy.ma.array([5.0, 4.0], mask=[0, 1])
+        for scale in None, 10, "exact":
+            with self.assertRaisesRegex(TypeError, "masked"):
+                dimacs.solve_max_arrays(3, 1, 3, [1, 2], [2, 3], caps, scale=scale)
 
     def test_a_set_that_shows_nothing(self):
         """It is violated by less than 2^63, and not by an arc without a limit."""

@@ -54,7 +54,7 @@ class Scale(NamedTuple):
             found = round(number * self.factor.numerator)
             if abs(found) < _MOST_PLAIN and found / self.factor.numerator == number:
                 return found
-        if number == math.inf:
+        if not _is_nan(number) and number == math.inf:
             return math.inf
         return self._whole(_fraction(number, name), number, name)
 
@@ -93,6 +93,11 @@ def _fraction(number: Any, name: Callable[[], str]) -> Fraction:
         raise ValueError(f"{name()} is {number}, not a finite number") from None
 
 
+def _is_nan(number: Any) -> bool:
+    """Whether this is no number of the decimal module, which mustn't be compared."""
+    return isinstance(number, decimal.Decimal) and number.is_nan()
+
+
 def _readable(number: Any) -> Any:
     return float(number) if isinstance(number, Fraction) else number
 
@@ -103,7 +108,7 @@ def exact_scale(groups: Iterable[tuple[Sequence[Any], Callable[[int], str]]]) ->
     exact: list[tuple[Fraction, Callable[[], str]]] = []
     for numbers, name in groups:
         for k, number in enumerate(numbers):
-            if number != math.inf:
+            if _is_nan(number) or number != math.inf:
                 exact.append((_fraction(number, partial(name, k)), partial(name, k)))
     common = math.lcm(*(it.denominator for it, _ in exact))
     for it, named in exact:
