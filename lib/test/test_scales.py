@@ -51,6 +51,12 @@ class Floats(unittest.TestCase):
             taken += found is not None
         self.assertGreater(taken, 9000)
 
+    def test_the_ends_of_floats(self):
+        for factor in 100, 10**400, Fraction(1, 10**400), Fraction(3, 10**20):
+            for number in 1e308, -1e308, 5e-324, 1e300:
+                with self.assertRaises(ValueError):
+                    Scale.of(factor).whole(number, lambda: "it")
+
     def test_decimals_and_fractions(self):
         for number in Decimal("0.07"), Fraction(7, 100), 0.07:
             self.assertEqual(Scale.of(100).whole(number, str), 7)

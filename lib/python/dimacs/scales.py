@@ -50,9 +50,11 @@ class Scale(NamedTuple):
         """A number as a whole one; inf as it is. Raises ValueError with the nearest that is one if it isn't."""
         if type(number) is int:
             return self._whole(Fraction(number), number, name)
-        if type(number) is float and self.factor.denominator == 1 and math.isfinite(number):
-            found = round(number * self.factor.numerator)
-            if abs(found) < _MOST_PLAIN and found / self.factor.numerator == number:
+        factor = self.factor.numerator
+        is_short = self.factor.denominator == 1 and factor < _MOST_PLAIN
+        if type(number) is float and is_short and abs(number) * factor < _MOST_PLAIN:
+            found = round(number * factor)
+            if found / factor == number:
                 return found
         if not _is_nan(number) and number == math.inf:
             return math.inf
@@ -74,7 +76,10 @@ class Scale(NamedTuple):
 
     def _stands_for(self, multiple: int, number: Any) -> bool:
         """Whether a float is the nearest one to this multiple of the unit, and to no other."""
-        same = [type(number)(float(it / self.factor)) == number for it in (multiple - 1, multiple, multiple + 1)]
+        try:
+            same = [type(number)(float(it / self.factor)) == number for it in (multiple - 1, multiple, multiple + 1)]
+        except OverflowError:  # it is above all floats
+            return False
         return same == [False, True, False]
 
 
