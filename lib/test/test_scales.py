@@ -222,6 +222,15 @@ class Limitless(unittest.TestCase):
         self.assertEqual(dimacs.certify_min_arrays(*words, flows, base=0).value, cost)
         return cost
 
+    def test_giving_up(self):
+        """It is unbounded only if a flow is feasible."""
+        words = 3, [1, 2], [2, 1], [0, 0], [INF, INF], [-1, 0]
+        with self.assertRaises(dimacs.Unbounded):
+            dimacs.solve_min_arrays(*words, [0, 0, 0], limit=0)
+        for limit in 0, 10:
+            with self.assertRaises((dimacs.Infeasible, dimacs.GaveUp)):
+                dimacs.solve_min_arrays(*words, [1, 0, -1], limit=limit)
+
     def test_bounds(self):
         """The bound in place of inf is neither below a lower bound nor blamed for another arc."""
         self.assertEqual(dimacs.solve_min_arrays(2, [1], [2], [10], [INF], [3], [10, -10]).value, 30)

@@ -14,7 +14,7 @@ With scale= numbers needn't be whole: they are multiples of a unit, and answers 
     scale=(1, 100)              amounts (caps, lows, supplies, flows) are whole, costs, weights and so on aren't
     scale="exact"               each float is the fraction that it is, and all have a common denominator
 
-A float stands for the multiple that it is nearest to, if it is the nearest float to that.
+A float stands for the multiple of the unit that it is the nearest float to, if there is only one.
 
 ValueError is raised if a number doesn't fit or isn't whole, or if an array has a wrong length; PastLimit, which is a
 ValueError, if a number is past a limit of instances. TypeError is raised for items that are no numbers, and for a dict, a

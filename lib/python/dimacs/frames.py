@@ -14,6 +14,9 @@ from .buffers import LIMIT, LIMITS
 from .given import DISTANCES, FLOWS, GRAPH, INSIDE, MAX, MIN, POTENTIALS, PREDECESSORS, Given, Names
 
 
+__all__ = ["Frame", "FrameAnswer", "from_frame"]
+
+
 class FrameAnswer(NamedTuple):
     """An answer, which was judged: its value or cost, None for distances; a DataFrame of edges on the index of the frame, with
     its two columns of ends and "flow", None for distances; and a DataFrame by node, with what shows it: "inside",
