@@ -39,11 +39,12 @@ PROVED = b"rattle logic="
 
 
 def _library() -> bytes:
-    """The shared library."""
-    place = Path(os.environ.get("DIMACS_LIBRARY") or TOP / "build" / "libdimacs.so")
-    if not place.is_file():
-        raise SystemExit(NO_LIBRARY.format(place=place))
-    return place.read_bytes()
+    """The shared library. pip builds in this folder here, so a name is also one in the folder of the repository."""
+    named = Path(os.environ.get("DIMACS_LIBRARY") or "build/libdimacs.so")
+    for place in Path.cwd() / named, TOP / named:
+        if place.is_file():
+            return place.read_bytes()
+    raise SystemExit(NO_LIBRARY.format(place=TOP / named))
 
 
 def _plain_version() -> str:

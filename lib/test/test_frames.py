@@ -27,7 +27,9 @@ class Frames(unittest.TestCase):
         return caught.exception
 
     def test_a_maximum_flow(self):
-        value, flows, nodes = self.network().solve_max("spring", "town")
+        value, edges, nodes = answer = self.network().solve_max("spring", "town")
+        flows = answer.flows
+        self.assertEqual((list(edges.columns), list(edges.index)), (["from", "to", "flow"], list(self.edges.index)))
         self.assertEqual((value, flows.to_dict()), (9, {"a": 4, "b": 5, "c": 4, "d": 5}))
         self.assertEqual(nodes["inside"].to_dict(), {"spring": True, "mill": True, "farm": True, "town": False})
         self.edges["flow"] = flows
@@ -42,7 +44,8 @@ class Frames(unittest.TestCase):
 
     def test_least_cost(self):
         network = self.network(supply=pandas.Series({"spring": 7, "town": -7}))
-        cost, flows, nodes = network.solve_min()
+        answer = network.solve_min()
+        cost, flows, nodes = answer.value, answer.flows, answer.nodes
         self.assertEqual((cost, flows.to_dict()), (20, {"a": 2, "b": 5, "c": 2, "d": 5}))
         self.assertEqual(nodes.loc["spring", "potential"] - nodes.loc["town", "potential"], 5)
         self.assertEqual(network.certify_min(flows).value, 20)

@@ -51,6 +51,12 @@ class Floats(unittest.TestCase):
             taken += found is not None
         self.assertGreater(taken, 9000)
 
+    def test_the_ends_of_floats(self):
+        for factor in 100, 10**400, Fraction(1, 10**400), Fraction(3, 10**20):
+            for number in 1e308, -1e308, 5e-324, 1e300:
+                with self.assertRaises(ValueError):
+                    Scale.of(factor).whole(number, lambda: "it")
+
     def test_decimals_and_fractions(self):
         for number in Decimal("0.07"), Fraction(7, 100), 0.07:
             self.assertEqual(Scale.of(100).whole(number, str), 7)
@@ -58,7 +64,7 @@ class Floats(unittest.TestCase):
         self.assertEqual(repr(Scale.of(Decimal("0.01")).shown(7)), "Decimal('0.07')")
         self.assertEqual(repr(Scale.of(100).shown(7)), "Fraction(7, 100)")
         self.assertEqual(Scale.of(Decimal("0.01")).shown(10**40 + 7), Decimal(f"{10**38}.07"))
-        for number in Decimal("0.075"), Fraction(1, 3), Decimal("NaN"):
+        for number in Decimal("0.075"), Fraction(1, 3), Decimal("NaN"), Decimal("sNaN"):
             with self.assertRaises(ValueError):
                 Scale.of(100).whole(number, str)
 
@@ -183,6 +189,61 @@ class Limitless(unittest.TestCase):
             dimacs.judge_infeasible_arrays(*words, [0] * 3, [INF, 1, 2], [1] * 3, [5, 0, -5], no.exception.inside).kind,
             "infeasible",
         )
+
+    def test_what_costs_least(self):
+        """As with a great capacity, unless a greater one makes it cheaper."""
+        chance = random.Random(5)
+        kinds = {"yes": 0, "unbounded": 0, "infeasible": 0}
+        for _ in range(1500):
+            nodes, count = chance.randrange(2, 5), chance.randrange(1, 7)
+            ends = [[chance.randrange(nodes) for _ in range(count)] for _ in range(2)]
+            caps = [chance.choice([INF, chance.randrange(4)]) for _ in range(count)]
+            costs = [chance.randrange(-2, 6) for _ in range(count)]
+            lows = [chance.choice([0, 0, min(cap, chance.randrange(3))]) for cap in caps]
+            supplies = [0] * nodes
+            for tail, head, cap in zip(*ends, caps):
+                amount = chance.randrange(min(cap, 3) + 1 + (chance.random() < 0.1))
+                supplies[tail] += amount
+                supplies[head] -= amount
+            words = nodes, ends, lows, caps, costs, supplies
+            wanted = [self.least(*words, most) for most in (1000, 2000)]
+            found = self.least(*words, INF)
+            self.assertEqual(found, wanted[0] if wanted[0] == wanted[1] else "unbounded")
+            kinds[found if isinstance(found, str) else "yes"] += 1
+        self.assertGreater(min(kinds.values()), 20, kinds)
+
+    def least(self, nodes, ends, lows, caps, costs, supplies, most):
+        words = nodes, *ends, lows, [min(it, most) for it in caps], costs, supplies
+        try:
+            cost, flows, prices = dimacs.solve_min_arrays(*words, base=0)
+        except (dimacs.Unbounded, dimacs.Infeasible) as it:
+            return type(it).__name__.lower()
+        self.assertEqual(dimacs.judge_min_arrays(*words, flows, prices, base=0).value, cost)
+        self.assertEqual(dimacs.certify_min_arrays(*words, flows, base=0).value, cost)
+        return cost
+
+    def test_giving_up(self):
+        """It is unbounded only if a flow is feasible."""
+        words = 3, [1, 2], [2, 1], [0, 0], [INF, INF], [-1, 0]
+        with self.assertRaises(dimacs.Unbounded):
+            dimacs.solve_min_arrays(*words, [0, 0, 0], limit=0)
+        for limit in 0, 10:
+            with self.assertRaises((dimacs.Infeasible, dimacs.GaveUp)):
+                dimacs.solve_min_arrays(*words, [1, 0, -1], limit=limit)
+
+    def test_bounds(self):
+        """The bound in place of inf is neither below a lower bound nor blamed for another arc."""
+        self.assertEqual(dimacs.solve_min_arrays(2, [1], [2], [10], [INF], [3], [10, -10]).value, 30)
+        with self.assertRaises(dimacs.PastLimit) as no:
+            dimacs.solve_max_arrays(3, 1, 3, [1, 2], [2, 3], [INF, -5])
+        self.assertEqual(no.exception.arc, 2)
+
+    @unittest.skipUnless(numpy, "no numpy")
+    def test_what_is_masked(self):
+        caps = numpy.ma.array([5.0, 4.0], mask=[0, 1])
+        for scale in None, 10, "exact":
+            with self.assertRaisesRegex(TypeError, "masked"):
+                dimacs.solve_max_arrays(3, 1, 3, [1, 2], [2, 3], caps, scale=scale)
 
     def test_a_set_that_shows_nothing(self):
         """It is violated by less than 2^63, and not by an arc without a limit."""

@@ -344,6 +344,18 @@ class Assignments(Scipy):
                 optimize.linear_sum_assignment(wrong)
             self.assertEqual(str(self.raises(ValueError, "", ours.linear_sum_assignment, wrong)), str(theirs.exception))
 
+    def test_nothing_to_assign(self):
+        for shape in (0, 3), (3, 0), (0, 0):
+            rows, columns = ours.linear_sum_assignment(numpy.zeros(shape))
+            self.assertEqual((rows.tolist(), columns.tolist()), ([], []))
+            self.assertEqual(ours.certify_assignment(numpy.zeros(shape), [], []).value, 0)
+
+    def test_entries_at_one_place(self):
+        twice = [1, 1, 3], ([0, 0, 0], [0, 0, 1])
+        self.assertEqual(ours.min_weight_full_bipartite_matching(sparse.coo_matrix(twice)).col_ind.tolist(), [0])
+        narrow = sparse.coo_matrix((numpy.array([100, 100, 127], "int8"), twice[1]))
+        self.assertEqual(ours.min_weight_full_bipartite_matching(narrow).col_ind.tolist(), [1])
+
     def test_matchings(self):
         chance = random.Random(7)
         for _ in range(300):

@@ -30,6 +30,10 @@ class Verdict:
 
     kind is "max", "min", "infeasible", "sp" (all distances from so many sources) or "pairs"; value the value of the
     flow, its cost, or the number of sources; pairs the answers to queries for pairs.
+
+    >>> import dimacs
+    >>> dimacs.judge_max_arrays(3, 1, 3, [1, 2], [2, 3], [5, 4], [4, 4], [True, True, False])
+    Verdict(kind='max', value=4, pairs=())
     """
 
     kind: str
@@ -46,6 +50,9 @@ class Certified(NamedTuple):
     value is the value of the flow, or its cost; None if the claim has neither. The certificate is the text of a cut, of
     potentials, of a set or of labels. Over arrays it has an item for each node: true on the source's side of a cut, a
     potential, or a predecessor. Over a graph it is a set of nodes, or a dict by node.
+
+    >>> import dimacs
+    >>> value, inside = dimacs.certify_max_arrays(3, 1, 3, [1, 2], [2, 3], [5, 4], [4, 4])
     """
 
     value: Any
@@ -73,6 +80,9 @@ class Solved(NamedTuple):
     value is the value of the flow, or its cost; None if there is neither. The solution is a text; over arrays the
     amount of each arc, or the distance of each node; over a graph a dict of those; for queries in texts the answers to
     pairs. The certificate is as in Certified; for queries in texts it is the text of labels.
+
+    >>> import dimacs
+    >>> value, flows, inside = dimacs.solve_max_arrays(3, 1, 3, [1, 2], [2, 3], [5, 4])
     """
 
     value: Any
@@ -215,6 +225,11 @@ class PastLimit(Placed, ValueError):
     """The first number of an instance in arrays, or of a graph, that is past its limit: nothing was judged.
 
     arc is the number of an arc, or node the ID of a node, as in Refused. reason is that of a text with this number.
+
+    >>> import dimacs
+    >>> dimacs.solve_max_arrays(2, 1, 2, [1], [2], [-5])
+    Traceback (most recent call last):
+    dimacs.answers.PastLimit: arc 1 BoundOrder: its lower bound is 0, its capacity -5
     """
 
 
@@ -223,6 +238,13 @@ class NotOptimal(Refused):
 
     better is such a flow, in the form of the claimed one; None if its cost is out of the range of solutions. value is the
     value or the cost of the claimed flow, better_value that of the better one; None as better.
+
+    >>> import dimacs
+    >>> try:
+    ...     dimacs.certify_max_arrays(3, 1, 3, [1, 2], [2, 3], [5, 4], [3, 3])
+    ... except dimacs.NotOptimal as no:
+    ...     print(no.value, no.better_value, no.better)
+    3 4 [4, 4]
     """
 
     def __init__(self, reason: str, better: Any = None, **place: Any) -> None:
@@ -240,7 +262,15 @@ class NotOptimal(Refused):
 
 class Infeasible(Refused):
     """No flow is feasible, as the certificate shows: the text of a set, over arrays whether each node is inside, or over a
-    graph a set of nodes."""
+    graph a set of nodes.
+
+    >>> import dimacs
+    >>> try:
+    ...     dimacs.solve_min_arrays(2, [1], [2], [0], [5], [3], [6, -6])
+    ... except dimacs.Infeasible as no:
+    ...     print(no, no.inside)
+    no flow is feasible [True, False]
+    """
 
     def __init__(self, certificate: Any) -> None:
         super().__init__("Infeasible")
@@ -272,8 +302,20 @@ class Feasible(Refused):
 
 class Unbounded(ValueError):
     """An optimum would be infinite: arcs with an infinite capacity lead from the source to the sink, or around a cycle that
-    costs less than nothing. Over graphs of networkx it is a NetworkXUnbounded."""
+    costs less than nothing. Over graphs of networkx it is a NetworkXUnbounded.
+
+    >>> import dimacs
+    >>> dimacs.solve_max_arrays(2, 1, 2, [1], [2], [float("inf")])
+    Traceback (most recent call last):
+    dimacs.answers.Unbounded: arcs without a limit lead from the source to the sink
+    """
 
 
 class GaveUp(OverflowError):
-    """A limit was reached before the best was found, or the answer has numbers that don't fit."""
+    """A limit was reached before the best was found, or the answer has numbers that don't fit.
+
+    >>> import dimacs
+    >>> dimacs.solve_max_arrays(2, 1, 2, [1], [2], [5], limit=0)
+    Traceback (most recent call last):
+    dimacs.answers.GaveUp: a limit was reached, or numbers that were found are out of range
+    """

@@ -14,7 +14,7 @@ With scale= numbers needn't be whole: they are multiples of a unit, and answers 
     scale=(1, 100)              amounts (caps, lows, supplies, flows) are whole, costs, weights and so on aren't
     scale="exact"               each float is the fraction that it is, and all have a common denominator
 
-A float stands for the multiple that it is nearest to, if it is the nearest float to that.
+A float stands for the multiple of the unit that it is the nearest float to, if there is only one.
 
 ValueError is raised if a number doesn't fit or isn't whole, or if an array has a wrong length; PastLimit, which is a
 ValueError, if a number is past a limit of instances. TypeError is raised for items that are no numbers, and for a dict, a
@@ -28,7 +28,7 @@ from typing import Any
 from . import calls, library
 from .answers import Certified, Solved, Verdict
 from .buffers import LIMIT, LIMITS
-from .given import DISTANCES_, FLOWS, GRAPH, INSIDE, MAX, MIN, POTENTIALS, PREDECESSORS, Given, Names
+from .given import DISTANCES, FLOWS, GRAPH, INSIDE, MAX, MIN, POTENTIALS, PREDECESSORS, Given, Names
 
 
 def judge_max_arrays(
@@ -124,7 +124,7 @@ def judge_paths_arrays(
     Verdict(kind='sp', value=1, pairs=())
     """
     given = Given(GRAPH, nodes, tails, heads, weights, scale=scale, names=Names(base)).add_number("source", source)
-    given.add(DISTANCES_, distances).add(PREDECESSORS, predecessors)
+    given.add(DISTANCES, distances).add(PREDECESSORS, predecessors)
     return calls.judge(library.judge_paths_arrays, given)
 
 
@@ -227,7 +227,7 @@ def certify_paths_arrays(
     dimacs.answers.Refused: arc 1 Escapes: its tail is at 5, its head isn't reached
     """
     given = Given(GRAPH, nodes, tails, heads, weights, scale=scale, names=Names(base)).add_number("source", source)
-    return calls.certify(library.certify_paths_arrays, given.add(DISTANCES_, distances), distances, PREDECESSORS)
+    return calls.certify(library.certify_paths_arrays, given.add(DISTANCES, distances), distances, PREDECESSORS)
 
 
 def solve_max_arrays(

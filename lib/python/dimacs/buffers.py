@@ -106,7 +106,7 @@ MARKS = Items("B", 1, 0, 2**8 - 1)
 #: no limit, and so it is as good as it would be then.
 UNLIMITED = 2**63 - 1
 CAPACITIES = NUMBERS._replace(infinity=UNLIMITED)
-DISTANCES = NUMBERS._replace(infinity=UNREACHED)
+LENGTHS = NUMBERS._replace(infinity=UNREACHED)
 LIMITS = Items("Q", 8, 0, 2**64 - 1)
 
 #: The limit if none is given.
@@ -185,8 +185,7 @@ def _from_view(view: memoryview, items: Items) -> Buffer:
 
 def _from_numpy(numpy: Any, numbers: Any, items: Items, name: Name) -> Buffer:
     """Takes a numpy array as it is if its items have the width, else converts it."""
-    if isinstance(numbers, numpy.ma.MaskedArray):
-        raise TypeError(f"{_array(name)} is a masked array, and what is masked has no number")
+    _test_mask(numbers, name)
     numbers = numpy.asarray(numbers)  # other subclasses have a least and a greatest item of their own
     wanted = numpy.dtype(items.code)
     kind = numbers.dtype.kind
@@ -235,8 +234,15 @@ def _array(name: Name) -> str:
     return name if isinstance(name, str) else "an array"
 
 
-def _gone_through(numbers: Any, name: Name) -> list[Any]:
-    """The items of an object without a buffer."""
+def _test_mask(numbers: Any, name: Name) -> None:
+    numpy = sys.modules.get("numpy")
+    if numpy is not None and isinstance(numbers, numpy.ma.MaskedArray):
+        raise TypeError(f"{_array(name)} is a masked array, and what is masked has no number")
+
+
+def gone_through(numbers: Any, name: Name) -> list[Any]:
+    """The items of an object one by one: those of numpy keep their type."""
+    _test_mask(numbers, name)
     if isinstance(numbers, (Mapping, Set)):
         raise TypeError(
             f"{_array(name)} is a {type(numbers).__name__}, whose items have no places as those of an array"
@@ -287,7 +293,7 @@ def array_of(numbers: Any, items: Items, name: Name) -> Buffer:
     try:
         view = memoryview(numbers)
     except TypeError:
-        return _from_numbers(_gone_through(numbers, name), items, name)
+        return _from_numbers(gone_through(numbers, name), items, name)
     if view.ndim != 1:
         raise ValueError(f"{_array(name)} has {view.ndim} dimensions, and not one")
     if view.format not in _SAME[items.code] or view.itemsize != items.width or not view.c_contiguous:

@@ -8,7 +8,7 @@ from typing import Any, Callable
 from . import library
 from .answers import UNREACHED, Certified, Feasible, GaveUp, Infeasible, NotOptimal, Refused, Solved, Unbounded, Verdict
 from .buffers import Room
-from .given import COSTS, DISTANCES_, FLOWS, GRAPH, HEADS, INSIDE, MIN, POTENTIALS, PREDECESSORS, SUPPLIES, TAILS
+from .given import COSTS, DISTANCES, FLOWS, GRAPH, HEADS, INSIDE, MAX, MIN, POTENTIALS, PREDECESSORS, SUPPLIES, TAILS
 from .given import Array, Given
 
 
@@ -85,13 +85,22 @@ def _solve_bounded(
     try:
         return _solve(function, given, words, *handed)
     except GaveUp:
-        test(given)
+        if given.form is MAX or _has_flow(given, words[:1]):
+            test(given)
         raise
 
 
+def _has_flow(given: Given, instance: list[Any]) -> bool:
+    """Whether a flow is feasible."""
+    status, _ = library.call_with_rooms(
+        library.certify_infeasible_arrays, instance, [given.room(INSIDE), given.room(FLOWS)]
+    )
+    return status == library.REFUSED
+
+
 def solve_paths(given: Given, came: Any) -> Solved:
-    _, (distances, before) = _solve(library.solve_paths_arrays, given, given.words(), DISTANCES_, PREDECESSORS)
-    return Solved(None, given.shown(DISTANCES_, distances, came), given.shown(PREDECESSORS, before, came))
+    _, (distances, before) = _solve(library.solve_paths_arrays, given, given.words(), DISTANCES, PREDECESSORS)
+    return Solved(None, given.shown(DISTANCES, distances, came), given.shown(PREDECESSORS, before, came))
 
 
 def _solve(function: Callable[..., int], given: Given, words: list[Any], *handed: Array) -> tuple[Verdict, list[Room]]:

@@ -7,7 +7,7 @@ from itertools import accumulate, compress
 from typing import Any, Callable
 
 from .answers import UNREACHED, Placed
-from .given import CAPS, COSTS, DISTANCES_, FLOWS, HEADS, INSIDE, LOWS, MAX, MIN, MOST_NODES, POTENTIALS
+from .given import CAPS, COSTS, DISTANCES, FLOWS, HEADS, INSIDE, LOWS, MAX, MIN, MOST_NODES, POTENTIALS
 from .given import PREDECESSORS, SUPPLIES, TAILS, WEIGHTS, Array, Given
 
 
@@ -51,14 +51,14 @@ def _costs_up_to(given: Given, arc: int) -> dict[str, Any]:
 
 def _along(given: Given, arc: int) -> dict[str, Any]:
     """The distances of an arc's ends, and its weight."""
-    claimed = given.column(DISTANCES_)
+    claimed = given.column(DISTANCES)
     at = {name: claimed[given.column(kind)[arc - 1] - 1] for name, kind in (("tail", TAILS), ("head", HEADS))}
     shown = {name: given.amount("cost", it) for name, it in at.items() if it != UNREACHED}
     return {**shown, "weight": _at(given, WEIGHTS, arc)}
 
 
 def _claimed(given: Given, node: int) -> dict[str, Any]:
-    found = given.column(DISTANCES_)[node - 1]
+    found = given.column(DISTANCES)[node - 1]
     numbers = {"distance": math.inf if found == UNREACHED else given.amount("cost", found)}
     try:
         before = given.column(PREDECESSORS)[node - 1]

@@ -11,17 +11,25 @@ import pandas as pd
 from . import calls, library
 from .answers import Feasible, Infeasible, NotOptimal
 from .buffers import LIMIT, LIMITS
-from .given import DISTANCES_, FLOWS, GRAPH, INSIDE, MAX, MIN, POTENTIALS, PREDECESSORS, Given, Names
+from .given import DISTANCES, FLOWS, GRAPH, INSIDE, MAX, MIN, POTENTIALS, PREDECESSORS, Given, Names
+
+
+__all__ = ["Frame", "FrameAnswer", "from_frame"]
 
 
 class FrameAnswer(NamedTuple):
-    """An answer, which was judged: its value or cost, None for distances; a Series of flows on the index of the frame, None
-    for distances; and a DataFrame by node, with what shows it: "inside", "potential", or "distance" and "predecessor".
-    """
+    """An answer, which was judged: its value or cost, None for distances; a DataFrame of edges on the index of the frame, with
+    its two columns of ends and "flow", None for distances; and a DataFrame by node, with what shows it: "inside",
+    "potential", or "distance" and "predecessor"."""
 
     value: Any
-    flows: Any
+    edges: pd.DataFrame | None
     nodes: pd.DataFrame
+
+    @property
+    def flows(self) -> pd.Series:
+        """The flows of edges, as a Series."""
+        return None if self.edges is None else self.edges["flow"]
 
 
 class _FrameNames(Names):
@@ -46,12 +54,28 @@ class _FrameNames(Names):
 
 
 class Frame:
-    """A network of edges in a DataFrame. See from_frame."""
+    """A network of edges in a DataFrame. See from_frame.
+
+    >>> table = {"from": ["mine", "mine"], "to": ["port", "port"], "tons": [5, 5], "price": [3, 7]}
+    >>> supply = {"mine": 6, "port": -6}
+    >>> network = from_frame(pd.DataFrame(table), "from", "to", capacity="tons", cost="price", supply=supply)
+    >>> network
+    Frame of 2 edges between 2 nodes
+    >>> network.solve_max("mine", "port").value
+    10
+    >>> network.certify_min([5, 1]).value
+    22
+    >>> network.certify_max("mine", "port", [5, 1])
+    Traceback (most recent call last):
+    dimacs.answers.NotOptimal: solution 0 0 NotMaximum: its value is 6, and that of a better flow 10
+    >>> network.certify_paths("mine", {"mine": 0, "port": 3}).nodes["predecessor"].to_dict()
+    {'mine': None, 'port': 'mine'}
+    """
 
     def __init__(
         self, edges: pd.DataFrame, tail: Any, head: Any, columns: dict[str, Any], supply: Any, scale: Any
     ) -> None:
-        self.edges, self.columns, self._scale = edges, columns, scale
+        self.edges, self.columns, self._scale, self._named = edges, columns, scale, [tail, head]
         for name in (tail, head, *columns.values()):
             if name not in edges.columns:
                 raise ValueError(f"the frame has no column {name!r}: it has {', '.join(map(repr, edges.columns))}")
@@ -111,6 +135,10 @@ class Frame:
     def _by_edge(self, flows: Any) -> pd.Series:
         return pd.Series(list(flows), index=self.edges.index, name="flow")
 
+    def _answer(self, value: Any, flows: Any, **columns: Any) -> FrameAnswer:
+        edges = self.edges[self._named].assign(flow=self._by_edge(flows)) if flows is not None else None
+        return FrameAnswer(value, edges, self._by_node(**columns))
+
     def _by_node(self, **columns: Any) -> pd.DataFrame:
         made = {name: list(it) for name, it in columns.items()}
         return pd.DataFrame(made, index=pd.Index(self.nodes, name="node", tupleize_cols=False))
@@ -134,20 +162,20 @@ class Frame:
         """A maximum flow, and which nodes are on the source's side of a cut that shows it. Raises as solve_max_arrays."""
         with self._shown():
             value, flows, inside = calls.solve_max(self._max(source, sink).add_number("limit", limit, LIMITS), [])
-        return FrameAnswer(value, self._by_edge(flows), self._by_node(inside=inside))
+        return self._answer(value, flows, inside=inside)
 
     def solve_min(self, limit: int = LIMIT) -> FrameAnswer:
         """A flow of least cost, and potentials that show it. Raises as solve_min_arrays."""
         with self._shown():
             cost, flows, prices = calls.solve_min(self._min().add_number("limit", limit, LIMITS), [])
-        return FrameAnswer(cost, self._by_edge(flows), self._by_node(potential=prices))
+        return self._answer(cost, flows, potential=prices)
 
     def solve_paths(self, source: Any) -> FrameAnswer:
         """The distances from a node, by the column of costs, and predecessors; inf and None of a node that isn't reached."""
         _, found, before = calls.solve_paths(self._paths(source), [])
         reached = [it != 0 or self.nodes[place] == source for place, it in enumerate(before)]
         distances = [it if is_reached else math.inf for it, is_reached in zip(found, reached)]
-        return FrameAnswer(None, None, self._by_node(distance=distances, predecessor=self._before(before)))
+        return self._answer(None, None, distance=distances, predecessor=self._before(before))
 
     def _before(self, numbers: Any) -> list[Any]:
         return [self.nodes[it - 1] if it else None for it in numbers]
@@ -157,20 +185,20 @@ class Frame:
         claim = self._max(source, sink).add(FLOWS, self._flows(flows))
         with self._shown():
             value, inside = calls.certify(library.certify_max_arrays, claim, [], INSIDE, FLOWS)
-        return FrameAnswer(value, self._by_edge(self._flows(flows)), self._by_node(inside=inside))
+        return self._answer(value, self._flows(flows), inside=inside)
 
     def certify_min(self, flows: Any) -> FrameAnswer:
         """Decides whether flows, a column or a Series, cost least. Raises as certify_min_arrays."""
         claim = self._min().add(FLOWS, self._flows(flows))
         with self._shown():
             cost, prices = calls.certify(library.certify_min_arrays, claim, [], POTENTIALS, FLOWS)
-        return FrameAnswer(cost, self._by_edge(self._flows(flows)), self._by_node(potential=prices))
+        return self._answer(cost, self._flows(flows), potential=prices)
 
     def certify_infeasible(self) -> FrameAnswer:
         """Decides whether no flow meets the supplies. Raises Feasible with flows if one does."""
         with self._shown():
             inside = calls.certify_infeasible(self._min(), []).inside
-        return FrameAnswer(None, None, self._by_node(inside=inside))
+        return self._answer(None, None, inside=inside)
 
     def certify_paths(self, source: Any, distances: Any) -> FrameAnswer:
         """Decides whether these are the distances from a node: a dict or Series by node, without those that aren't reached,
@@ -180,9 +208,9 @@ class Frame:
             self._number(node)
         by_node = [claimed.get(node, math.inf) for node in self.nodes]
         before = calls.certify(
-            library.certify_paths_arrays, self._paths(source).add(DISTANCES_, by_node), [], PREDECESSORS
+            library.certify_paths_arrays, self._paths(source).add(DISTANCES, by_node), [], PREDECESSORS
         )
-        return FrameAnswer(None, None, self._by_node(distance=by_node, predecessor=self._before(before.predecessors)))
+        return self._answer(None, None, distance=by_node, predecessor=self._before(before.predecessors))
 
 
 def from_frame(

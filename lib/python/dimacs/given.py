@@ -12,8 +12,8 @@ from functools import partial
 from typing import Any, Callable, Iterable, Iterator, NamedTuple, Sequence
 
 from .answers import UNREACHED, PastLimit, Refused
-from .buffers import CAPACITIES, DISTANCES, IDS, MARKS, NUMBERS, UNLIMITED, Buffer, Items, Room
-from .buffers import array_of, is_numpy, is_single, item, number_of, unlabelled
+from .buffers import CAPACITIES, IDS, LENGTHS, MARKS, NUMBERS, UNLIMITED, Buffer, Items, Room
+from .buffers import array_of, gone_through, is_numpy, is_single, item, number_of, unlabelled
 from .scales import units_of
 
 #: The greatest number of nodes.
@@ -44,7 +44,7 @@ COSTS, WEIGHTS = (Array(name, NUMBERS, "arcs", "cost") for name in ("costs", "we
 SUPPLIES = Array("supplies", NUMBERS, "nodes", "amount")
 POTENTIALS = Array("potentials", NUMBERS, "nodes", "cost")
 INSIDE = Array("inside", MARKS, "nodes")
-DISTANCES_ = Array("distances", DISTANCES, "nodes", "cost")
+DISTANCES = Array("distances", LENGTHS, "nodes", "cost")
 PREDECESSORS = Array("predecessors", IDS, "nodes")
 
 
@@ -152,9 +152,9 @@ class Given:
             raise TypeError(f"{kind.name}: {given}, {wanted} is wanted")
         if self._units and kind.unit:
             scale, name = self._units.of(kind.unit), self._namer(kind)
-            numbers = [scale.whole(it, lambda: item(name, k)) for k, it in enumerate(_listed(numbers, name))]
+            numbers = [scale.whole(it, partial(item, name, k)) for k, it in enumerate(gone_through(numbers, name))]
         self._buffers[kind.name] = found = self._buffer(kind, numbers)
-        if kind.items is DISTANCES and (self._units or self.names.has_inf_alone):
+        if kind.items is LENGTHS and (self._units or self.names.has_inf_alone):
             self._test_reached(kind, numbers)
         self._count.setdefault("arcs", found.length)  # one arc for each tail, which are the first
 
@@ -183,9 +183,9 @@ class Given:
 
     def _groups(self, unit: str) -> Iterable[tuple[Sequence[Any], Callable[[int], str]]]:
         for kind, numbers in self._raw.items():
-            if kind.unit == unit:
+            if kind.unit == unit and not is_single(numbers):
                 name = self._namer(kind)
-                yield _listed(numbers, name), partial(item, name)
+                yield gone_through(numbers, name), partial(item, name)
 
     def _test_lengths(self) -> None:
         """The library tests the lengths too, but doesn't report which one is wrong."""
@@ -218,14 +218,17 @@ class Given:
 
     def bound_limitless(self) -> None:
         """Gives arcs without a limit more than a best flow needs to carry anywhere: without cycles that cost nothing or less
-        it goes along paths that bring what is supplied, and along cycles that have an arc with a limit."""
+        it goes along paths that bring what is supplied, and along cycles that have an arc with a limit. What has to flow is
+        supplied at the arc's head, beside what it carries itself."""
         limitless = self.limitless()
         caps = array("q", self.column(CAPS))
-        finite = sum(caps) - UNLIMITED * len(limitless)
-        supplied = sum(it for it in self.column(SUPPLIES) if it > 0) if self.form is MIN else 0
-        bound = min(finite + supplied + 1, UNLIMITED)
+        bound = 1 + sum(it for it in caps if it > 0) - UNLIMITED * len(limitless)
+        if self.form is MIN:
+            bound += sum(it for it in self.column(SUPPLIES) if it > 0) + 2 * sum(
+                it for it in self.column(LOWS) if it > 0
+            )
         for place in limitless:
-            caps[place] = bound
+            caps[place] = min(bound, UNLIMITED)
         self._buffers[CAPS.name] = Buffer(caps, *caps.buffer_info())
         self._instance.caps = caps.buffer_info()[0]
 
@@ -251,9 +254,9 @@ class Given:
         if kind.items is IDS and self.names.base == 0:
             return _in_form_of([it - 1 for it in room.items()], came, "q")
         if not (self._units and kind.unit):
-            return room.in_form_of(unlabelled(came))
+            return room.in_form_of(came)
         scale = self._units.of(kind.unit)
-        is_distance = kind.items is DISTANCES
+        is_distance = kind.items is LENGTHS
         shown = [math.inf if is_distance and it == UNREACHED else scale.shown(it) for it in room.items()]
         return _in_form_of(shown, came, "O")
 
@@ -312,16 +315,9 @@ def infinite(numbers: Any) -> list[int]:
     return [place for place, it in enumerate(numbers) if type(it) is not int and it == math.inf]
 
 
-def _listed(numbers: Any, name: Any) -> Sequence[Any]:
-    """The items of an array one by one: those of numpy keep their type."""
-    if is_single(numbers) or isinstance(numbers, (str, bytes, dict, set, frozenset)):
-        raise TypeError(f"{name if isinstance(name, str) else 'an array'} is {numbers!r}, and has to be an array")
-    return list(numbers)
-
-
 def _in_form_of(items: list[Any], came: Any, kind: str) -> Any:
     """Items in an array of numpy if that came, else in a list."""
-    if not is_numpy(unlabelled(came)):
+    if not is_numpy(came):
         return items
     import numpy
 

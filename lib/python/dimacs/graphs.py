@@ -19,7 +19,7 @@ from typing import Any, Iterator, Sequence
 from . import calls, library
 from .answers import Certified, Feasible, Infeasible, NotOptimal, Solved, Unbounded, Verdict
 from .buffers import LIMIT, LIMITS, is_bool, unlabelled
-from .given import DISTANCES_, FLOWS, GRAPH, INSIDE, MAX, MIN, POTENTIALS, PREDECESSORS, Given, Names
+from .given import DISTANCES, FLOWS, GRAPH, INSIDE, MAX, MIN, POTENTIALS, PREDECESSORS, Given, Names
 
 #: What numbers are of, by the names of arrays.
 _OF_EDGES = {"caps": "capacity", "costs": "weight", "weights": "weight", "flows": "flow"}
@@ -293,7 +293,7 @@ def certify_networkx_paths(graph: Any, source: Any, distances: Any, *, scale: An
     {'a': None, 'b': 'a', 'c': 'b'}
     """
     given = _Graph(graph, scale)
-    claim = given.paths(source).add(DISTANCES_, given.by_node(distances, math.inf, "distances"))
+    claim = given.paths(source).add(DISTANCES, given.by_node(distances, math.inf, "distances"))
     predecessors = calls.certify(library.certify_paths_arrays, claim, [], PREDECESSORS).predecessors
     return Certified(None, given.predecessors(source, predecessors))
 

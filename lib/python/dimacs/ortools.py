@@ -20,6 +20,9 @@ from .answers import Certified, Refused
 from .arrays import certify_max_arrays, certify_min_arrays
 
 
+__all__ = ["certify"]
+
+
 class _Solver:
     """The arcs of a solver, and the flow on each."""
 

@@ -50,31 +50,36 @@ class Scale(NamedTuple):
         """A number as a whole one; inf as it is. Raises ValueError with the nearest that is one if it isn't."""
         if type(number) is int:
             return self._whole(Fraction(number), number, name)
-        if type(number) is float and self.factor.denominator == 1 and math.isfinite(number):
-            found = round(number * self.factor.numerator)
-            if abs(found) < _MOST_PLAIN and found / self.factor.numerator == number:
+        factor = self.factor.numerator
+        is_short = self.factor.denominator == 1 and factor < _MOST_PLAIN
+        if type(number) is float and is_short and abs(number) * factor < _MOST_PLAIN:
+            found = round(number * factor)
+            if found / factor == number:
                 return found
-        if number == math.inf:
+        if not _is_nan(number) and number == math.inf:
             return math.inf
         return self._whole(_fraction(number, name), number, name)
 
     def _whole(self, exact: Fraction, number: Any, name: Callable[[], str]) -> int:
         product = exact * self.factor
         found = round(product)
-        if (
-            product == found
-            or not isinstance(number, (int, Fraction, decimal.Decimal))
-            and self._stands_for(found, number)
-        ):
-            return found
-        unit = self.shown(1)
-        raise ValueError(
-            f"{name()} is {number}, not a multiple of {unit}: the nearest is {_readable(self.shown(found))}"
-        )
+        is_exact = isinstance(number, (int, Fraction, decimal.Decimal))
+        if product != found and (is_exact or not self._stands_for(found, number)):
+            nearest = _readable(self.shown(found))
+            raise ValueError(f"{name()} is {number}, not a multiple of {self._unit()}: the nearest is {nearest}")
+        if not -(2**63) <= found < 2**63:
+            raise ValueError(f"{name()} is {number}, which has more than 64 bits in units of {self._unit()}")
+        return found
+
+    def _unit(self) -> Any:
+        return self.shown(1)
 
     def _stands_for(self, multiple: int, number: Any) -> bool:
         """Whether a float is the nearest one to this multiple of the unit, and to no other."""
-        same = [type(number)(float(it / self.factor)) == number for it in (multiple - 1, multiple, multiple + 1)]
+        try:
+            same = [type(number)(float(it / self.factor)) == number for it in (multiple - 1, multiple, multiple + 1)]
+        except OverflowError:  # it is above all floats
+            return False
         return same == [False, True, False]
 
 
@@ -93,6 +98,11 @@ def _fraction(number: Any, name: Callable[[], str]) -> Fraction:
         raise ValueError(f"{name()} is {number}, not a finite number") from None
 
 
+def _is_nan(number: Any) -> bool:
+    """Whether this is no number of the decimal module, which mustn't be compared."""
+    return isinstance(number, decimal.Decimal) and number.is_nan()
+
+
 def _readable(number: Any) -> Any:
     return float(number) if isinstance(number, Fraction) else number
 
@@ -103,7 +113,7 @@ def exact_scale(groups: Iterable[tuple[Sequence[Any], Callable[[int], str]]]) ->
     exact: list[tuple[Fraction, Callable[[], str]]] = []
     for numbers, name in groups:
         for k, number in enumerate(numbers):
-            if number != math.inf:
+            if _is_nan(number) or number != math.inf:
                 exact.append((_fraction(number, partial(name, k)), partial(name, k)))
     common = math.lcm(*(it.denominator for it, _ in exact))
     for it, named in exact:
@@ -129,5 +139,7 @@ def units_of(scale: Any, groups: Callable[[str], Iterable[tuple[Sequence[Any], C
         return None
     if isinstance(scale, str) and scale == "exact":
         return Units(exact_scale(groups("amount")), exact_scale(groups("cost")))
+    if isinstance(scale, tuple) and len(scale) != 2:
+        raise TypeError(f"scale is {scale!r}: a pair is one for amounts and one for costs")
     amount, cost = scale if isinstance(scale, tuple) else (scale, scale)
     return Units(Scale.of(amount), Scale.of(cost))

@@ -88,6 +88,19 @@ def entries_of(matrix: Any) -> tuple[Any, Any, Any]:
     return rows, matrix.indices.astype(np.int64), matrix.data
 
 
+#: The formats in which several entries at a place are several edges, as by SciPy. In others they are one, of their sum.
+SEVERAL = ("csr", "csc")
+
+
+def edges_of(matrix: Any, rows: Any, columns: Any, values: Any) -> tuple[Any, Any, Any]:
+    """The entries of a matrix as edges, whose weights are whole numbers."""
+    weights = whole(values, rows, columns)
+    if matrix.format in SEVERAL:
+        return rows, columns, weights
+    places = Places(rows, columns, matrix.shape[1])
+    return places.rows, places.columns, places.fitting(weights, "the weight")
+
+
 def matrix_of(places: Places, amounts: Any, vertices: int) -> Any:
     """A matrix in CSR format with an amount at each of these places."""
     starts = np.searchsorted(places.rows, np.arange(vertices + 1))

@@ -12,7 +12,7 @@ from .. import calls, library
 from ..answers import Infeasible, NotOptimal
 from ..buffers import LIMIT, LIMITS
 from ..given import FLOWS, MAX, MIN, POTENTIALS, Given, Names
-from .entries import entries_of, whole
+from .entries import edges_of, entries_of, whole
 
 
 class Assignment(NamedTuple):
@@ -169,8 +169,9 @@ def _of_sparse(matrix: Any, maximize: bool, has_costs: bool = True) -> _Edges:
     if not sparse.issparse(matrix):
         raise TypeError("graph must be in sparse format (CSC, CSR, or COO)")
     rows, columns, values = entries_of(matrix)
-    costs = whole(values, rows, columns) if has_costs else np.zeros(len(rows), np.int64)
-    return _Edges(matrix.shape, rows, columns, costs, maximize)
+    if not has_costs:
+        return _Edges(matrix.shape, rows, columns, np.zeros(len(rows), np.int64), maximize)
+    return _Edges(matrix.shape, *edges_of(matrix, rows, columns, values), maximize)
 
 
 def min_weight_full_bipartite_matching(biadjacency: Any, maximize: bool = False) -> Assignment:

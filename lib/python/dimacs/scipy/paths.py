@@ -13,23 +13,20 @@ from .. import calls, library
 from ..answers import UNREACHED, GaveUp
 from ..arrays import solve_paths_arrays
 from ..distances import NegativeCycle, distances_from, potentials_of
-from ..given import DISTANCES_, GRAPH, PREDECESSORS, Given, Names
-from .entries import Places, entries_of, numbers_of, whole
+from ..given import DISTANCES, GRAPH, PREDECESSORS, Given, Names
+from .entries import SEVERAL, Places, edges_of, entries_of, numbers_of, whole
 
 #: SciPy's predecessor of a vertex that has none.
 NO_PREDECESSOR = -9999
 
 _METHODS = ("auto", "FW", "D", "BF", "J")
 
-#: The formats in which several entries at a place are several edges, as by SciPy. In others they are one, of their sum.
-_SEVERAL = ("csr", "csc")
-
 
 def _stored(matrix: Any) -> tuple[Any, Any, Any]:
     """The entries of a sparse matrix, but for those at a place with inf, which is no edge."""
     rows, columns, values = entries_of(matrix)
     kept = values != np.inf
-    if not (kept.all() or matrix.format in _SEVERAL):
+    if not (kept.all() or matrix.format in SEVERAL):
         kept = ~Places(rows, columns, matrix.shape[1]).share(~kept)
     return rows[kept], columns[kept], values[kept]
 
@@ -53,11 +50,9 @@ def _edges(csgraph: Any, unweighted: bool) -> tuple[int, Any, Any, Any]:
         raise ValueError("graph should be a square array")
     if unweighted:
         return shape[0], rows, columns, np.ones(len(rows), np.int64)
-    weights = whole(values, rows, columns)
-    if not is_sparse or csgraph.format in _SEVERAL:
-        return shape[0], rows, columns, weights
-    places = Places(rows, columns, shape[1])
-    return shape[0], places.rows, places.columns, places.fitting(weights, "the weight")
+    if is_sparse:
+        return shape[0], *edges_of(csgraph, rows, columns, values)
+    return shape[0], rows, columns, whole(values, rows, columns)
 
 
 def _sources(indices: Any, vertices: int) -> Any:
@@ -197,7 +192,7 @@ def certify_shortest_path(
     ends = numbers_of(tails), numbers_of(heads)
     for row, source in enumerate(map(int, sources.flat)):
         given = Given(GRAPH, vertices, *ends, weights, names=_TableNames(tails, heads, source))
-        given.add_number("source", source + 1).add(DISTANCES_, rows[row])
+        given.add_number("source", source + 1).add(DISTANCES, rows[row])
         if before is None:
             shown = calls.certify(library.certify_paths_arrays, given, rows[row], PREDECESSORS).predecessors
             found[row] = np.where(shown > 0, shown.astype(np.int64) - 1, NO_PREDECESSOR)
