@@ -283,7 +283,7 @@ static void other_graphs() {
 
 /* Exceptions that were moved from have what they had. */
 static void moved_exceptions() {
-    const dimacs::RefusedAt<Node, Arc> at{"x node 7 NumberRange", "NumberRange", lemon::INVALID, std::nullopt};
+    const dimacs::RefusedAt<Node, Arc> at{"x node 7 NumberRange", "NumberRange", Node(lemon::INVALID), std::nullopt};
     dimacs::OutOfRangeAt<Node, Arc> one(at);
     const dimacs::OutOfRangeAt<Node, Arc> other(std::move(one));
     is("moved", one.at().line + other.at().line, at.line + at.line);
