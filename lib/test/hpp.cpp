@@ -2,6 +2,7 @@
 #include "check.hpp"
 #include "dimacs.hpp"
 #include <array>
+#include <functional>
 #include <sstream>
 
 /* Whoever includes dimacs.hpp alone sees neither LEMON's part nor Boost's: their names are free in it. */
@@ -275,6 +276,7 @@ static constexpr bool converts =
 static void values() {
     using dimacs::Value;
     static_assert(!converts<double> && !converts<float> && !converts<const char *> && !converts<std::nullptr_t>);
+    static_assert(!std::is_invocable_v<std::equal_to<>, Value, double>);
     check_that("a sign isn't lost", Value(-1) != ~0ULL && Value(-1) == -1LL);
     is("the least of 64 bits", Value(INT64_MIN).str(), "-9223372036854775808");
     is("the greatest", Value(UINT64_MAX).str(), "18446744073709551615");

@@ -281,6 +281,17 @@ static void other_graphs() {
     check_that("for flows too", dimacs::lemon::certify_max(edges, length, one, other, flow.flowMap())->value == 4);
 }
 
+/* Exceptions that were moved from have what they had. */
+static void moved_exceptions() {
+    const dimacs::RefusedAt<Node, Arc> at{"x node 7 NumberRange", "NumberRange", Node(lemon::INVALID), std::nullopt};
+    dimacs::OutOfRangeAt<Node, Arc> one(at);
+    const dimacs::OutOfRangeAt<Node, Arc> other(std::move(one));
+    is("moved", one.at().line + other.at().line, at.line + at.line);
+    dimacs::PastLimitAt<Node, Arc> limit(dimacs::detail::refused("x node 0 NodeRange"), at);
+    const dimacs::PastLimitAt<Node, Arc> another(std::move(limit));
+    is("and past a limit", limit.at().line + another.refused().line, at.line + "x node 0 NodeRange");
+}
+
 int main() {
     Graph graph;
     Numbers capacity(graph), cost(graph);
@@ -291,5 +302,6 @@ int main() {
     other_graphs();
     limits();
     missing_nodes();
+    moved_exceptions();
     return count();
 }

@@ -39,7 +39,8 @@ class Map {
     std::vector<Number> numbers_;
 };
 
-// The arcs and nodes of a graph, in the order in which LEMON goes over them.
+// The arcs and nodes of a graph, in the order in which LEMON goes over them. Its INVALID may have to be linked, so it
+// isn't named here.
 template <class G>
 class Index {
   public:
@@ -51,12 +52,12 @@ class Index {
 
     explicit Index(const G &graph) : graph_(&graph), numbers_(static_cast<std::size_t>(graph.maxNodeId() + 1)) {
         Node node;
-        for (graph.first(node); node != ::lemon::INVALID; graph.next(node)) {
+        for (graph.first(node); node != ::lemon::Invalid(); graph.next(node)) {
             nodes_.push_back(node);
             numbers_[static_cast<std::size_t>(graph.id(node))] = size();
         }
         Arc arc;
-        for (graph.first(arc); arc != ::lemon::INVALID; graph.next(arc)) {
+        for (graph.first(arc); arc != ::lemon::Invalid(); graph.next(arc)) {
             arcs_.push_back(arc);
             tails_.push_back(number(graph.source(arc)));
             heads_.push_back(number(graph.target(arc)));

@@ -21,7 +21,7 @@ pub returns-clause-arcs : goal.returns-clause-arcs
 returns-clause-arcs g c =
     let arcs = g.N.Network.list c.args.network.now in
     let order = c.in-Some.order.items in
-    let covering : AreCovering arcs order = rw c.in-Some.is at c.in_ok-order.ensures in
+    let covering : AreCovering arcs order = rw c.in-Some.is at c.in_ok-order.ensures.covering in
     let all : length order ≤ c.loop-k.k = omega (arith, c.loop-k-test.false, c.len-k-end.ensures) in
     let same : arcs_in arcs order ≡ c.loop-k.lightest.arcs = ap (arcs_in arcs) (sym (take_all c.loop-k.k order all)) ∙ sym (ap (λ (n : NetworkValue). n.arcs) c.loop-k.invariant) in
     subst (AreLightest arcs) same (covering_lightest arcs order covering)
