@@ -329,14 +329,24 @@ def test_page(counts, build, place):
         if lacking:
             counts.leave_out(f"$ {command}", lacking)
             continue
-        ran = run("sh", "-c", command, cwd=place, env=environment)
-        module = re.search(r"No module named '(\w+)'", ran.stderr)
+        ran, module = run_shown(command, place, environment)
         if module:
-            counts.leave_out(f"$ {command}", module[1])
+            counts.leave_out(f"$ {command}", module)
             continue
         is_as_shown = ran.stdout == lines and ran.returncode == wanted_status(lines)
         output = f"{ran.stdout}{ran.stderr}"
         counts.add(f"$ {command}", subprocess.CompletedProcess([], 1 - is_as_shown, output, ""), by_status)
+
+
+def run_shown(command, place, environment):
+    """Runs a command by the first Python that has its modules, and answers the module that the last one lacks."""
+    for python in pythons():
+        path = f"{os.path.dirname(python)}:{environment['PATH']}"
+        ran = run("sh", "-c", command, cwd=place, env={**environment, "PATH": path})
+        module = re.search(r"No module named '(\w+)'", ran.stderr)
+        if not module:
+            return ran, None
+    return ran, module[1]
 
 
 def wanted_status(lines):
