@@ -248,7 +248,7 @@ def gone_through(numbers: Any, name: Name) -> list[Any]:
             f"{_array(name)} is a {type(numbers).__name__}, whose items have no places as those of an array"
         )
     is_plain = is_numpy(numbers) and numbers.dtype.char in "?bBhHiIlLqQd"  # whose items are those of Python
-    return numbers.tolist() if is_plain else list(numbers)
+    return list(numbers.tolist() if is_plain else numbers)
 
 
 def _items_of(numbers: Any, view: memoryview, name: Name) -> list[Any]:
