@@ -6,6 +6,7 @@ import importlib.metadata
 import inspect
 import itertools
 import math
+import pathlib
 import random
 import sys
 import unittest
@@ -550,6 +551,13 @@ class Registered(Backend):
             set(backend.__all__), {*info.FUNCTIONS, "Unable", "can_run", "convert_from_nx", "convert_to_nx"}
         )
         self.assertIn("certificate", networkx.minimum_cut.__doc__)
+
+    def test_length(self):
+        """A longer backend is to be a package of its own."""
+        from dimacs import backend
+
+        files = pathlib.Path(backend.__file__).parent.glob("*.py")
+        self.assertLess(sum(len(it.read_text(encoding="utf-8").splitlines()) for it in files), 900)
 
     def test_arguments(self):
         """They have the names, the order and the defaults that they have in networkx."""

@@ -74,7 +74,12 @@ class Packaging(unittest.TestCase):
         """pip shows what the build prints."""
         with mock.patch.dict(os.environ, {"DIMACS_LIBRARY": "nowhere.so"}), self.assertRaises(SystemExit) as caught:
             self.backend.build_wheel(self.place)
-        for wanted in f"{FOLDER.parents[1]}/nowhere.so isn't there", "make quick ", "make  ", "DIMACS_LIBRARY=build/quick/libdimacs.so":
+        for wanted in (
+            f"{FOLDER.parents[1]}/nowhere.so isn't there",
+            "make quick ",
+            "make  ",
+            "DIMACS_LIBRARY=build/quick/libdimacs.so",
+        ):
             self.assertIn(wanted, str(caught.exception))
         words = [sys.executable, "-c", "import dimacs"]
         environment = {**os.environ, "DIMACS_LIBRARY": "nowhere.so", "PYTHONPATH": str(FOLDER)}

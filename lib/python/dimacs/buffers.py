@@ -247,7 +247,8 @@ def gone_through(numbers: Any, name: Name) -> list[Any]:
         raise TypeError(
             f"{_array(name)} is a {type(numbers).__name__}, whose items have no places as those of an array"
         )
-    return list(numbers)
+    is_plain = is_numpy(numbers) and numbers.dtype.char in "?bBhHiIlLqQd"  # whose items are those of Python
+    return list(numbers.tolist() if is_plain else numbers)
 
 
 def _items_of(numbers: Any, view: memoryview, name: Name) -> list[Any]:
