@@ -140,6 +140,12 @@ def commands(place):
     assert table[1]["command"] == "certify-max sub/../a.max 'sub/s t.solution'", table[1]
     _, table, _ = place.run("sub/list", "--run", "max=solve-max {instance} {name}.made {answers} --limit 5")
     assert table[2]["command"] == "solve-max sub/../a.max sub/s.made sub/s sub/c --limit 5", table[2]
+    place.write("{name}.max", "0 0 v max 1\n")
+    place.write("list", "{name}.max s c\n")
+    _, table, _ = place.run("list")
+    assert table[0]["command"] == "judge-max '{name}.max' s c", table[0]
+    _, table, _ = place.run("list", "--run", "max=solve-max {instance} {name}.{instance}")
+    assert table[0]["command"] == "solve-max '{name}.max' 's.{name}.max'", table[0]
     place.write("list", "c.gr d.dist\n")
     status, table, err = place.run("list")
     assert status == 2 and not table and "--run gr=" in err, err
