@@ -489,11 +489,57 @@ def examples(place, binary):
         assert seen == [instance, answers, command, line, its_class], row
 
 
+def kept(place, binary):
+    """What is kept of the examples shows it again, to the judges and to the referee."""
+    shutil.copytree(os.path.join(TOP, "examples"), place.path("in"), ignore=shutil.ignore_patterns("library"))
+    for name in ("road", "romania"):
+        os.unlink(place.path(f"in/{name}.dist"))
+    place.write("in/pipes-lemon.solution", place.read("in/pipes.solution"))
+    place.write("in/freight-odd.solution", "s x\n")
+    words = ["in", "-o", "table", "--keep", "kept"]
+    assert place.run(*words, program=binary)[0] == 3
+    wanted = "bridges.cut canning.pot detroit.cut freight.dear.better.solution freight.pot pipes.careless.better.solution"
+    wanted += " pipes.cut pipes.lemon.cut road.dist romania.dist shortage.cut trucks.cut"
+    assert sorted(os.listdir(place.path("kept"))) == wanted.split(), os.listdir(place.path("kept"))
+    table = place.table()
+    for row in table:
+        text = place.read(f"kept/{row['kept']}").encode() if row["kept"] else b""
+        assert row["kept_sha256"] == (hashlib.sha256(text).hexdigest() if text else ""), row
+    status, _, err = place.run(*words, program=binary)
+    assert err == counted(10, 4, 1, 0, 1, 0, 0, taken_over=15), err
+    recheck = ["--recheck", "--referee", "table", "kept"]
+    status, _, err = place.run(*recheck, program=binary)
+    assert status == 0 and err == "15 agree, 0 differ, 0 not there, 1 not judged\n", err
+
+    place.write("kept/pipes.cut", place.read("kept/pipes.cut") + "c\n")
+    place.write("in/canning.solution", place.read("in/canning.solution") + "c\n")
+    os.unlink(place.path("kept/trucks.cut"))
+    assert place.run(*recheck, program=binary)[2] == "12 agree, 2 differ, 1 not there, 1 not judged\n"
+    status, _, err = place.run(*words, program=binary)
+    assert err == counted(10, 4, 1, 0, 1, 0, 0, taken_over=12, made_anew=3), err
+    spoiled = place.read("table").replace(",v max 23,23,", ",v max 24,24,").replace("AboveCap", "BelowLow")
+    place.write("table", spoiled)
+    assert place.run(*recheck, program=binary)[2] == "13 agree, 2 differ, 0 not there, 1 not judged\n"
+    place.run("in", "-o", "bare", program=binary)
+    status, _, err = place.run("--recheck", "bare", "kept", program=binary)
+    assert status == 3 and err == "10 agree, 0 differ, 5 not there, 1 not judged\n", err
+
+
+def same_names(place, binary):
+    """Files of one name don't replace each other."""
+    for folder in "12":
+        shutil.copytree(os.path.join(TOP, "examples"), place.path(f"in/{folder}"))
+    place.run("in", "-o", "table", "--keep", "kept", program=binary)
+    names = [it for it in column(place.table(), "kept") if it]
+    assert len(set(names)) == len(names) == 26 and "pipes.8.cut" in names, names
+    assert place.run("--recheck", "table", "kept", program=binary)[0] == 0
+
+
 TESTS = [
     order_and_columns, commands, folders, layouts, unanswered, evidence, made_anew, changed_while_judged, taken_up,
     killed, late, odd, misused, safe_files, full, reasons,
 ]  # fmt: skip
-WITH_BINARY = [examples]
+WITH_BINARY = [examples, kept, same_names]
 
 
 def main():

@@ -1,7 +1,6 @@
 """Judges all that is asked, and writes a row for each."""
 import collections
-import concurrent.futures
-import itertools
+import contextlib
 import os
 import shlex
 import sys
@@ -9,6 +8,7 @@ import time
 
 from dimacs_batch import answers, evidence, fail, runs
 from dimacs_batch.keep import Keep
+from dimacs_batch.parallel import in_parallel
 from dimacs_batch.rows import COLUMNS, DECIDING, Rows
 from dimacs_batch.runs import CLASSES, FAILED, FAULTY, JUDGED, NO, NO_ANSWER, UNMATCHED, YES
 
@@ -23,8 +23,9 @@ class Judge:
         self.keep = Keep(options.keep) if options.keep else None
         self.show = options.show
 
-    def row(self, task, old, name):
+    def row(self, item):
         """The row, and whether it is an earlier one."""
+        _, task, old, name = item
         row = dict.fromkeys(COLUMNS, "")
         named = {"instance": task.instance, "answers": " ".join(task.answers), "solver": task.solver}
         row.update(named, kind=task.kind, command=shlex.join(task.words), host=os.uname().nodename)
@@ -131,24 +132,6 @@ def span(seconds):
     return f"{seconds:.0f} s" if seconds < 90 else f"{seconds / 60:.0f} min" if seconds < 5400 else f"{seconds / 3600:.1f} h"
 
 
-def made(pool, jobs, judge, todo, rows):
-    """Yields each number with its row, as they come. Only some more than there are jobs are begun at a time."""
-    begun = {}
-    try:
-        while True:
-            for number, task, old in itertools.islice(todo, 2 * jobs - len(begun)):
-                future = pool.submit(judge.row, task, old, rows.file_name(number, task))
-                begun[future] = number, old
-            if not begun:
-                return
-            for future in concurrent.futures.wait(begun, return_when=concurrent.futures.FIRST_COMPLETED).done:
-                yield *begun.pop(future), *future.result()
-    except BaseException:
-        pool.shutdown(wait=False, cancel_futures=True)
-        judge.runs.end()
-        raise
-
-
 def asked(options):
     """The list of what is asked."""
     rows = Rows()
@@ -165,9 +148,10 @@ def judge_all(options, table):
     table.begin(rows)
     judge = Judge(options)
     progress = Progress(rows.count)
+    todo = ((number, task, old, rows.file_name(number, task)) for number, task, old in rows.todo(options.shard))
     try:
-        with concurrent.futures.ThreadPoolExecutor(options.jobs) as pool:
-            for number, old, row, was_taken_over in made(pool, options.jobs, judge, rows.todo(options.shard), rows):
+        with contextlib.closing(in_parallel(options.jobs, judge.row, todo, judge.runs.end)) as found:
+            for (number, _, old, _), (row, was_taken_over) in found:
                 row.update(rows.place_of(number))
                 rows.take(number, row)
                 table.add(row)

@@ -4,6 +4,7 @@ import sys
 
 from dimacs_batch import ANY_NAMES, batch, fail
 from dimacs_batch.options import options_of
+from dimacs_batch.recheck import recheck
 from dimacs_batch.table import WRITERS, Kept, Printed
 
 
@@ -17,6 +18,8 @@ def main():
         stream.reconfigure(**ANY_NAMES)
     signal.signal(signal.SIGTERM, interrupt)
     try:
+        if options.recheck:
+            return recheck(options)
         writer = WRITERS["csv"]
         table = Kept(options.output, writer) if options.output else Printed(writer, options.shard)
         counts = batch.judge_all(options, table)

@@ -7,7 +7,8 @@ from dimacs_batch import fail
 from dimacs_batch.answers import KINDS
 
 HERE = os.path.dirname(os.path.realpath(__file__))
-USAGE = "dimacs-batch [OPTIONS] FOLDER | LIST | INSTANCE FOLDER"
+USAGE = """dimacs-batch [OPTIONS] FOLDER | LIST | INSTANCE FOLDER
+       dimacs-batch --recheck [OPTIONS] TABLE DIR"""
 
 
 def program():
@@ -41,6 +42,8 @@ def parser_of():
     add("--keep", metavar="DIR", help="keeps each certificate or better flow")
     add("--run", action="append", default=[], metavar="KIND=WORDS", help="the command for instances of a kind")
     add("--seconds", type=float, metavar="S", help="ends a run after so many seconds")
+    add("--recheck", action="store_true", help="judges the rows of TABLE again by what --keep kept in DIR")
+    add("--referee", action="store_true", help="rechecks them by the plain referee too")
     add("--program", default=program(), metavar="FILE", help="the program; $DIMACS, or dimacs")
     add("--version", action="version", version=f"dimacs-batch {version()}")
     return parser
@@ -65,6 +68,8 @@ def options_of():
     options = parser.parse_args()
     if len(options.places) > 2 or options.jobs < 1:
         parser.error("one or two places, and at least one job")
+    if options.recheck and len(options.places) != 2 or options.referee and not options.recheck:
+        parser.error("--recheck takes a table and a folder, and --referee comes with it")
     if options.match and "{instance}" not in options.match:
         parser.error("--match is a pattern with {instance} in it")
     if (options.answers or options.match) and not os.path.isdir(options.places[-1]):
