@@ -73,7 +73,7 @@ class Judge:
             "status": str(ended.status),
             "seconds": f"{ended.seconds:.3f}",
             "cpu": f"{ended.cpu:.3f}",
-            "memory": str(ended.memory),
+            "memory": ended.memory,
         }
         if self.keep:
             found.update(self.keep.take({**row, **found}, made, (task.answers or [None])[-1], name))
@@ -134,8 +134,8 @@ def span(seconds):
 
 def asked(options):
     """The list of what is asked."""
-    rows = Rows()
-    for task in answers.tasks(options.places, options.answers, options.match, options.commands, options.show):
+    rows = Rows(options.shard)
+    for task in answers.tasks(options.places, options.answers, options.match, options.runs, options.show):
         rows.ask(task)
     if not rows.count:
         fail(f"{' '.join(options.places)}: no instance, and no answer")
@@ -147,8 +147,8 @@ def judge_all(options, table):
     rows, counts = asked(options), Counts()
     table.begin(rows)
     judge = Judge(options)
-    progress = Progress(rows.count)
-    todo = ((number, task, old, rows.file_name(number, task)) for number, task, old in rows.todo(options.shard))
+    progress = Progress(rows.in_shard())
+    todo = ((number, task, old, rows.file_name(number, task)) for number, task, old in rows.todo())
     try:
         with contextlib.closing(in_parallel(options.jobs, judge.row, todo, judge.runs.end)) as found:
             for (number, _, old, _), (row, was_taken_over) in found:

@@ -27,7 +27,7 @@ def mark_of(status):
     return status.st_dev, status.st_ino, status.st_size, status.st_mtime_ns
 
 
-@functools.lru_cache(1 << 12)
+@functools.lru_cache(1 << 10)
 def read(file, _):
     """A file as it is: one with the same mark isn't read again."""
     with open(file, "rb") as text:

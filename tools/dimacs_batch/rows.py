@@ -32,12 +32,12 @@ class Rows:
     """The list of what is asked, and a row of each. They stand in a database without a name, which is kept in a
     temporary file once it is large: so the memory that is taken doesn't grow with the list."""
 
-    def __init__(self):
+    def __init__(self, shard=(1, 1)):
         self.db = sqlite3.connect("", isolation_level=None)
         self.db.execute("create table task (number integer primary key, key text unique, name text, task, old, row)")
         self.db.execute("create index names on task (name)")
         self.count, self.hash = 0, hashlib.sha256()
-        self.shown = 0
+        self.shard, self.shown = shard, 0
 
     def ask(self, task):
         """Adds what is asked; what is asked twice has one row."""
@@ -53,9 +53,9 @@ class Rows:
         key = json.dumps(key_of(row["command"], row["instance"], row["answers"]))
         return self.db.execute("update task set old = ? where key = ?", (json.dumps(row), key)).rowcount == 1
 
-    def todo(self, shard):
-        """Yields the number, the task and the earlier row of each that belongs to a shard, which is (I, N)."""
-        index, shards = shard
+    def todo(self):
+        """Yields the number, the task and the earlier row of each that belongs to the shard."""
+        index, shards = self.shard
         asked = self.db.execute(
             "select number, task, old from task where (number - 1) % ? = ? order by number", (shards, index - 1)
         )
@@ -81,9 +81,14 @@ class Rows:
         for (row,) in self.db.execute(f"select {wanted} from task where {wanted} is not null order by number"):
             yield json.loads(row)
 
-    def next_ones(self, shard):
-        """Yields the rows of a shard that weren't yielded yet, up to the first that isn't there."""
-        index, shards = shard
+    def in_shard(self):
+        """How many rows the shard has."""
+        index, shards = self.shard
+        return len(range(index, self.count + 1, shards))
+
+    def next_ones(self):
+        """Yields the rows of the shard that weren't yielded yet, up to the first that isn't there."""
+        index, shards = self.shard
         while True:
             number = index + self.shown * shards
             found = self.db.execute("select row from task where number = ?", (number,)).fetchone()
@@ -91,3 +96,13 @@ class Rows:
                 return
             self.shown += 1
             yield json.loads(found[0])
+
+    def join(self, number, table, row):
+        """Adds a row of a table to those of others."""
+        values = (number, json.dumps(table), json.dumps(row))
+        self.db.execute("insert or replace into task (number, task, row) values (?, ?, ?)", values)
+
+    def joined(self, number):
+        """The table of a row of this number, and the row."""
+        found = self.db.execute("select task, row from task where number = ?", (number,)).fetchone()
+        return map(json.loads, found) if found else (None, None)

@@ -22,6 +22,7 @@ JUDGES = ("judge-", "certify-", "solve-")  # how the words of commands that judg
 NO_RUN = 2  # the words asked for none: how it is used comes after the line that reports it
 ENDED_LATE = 124
 LONGEST = 1000  # letters of a line that are kept
+COUNTED = 1 << 14  # KiB, from which memory is counted: below it may be that of this process when it was forked
 
 
 # A child that is forked begins with less memory than one that shares this process's until its program is there; the
@@ -36,7 +37,7 @@ class Ended(NamedTuple):
     status: int
     seconds: float
     cpu: float
-    memory: int
+    memory: str
 
 
 def reason_of(line):
@@ -106,7 +107,8 @@ class Runs:
             line = f"ended after {self.seconds:g} s" if late.is_set() else line or complaint(errors, status)
         took = time.monotonic() - begun
         status = ENDED_LATE if late.is_set() else status
-        return Ended(line, status, took, usage.ru_utime + usage.ru_stime, usage.ru_maxrss)
+        memory = str(usage.ru_maxrss) if usage.ru_maxrss >= COUNTED else ""
+        return Ended(line, status, took, usage.ru_utime + usage.ru_stime, memory)
 
     def wait(self, process):
         """Waits for a process. Its status as a shell has it, and what it took."""

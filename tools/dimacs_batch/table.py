@@ -12,23 +12,6 @@ from dimacs_batch.rows import COLUMNS
 csv.field_size_limit(1 << 24)
 
 
-class CsvWriter:
-    """Writes rows as CSV."""
-
-    def __init__(self, out):
-        self.writer = csv.DictWriter(out, COLUMNS, lineterminator="\n")
-        self.row = self.writer.writerow
-
-    def head(self):
-        self.writer.writeheader()
-
-    def end(self):
-        pass
-
-
-WRITERS = {"csv": CsvWriter}
-
-
 def in_words(error, name):
     """Fails with what the system says of a file."""
     fail(f"{error.filename or name}: {error.strerror}")
@@ -85,16 +68,12 @@ def place_of(file):
     return place
 
 
-def write(place, writer, rows):
-    """Writes a table beside its place, and then puts it there: so it is whole at any time."""
+def put_file(place, fill):
+    """Writes a file beside its place, and then puts it there: so it is whole at any time."""
     new = f"{place}.new"
     try:
         with open(new, "w", newline="", **ANY_NAMES) as out:
-            its = writer(out)
-            its.head()
-            for row in rows:
-                its.row(row)
-            its.end()
+            fill(out)
             out.flush()
             os.fsync(out.fileno())
         if os.path.exists(place):
@@ -104,6 +83,18 @@ def write(place, writer, rows):
         if os.path.exists(new):
             os.unlink(new)
         in_words(error, place)
+
+
+def fill(writer, rows):
+    """Writes all of a table."""
+    writer.head()
+    for row in rows:
+        writer.row(row)
+    writer.end()
+
+
+def put_table(place, writer, rows):
+    put_file(place, lambda out: fill(writer(out), rows))
 
 
 class Kept:
@@ -138,7 +129,7 @@ class Kept:
             if not os.path.getsize(self.part.name):
                 os.unlink(self.part.name)
             raise
-        write(self.place, self.writer, rows.in_order(earlier=True))
+        put_table(self.place, self.writer, rows.in_order(earlier=True))
         self.part.truncate(0)
 
     def add(self, row):
@@ -149,7 +140,7 @@ class Kept:
             in_words(error, self.part.name)
 
     def end(self, rows):
-        write(self.place, self.writer, rows.in_order(earlier=True))
+        put_table(self.place, self.writer, rows.in_order(earlier=True))
         os.unlink(self.part.name)
         self.part.close()
 
@@ -157,24 +148,27 @@ class Kept:
 class Printed:
     """A table on the standard output: each row is written once those before it are there."""
 
-    def __init__(self, writer, shard):
-        self.writer, self.shard = writer(sys.stdout), shard
+    def __init__(self, writer):
+        self.writer = writer(sys.stdout)
 
     def begin(self, rows):
         self.rows = rows
         self.in_words(self.writer.head)
 
     def add(self, _):
-        for row in self.rows.next_ones(self.shard):
+        for row in self.rows.next_ones():
             self.in_words(self.writer.row, row)
 
     def end(self, _):
         self.in_words(self.writer.end)
 
-    def in_words(self, put, *row):
+    def put_all(self, rows):
+        self.in_words(fill, self.writer, rows)
+
+    def in_words(self, put, *what):
         """Writes, or ends in words if the output is closed or full."""
         try:
-            put(*row)
+            put(*what)
             sys.stdout.flush()
         except OSError as error:
             os.dup2(os.open(os.devnull, os.O_WRONLY), sys.stdout.fileno())  # what is left is of no use
