@@ -3,18 +3,22 @@
 
 A stand-in for the program answers by what the file after the word holds: the seconds that it takes, its status, and
 what it prints. Tested are which answers belong to which instance, the commands, the rows, their classes and their
-order; that a table that was interrupted or killed is taken up again, and what doesn't fit any more made anew; and the
-files that are written. The reasons that JUDGING.md and TEXTS.md name have to be of the claim and of the texts. BINARY is
-the built program, with which the examples are judged; crates/dimacs/out/dimacs by default and that is there.
+order; that a table that was interrupted or killed is taken up again, and what doesn't fit any more made anew; shards,
+formats, and the files that are written. The reasons that JUDGING.md and TEXTS.md name have to be of the claim and of
+the texts. BINARY is the built program, with which the examples are judged; crates/dimacs/out/dimacs by default and that
+is there.
 """
 import csv
 import functools
 import hashlib
 import io
+import json
 import os
+import pty
 import random
 import re
 import resource
+import shlex
 import shutil
 import signal
 import subprocess
@@ -39,6 +43,12 @@ read -r seconds status line <"$2"
 [ "$seconds" = 0 ] || sleep "$seconds" >/dev/null 2>&1
 case $status in [0-15]) printf '%b\\n' "$line" ;; *) printf '%b\\n' "$line" >&2 ;; esac
 exit "$status"
+"""
+
+# One that says nothing about itself, and takes 200 MB.
+HEAVY = """#!/bin/sh
+[ "$1" = --version ] && exit 2
+exec python3 -c "x = [1] * 25_000_000; print('v max 1')"
 """
 
 CLASSES = ["yes", "no", "faulty text", "gave up", "no answer", "unmatched", "failed"]
@@ -118,12 +128,11 @@ class Place:
         self.write(name, "".join(f"{k}.max {k}.solution\n" for k in range(len(lines))))
 
     def started(self, *words, program=None, **how):
-        return subprocess.Popen(
-            [sys.executable, "-B", BATCH, "--program", program or self.program, *words],
-            env={**os.environ, "RAN": self.ran},
-            text=True,
-            **{"cwd": self.folder, "stdin": subprocess.DEVNULL, "stdout": subprocess.PIPE, "stderr": subprocess.PIPE, **how},
-        )
+        pipe = subprocess.PIPE
+        usual = {"cwd": self.folder, "stdin": subprocess.DEVNULL, "stdout": pipe, "stderr": pipe, "text": True}
+        its = {**os.environ, "RAN": self.ran, **how.pop("env", {})}
+        words = [sys.executable, "-B", BATCH, "--program", program or self.program, *words]
+        return subprocess.Popen(words, env=its, **{**usual, **how})
 
     def run(self, *words, program=None, **how):
         """The status, the rows on the standard output, and the standard error."""
@@ -149,6 +158,10 @@ def rows(text):
     return list(csv.DictReader(io.StringIO(text, newline="")))
 
 
+def base_names(files):
+    return [os.path.basename(it) for it in files.split()]
+
+
 def column(table, name):
     return [row[name] for row in table]
 
@@ -157,6 +170,11 @@ def counted(*counts, taken_over=0, made_anew=0):
     """The last line."""
     line = ", ".join(f"{count} {it}" for count, it in zip(counts, CLASSES, strict=True))
     return line + (f"; {taken_over} taken over, {made_anew} made anew" if taken_over or made_anew else "") + "\n"
+
+
+def timeless(table):
+    """Rows without what differs from run to run."""
+    return [{name: it for name, it in row.items() if name not in ("seconds", "cpu", "memory", "host")} for row in table]
 
 
 # ---- the tests, each in a folder of its own; a test fails by an assertion
@@ -243,10 +261,10 @@ def layouts(place):
         process = place.started(*words.split(), cwd=where)
         out, err = process.communicate(timeout=60)
         found = [
-            " ".join(filter(None, [os.path.basename(row["instance"]) or "-", "+".join(map(os.path.basename, row["answers"].split())), row["solver"]]))
+            (os.path.basename(row["instance"]) or "-", "+".join(base_names(row["answers"])), row["solver"])
             for row in rows(out)
         ]
-        assert found == [it.strip() for it in wanted.split(" ; ")], (line, found, err)
+        assert [" ".join(filter(None, it)) for it in found] == [it.strip() for it in wanted.split(" ; ")], (line, found, err)
 
 
 def unanswered(place):
@@ -279,12 +297,13 @@ def evidence(place):
     place.write("a.solution", "s 3\n")
     place.write("a.cut", "p cut 2 1\n")
     status, (row,), _ = place.run(".", "--seconds", "50")
-    hashes = [hashlib.sha256(place.read(it).encode()).hexdigest() for it in ("a.max", "a.solution", "a.cut", "stand-in")]
+    files = ("a.max", "a.solution", "a.cut", "stand-in")
+    hashes = [hashlib.sha256(place.read(it).encode()).hexdigest() for it in files]
     assert status == 0 and row["instance_sha256"] == hashes[0], row
     assert row["answers_sha256"].split() == hashes[1:3] and row["program_sha256"] == hashes[3], row
     assert (row["size"], row["arcs"], row["limit"], row["host"]) == ("22", "7", "50", os.uname().nodename), row
     assert (row["version"], row["proof"]) == ("9.8", "proved by a kit"), row
-    place.write("heavy", '#!/bin/sh\n[ $1 = --version ] && exit 2\nexec python3 -c "x = [1] * 25_000_000; print(\'v max 1\')"\n')
+    place.write("heavy", HEAVY)
     os.chmod(place.path("heavy"), 0o755)
     _, (row,), _ = place.run(".", program=place.path("heavy"))
     assert (row["version"], row["proof"]) == ("unknown", "unproved"), row
@@ -379,7 +398,8 @@ def killed(place):
     assert column(table, "verdict") == [line[4:] for line in lines]
     assert column(table, "number") == [str(k + 1) for k in range(count)] and set(column(table, "of")) == {str(count)}
     assert count <= place.runs() <= count + 10 * 12  # what ran when it was killed ran again
-    assert sorted(os.listdir(place.folder)) == sorted([*(f"{k}.{it}" for k in range(count) for it in ("max", "solution")), "list", "ran", "stand-in", "table"])
+    assert set(column(table, "memory")) == {""}  # too little to be told from what the batch has itself
+    assert not [it for it in os.listdir(place.folder) if it.startswith("table.")]
 
 
 def late(place):
@@ -469,6 +489,96 @@ def full(place):
     assert status == 0 and len(place.table()) == 300
 
 
+def shards(place):
+    """Tables of shards are joined to that of one run but for times; what differs and what is missing is named."""
+    lines = ["0 0 v max 1", "0 1 x arc 1 AboveCap", "0 3 no", "0 5 g limit", "0 0 v max 2", "0 0 v max 3", "0 0 v max 4"]
+    place.list(lines)
+    place.run("list", "-o", "whole")
+    place.runs()
+    commands, _ = place.started("list", "-o", "t.{shard}", "--commands", "3").communicate()
+    for command, status in zip(commands.splitlines(), (3, 1, 3), strict=True):
+        words = shlex.split(command)
+        assert words[0] == BATCH and place.run(*words[1:])[0] == status, command
+    assert place.runs() == 7
+    for task in range(4):
+        slurm = {"ID": 10 + 2 * task, "MIN": 10, "STEP": 2, "COUNT": 4, "MAX": 16}
+        names = {f"SLURM_ARRAY_TASK_{name}": str(value) for name, value in slurm.items()}
+        err = place.run("list", "-o", "s.{shard}", env=names)[2]
+        assert err.startswith(f"shard {task + 1} of 4: "), err
+    for tables in (["t.3", "t.1", "t.2"], ["s.1", "s.2", "s.3", "s.4", "t.2"]):
+        status, table, err = place.run("--join", *tables)
+        assert status == 3 and err == counted(4, 1, 0, 1, 0, 0, 1), err
+        assert timeless(table) == timeless(place.table("whole")), table
+
+    status, table, err = place.run("--join", "s.1", "s.4")
+    gaps = "rows 2 to 3 are in no table\nrows 6 to 7 are in no table\n"
+    assert status == 3 and column(table, "number") == ["1", "4", "5"], table
+    assert err == gaps + counted(2, 0, 0, 1, 0, 0, 0).rstrip("\n") + "; 4 in no table\n", err
+    place.write("other", place.read("s.1").replace("v max 2", "v max 7"))
+    status, table, err = place.run("--join", "s.1", "other", "-o", "joined")
+    assert status == 2 and err == "dimacs-batch: row 5: verdict is v max 7 in other, and v max 2 in s.1\n", err
+    assert not os.path.exists(place.path("joined"))
+    place.write("list", place.read("list") + "6.max 0.solution\n")
+    place.run("list", "-o", "other")
+    status, _, err = place.run("--join", "s.1", "other")
+    assert status == 2 and err == "dimacs-batch: other: has rows of another list than s.1\n", err
+    for wrong in ("0/3", "4/3", "1", "a/b"):
+        assert place.run("list", "--shard", wrong)[0] == 2, wrong
+
+
+def formats(place):
+    """A table is written in each format, and taken up again where the format has all of it."""
+    place.list(["0 0 v max 1", "0 1 x arc 1 AboveCap", "0 0 v max |_&"])
+    _, table, _ = place.run("list")
+    out, _ = place.started("list", "--format", "jsonl").communicate()
+    assert timeless(map(json.loads, out.splitlines())) == timeless(table), out
+    out, _ = place.started("list", "--format", "markdown").communicate()
+    lines = out.splitlines()
+    assert lines[0] == "| instance | solver | arcs | class | verdict | seconds | KiB |", lines
+    assert lines[3].startswith("| 1.max |  |  | no | x arc 1 AboveCap | 0."), lines
+    assert r"| v max \|\_& |" in lines[4], lines
+    assert lines[6].startswith("Judged by dimacs 9.8 (proved by a kit), whose program has the SHA-256 "), lines
+    out, _ = place.started("list", "--format", "latex").communicate()
+    lines = out.splitlines()
+    assert lines[0] == r"\begin{tabular}{llrllrr}" and lines.index(r"\end{tabular}") == 8, lines
+    assert r" & v max $|$\_\& & " in lines[6], lines
+    place.run("list", "-o", "table", "--format", "jsonl")
+    place.runs()
+    assert place.run("list", "-o", "table", "--format", "jsonl")[0] == 1 and place.runs() == 0
+    assert place.run("list", "-o", "table", "--format", "latex")[0] == 2
+    assert place.run("--join", "table", "--format", "latex", "-o", "table.tex")[0] == 1
+    assert place.read("table.tex").splitlines()[0] == lines[0]
+
+
+def report(place, binary):
+    """A page has the counts, each refusal explained, a point for each row, and nothing of a network."""
+    place.run(os.path.join(TOP, "examples"), "-o", "table.csv", program=binary)
+    status, _, err = place.run("--report", "table.csv", program=binary)
+    page = place.read("table.html")
+    assert status == 0 and err.endswith("table.html\n"), err
+    assert not re.search(r"https?:|src=|href=|@import|url\(", page)
+    assert page.count("<circle") == 15 and page.count("<dt>") == 4, page
+    assert "<td class=\"\">careless</td><td class=\"number\">0</td><td class=\"number\">1</td>" in page, page
+    assert "arc 2 carries 8, more than its CAP, 3" in page and "the nearest leads there at 1400" in page, page
+    os.rename(place.path("table.csv"), place.path("<b>&.csv"))
+    place.run("--report", "<b>&.csv", program=binary)
+    assert "<b>&.csv" not in place.read("<b>&.html") and "&lt;b&gt;&amp;.csv" in place.read("<b>&.html")
+    assert place.run("--report", "table.csv", program=binary)[0] == 2
+
+
+def on_terminal(place):
+    """What is left is shown on a terminal alone."""
+    place.list(["0.2 0 v max 1"] * 4)
+    master, terminal = pty.openpty()
+    process = place.started("list", "-j", "1", stderr=terminal)
+    process.communicate()
+    os.close(terminal)
+    shown = os.read(master, 1 << 16).decode()
+    assert re.search(r"2 of 4: 2 yes, .*; \d+ s left", shown), shown
+    assert shown.endswith(counted(4, 0, 0, 0, 0, 0, 0).replace("\n", "\r\n")), shown
+    os.close(master)
+
+
 def reasons(_):
     """Each reason at a place of a text that the pages name is of the class that its page names."""
     texts, judging = (open(f"{TOP}/docs/{name}.md", encoding="utf-8").read() for name in ("TEXTS", "JUDGING"))
@@ -498,8 +608,8 @@ def kept(place, binary):
     place.write("in/freight-odd.solution", "s x\n")
     words = ["in", "-o", "table", "--keep", "kept"]
     assert place.run(*words, program=binary)[0] == 3
-    wanted = "bridges.cut canning.pot detroit.cut freight.dear.better.solution freight.pot pipes.careless.better.solution"
-    wanted += " pipes.cut pipes.lemon.cut road.dist romania.dist shortage.cut trucks.cut"
+    wanted = "bridges.cut canning.pot detroit.cut freight.dear.better.solution freight.pot"
+    wanted += " pipes.careless.better.solution pipes.cut pipes.lemon.cut road.dist romania.dist shortage.cut trucks.cut"
     assert sorted(os.listdir(place.path("kept"))) == wanted.split(), os.listdir(place.path("kept"))
     table = place.table()
     for row in table:
@@ -537,13 +647,13 @@ def same_names(place, binary):
 
 TESTS = [
     order_and_columns, commands, folders, layouts, unanswered, evidence, made_anew, changed_while_judged, taken_up,
-    killed, late, odd, misused, safe_files, full, reasons,
-]  # fmt: skip
-WITH_BINARY = [examples, kept, same_names]
+    killed, late, odd, misused, safe_files, full, shards, formats, on_terminal, reasons,
+]
+WITH_BINARY = [examples, kept, same_names, report]
 
 
 def main():
-    tests = [(it.__name__, it) for it in TESTS if it.__name__ in os.environ.get("ONLY", it.__name__)]
+    tests = [(it.__name__, it) for it in TESTS]
     binary = os.path.abspath(sys.argv[1]) if len(sys.argv) > 1 else BUILT
     if len(sys.argv) > 1 or os.path.exists(BUILT):
         tests += [(it.__name__, functools.partial(it, binary=binary)) for it in WITH_BINARY]

@@ -1,12 +1,14 @@
 """The modules of dimacs-batch, in the order in which an answer passes through them.
 
-    options    the words that are typed
+    main       the command: options has the words that are typed
     answers    which answers belong to which instance, and the command for them
     evidence   the hashes of files, and what is known of the program
     runs       a run of the program, measured, and the class of its end
     rows       what is asked, in order, with the rows that are there
     table      the table in its file
-    batch      all of it
+    batch      all of it, several at a time by parallel; keep has what a run leaves
+    join       one table of those of shards; recheck judges a table again
+    formats    how a table is written, report as a page
 """
 import sys
 

@@ -11,6 +11,7 @@ from dimacs_batch.keep import Keep
 from dimacs_batch.parallel import in_parallel
 from dimacs_batch.rows import COLUMNS, DECIDING, Rows
 from dimacs_batch.runs import CLASSES, FAILED, FAULTY, JUDGED, NO, NO_ANSWER, UNMATCHED, YES
+from dimacs_batch.table import Kept, Printed
 
 
 class Judge:
@@ -21,7 +22,6 @@ class Judge:
         self.runs = runs.Runs(options.seconds)
         self.limit = f"{options.seconds:g}" if options.seconds else ""
         self.keep = Keep(options.keep) if options.keep else None
-        self.show = options.show
 
     def row(self, item):
         """The row, and whether it is an earlier one."""
@@ -76,7 +76,7 @@ class Judge:
             "memory": ended.memory,
         }
         if self.keep:
-            found.update(self.keep.take({**row, **found}, made, (task.answers or [None])[-1], name))
+            found.update(self.keep.take({**row, **found}, made or task.words[-1], bool(made), name))
         return found
 
 
@@ -120,7 +120,8 @@ class Progress:
         if sys.stderr.isatty() and now > self.shown + 0.1:
             self.shown = now
             left = (now - self.begun) / max(self.made, 1) * (self.rows - self.done)
-            print(f"\r\x1b[K{self.done} of {self.rows}: {counts}; {span(left)} left", end="", file=sys.stderr, flush=True)
+            line = f"{self.done} of {self.rows}: {counts}; {span(left)} left"
+            print(f"\r\x1b[K{line}", end="", file=sys.stderr, flush=True)
 
     def end(self):
         if sys.stderr.isatty():
@@ -129,7 +130,10 @@ class Progress:
 
 def span(seconds):
     """A time in words."""
-    return f"{seconds:.0f} s" if seconds < 90 else f"{seconds / 60:.0f} min" if seconds < 5400 else f"{seconds / 3600:.1f} h"
+    for unit, length in (("h", 3600), ("min", 60)):
+        if seconds >= 1.5 * length:
+            return f"{seconds / length:.1f} {unit}"
+    return f"{seconds:.0f} s"
 
 
 def asked(options):
@@ -142,11 +146,11 @@ def asked(options):
     return rows
 
 
-def judge_all(options, table):
+def judge_all(options, writer):
     """Writes the table, taking up what an earlier run wrote; what it counts."""
-    rows, counts = asked(options), Counts()
+    rows, judge, counts = asked(options), Judge(options), Counts()
+    table = Kept(options.output, writer) if options.output else Printed(writer)
     table.begin(rows)
-    judge = Judge(options)
     progress = Progress(rows.in_shard())
     todo = ((number, task, old, rows.file_name(number, task)) for number, task, old in rows.todo())
     try:

@@ -9,6 +9,9 @@ from dimacs_batch.runs import NO, YES, reason_of
 CERTIFICATE = {"max": ".cut", "min": ".pot", "infeasible": ".cut", "paths": ".dist"}
 REFUTATION = {"NotMaximum": ".better.solution", "NotLeast": ".better.solution", "Feasible": ".feasible.solution"}
 
+# The certifiers, and how many words each has without a file that it writes.
+CERTIFIERS = {"certify-max": 3, "certify-min": 3, "certify-infeasible": 2, "certify-paths": 3}
+
 
 def ending_of(row):
     """The ending of what a row's run leaves to be kept; None if it leaves nothing."""
@@ -28,21 +31,21 @@ class Keep:
         os.makedirs(folder, exist_ok=True)
 
     def made_by(self, words, name):
-        """The file that a certifier is to write, while it isn't known what it will have."""
-        return os.path.join(self.folder, f".{name}.part") if words[0].startswith("certify-") else None
+        """The file that a certifier is to write, while it isn't known what it will have; None if the words name one."""
+        return os.path.join(self.folder, f".{name}.part") if CERTIFIERS.get(words[0]) == len(words) else None
 
-    def take(self, row, made, given, name):
-        """Gives the file that was made, or the certificate that was given, its name; its columns."""
+    def take(self, row, shows, is_ours, name):
+        """Gives the file that shows how the claim is its name, or a copy of it if it isn't ours; its columns."""
         ending = ending_of(row)
         file = os.path.join(self.folder, f"{name}{ending}")
-        kept = ending and (not made or os.path.exists(made) and os.path.getsize(made) > 0)
-        if kept and made:
-            os.replace(made, file)
+        kept = ending and os.path.exists(shows) and os.path.getsize(shows) > 0
+        if kept and is_ours:
+            os.replace(shows, file)
         elif kept:
-            shutil.copyfile(given, f"{file}.part")
+            shutil.copyfile(shows, f"{file}.part")
             os.replace(f"{file}.part", file)
-        if made and os.path.exists(made):
-            os.unlink(made)
+        if is_ours and os.path.exists(shows):
+            os.unlink(shows)
         return {"kept": os.path.basename(file), "kept_sha256": evidence.text_of(file).sha256} if kept else {}
 
     def has(self, row, name):

@@ -9,7 +9,6 @@ from dimacs_batch.join import join
 from dimacs_batch.options import options_of
 from dimacs_batch.recheck import recheck
 from dimacs_batch.report import report
-from dimacs_batch.table import Kept, Printed
 
 
 def interrupt(*_):
@@ -37,7 +36,7 @@ def run(options):
         return join(options, writer)
     if options.commands:
         return print_commands(options)
-    counts = batch.judge_all(options, Kept(options.output, writer) if options.output else Printed(writer))
+    counts = batch.judge_all(options, writer)
     index, shards = options.shard
     print((f"shard {index} of {shards}: " if shards > 1 else "") + str(counts), file=sys.stderr)
     return counts.status()

@@ -107,9 +107,10 @@ def rules(options):
     yield options.referee and not options.recheck, "--referee is of --recheck"
     yield not options.join and len(options.places) > 2, "one or two places"
     yield options.match and "{instance}" not in options.match, "--match is a pattern with {instance} in it"
-    about_folder = options.answers or options.match
-    yield about_folder and not os.path.isdir(options.places[-1]), "--answers and --match are about a folder"
+    yield options.answers and len(options.places) != 1, "--answers is about one folder of instances"
+    is_folder = os.path.isdir(options.places[-1])
+    yield (options.answers or options.match) and not is_folder, "--answers and --match are about a folder"
     yield options.commands is not None and options.commands < 1, "--commands is at least 1"
     yield options.commands and "{shard}" not in (options.output or ""), "--commands takes -o FILE with {shard} in it"
     can_be_taken_up = options.join or not options.output or options.format in TAKEN_UP
-    yield not can_be_taken_up, "a table of this format can't be taken up again: keep a CSV, and --join it in this format"
+    yield not can_be_taken_up, "this format can't be taken up again: keep a CSV, and --join it in this format"

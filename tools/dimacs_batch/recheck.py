@@ -8,7 +8,7 @@ import sys
 import tempfile
 
 from dimacs_batch import evidence, fail
-from dimacs_batch.keep import ending_of
+from dimacs_batch.keep import CERTIFIERS, ending_of
 from dimacs_batch.parallel import in_parallel
 from dimacs_batch.runs import JUDGED, NO, Runs
 from dimacs_batch.table import read_table
@@ -16,8 +16,7 @@ from dimacs_batch.table import read_table
 HERE = os.path.dirname(os.path.realpath(__file__))
 REFEREES = ["../../referee/referee.py", "../referee.py"]  # in the repository, and where it is installed
 
-# A certificate of no nodes doesn't fit any instance. Its refusal comes after all tests of the flow, so it shows that the
-# flow passes them.
+# A certificate of no nodes fits no instance. Its refusal comes after all tests of the flow: so the flow passes them.
 EMPTY = {"max": "p cut 0 0\n", "min": "p pot 0 0\n"}
 FEASIBLE = "x certificate 0 0 NodesDiffer"
 
@@ -93,10 +92,11 @@ class Recheck:
         return None
 
     def judge(self, row, verb, files, kept, folder):
-        """By a judge where a certificate is there. A flow that a certifier refuses is refused by its judge as well, since
-        the flow is tested before the certificate."""
+        """By a judge where a certificate is there. A flow that a certifier refuses is refused by its judge as well,
+        since the flow is tested before the certificate."""
         action, _, what = verb.partition("-")
         certified = action == "certify"
+        files = files[: CERTIFIERS[verb] - 1] if certified else files
         if row["class"] == NO and kept:
             self.judge_better(row, what, files, kept, folder)
         elif certified and what == "paths" and kept:

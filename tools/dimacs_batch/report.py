@@ -4,6 +4,7 @@ import html
 import math
 import os
 import shlex
+import shutil
 import subprocess
 import sys
 
@@ -18,7 +19,7 @@ WIDTH, HEIGHT, MARGIN = 720, 400, 60  # of the plot, in pixels
 COLOURS = ["#0072b2", "#d55e00", "#009e73", "#cc79a7", "#e69f00", "#56b4e9", "#000000"]
 
 # What decides a row, and is shown where the pointer is.
-EVIDENCE = ["answers", "command", "instance_sha256", "answers_sha256", "kept", "kept_sha256", "host", "version", "proof"]
+EVIDENCE = ["answers", "command", "instance_sha256", "answers_sha256", "kept", "kept_sha256", "host"]
 
 
 def text(value):
@@ -66,8 +67,8 @@ def explained(program, row):
         same = all(evidence.text_of(file).sha256 == it for file, it in zip(files[1:], hashes))
     except OSError:
         same = False
-    if not same:
-        return "(its files aren't here any more)"
+    if not same or not program:
+        return "(its files aren't here any more)" if program else "(there is no dimacs here that explains it)"
     words = [program, "explain", *files]
     ran = subprocess.run(words, stdin=subprocess.DEVNULL, capture_output=True, check=False)
     lines = ran.stdout.decode("utf-8", "replace").splitlines()
@@ -80,7 +81,7 @@ def refusals(table, program):
     for row in read_table(table):
         if row["class"] in (NO, FAULTY):
             whose = f", {row['solver']}" if row["solver"] else ""
-            yield f"<dt>{text(os.path.basename(row['instance']))}{text(whose)}: <code>{text(row['verdict'])}</code></dt>\n"
+            yield f"<dt>{text(os.path.basename(row['instance']) + whose)}: <code>{text(row['verdict'])}</code></dt>\n"
             yield f"<dd><pre>{text(explained(program, row))}</pre></dd>\n"
     yield "</dl>\n"
 
@@ -177,8 +178,7 @@ def page(table, program):
 def report(options):
     """Writes the page about a table."""
     (table,) = options.places
-    program = evidence.Program(options.program).file
     place = place_of(options.output or f"{os.path.splitext(table)[0]}.html")
-    put_file(place, lambda out: out.writelines(page(table, program)))
+    put_file(place, lambda out: out.writelines(page(table, shutil.which(options.program))))
     print(f"wrote {place}", file=sys.stderr)
     return 0

@@ -80,9 +80,10 @@ def put_file(place, fill):
             os.chmod(new, stat.S_IMODE(os.stat(place).st_mode))
         os.replace(new, place)
     except OSError as error:
+        in_words(error, place)
+    finally:
         if os.path.exists(new):
             os.unlink(new)
-        in_words(error, place)
 
 
 def fill(writer, rows):
