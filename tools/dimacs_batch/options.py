@@ -3,6 +3,7 @@ import argparse
 import os
 import re
 import shlex
+import sys
 
 from dimacs_batch.answers import KINDS
 from dimacs_batch.formats import FORMATS, TAKEN_UP
@@ -16,7 +17,7 @@ USAGE = """dimacs-batch [OPTIONS] FOLDER | LIST | INSTANCE FOLDER
 
 def program():
     """The dimacs that the environment names, or that lies beside the script, or that is on the path."""
-    beside = os.path.join(os.path.dirname(HERE), "dimacs")
+    beside = os.path.join(os.path.dirname(os.path.realpath(sys.argv[0])), "dimacs")
     return os.environ.get("DIMACS") or (beside if os.access(beside, os.X_OK) else "dimacs")
 
 

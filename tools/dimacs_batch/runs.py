@@ -1,6 +1,7 @@
 """A run of the program: what it takes, what it prints, and the class of its end."""
 import os
 import re
+import resource
 import signal
 import subprocess
 import tempfile
@@ -22,16 +23,10 @@ JUDGES = ("judge-", "certify-", "solve-")  # how the words of commands that judg
 NO_RUN = 2  # the words asked for none: how it is used comes after the line that reports it
 ENDED_LATE = 124
 LONGEST = 1000  # letters of a line that are kept
-COUNTED = 1 << 14  # KiB, from which memory is counted: below it may be that of this process when it was forked
-
-
-# A child that is forked begins with less memory than one that shares this process's until its program is there; the
-# system counts that to the program's peak.
-subprocess._USE_VFORK = False
 
 
 class Ended(NamedTuple):
-    """How a run ended: its line, its status, and the seconds, processor seconds and KiB that it took."""
+    """How a run ended: its line, its status, and the seconds, processor seconds and KiB that it took, if they are known."""
 
     line: str
     status: int
@@ -68,6 +63,12 @@ def first_line(stream):
     more -= 0 if line.endswith("\n") or not more else 1
     line = line.rstrip("\n")
     return f"{line}; {more} more" if more else line
+
+
+def memory_of(usage):
+    """The peak of a run's memory. Less than the peak of this process isn't told: until its program is there a child has
+    the memory of this process, and the system counts that too."""
+    return str(usage.ru_maxrss) if usage.ru_maxrss > resource.getrusage(resource.RUSAGE_SELF).ru_maxrss else ""
 
 
 def complaint(errors, status):
@@ -107,8 +108,7 @@ class Runs:
             line = f"ended after {self.seconds:g} s" if late.is_set() else line or complaint(errors, status)
         took = time.monotonic() - begun
         status = ENDED_LATE if late.is_set() else status
-        memory = str(usage.ru_maxrss) if usage.ru_maxrss >= COUNTED else ""
-        return Ended(line, status, took, usage.ru_utime + usage.ru_stime, memory)
+        return Ended(line, status, took, usage.ru_utime + usage.ru_stime, memory_of(usage))
 
     def wait(self, process):
         """Waits for a process. Its status as a shell has it, and what it took."""
