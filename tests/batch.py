@@ -215,6 +215,12 @@ def commands(place):
     assert table[1]["command"] == "certify-max sub/../a.max 'sub/../t t.solution'", table[1]
     _, table, _ = place.run("sub/list", "--run", "max=solve-max {instance} {name}.made {answers} --limit 5")
     assert table[2]["command"] == "solve-max sub/../a.max sub/../s.made sub/../s sub/../c --limit 5", table[2]
+    place.write("list2", "a.max\n")
+    place.runs()
+    status, table, _ = place.run("list2", "--run", "max=certify-max {instance} {answers} {name}.cut")
+    assert status == 3 and column(table, "class") == ["no answer"] and place.runs() == 0, table
+    _, table, _ = place.run("list2", "--show", "--run", "max=certify-max {instance} {answers}")
+    assert table[0]["command"] == "show max a.max", table
     place.write("list", "{name}.max s c\n")
     _, table, _ = place.run("list")
     assert table[0]["command"] == "judge-max '{name}.max' s c", table[0]
@@ -233,6 +239,7 @@ def folders(place):
         place.write(f"all/deep/{name}", "")
     _, table, _ = place.run("all", "--show")
     names = [" ".join(map(os.path.basename, row["command"].split())) for row in table]
+    assert column(table, "verdict")[-1] == "it belongs to no instance", table
     assert names == [
         "show min x.min",
         "certify-max a-b.max a-b-d.solution",

@@ -205,8 +205,8 @@ class Names:
         found = []
         for it, folders, rest in self.candidates(claim):
             left = without(folders, it.folders)
-            fit = (left is not None, len(it.folders) if left is not None else 0, len(it.name))
-            found.append((fit, it, "-".join([*(folders if left is None else left), *filter(None, [rest])])))
+            inside = -1 if left is None else len(it.folders)
+            found.append(((inside, len(it.name)), it, solver_named(folders if left is None else left, rest)))
         best = max((fit for fit, _, _ in found), default=None)
         return [(it, solver) for fit, it, solver in found if fit == best]
 
@@ -215,49 +215,70 @@ def of_one(instance):
     """All answers belong to the one instance."""
 
     def find(claim):
-        begun = [it for it in beginnings(claim.name) if it == instance.name]
-        rest = claim.name[len(instance.name) + 1 :] if begun else claim.name
-        return [(instance, "-".join([*claim.folders, *filter(None, [rest])]))]
+        is_begun = instance.name in beginnings(claim.name)
+        return [(instance, solver_named(claim.folders, claim.name[len(instance.name) + 1 :] if is_begun else claim.name))]
 
     return find
 
 
+def solver_named(folders, rest):
+    """The name of the solver, by what is left of an answer's folders and of its name."""
+    return "-".join([*folders, rest] if rest else folders)
+
+
 def with_query(instance, files):
-    """The files of an answer. Labels that have no queries of their name get those of the instance."""
+    """The files of an answer. Labels that have no queries of their name get those of the instance; without any there is
+    no answer."""
     if [os.path.splitext(it)[1] for it in files] != [LABELS]:
         return files
     stem = os.path.splitext(instance)[0]
-    return [it for it in (stem + ending for ending in QUERIES) if os.path.exists(it)][:1] + files
+    return next(([stem + it, *files] for it in QUERIES if os.path.exists(stem + it)), [])
 
 
-def has_no_query(files):
-    return [os.path.splitext(it)[1] for it in files] == [LABELS]
+def owner_of(claim, find, commands):
+    """The instance of an answer, its files, and the name of its solver; or only why it has none."""
+    found = find(claim)
+    if len(found) != 1:
+        return None, [], f"it may belong to {len(found)} instances" if found else "it belongs to no instance"
+    instance, solver = found[0]
+    files = claim.files if "gr" in commands else with_query(instance.file, claim.files)
+    return (instance, files, solver) if files else (None, [], "it has no queries")
+
+
+def claims_of(kinds, folders, match, commands):
+    """Yields the answers to instances of these kinds. Queries are none, unless a command takes them."""
+    for kind, folder in itertools.product(sorted(kinds), folders):
+        for claim in claims_by_pattern(*folder, kind, match) if match else claims_in(*folder, kind):
+            if "gr" in commands or not claim.files[-1].endswith(QUERIES):
+                yield claim
 
 
 def pairs(instances, folders, find, match, commands):
     """Yields each instance with the files of each of its answers, or of none, and the name of the solver; then without
     an instance each answer that belongs to none, and why."""
     claimed, used, why = collections.defaultdict(list), set(), {}
-    for kind, folder in itertools.product(sorted({it.kind for it in instances}), folders):
-        for claim in claims_by_pattern(*folder, kind, match) if match else claims_in(*folder, kind):
-            if claim.files[-1].endswith(QUERIES) and "gr" not in commands:
-                continue  # what is asked, and not an answer
-            found = find(claim)
-            files = with_query(found[0][0].file, claim.files) if found and "gr" not in commands else claim.files
-            if len(found) > 1:
-                why.update((it, f"it may belong to {len(found)} instances") for it in files)
-            elif found and "gr" not in commands and has_no_query(files):
-                why[files[0]] = "it has no queries"
-            elif found:
-                claimed[found[0][0].file].append((files, found[0][1]))
-                used.update(files)
+    for claim in claims_of({it.kind for it in instances}, folders, match, commands):
+        instance, files, solver = owner_of(claim, find, commands)
+        if instance:
+            claimed[instance.file].append((files, solver))
+            used.update(files)
+        else:
+            why.update(dict.fromkeys(claim.files, solver))
     for it in instances:
         for files, solver in claimed[it.file] or [([], "")]:
             yield it, files, solver
     for parent, _, names in folders:
         for file in (os.path.join(parent, it) for it in names if it.endswith(ANSWERS)):
             if file not in used:
-                yield None, [file], why.get(file, "it belongs to no instance")
+                yield None, [file], why.get(file) or unused(file, match)
+
+
+def unused(file, match):
+    """Why a file is no part of an answer."""
+    if match:
+        return "its name doesn't fit the pattern"
+    shows = file.endswith(tuple(CERTIFICATES.values()))
+    return "there is no answer that it shows" if shows else "it belongs to no instance"
 
 
 # ---- the places that are named
@@ -310,9 +331,12 @@ def tasks(places, answers, match, commands, show):
         asked = in_folder(places[0], answers, match, commands) if len(places) == 1 else to_one(*places, match, commands)
         found = ((it.kind, it.file, its, solver) if it else ("", "", its, solver) for it, its, solver in asked)
     for kind, instance, its, solver in found:
+        made = kind in commands and "{answers}" not in commands[kind]  # the command needs no answer
         if not instance:
             yield Task("", its, "", "", [], solver)
-        elif its or show or kind in commands:
+        elif its or made:
             yield Task(instance, its, solver, kind, words_of(kind, instance, its, commands))
+        elif show:
+            yield Task(instance, its, solver, kind, words_of(kind, instance, its, {}))
         else:
             yield Task(instance, its, solver, kind, [], "it has no answer")
