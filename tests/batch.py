@@ -652,11 +652,27 @@ def same_names(place, binary):
     assert place.run("--recheck", "table", "kept", program=binary)[0] == 0
 
 
+def solved(place, binary):
+    """What a solver wrote is judged again where it lies."""
+    for name in ("pipes.max", "freight.min", "shortage.min", "road.gr", "road.query"):
+        shutil.copy(os.path.join(TOP, "examples", name), place.folder)
+    words = ["--run", "max=solve-max {instance} {name}.made {name}.cut --limit 9"]
+    words += ["--run", "min=solve-min {instance} {name}.made {name}.pot"]
+    words += ["--run", "gr=solve-paths {instance} {answers} {name}.dist"]
+    status, table, _ = place.run(".", *words, "-o", "table", program=binary)
+    verdicts = ["v min 55", "v max 12", "v 1 5 1400; 2 more", "v infeasible"]
+    assert status == 0 and column(place.table(), "verdict") == verdicts, place.table()
+    recheck = ["--recheck", "--referee", "table", "."]
+    assert place.run(*recheck, program=binary)[2] == "4 agree, 0 differ, 0 not there, 0 not judged\n"
+    place.write("pipes.cut", "p cut 5 1\nu 1\n")
+    assert place.run(*recheck, program=binary)[2] == "3 agree, 1 differ, 0 not there, 0 not judged\n"
+
+
 TESTS = [
     order_and_columns, commands, folders, layouts, unanswered, evidence, made_anew, changed_while_judged, taken_up,
     killed, late, odd, misused, safe_files, full, shards, formats, on_terminal, reasons,
 ]
-WITH_BINARY = [examples, kept, same_names, report]
+WITH_BINARY = [examples, kept, same_names, solved, report]
 
 
 def main():

@@ -10,7 +10,7 @@ import tempfile
 from dimacs_batch import evidence, fail
 from dimacs_batch.keep import CERTIFIERS, ending_of
 from dimacs_batch.parallel import in_parallel
-from dimacs_batch.runs import JUDGED, NO, Runs
+from dimacs_batch.runs import JUDGED, NO, YES, Runs
 from dimacs_batch.table import read_table
 
 HERE = os.path.dirname(os.path.realpath(__file__))
@@ -109,8 +109,17 @@ class Recheck:
             self.compare(row["verdict"], self.run(verb, *files))
         elif action == "judge":
             self.expect(row["verdict"], verb, *files[:-1], kept or files[-1])
+        elif action == "solve" and row["class"] == YES:
+            self.judge_solved(row["verdict"], what, *files[:3])
         else:
             raise NotThere(f"{verb} isn't judged again")
+
+    def judge_solved(self, line, what, instance, answer, certificate):
+        """What a solver wrote, where it wrote it."""
+        if line == "v infeasible":
+            self.expect(line, "judge-infeasible", instance, certificate)
+        else:
+            self.expect(line, f"judge-{what}", instance, answer, certificate)
 
     def judge_better(self, row, what, files, kept, folder):
         """A flow that is better than the claimed one, or feasible, is feasible by all tests of a judge."""

@@ -36,6 +36,8 @@ class Rows:
         self.db = sqlite3.connect("", isolation_level=None)
         self.db.execute("create table task (number integer primary key, key text unique, name text, task, old, row)")
         self.db.execute("create index names on task (name)")
+        self.db.execute("pragma journal_mode = off")
+        self.db.execute("begin")  # and never an end: nobody else reads it
         self.count, self.hash = 0, hashlib.sha256()
         self.shard, self.shown = shard, 0
 
