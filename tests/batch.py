@@ -271,7 +271,8 @@ def layouts(place):
             (os.path.basename(row["instance"]) or "-", "+".join(base_names(row["answers"])), row["solver"])
             for row in rows(out)
         ]
-        assert [" ".join(filter(None, it)) for it in found] == [it.strip() for it in wanted.split(" ; ")], (line, found, err)
+        found = " ; ".join(" ".join(filter(None, it)) for it in found)
+        assert found == wanted, (line, found, err)
 
 
 def unanswered(place):

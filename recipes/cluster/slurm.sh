@@ -2,9 +2,10 @@
 # Judges many answers on a cluster with Slurm: slurm.sh SHARDS TABLE WORDS..
 #
 # WORDS are those of dimacs-batch. An array of SHARDS tasks is submitted, each of which judges its part of the list and
-# writes TABLE.I; and a job that joins them to TABLE once all have ended, and names what is missing in TABLE.log. A task
-# that is killed is queued again, and continues its table. Submit it again to judge what is missing still. All nodes
-# have to see the same files. Options of sbatch, such as the partition and --cpus-per-task, are taken from SBATCH_OPTIONS.
+# writes TABLE.I; and a job that joins them to TABLE once all have ended, and names what is missing in TABLE.log. A
+# task that is killed is queued again, and continues its table. Submit it again to judge what is missing still. All
+# nodes have to see the same files. Options of sbatch, such as the partition and --cpus-per-task, are taken from
+# SBATCH_OPTIONS.
 set -eu
 here=$(cd "$(dirname "$0")" && pwd)
 batch=${DIMACS_BATCH:-dimacs-batch}

@@ -216,7 +216,8 @@ def of_one(instance):
 
     def find(claim):
         is_begun = instance.name in beginnings(claim.name)
-        return [(instance, solver_named(claim.folders, claim.name[len(instance.name) + 1 :] if is_begun else claim.name))]
+        rest = claim.name[len(instance.name) + 1 :] if is_begun else claim.name
+        return [(instance, solver_named(claim.folders, rest))]
 
     return find
 

@@ -23,10 +23,11 @@ JUDGES = ("judge-", "certify-", "solve-")  # how the words of commands that judg
 NO_RUN = 2  # the words asked for none: how it is used comes after the line that reports it
 ENDED_LATE = 124
 LONGEST = 1000  # letters of a line that are kept
+UNCERTAIN = 4096  # KiB by which the system's counts of memory may differ
 
 
 class Ended(NamedTuple):
-    """How a run ended: its line, its status, and the seconds, processor seconds and KiB that it took, if they are known."""
+    """How a run ended: its line, its status, the seconds and processor seconds that it took, and its KiB if known."""
 
     line: str
     status: int
@@ -67,8 +68,9 @@ def first_line(stream):
 
 def memory_of(usage):
     """The peak of a run's memory. Less than the peak of this process isn't told: until its program is there a child has
-    the memory of this process, and the system counts that too."""
-    return str(usage.ru_maxrss) if usage.ru_maxrss > resource.getrusage(resource.RUSAGE_SELF).ru_maxrss else ""
+    the memory of this process, and the system counts that too, not to the page."""
+    own = resource.getrusage(resource.RUSAGE_SELF).ru_maxrss
+    return str(usage.ru_maxrss) if usage.ru_maxrss > own + UNCERTAIN else ""
 
 
 def complaint(errors, status):
