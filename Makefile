@@ -7,27 +7,45 @@ SHELL = /bin/sh
 VERSION := $(shell cat VERSION)
 # Its three numbers, without what marks a version before a release.
 NUMBERS := $(firstword $(subst -, ,$(VERSION)))
-PREFIX = /usr/local
-DESTDIR =
 KIT = $(shell tools/kit.py)
 LIBRARY = libdimacs.a libdimacs.so
 OBJCOPY = objcopy
 HEAP = $(or $(KIT),kit-is-missing)/c/liblibc_c.a
 
+# Where make install puts files, by the names of GNU; those in capitals do as well. Packagers set DESTDIR too.
+prefix = /usr/local
+exec_prefix = $(PREFIX)
+bindir = $(exec_prefix)/bin
+libdir = $(exec_prefix)/lib
+includedir = $(PREFIX)/include
+datarootdir = $(PREFIX)/share
+datadir = $(datarootdir)
+mandir = $(datarootdir)/man
+docdir = $(datarootdir)/doc/dimacs
+PREFIX = $(prefix)
+BINDIR = $(bindir)
+LIBDIR = $(libdir)
+INCLUDEDIR = $(includedir)
+DATADIR = $(datadir)
+MANDIR = $(mandir)
+DOCDIR = $(docdir)
+ZSHDIR = $(DATADIR)/zsh/site-functions
+DESTDIR =
+FOLDERS = PREFIX BINDIR LIBDIR INCLUDEDIR DATADIR MANDIR DOCDIR ZSHDIR DESTDIR
+
 # The folder of what is installed: what is proved, or with UNPROVED=1 what isn't.
 FROM = build$(if $(UNPROVED),/quick)
-IN = $(DESTDIR)$(PREFIX)
 MAN = $(if $(wildcard tools/man_pages.py),build/man)
 
 ## make: proves the program and the library, and builds build/dimacs, build/libdimacs.a and build/libdimacs.so
-all: build/dimacs $(LIBRARY:%=build/%)
+all: build/dimacs build/linked
 
 ## make help: lists this
 help:
 	@sed -n 's/^## //p' $(MAKEFILE_LIST)
 
 ## make quick: builds them unproved in build/quick, in two minutes of processor time each
-quick: build/quick/dimacs $(LIBRARY:%=build/quick/%)
+quick: build/quick/dimacs build/quick/linked
 
 ## make check: tests build/quick, unproved
 check: quick
@@ -55,7 +73,7 @@ build/dimacs build/dimacs_c.a build/dimacs_c.bc &: FORCE
 # What the gate runs over: what rt ci proved, put in build/ without a proof made again.
 proved-by-ci:
 	tools/proved_build.py --by-ci build
-	$(MAKE) --no-print-directory $(LIBRARY:%=build/%)
+	$(MAKE) --no-print-directory build/linked
 
 # One object of the calls and the kit's C library, which takes memory by malloc. What isn't exported is local in it:
 # nothing else can clash with a name of another library.
@@ -68,37 +86,29 @@ proved-by-ci:
 	$(AR) rcs $@ $<
 
 %/libdimacs.so.0: %/dimacs.o lib/exports.map
-	$(CC) -shared -o $@ $< -Wl,-soname,libdimacs.so.0 -Wl,--version-script=lib/exports.map -Wl,-z,defs \
-	    -Wl,-z,noexecstack
+	$(CC) $(CFLAGS) $(LDFLAGS) -shared -o $@ $< -Wl,-soname,libdimacs.so.0 -Wl,--version-script=lib/exports.map \
+	    -Wl,-z,defs -Wl,-z,noexecstack
 
 %/libdimacs.so: %/libdimacs.so.0
 	ln -sf libdimacs.so.0 $@
 
 ## make install: installs what is proved, into PREFIX=/usr/local below DESTDIR=; UNPROVED=1 takes what isn't proved
-install: $(if $(UNPROVED),quick,all) $(MAN)
-	install -d $(IN)/bin $(IN)/include/dimacs $(IN)/lib/pkgconfig $(IN)/lib/cmake/dimacs
-	install -m 755 $(FROM)/dimacs $(wildcard tools/dimacs-batch) $(IN)/bin
-	install -m 644 lib/include/dimacs.h lib/include/dimacs.hpp $(IN)/include
-	install -m 644 lib/include/dimacs/*.hpp $(IN)/include/dimacs
-	install -m 644 $(FROM)/libdimacs.a $(IN)/lib
-	install -m 644 $(FROM)/libdimacs.so.0 $(IN)/lib/libdimacs.so.$(NUMBERS)
-	ln -sf libdimacs.so.$(NUMBERS) $(IN)/lib/libdimacs.so.0
-	ln -sf libdimacs.so.0 $(IN)/lib/libdimacs.so
-	sed 's/@VERSION@/$(VERSION)$(if $(UNPROVED),+unproved)/' lib/package/dimacs.pc.in >$(IN)/lib/pkgconfig/dimacs.pc
-	install -m 644 lib/package/dimacsConfig.cmake $(IN)/lib/cmake/dimacs
-	sed 's/@VERSION@/$(NUMBERS)/' lib/package/dimacsConfigVersion.cmake.in \
-	    >$(IN)/lib/cmake/dimacs/dimacsConfigVersion.cmake
-	install -d $(IN)/share/dimacs/rust/src
-	install -m 644 $(addprefix lib/rust/,Cargo.toml Cargo.lock build.rs) $(IN)/share/dimacs/rust
-	install -m 644 lib/rust/src/*.rs $(IN)/share/dimacs/rust/src
-	for it in build/man/*.[15]; do \
-	    [ ! -e $$it ] || install -D -m 644 -t $(IN)/share/man/man$${it##*.} $$it || exit; done
-	[ ! -e completion ] || install -D -m 644 completion/dimacs.bash $(IN)/share/bash-completion/completions/dimacs
-	[ ! -e completion ] || install -D -m 644 -t $(IN)/share/zsh/site-functions completion/_dimacs
-	[ ! -e completion ] || install -D -m 644 -t $(IN)/share/fish/vendor_completions.d completion/dimacs.fish
-# bash and fish load a completion by the name of its command.
-	[ ! -e completion ] || ln -sf dimacs $(IN)/share/bash-completion/completions/dimacs-batch
-	[ ! -e completion ] || ln -sf dimacs.fish $(IN)/share/fish/vendor_completions.d/dimacs-batch.fish
+install: $(FROM)/dimacs $(FROM)/dimacs_c.a linked $(MAN)
+	@$(INSTALL) $(FROM)
+
+## make uninstall: removes what was installed there, and no more
+uninstall:
+	@$(INSTALL) --remove
+
+INSTALL = $(foreach it,$(FOLDERS),$(it)='$($(it))') NUMBERS=$(NUMBERS) VERSION=$(VERSION)$(if $(UNPROVED),+unproved) \
+    tools/install.sh
+
+# A copied build has other times, and isn't linked again as long as it is what was linked.
+linked: $(FROM)/dimacs_c.a
+	@cd $(FROM) && sha256sum --status -c linked 2>/dev/null || $(MAKE) -C $(CURDIR) --no-print-directory $(FROM)/linked
+
+%/linked: %/libdimacs.a %/libdimacs.so
+	cd $* && sha256sum dimacs_c.a libdimacs.a libdimacs.so.0 >linked
 
 build/man: tools/man_pages.py VERSION crates/dimacs/src/usage.rt $(wildcard man/*.md docs/*.md *.md recipes/README.md)
 	rm -rf $@ $@.new
@@ -126,5 +136,6 @@ clean:
 include targets.mk
 
 # Of these, what a failed proof leaves is whole, and of the sources that are noted beside it.
-.PRECIOUS: build/dimacs build/dimacs_c.a build/dimacs_c.bc %/dimacs.o %/libdimacs.so.0
-.PHONY: all help quick check prove prove-all proved-by-ci install dist proved-only bench clean FORCE
+.PRECIOUS: build/dimacs build/dimacs_c.a build/dimacs_c.bc %/dimacs.o %/libdimacs.a %/libdimacs.so.0 \
+    %/libdimacs.so
+.PHONY: all help quick check prove prove-all proved-by-ci install uninstall linked dist proved-only bench clean FORCE

@@ -34,6 +34,8 @@ SCRIPTS = {
     "usage": ["{build}/dimacs"],
     "shown_runs": ["{build}/dimacs"],
     "version": ["{build}"],
+    "abi": ["{build}"],
+    "install": ["{build}"],
     "promises": [],
     "man_pages": [],
     "completion": [],

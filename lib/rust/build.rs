@@ -27,12 +27,12 @@ fn absolute(folder: &Path) -> PathBuf {
 
 /// The folder that `make install` wrote the library to, by pkg-config.
 fn installed() -> PathBuf {
-    let asked = Command::new("pkg-config").args(["--variable=prefix", "dimacs"]).output();
-    let prefix = match asked {
+    let asked = Command::new("pkg-config").args(["--variable=libdir", "dimacs"]).output();
+    let folder = match asked {
         Ok(it) if it.status.success() => String::from_utf8_lossy(&it.stdout).trim().to_owned(),
         _ => fail("name the folder of libdimacs.a by DIMACS_LIB_DIR, or install it so that pkg-config finds dimacs"),
     };
-    Path::new(&prefix).join("lib")
+    PathBuf::from(folder)
 }
 
 fn fail(why: &str) -> ! {
