@@ -1,0 +1,303 @@
+#!/usr/bin/env python3
+"""Makes the page of all that the judge's contract cites: tools/theorem.py [--check | --html FILE]
+
+It writes docs/THEOREM.md, or with --html the same as one page of HTML, where each name in a definition is a link to its
+own. tools/theorem.md has the text, with these lines between:
+
+    @contract FILE FUNCTION     the declaration of a public function, without its body
+    @trait FILE NAME            a trait of Rust
+    @declared FILE NAME         a type of Rust; a list of the names, if it has only variants without fields
+    @define NAME..              definitions, one after another, of one file of specs
+    @table NAME                 a definition that has a line for each reason, cut short: each gives the reason's own name
+    @kit NAME : MEANING         a row of the table of what is cited of the kit
+    @adds CIRCLE CONTRACTS      what a wider contract cites beside that, by name
+
+tools/believed.py finds what the contract cites. The script ends with 1 if something cited is missing on the page, if
+something there isn't cited, stands twice or before what it uses, or if a definition has neither a comment nor its name
+in the text above it. With --check it writes nothing, and also ends with 1 if the page isn't what it would write.
+"""
+import html
+import os
+import re
+import sys
+import textwrap
+
+import believed
+import man_pages
+
+ROOT = believed.ROOT
+FRAME = f"{ROOT}/tools/theorem.md"
+PAGE = f"{ROOT}/docs/THEOREM.md"
+CIRCLE = "judge"
+
+# A kit's module, or that of a type of Rust.
+KIT = re.compile(r"Rattle\.(std|core)\.specs\.")
+DECLARED = re.compile(r"\.specs\.declared\..*?([A-Z]\w*)")
+
+STYLE = """body { max-width: 60em; margin: 2em auto; padding: 0 1em; font: 17px/1.5 serif; color: #111; background: #fff }
+pre, code { font: 14px/1.45 monospace } pre { overflow-x: auto; padding: .7em; background: #f5f5f2 }
+pre a, code a { color: inherit; text-decoration: underline dotted #888 } :target { background: #fe9 }
+table { border-collapse: collapse } td, th { border: 1px solid #bbb; padding: .2em .5em; text-align: left }"""
+
+
+class Page:
+    """What the frame asks for, block by block, and what is wrong with it."""
+
+    def __init__(self, defined, circle, outer):
+        self.defined, self.circle, self.outer = defined, circle, outer
+        self.by_name = {name: (module, name) for module, name in circle}
+        self.shown, self.types, self.kit, self.wrong = {}, set(), {}, []
+        self.text = ""
+        self.parts = []
+
+    # ---- what each line of the frame asks for
+
+    def contract(self, path, name):
+        item = re.search(rf"^ *pub fn {name}\b.*?(?=^ *\{{$)", source(path), re.M | re.S)
+        self.add_code(textwrap.dedent(item[0]).rstrip(), "rust")
+
+    def trait(self, path, name):
+        item = re.search(rf"^pub trait {name} .*?^\}}", source(path), re.M | re.S)
+        self.add_code(item[0], "rust")
+
+    def declared(self, path, *names):
+        code = []
+        for name in names:
+            item = re.search(rf"^pub (?:enum|struct) {name} .*?^\}}", source(path), re.M | re.S)
+            self.types.add(name)
+            code.append(shortened(item[0]))
+        self.add_code("\n".join(code), "rust")
+
+    def define(self, *names):
+        blocks = [self.defined.blocks[self.place(name)] for name in names if self.place(name)]
+        self.add_definitions(names, ["\n".join(it) for it in blocks])
+
+    def table(self, name):
+        first, *rows = self.defined.blocks[self.place(name)]
+        own = re.compile(rf'{name} (\w+) = codes "\1"')
+        self.wrong += [f"{name}: not the reason's own name: {it}" for it in rows if not own.fullmatch(it)]
+        self.add_definitions([name], ["\n".join([first, rows[0], rows[1], f"-- and so on, {len(rows)} lines"])])
+
+    def kit_table(self):
+        cited = {}
+        for module, name in sorted(self.named() - set(self.circle)):
+            if KIT.match(module):
+                cited.setdefault(name, KIT.sub("", module))
+        self.wrong += [f"missing in the table of the kit: {it}" for it in sorted(cited.keys() - self.kit.keys())]
+        self.wrong += [f"not cited of the kit: {it}" for it in sorted(self.kit.keys() - cited.keys())]
+        rows = [f"| {as_code(name)} | {meaning} | `{cited.get(name, '')}` |" for name, meaning in self.kit.items()]
+        self.add_text("\n".join(["| Name | Meaning | Module |", "|---|---|---|", *rows]))
+
+    def adds(self, circle):
+        for module in believed.modules_in_order(self.defined, self.outer[circle]):
+            names = [it for it in self.defined.blocks if it[0] == module and it in self.outer[circle]]
+            if names:
+                whole = sum(len(self.defined.blocks[it]) for it in names)
+                listed = ", ".join(f"`{name}`" for _, name in names)
+                self.add_text(f"- {self.link(names[0])}, {counted(whole, 'line')}: {listed}")
+
+    # ---- what they have in common
+
+    def place(self, name):
+        if name not in self.by_name:
+            self.wrong.append(f"not cited: {name}")
+        return self.by_name.get(name)
+
+    def named(self):
+        """All that the contract and the definitions of the circle name."""
+        return set().union(believed.named_by(*believed.CIRCLES[CIRCLE]), *(self.defined.rests_on[it] for it in self.circle))
+
+    def link(self, it):
+        path = os.path.relpath(self.defined.files[it], f"{ROOT}/docs")
+        crate, module = re.match(r"Rattle\.(\w+)\.specs\.(.*)", it[0]).groups()
+        return f"[{crate}: {module}]({path})"
+
+    def add_definitions(self, names, blocks):
+        for name in names:
+            self.check(name)
+        where = {self.defined.files[self.by_name[it]] for it in names if it in self.by_name}
+        if len(where) > 1:
+            self.wrong.append(f"of several files: {' '.join(names)}")
+        if where:
+            self.add_text(f"{self.link(self.by_name[names[0]])}:")
+        self.add_code("\n\n".join(blocks), "text", names)
+
+    def check(self, name):
+        it = self.by_name.get(name)
+        if name in self.shown:
+            self.wrong.append(f"twice: {name}")
+        self.shown[name] = True
+        if not it:
+            return
+        for below in sorted(self.defined.rests_on[it] & set(self.circle)):
+            if below[1] not in self.shown:
+                self.wrong.append(f"{name} stands before {below[1]}, which it uses")
+        for module, below in sorted(self.defined.rests_on[it]):
+            type_of = DECLARED.search(module)
+            if type_of and type_of[1] not in self.types:
+                self.wrong.append(f"{name} stands before {type_of[1]}, which it uses")
+                self.types.add(type_of[1])
+        if not self.defined.blocks[it][0].startswith("--") and f"`{name}" not in self.text:
+            self.wrong.append(f"{name} has no sentence")
+
+    def add_text(self, text):
+        self.text += text + "\n"
+        self.parts.append(("text", text, ()))
+
+    def add_code(self, code, kind, names=()):
+        self.parts.append((kind, code, names))
+
+    def end(self):
+        self.wrong += [f"missing: {it}" for it in sorted(self.by_name.keys() - self.shown.keys())]
+
+
+def source(path):
+    with open(f"{ROOT}/crates/{path}", encoding="utf-8") as it:
+        return it.read()
+
+
+def counted(count, word):
+    return f"{count} {word}{'' if count == 1 else 's'}"
+
+
+def as_code(name):
+    return f"`{name.replace('◌', ' ').strip()}`".replace("|", "\\|")
+
+
+def shortened(item):
+    """A type of Rust, each variant or field on a line; variants that have nothing more stand side by side."""
+    item = re.sub(r"\{\n((?:(?! {4}\w).*\n)*?) {4}\}", lambda it: "{ " + " ".join(it[1].split()).rstrip(",") + " }", item)
+    item = re.sub(r"^ *///? ?(.*)\n( *)(.*)$", r"\2\3  // \1", item, flags=re.M)
+    inner = re.findall(r"^    (\w+),$", item, re.M)
+    if len(inner) < len(item.split("\n")) - 2:
+        return item
+    head = item.split("\n")[0]
+    lines, line = [head], "   "
+    for name in inner:
+        if len(line) + len(name) > 116:
+            lines.append(line)
+            line = "   "
+        line += f" {name},"
+    return "\n".join([*lines, line, "}"])
+
+
+def build():
+    defined = believed.all_definitions()
+    circles = {name: believed.reached_from(defined, believed.named_by(*it)) for name, it in believed.CIRCLES.items()}
+    outer = {name: it - circles[CIRCLE] for name, it in circles.items()}
+    outer["library"] = believed.reached_from(defined, believed.named_by_all()) - set().union(*circles.values())
+    page = Page(defined, circles[CIRCLE], outer)
+    with open(FRAME, encoding="utf-8") as it:
+        paragraphs = it.read().strip().split("\n\n")
+    for paragraph in paragraphs:
+        follow(page, paragraph)
+    page.end()
+    return page
+
+
+def follow(page, paragraph):
+    """Adds a paragraph of the frame, or what its lines ask for."""
+    if not paragraph.startswith("@"):
+        page.add_text(paragraph)
+        return
+    for line in re.sub(r"\n  +", " ", paragraph).split("\n"):
+        asked, *words = line.split()
+        if asked == "@kit":
+            page.kit[words[0]] = line.split(" : ", 1)[1]
+        else:
+            getattr(page, asked[1:])(*words)
+    if paragraph.startswith("@kit"):
+        page.kit_table()
+
+
+def markdown(page):
+    blocks = [text if kind == "text" and not names and not is_code(kind, text, names) else f"```{kind}\n{text}\n```"
+              for kind, text, names in page.parts]
+    return "\n\n".join(blocks) + "\n"
+
+
+def is_code(kind, text, names):
+    return kind != "text" or bool(names)
+
+
+# ---- the page of HTML
+
+
+def html_page(page):
+    anchors = {name: f"d-{n}" for n, name in enumerate(page.shown)}
+    body = []
+    for kind, text, names in page.parts:
+        if is_code(kind, text, names):
+            body.append(f"<pre>{linked(text, anchors, names)}</pre>")
+        else:
+            body += [html_block(kind, lines, anchors) for kind, lines in man_pages.blocks(text)]
+    head = f'<!DOCTYPE html>\n<html lang="en"><meta charset="utf-8"><title>The theorem</title>\n<style>{STYLE}</style>\n'
+    return re.sub(r"</ul>\n<ul>", "", head + "\n".join(body)) + "\n</html>\n"
+
+
+def linked(text, anchors, names=()):
+    """Code with links from names to their definitions; where one is defined, its name is what they lead to."""
+    seen = set()
+
+    def token(it):
+        word = html.escape(it[0])
+        if it[0] not in anchors:
+            return word
+        if it[0] in names and it[0] not in seen:
+            seen.add(it[0])
+            return f'<b id="{anchors[it[0]]}">{word}</b>'
+        return f'<a href="#{anchors[it[0]]}">{word}</a>'
+
+    lines = text.split("\n")
+    return "\n".join(html.escape(it) if it.startswith("--") else re.sub(r"[^\s(){}\[\],.;:]+", token, it) for it in lines)
+
+
+def html_block(kind, lines, anchors):
+    if kind == "heading":
+        marks, title = lines[0].split(" ", 1)
+        return f'<h{len(marks)} id="{man_pages.slug(title)}">{inline(title, anchors)}</h{len(marks)}>'
+    if kind == "code":
+        return f"<pre>{linked(chr(10).join(lines), anchors)}</pre>"
+    if kind == "item":
+        return f"<ul>\n<li>{inline(' '.join(lines)[2:], anchors)}</ul>"
+    if kind == "table":
+        rows = [[inline(it.strip(), anchors) for it in re.split(r"(?<!\\)\|", line.strip("|"))] for line in lines]
+        cells = "\n".join("<tr>" + "".join(f"<td>{it}" for it in row) for row in rows if row[0] != "---")
+        return f"<table>\n{cells}\n</table>"
+    return f"<p>{inline(' '.join(lines), anchors)}"
+
+
+def inline(text, anchors):
+    """Text with its code, what is strong, and links; those to other pages lead to the names of files alone."""
+    parts = []
+    for part in re.split(r"(`[^`]+`)", text.replace("\\|", "|")):
+        if part.startswith("`"):
+            parts.append(f"<code>{linked(part[1:-1], anchors)}</code>")
+        else:
+            part = re.sub(r"\*\*([^*]+)\*\*", r"<strong>\1</strong>", html.escape(part))
+            parts.append(part)
+    return re.sub(r"\[([^\]]*)\]\(([^)]*)\)", r'<a href="\2">\1</a>', "".join(parts))
+
+
+def main(words):
+    page = build()
+    text = markdown(page)
+    if words == ["--check"]:
+        kept = open(PAGE, encoding="utf-8").read() if os.path.exists(PAGE) else ""
+        page.wrong += [] if kept == text else ["docs/THEOREM.md isn't what tools/theorem.py makes: run it"]
+    elif len(words) == 2 and words[0] == "--html":
+        write(words[1], html_page(page))
+    else:
+        write(PAGE, text)
+    print("\n".join(page.wrong), end="\n" if page.wrong else "")
+    return 1 if page.wrong else 0
+
+
+def write(path, text):
+    os.makedirs(os.path.dirname(os.path.abspath(path)), exist_ok=True)
+    with open(path, "w", encoding="utf-8") as it:
+        it.write(text)
+
+
+if __name__ == "__main__":
+    sys.exit(main(sys.argv[1:]))
