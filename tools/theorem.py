@@ -69,14 +69,13 @@ class Page:
         self.add_code("\n".join(code), "rust")
 
     def define(self, *names):
-        blocks = [self.defined.blocks[self.place(name)] for name in names if self.place(name)]
-        self.add_definitions(names, ["\n".join(it) for it in blocks])
+        self.add_definitions(names, [self.defined.blocks[it] for it in map(self.place, names) if it])
 
     def table(self, name):
         first, *rows = self.defined.blocks[self.place(name)]
         own = re.compile(rf'{name} (\w+) = codes "\1"')
         self.wrong += [f"{name}: not the reason's own name: {it}" for it in rows if not own.fullmatch(it)]
-        self.add_definitions([name], ["\n".join([first, rows[0], rows[1], f"-- and so on, {len(rows)} lines"])])
+        self.add_definitions([name], [[first, *rows[:2], f"-- and so on, {len(rows)} lines"]])
 
     def kit_table(self):
         cited = {}
@@ -89,12 +88,15 @@ class Page:
         self.add_text("\n".join(["| Name | Meaning | Module |", "|---|---|---|", *rows]))
 
     def adds(self, circle):
+        items = []
         for module in believed.modules_in_order(self.defined, self.outer[circle]):
             names = [it for it in self.defined.blocks if it[0] == module and it in self.outer[circle]]
             if names:
-                whole = sum(len(self.defined.blocks[it]) for it in names)
+                lines = believed.lines_of(self.defined, names)
                 listed = ", ".join(f"`{name}`" for _, name in names)
-                self.add_text(f"- {self.link(names[0])}, {counted(whole, 'line')}: {listed}")
+                path = os.path.relpath(self.defined.files[names[0]], f"{ROOT}/docs")
+                items.append(filled(f"- [{module_of(names[0])}]({path}), {lines} line{'s' * (lines > 1)}: {listed}"))
+        self.add_text("\n".join(items))
 
     # ---- what they have in common
 
@@ -107,20 +109,13 @@ class Page:
         """All that the contract and the definitions of the circle name."""
         return set().union(believed.named_by(*believed.CIRCLES[CIRCLE]), *(self.defined.rests_on[it] for it in self.circle))
 
-    def link(self, it):
-        path = os.path.relpath(self.defined.files[it], f"{ROOT}/docs")
-        crate, module = re.match(r"Rattle\.(\w+)\.specs\.(.*)", it[0]).groups()
-        return f"[{crate}: {module}]({path})"
-
     def add_definitions(self, names, blocks):
         for name in names:
             self.check(name)
-        where = {self.defined.files[self.by_name[it]] for it in names if it in self.by_name}
-        if len(where) > 1:
+        modules = {module_of(self.by_name[it]) for it in names if it in self.by_name}
+        if len(modules) > 1:
             self.wrong.append(f"of several files: {' '.join(names)}")
-        if where:
-            self.add_text(f"{self.link(self.by_name[names[0]])}:")
-        self.add_code("\n\n".join(blocks), "text", names)
+        self.add_code("\n\n".join([f"---- {' '.join(modules)}", *map(bare, blocks)]), "text", names)
 
     def check(self, name):
         it = self.by_name.get(name)
@@ -142,9 +137,12 @@ class Page:
 
     def add_text(self, text):
         self.text += text + "\n"
-        self.parts.append(("text", text, ()))
+        self.parts.append(("prose", text, ()))
 
     def add_code(self, code, kind, names=()):
+        if self.parts and self.parts[-1][0] == kind:
+            _, before, earlier = self.parts.pop()
+            code, names = f"{before}\n\n{code}", [*earlier, *names]
         self.parts.append((kind, code, names))
 
     def end(self):
@@ -156,8 +154,17 @@ def source(path):
         return it.read()
 
 
-def counted(count, word):
-    return f"{count} {word}{'' if count == 1 else 's'}"
+def module_of(it):
+    return it[0].removeprefix("Rattle.").replace(".specs.", ": ")
+
+
+def bare(block):
+    """A definition without the words that each has."""
+    return re.sub(r"^( *)(?:abbrev )?pub ", r"\1", "\n".join(block), flags=re.M)
+
+
+def filled(item):
+    return textwrap.fill(item, 120, subsequent_indent="  ", break_long_words=False, break_on_hyphens=False)
 
 
 def as_code(name):
@@ -165,20 +172,14 @@ def as_code(name):
 
 
 def shortened(item):
-    """A type of Rust, each variant or field on a line; variants that have nothing more stand side by side."""
-    item = re.sub(r"\{\n((?:(?! {4}\w).*\n)*?) {4}\}", lambda it: "{ " + " ".join(it[1].split()).rstrip(",") + " }", item)
-    item = re.sub(r"^ *///? ?(.*)\n( *)(.*)$", r"\2\3  // \1", item, flags=re.M)
-    inner = re.findall(r"^    (\w+),$", item, re.M)
-    if len(inner) < len(item.split("\n")) - 2:
-        return item
-    head = item.split("\n")[0]
-    lines, line = [head], "   "
-    for name in inner:
-        if len(line) + len(name) > 116:
-            lines.append(line)
-            line = "   "
-        line += f" {name},"
-    return "\n".join([*lines, line, "}"])
+    """A type of Rust, each variant or field on a line with its comment; variants that have none stand side by side."""
+    item = re.sub(r"^ *#\[.*\n", "", item, flags=re.M)
+    item = re.sub(r"\{\n((?: {8}.*\n)+) {4}\}", lambda it: "{ " + " ".join(it[1].split()).rstrip(",") + " }", item)
+    item = re.sub(r"^ */// (.*)\n( *)(.*)$", r"\2\3  // \1", item, flags=re.M)
+    head, *inner, end = item.split("\n")
+    if all(re.fullmatch(r" +\w+,", it) for it in inner):
+        return f"{head} {' '.join(it.strip() for it in inner).rstrip(',')} {end}"
+    return item
 
 
 def build():
@@ -211,45 +212,38 @@ def follow(page, paragraph):
 
 
 def markdown(page):
-    blocks = [text if kind == "text" and not names and not is_code(kind, text, names) else f"```{kind}\n{text}\n```"
-              for kind, text, names in page.parts]
+    blocks = [text if kind == "prose" else f"```{kind}\n{text}\n```" for kind, text, _ in page.parts]
     return "\n\n".join(blocks) + "\n"
-
-
-def is_code(kind, text, names):
-    return kind != "text" or bool(names)
 
 
 # ---- the page of HTML
 
 
 def html_page(page):
-    anchors = {name: f"d-{n}" for n, name in enumerate(page.shown)}
+    anchors = {name: f"d{n}" for n, name in enumerate(page.shown)}
     body = []
     for kind, text, names in page.parts:
-        if is_code(kind, text, names):
-            body.append(f"<pre>{linked(text, anchors, names)}</pre>")
+        if kind == "prose":
+            body += [html_block(*it, anchors) for it in man_pages.blocks(text)]
         else:
-            body += [html_block(kind, lines, anchors) for kind, lines in man_pages.blocks(text)]
+            body.append(f"<pre>{linked(text, anchors, names)}</pre>")
     head = f'<!DOCTYPE html>\n<html lang="en"><meta charset="utf-8"><title>The theorem</title>\n<style>{STYLE}</style>\n'
-    return re.sub(r"</ul>\n<ul>", "", head + "\n".join(body)) + "\n</html>\n"
+    return head + "\n".join(body).replace("</ul>\n<ul>\n", "") + "\n</html>\n"
 
 
 def linked(text, anchors, names=()):
-    """Code with links from names to their definitions; where one is defined, its name is what they lead to."""
-    seen = set()
+    """Code with links from names to their definitions. Of these names it has the definitions."""
+    here = set(names)
 
     def token(it):
-        word = html.escape(it[0])
-        if it[0] not in anchors:
-            return word
-        if it[0] in names and it[0] not in seen:
-            seen.add(it[0])
-            return f'<b id="{anchors[it[0]]}">{word}</b>'
-        return f'<a href="#{anchors[it[0]]}">{word}</a>'
+        name, word = it[0], html.escape(it[0])
+        if name in here:
+            here.remove(name)
+            return f'<b id="{anchors[name]}">{word}</b>'
+        return f'<a href="#{anchors[name]}">{word}</a>' if name in anchors else word
 
     lines = text.split("\n")
-    return "\n".join(html.escape(it) if it.startswith("--") else re.sub(r"[^\s(){}\[\],.;:]+", token, it) for it in lines)
+    return "\n".join(html.escape(it) if it.startswith("--") else believed.WORD.sub(token, it) for it in lines)
 
 
 def html_block(kind, lines, anchors):
