@@ -35,6 +35,7 @@ SCRIPTS = {
     "shown_runs": ["{build}/dimacs"],
     "version": ["{build}"],
     "promises": [],
+    "theorem": [],
     "man_pages": [],
     "completion": [],
     "lower_addresses": [],

@@ -16,6 +16,7 @@ tools/believed.py finds what the contract cites. The script ends with 1 if somet
 something there isn't cited, stands twice or before what it uses, or if a definition has neither a comment nor its name
 in the text above it. With --check it writes nothing, and also ends with 1 if the page isn't what it would write.
 """
+import functools
 import html
 import os
 import re
@@ -150,8 +151,7 @@ class Page:
 
 
 def source(path):
-    with open(f"{ROOT}/crates/{path}", encoding="utf-8") as it:
-        return it.read()
+    return read(f"{ROOT}/crates/{path}")
 
 
 def module_of(it):
@@ -182,15 +182,20 @@ def shortened(item):
     return item
 
 
-def build():
+@functools.cache
+def cited():
+    """The definitions, those that the judge's contract cites, and those that wider ones cite beside them."""
     defined = believed.all_definitions()
     circles = {name: believed.reached_from(defined, believed.named_by(*it)) for name, it in believed.CIRCLES.items()}
     outer = {name: it - circles[CIRCLE] for name, it in circles.items()}
     outer["library"] = believed.reached_from(defined, believed.named_by_all()) - set().union(*circles.values())
-    page = Page(defined, circles[CIRCLE], outer)
-    with open(FRAME, encoding="utf-8") as it:
-        paragraphs = it.read().strip().split("\n\n")
-    for paragraph in paragraphs:
+    return defined, circles[CIRCLE], outer
+
+
+def build(frame):
+    """The page of this frame."""
+    page = Page(*cited())
+    for paragraph in frame.strip().split("\n\n"):
         follow(page, paragraph)
     page.end()
     return page
@@ -273,18 +278,29 @@ def inline(text, anchors):
     return re.sub(r"\[([^\]]*)\]\(([^)]*)\)", r'<a href="\2">\1</a>', "".join(parts))
 
 
+def unlike(text):
+    """What is wrong if the page that is kept isn't this text."""
+    return [] if os.path.exists(PAGE) and text == read(PAGE) else ["docs/THEOREM.md isn't what tools/theorem.py writes"]
+
+
 def main(words):
-    page = build()
-    text = markdown(page)
+    page = build(read(FRAME))
+    wrong = page.wrong
     if words == ["--check"]:
-        kept = open(PAGE, encoding="utf-8").read() if os.path.exists(PAGE) else ""
-        page.wrong += [] if kept == text else ["docs/THEOREM.md isn't what tools/theorem.py makes: run it"]
-    elif len(words) == 2 and words[0] == "--html":
+        wrong = wrong + unlike(markdown(page))
+    elif words[:1] == ["--html"] and len(words) == 2:
         write(words[1], html_page(page))
+    elif not words:
+        write(PAGE, markdown(page))
     else:
-        write(PAGE, text)
-    print("\n".join(page.wrong), end="\n" if page.wrong else "")
-    return 1 if page.wrong else 0
+        sys.exit("usage: tools/theorem.py [--check | --html FILE]")
+    print("\n".join(wrong), end="\n" if wrong else "")
+    return 1 if wrong else 0
+
+
+def read(path):
+    with open(path, encoding="utf-8") as it:
+        return it.read()
 
 
 def write(path, text):
