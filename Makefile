@@ -125,6 +125,11 @@ proved-only:
 	@echo "make dist: packages are made of what is proved alone" >&2
 	@exit 2
 
+## make theorem: writes docs/THEOREM.md, and build/THEOREM.html with links from names to their definitions
+theorem:
+	tools/theorem.py
+	tools/theorem.py --html build/THEOREM.html
+
 ## make bench: measures; WORK=WORD measures one work, and bench/README.md names them
 bench:
 	bench/run $(WORK)
@@ -138,4 +143,4 @@ include targets.mk
 # Of these, what a failed proof leaves is whole, and of the sources that are noted beside it.
 .PRECIOUS: build/dimacs build/dimacs_c.a build/dimacs_c.bc %/dimacs.o %/libdimacs.a %/libdimacs.so.0 \
     %/libdimacs.so
-.PHONY: all help quick check prove prove-all proved-by-ci install uninstall linked dist proved-only bench clean FORCE
+.PHONY: all help quick check prove prove-all proved-by-ci install uninstall linked dist proved-only theorem bench clean FORCE

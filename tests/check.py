@@ -37,6 +37,7 @@ SCRIPTS = {
     "abi": ["{build}"],
     "install": ["{build}"],
     "promises": [],
+    "theorem": [],
     "man_pages": [],
     "completion": [],
     "lower_addresses": [],
