@@ -72,9 +72,10 @@ def of_library(file, wanted):
 def of_python(file, wanted):
     """Yields what the package for Python names: a version as PEP 440 spells it."""
     environment = {**os.environ, "DIMACS_LIBRARY": os.path.abspath(file), "PYTHONPATH": f"{TOP}/lib/python"}
-    words = [sys.executable, "-B", "-c", "import dimacs; print(dimacs.__version__)"]
+    words = [sys.executable, "-B", "-c", "import dimacs; print(dimacs.__version__, dimacs.proved)"]
     ran = subprocess.run(words, capture_output=True, text=True, check=False, env=environment)
-    yield "dimacs.__version__", ran.stdout.strip().partition("+")[0], wanted.replace("-dev", ".dev0")
+    version = wanted.replace("-dev", ".dev0") + ("" if is_proved(file) else "+unproved")
+    yield "dimacs.__version__, dimacs.proved", ran.stdout.strip(), f"{version} {is_proved(file)}"
 
 
 def of_files(wanted):
