@@ -116,9 +116,13 @@ build/man: tools/man_pages.py VERSION crates/dimacs/src/usage.rt $(wildcard man/
 	tools/man_pages.py $@.new
 	mv $@.new $@
 
-## make dist: makes packages of what is proved in dist/, and tests them
+## make dist: makes packages of what is proved in dist/, and tests them; MAINTAINER="Name <address>" is their contact
 dist: $(if $(UNPROVED),proved-only,all) $(MAN)
 	tools/dist.py
+	tests/packages.py dist
+
+## make check-packages: tests the packages in dist/ in an empty Debian, and has lintian read them, which takes some minutes
+check-packages:
 	tests/packages.py dist --root
 
 proved-only:
@@ -143,4 +147,5 @@ include targets.mk
 # Of these, what a failed proof leaves is whole, and of the sources that are noted beside it.
 .PRECIOUS: build/dimacs build/dimacs_c.a build/dimacs_c.bc %/dimacs.o %/libdimacs.a %/libdimacs.so.0 \
     %/libdimacs.so
-.PHONY: all help quick check prove prove-all proved-by-ci install uninstall linked dist proved-only theorem bench clean FORCE
+.PHONY: all help quick check prove prove-all proved-by-ci install uninstall linked dist check-packages proved-only \
+    theorem bench clean FORCE

@@ -2,15 +2,18 @@
 """Tests the packages without the kit on the path: tests/packages.py DIST [--root]
 
 DIST is the folder that `make dist` makes. With --root they are installed in an empty Debian, made for it, which takes some
-minutes: by `dpkg -i`, and by pip in a new environment beside numpy. Without it, or if debootstrap isn't there or root
-doesn't run this, they are unpacked into an empty folder. Then the program is asked for a verdict, and so is the library: by a program in C that
-is built by pkg-config, by one that is built by CMake, and from Python. The man pages are shown and words are completed.
+minutes: over version 0.1.0 by `dpkg -i`, and by pip in a new environment beside numpy; lintian reads them before, and at
+last they are removed. Without it, or if debootstrap isn't there or root doesn't run this, they are made a second time and
+compared, and unpacked into an empty folder. Then the program is asked for a verdict, and so is the library: by a program
+in C that is built by pkg-config, by one that is built by CMake, and from Python. The man pages are shown and words are
+completed.
 
 What needs a tool that isn't there is left out, and named. The last line counts what passed and what failed.
 """
 import argparse
 import glob
 import hashlib
+import json
 import os
 import re
 import shutil
@@ -21,7 +24,20 @@ import tempfile
 TOP = os.path.dirname(os.path.dirname(os.path.abspath(__file__)))
 
 # What the empty Debian has beside its base.
-TOOLS = "python3,python3-venv,python3-numpy,gcc,libc6-dev,cmake,make,pkg-config,man-db,bash-completion"
+TOOLS = "python3,python3-venv,python3-numpy,gcc,libc6-dev,cmake,make,pkg-config,man-db,bash-completion,lintian"
+
+# The packages for Debian, in an order in which they can be installed, and the folder of their libraries.
+DEBIAN = ["libdimacs0", "libdimacs-dev", "python3-dimacs", "dimacs"]
+LIBRARIES = "lib/x86_64-linux-gnu"
+
+# The package of version 0.1.0: one with all files, of which these are some.
+OLD = {"usr/bin/dimacs": "", "usr/include/dimacs.h": "", "usr/lib/libdimacs.so.0.1.0": ""}
+OLD["DEBIAN/control"] = """Package: dimacs
+Version: 0.1.0
+Architecture: amd64
+Maintainer: nobody <nobody@example.invalid>
+Description: stand-in
+"""
 
 MAX = "p max 3 3\nn 1 s\nn 3 t\na 1 2 4\na 2 3 2\na 1 3 1\n"
 FLOW = "s 3\nf 1 2 2\nf 1 3 1\nf 2 3 2\n"
@@ -76,8 +92,9 @@ class Packages:
         self.passed = self.failed = 0
         self.usr = f"{place}/root/usr"
         self.version = open(f"{TOP}/VERSION", encoding="ascii").read().strip()
-        paths = {"PKG_CONFIG_PATH": f"{self.usr}/lib/pkgconfig", "CMAKE_PREFIX_PATH": self.usr}
-        paths |= {"LD_LIBRARY_PATH": f"{self.usr}/lib", "PATH": f"{self.usr}/bin:/usr/bin:/bin"}
+        paths = {"PKG_CONFIG_PATH": f"{self.usr}/{LIBRARIES}/pkgconfig", "CMAKE_PREFIX_PATH": self.usr}
+        paths |= {"CMAKE_LIBRARY_ARCHITECTURE": "x86_64-linux-gnu", "PYTHONPATH": f"{self.usr}/lib/python3/dist-packages"}
+        paths |= {"LD_LIBRARY_PATH": f"{self.usr}/{LIBRARIES}", "PATH": f"{self.usr}/bin:/usr/bin:/bin"}
         self.environment = {"HOME": place, "LANG": "C.UTF-8", "MANPATH": f"{self.usr}/share/man"} | paths
 
     def run(self, *words, **more):
@@ -125,14 +142,102 @@ def test_sums(its):
                 its.expect(name, sums.get(name) == hashlib.sha256(it.read()).hexdigest())
 
 
+def test_again(its):
+    """Made a second time, by another user's settings, the packages are the same to the byte."""
+    again = f"{its.place}/again"
+    os.mkdir(f"{its.place}/temporary")
+    settings = {"LC_ALL": "C", "TZ": "Asia/Tokyo", "TMPDIR": f"{its.place}/temporary"}
+    words = [f"{TOP}/tools/dist.py", again]
+    environment = {**os.environ, **settings}
+    ran = subprocess.run(words, cwd="/", env=environment, umask=0o077, capture_output=True, text=True, check=False)
+    its.message = ran.stdout + ran.stderr
+    its.expect("making them again", ran.returncode == 0)
+    for name in sorted(os.listdir(its.dist)):
+        with open(f"{its.dist}/{name}", "rb") as it:
+            first = it.read()
+        its.message = f"{name} differs, or wasn't made"
+        is_there = os.path.exists(f"{again}/{name}")
+        its.expect(f"{name} made again", is_there and first == open(f"{again}/{name}", "rb").read())
+
+
+def test_list(its):
+    """The list of what the packages are made of has each of them, and the kit."""
+    listed = its.only("*.spdx.json")
+    its.expect("one list in the form of SPDX", listed is not None)
+    with open(listed, encoding="utf-8") as it:
+        packages = {package["name"]: package for package in json.load(it)["packages"]}
+    with open(f"{its.dist}/SHA256SUMS", encoding="ascii") as it:
+        sums = dict(reversed(line.split()) for line in it)
+    for name in sums.keys() - {os.path.basename(listed)}:
+        found = packages.get(name, {}).get("checksums")
+        its.message = f"{name}: {found}"
+        its.expect(f"{name} is listed", found == [{"algorithm": "SHA256", "checksumValue": sums[name]}])
+    logic = re.search("logic [0-9a-f]{16}$", packages["rattle-kit"]["comment"])
+    its.expect("the kit's logic is listed", logic is not None)
+
+
+def test_recipes(its):
+    """The recipes for other systems name the tarball by its sum, and that of Arch, whose script is bash, installs it."""
+    packed, tarball = its.only("*-packaging.tar.gz"), its.only("*-x86_64-linux.tar.gz")
+    its.expect("recipes", its.run("tar", "-xzf", packed) == "")
+    room = f"{its.place}/{os.path.basename(packed).removesuffix('.tar.gz')}"
+    with open(tarball, "rb") as it:
+        digest = hashlib.sha256(it.read()).hexdigest()
+    for name in ("arch/PKGBUILD", "conda/meta.yaml", "docker/Dockerfile", "homebrew/dimacs.rb", "nix/default.nix"):
+        with open(f"{room}/{name}", encoding="utf-8") as it:
+            its.message = it.read()
+        its.expect(f"the recipe {name}", digest in its.message and not re.search("@[A-Z0-9_]+@", its.message))
+    if its.has("the recipe for Arch", "bash"):
+        its.run("bash", "-ec", f'tar -xzf "{tarball}"; pkgdir="$PWD/arch"; . "{room}/arch/PKGBUILD"; package')
+        test_program(its, f"{its.place}/arch/usr/bin/dimacs")
+
+
 def test_debian(its, is_root):
-    """Installs or unpacks the package for Debian."""
-    package = its.only("*.deb")
-    its.expect("one package for Debian", package is not None)
-    if not package or not its.has("the package for Debian", "dpkg"):
+    """Installs or unpacks the packages for Debian."""
+    found = [its.only(f"{it}_*.deb") for it in DEBIAN]
+    its.expect("the packages for Debian", all(found))
+    if not all(found) or not its.has("the packages for Debian", "dpkg"):
         return
-    its.run("dpkg", "-i", package) if is_root else its.run("dpkg-deb", "-x", package, f"{its.place}/root")
-    its.expect("installing the package", os.path.exists(f"{its.usr}/bin/dimacs"))
+    if is_root:
+        test_upgrade(its, found)
+        return
+    for package in found:
+        its.run("dpkg-deb", "-x", package, f"{its.place}/root")
+    its.expect("unpacking the packages", os.path.exists(f"{its.usr}/bin/dimacs"))
+
+
+def test_upgrade(its, packages):
+    """Installs the packages over that of version 0.1.0, and once more over themselves."""
+    for name, text in OLD.items():
+        os.makedirs(os.path.dirname(f"{its.place}/old/{name}"), exist_ok=True)
+        put(f"{its.place}/old/{name}", text)
+    its.run("sh", "-c", "dpkg-deb -b old old.deb && dpkg -i old.deb")
+    its.expect("installing version 0.1.0", os.path.exists("/usr/lib/libdimacs.so.0.1.0"))
+    for how in ("installing over 0.1.0", "installing again"):
+        its.expect(how, its.run("dpkg", "-i", *packages).find("error") < 0)
+    its.expect("the old library is gone", not os.path.exists("/usr/lib/libdimacs.so.0.1.0"))
+    its.expect("the new one is found", "libdimacs.so.0" in its.run("ldconfig", "-p"))
+
+
+def test_removal(its):
+    """What was installed is gone after it was purged."""
+    its.run("dpkg", "--purge", *reversed(DEBIAN))
+    its.run("find", "/usr", "/var/lib/dpkg/info", "/etc", "-name", "*dimacs*")
+    its.expect("removal leaves nothing", its.message.endswith("status 0\n"))
+
+
+def test_lintian(its):
+    """Debian's own test of packages finds nothing that isn't explained."""
+    if its.has("lintian", "lintian"):
+        found = its.run("lintian", "--allow-root", *(its.only(f"{it}_*.deb") for it in DEBIAN))
+        its.expect("lintian", not found)
+
+
+def test_package_for_python(its):
+    """A verdict by the package for Python, as Debian's Python finds it."""
+    answer = f"{its.version.replace('-dev', '.dev0')} 3\n"
+    said = its.run("python3", "-B", "-c", IN_PYTHON.format(imports="", array="list"))
+    its.expect("the package for Python", said == answer)
 
 
 def test_program(its, program):
@@ -188,6 +293,7 @@ def test_wheel(its):
     """A verdict of lists, and one of arrays of numpy, after pip installed the wheel in a new environment."""
     wheel = its.only("*.whl")
     its.expect("one wheel", wheel is not None)
+    its.environment.pop("PYTHONPATH", None)
     made = its.run("python3", "-m", "venv", "--system-site-packages", "venv")
     if not wheel or "ensurepip is not available" in made:
         print("left out: the wheel: no python3-venv")
@@ -233,15 +339,21 @@ def test_all(dist, is_root):
         for name, text in (("instance", MAX), ("flow", FLOW), ("shown.c", IN_C)):
             put(f"{place}/{name}", text)
         test_sums(its)
+        test_list(its)
+        test_recipes(its)
+        test_lintian(its) if is_root else test_again(its)
         test_debian(its, is_root)
         test_program(its, f"{its.usr}/bin/dimacs")
         test_batch(its)
         test_tarball(its)
         test_pkg_config(its)
         test_cmake(its)
+        test_package_for_python(its)
         test_wheel(its)
         test_man(its)
         test_completion(its)
+        if is_root:
+            test_removal(its)
     print(f"{its.passed} passed, {its.failed} failed")
     return 1 if its.failed or not its.passed else 0
 

@@ -1,0 +1,57 @@
+"""Writes what the packages are made of, as SPDX 2.3 has it: tools/dist.py calls it."""
+import json
+import os
+import re
+import time
+
+TOP = os.path.dirname(os.path.dirname(os.path.abspath(__file__)))
+
+
+def kit():
+    """The version and the logic of the kit that proves and compiles the sources, by what these name."""
+    with open(f"{TOP}/crates/dimacs_runs/src/build.rt", encoding="utf-8") as it:
+        return re.search(r"\(proved by (\S+) logic ([0-9a-f]+)\)", it.read()).groups()
+
+
+def package(name, version, **more):
+    unknown = {"downloadLocation": "NOASSERTION", "licenseConcluded": "NOASSERTION", "licenseDeclared": "NOASSERTION"}
+    described = {"SPDXID": f"SPDXRef-{re.sub('[^A-Za-z0-9.-]', '-', name)}", "name": name, "versionInfo": version}
+    return {**described, "filesAnalyzed": False, "copyrightText": "NOASSERTION", **unknown, **more}
+
+
+def document(version, epoch, sums, licence):
+    """The document: the product, the kit that proved and compiled it, the C library that it calls, and each package."""
+    release, logic = kit()
+    digest = sums[0][1][:32] if sums else "0"
+    product = package("dimacs", version, licenseDeclared=licence)
+    used = package("rattle-kit", release, comment=f"Proves and compiles, and its C library is linked: logic {logic}")
+    system = package("glibc", "any that the packages name or later")
+    packed = [
+        package(name, version, packageFileName=name, checksums=[{"algorithm": "SHA256", "checksumValue": value}])
+        for name, value in sums
+    ]
+    relations = [("SPDXRef-DOCUMENT", "DESCRIBES", product), (used["SPDXID"], "BUILD_TOOL_OF", product)]
+    relations += [(product["SPDXID"], "STATIC_LINK", used), (product["SPDXID"], "DYNAMIC_LINK", system)]
+    relations += [(it["SPDXID"], "PACKAGE_OF", product) for it in packed]
+    return {
+        "spdxVersion": "SPDX-2.3",
+        "dataLicense": "CC0-1.0",
+        "SPDXID": "SPDXRef-DOCUMENT",
+        "name": f"dimacs-{version}",
+        "documentNamespace": f"https://spdx.org/spdxdocs/dimacs-{version}-{digest}",
+        "creationInfo": {
+            "created": time.strftime("%Y-%m-%dT%H:%M:%SZ", time.gmtime(epoch)),
+            "creators": ["Tool: make-dist"],
+        },
+        "packages": [product, used, system, *packed],
+        "relationships": [
+            {"spdxElementId": one, "relationshipType": how, "relatedSpdxElement": other["SPDXID"]}
+            for one, how, other in relations
+        ],
+    }
+
+
+def write(path, *described):
+    with open(path, "w", encoding="utf-8") as it:
+        json.dump(document(*described), it, indent=1)
+        it.write("\n")
