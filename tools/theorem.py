@@ -116,7 +116,10 @@ class Page:
         modules = {module_of(self.by_name[it]) for it in names if it in self.by_name}
         if len(modules) > 1:
             self.wrong.append(f"of several files: {' '.join(names)}")
-        self.add_code("\n\n".join([f"---- {' '.join(modules)}", *map(bare, blocks)]), "text", names)
+        text = f"---- {' '.join(modules)}"
+        for block in map(bare, blocks):
+            text += ("\n\n" if "\n" in block and "\n" in text else "\n") + block
+        self.add_code(text, "text", names)
 
     def check(self, name):
         it = self.by_name.get(name)
@@ -159,8 +162,34 @@ def module_of(it):
 
 
 def bare(block):
-    """A definition without the words that each has."""
-    return re.sub(r"^( *)(?:abbrev )?pub ", r"\1", "\n".join(block), flags=re.M)
+    """A definition without the words that each has, with the types of its arguments beside their names."""
+    comments = [it for it in block if it.startswith("--")]
+    lines = [re.sub(r"^( *)(?:abbrev )?pub ", r"\1", it) for it in block[len(comments) :]]
+    return "\n".join([*comments, *fused(lines)])
+
+
+def fused(lines):
+    """The lines of a definition, with its type and its equation in one, if it has one for all arguments."""
+    head = re.match(r"(\w+) : (.*)$", lines[0])
+    equation = re.match(r"(\w+)((?: \w+)*) =(.*)", lines[1]) if head and len(lines) > 1 else None
+    if not equation or any(not it.startswith((" ", "}")) for it in lines[2:]):
+        return lines
+    types, names = re.split(r" → (?![^()]*\))", head[2]), equation[2].split()
+    given = [it for it in types if it.startswith("{")]
+    taken, left = types[len(given) :][: len(names)], types[len(given) + len(names) :]
+    if not left or any(it.count("(") != it.count(")") for it in types):
+        return lines
+    groups = []
+    for name, its_type in zip(names, taken):
+        if groups and groups[-1][1] == its_type:
+            groups[-1][0].append(name)
+        else:
+            groups.append(([name], its_type))
+    told = [*given, *(f"({' '.join(names)} : {its_type})" for names, its_type in groups)]
+    start = f"{' '.join([head[1], *told])} : {' → '.join(left)} ="
+    if len(start + equation[3]) <= 120:
+        return [start + equation[3], *lines[2:]]
+    return [start, f"   {equation[3]}", *lines[2:]]
 
 
 def filled(item):
