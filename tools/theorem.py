@@ -18,6 +18,7 @@ in the text above it. With --check it writes nothing, and also ends with 1 if th
 """
 import functools
 import html
+import itertools
 import os
 import re
 import sys
@@ -67,7 +68,7 @@ class Page:
             item = re.search(rf"^pub (?:enum|struct) {name} .*?^\}}", source(path), re.M | re.S)
             self.types.add(name)
             code.append(shortened(item[0]))
-        self.add_code("\n".join(code), "rust")
+        self.add_code("\n".join(code), "rust", names)
 
     def define(self, *names):
         self.add_definitions(names, [self.defined.blocks[it] for it in map(self.place, names) if it])
@@ -110,16 +111,23 @@ class Page:
         """All that the contract and the definitions of the circle name."""
         return set().union(believed.named_by(*believed.CIRCLES[CIRCLE]), *(self.defined.rests_on[it] for it in self.circle))
 
+    def anchored(self):
+        """All names that have a place on the page of HTML."""
+        return {*self.shown, *self.types, *(it for it in self.kit if it.isidentifier() and it.isascii())}
+
+    def names_in(self, name):
+        """Those of them that a definition uses."""
+        below = self.defined.rests_on[self.by_name[name]]
+        types = {it[1] for it in map(DECLARED.search, (module for module, _ in below)) if it}
+        return {name, *types, *(it for _, it in below)} & self.anchored()
+
     def add_definitions(self, names, blocks):
         for name in names:
             self.check(name)
         modules = {module_of(self.by_name[it]) for it in names if it in self.by_name}
         if len(modules) > 1:
             self.wrong.append(f"of several files: {' '.join(names)}")
-        text = f"---- {' '.join(modules)}"
-        for block in map(bare, blocks):
-            text += ("\n\n" if "\n" in block and "\n" in text else "\n") + block
-        self.add_code(text, "text", names)
+        self.add_code(f"---- {' '.join(modules)}\n{spaced(map(bare, blocks))}", "text", names)
 
     def check(self, name):
         it = self.by_name.get(name)
@@ -163,9 +171,18 @@ def module_of(it):
 
 def bare(block):
     """A definition without the words that each has, with the types of its arguments beside their names."""
-    comments = [it for it in block if it.startswith("--")]
+    comments = list(itertools.takewhile(lambda it: it.startswith("--"), block))
     lines = [re.sub(r"^( *)(?:abbrev )?pub ", r"\1", it) for it in block[len(comments) :]]
     return "\n".join([*comments, *fused(lines)])
+
+
+def spaced(blocks):
+    """Definitions one after another: with a line between two, unless each has one line."""
+    text, before = "", ""
+    for block in blocks:
+        text += ("" if not before else "\n\n" if "\n" in before + block else "\n") + block
+        before = block
+    return text
 
 
 def fused(lines):
@@ -180,7 +197,7 @@ def fused(lines):
     if not left or any(it.count("(") != it.count(")") for it in types):
         return lines
     groups = []
-    for name, its_type in zip(names, taken):
+    for name, its_type in zip(names, (re.sub(r"^\(([^()]*)\)$", r"\1", it) for it in taken)):
         if groups and groups[-1][1] == its_type:
             groups[-1][0].append(name)
         else:
@@ -189,7 +206,7 @@ def fused(lines):
     start = f"{' '.join([head[1], *told])} : {' → '.join(left)} ="
     if len(start + equation[3]) <= 120:
         return [start + equation[3], *lines[2:]]
-    return [start, f"   {equation[3]}", *lines[2:]]
+    return [start, *([f"   {equation[3]}"] if equation[3] else []), *lines[2:]]
 
 
 def filled(item):
@@ -254,57 +271,69 @@ def markdown(page):
 
 
 def html_page(page):
-    anchors = {name: f"d{n}" for n, name in enumerate(page.shown)}
     body = []
     for kind, text, names in page.parts:
         if kind == "prose":
-            body += [html_block(*it, anchors) for it in man_pages.blocks(text)]
+            body += [html_block(page, *it) for it in man_pages.blocks(text)]
         else:
-            body.append(f"<pre>{linked(text, anchors, names)}</pre>")
+            body.append(f"<pre>{linked(page, text, names)}</pre>")
     head = f'<!DOCTYPE html>\n<html lang="en"><meta charset="utf-8"><title>The theorem</title>\n<style>{STYLE}</style>\n'
-    return head + "\n".join(body).replace("</ul>\n<ul>\n", "") + "\n</html>\n"
+    return head + "\n".join(body).replace("</ul>\n<ul>\n", "\n") + "\n</html>\n"
 
 
-def linked(text, anchors, names=()):
+def linked(page, text, names=()):
     """Code with links from names to their definitions. Of these names it has the definitions."""
-    here = set(names)
+    here, known, lines = set(names), page.anchored(), []
 
     def token(it):
         name, word = it[0], html.escape(it[0])
         if name in here:
             here.remove(name)
-            return f'<b id="{anchors[name]}">{word}</b>'
-        return f'<a href="#{anchors[name]}">{word}</a>' if name in anchors else word
+            return f'<b id="{anchor(name)}">{word}</b>'
+        is_field = it.start() and it.string[it.start() - 1] == "."
+        return f'<a href="#{anchor(name)}">{word}</a>' if name in known and not is_field else word
 
-    lines = text.split("\n")
-    return "\n".join(html.escape(it) if it.startswith("--") else believed.WORD.sub(token, it) for it in lines)
+    for line in text.split("\n"):
+        starts = re.match(r"(?:record |data )?(\w+)", line)
+        if starts and starts[1] in names and starts[1] in page.by_name:
+            known = page.names_in(starts[1])
+        lines.append(html.escape(line) if line.startswith("--") else believed.WORD.sub(token, line))
+    return "\n".join(lines)
 
 
-def html_block(kind, lines, anchors):
+def anchor(name):
+    return f"of-{html.escape(name)}"
+
+
+def html_block(page, kind, lines):
     if kind == "heading":
         marks, title = lines[0].split(" ", 1)
-        return f'<h{len(marks)} id="{man_pages.slug(title)}">{inline(title, anchors)}</h{len(marks)}>'
-    if kind == "code":
-        return f"<pre>{linked(chr(10).join(lines), anchors)}</pre>"
+        return f'<h{len(marks)} id="{man_pages.slug(title)}">{inline(page, title)}</h{len(marks)}>'
     if kind == "item":
-        return f"<ul>\n<li>{inline(' '.join(lines)[2:], anchors)}</ul>"
+        return f"<ul>\n<li>{inline(page, ' '.join(lines)[2:])}\n</ul>"
     if kind == "table":
-        rows = [[inline(it.strip(), anchors) for it in re.split(r"(?<!\\)\|", line.strip("|"))] for line in lines]
-        cells = "\n".join("<tr>" + "".join(f"<td>{it}" for it in row) for row in rows if row[0] != "---")
-        return f"<table>\n{cells}\n</table>"
-    return f"<p>{inline(' '.join(lines), anchors)}"
+        rows = [re.split(r" (?<!\\)\| ", line.strip("| ")) for line in lines if not line.startswith("|--")]
+        cells = ["<td>".join([first_cell(page, row[0]), *(inline(page, it) for it in row[1:])]) for row in rows]
+        return "<table>\n" + "\n".join(f"<tr><td>{it}" for it in cells) + "\n</table>"
+    return f"<p>{inline(page, ' '.join(lines))}"
 
 
-def inline(text, anchors):
-    """Text with its code, what is strong, and links; those to other pages lead to the names of files alone."""
+def first_cell(page, text):
+    """The first cell of a row. If it is a name of the kit alone, links to the name lead here."""
+    name = text.strip("`")
+    return f'<code id="{anchor(name)}">{name}</code>' if name in page.kit and text == f"`{name}`" else inline(page, text)
+
+
+def inline(page, text):
     parts = []
     for part in re.split(r"(`[^`]+`)", text.replace("\\|", "|")):
         if part.startswith("`"):
-            parts.append(f"<code>{linked(part[1:-1], anchors)}</code>")
+            parts.append(f"<code>{linked(page, part[1:-1])}</code>")
         else:
-            part = re.sub(r"\*\*([^*]+)\*\*", r"<strong>\1</strong>", html.escape(part))
-            parts.append(part)
-    return re.sub(r"\[([^\]]*)\]\(([^)]*)\)", r'<a href="\2">\1</a>', "".join(parts))
+            parts.append(re.sub(r"\*\*([^*]+)\*\*", r"<strong>\1</strong>", html.escape(part)))
+    # the page of HTML stands beside docs
+    text = re.sub(r"\]\((?=\w)", "](../docs/", "".join(parts))
+    return re.sub(r"\[([^\]]*)\]\(([^)]*)\)", r'<a href="\2">\1</a>', text)
 
 
 def unlike(text):
