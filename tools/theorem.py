@@ -6,11 +6,11 @@ own. tools/theorem.md has the text, with these lines between:
 
     @contract FILE FUNCTION     the declaration of a public function, without its body
     @trait FILE NAME            a trait of Rust
-    @declared FILE NAME         a type of Rust; a list of the names, if it has only variants without fields
+    @declared FILE NAME..       types of Rust of one file
     @define NAME..              definitions, one after another, of one file of specs
     @table NAME                 a definition that has a line for each reason, cut short: each gives the reason's own name
     @kit NAME : MEANING         a row of the table of what is cited of the kit
-    @adds CIRCLE CONTRACTS      what a wider contract cites beside that, by name
+    @adds command|library       the names of what wider contracts cite beside that
 
 tools/believed.py finds what the contract cites. The script ends with 1 if something cited is missing on the page, if
 something there isn't cited, stands twice or before what it uses, or if a definition has neither a comment nor its name
@@ -37,7 +37,7 @@ KIT = re.compile(r"Rattle\.(std|core)\.specs\.")
 DECLARED = re.compile(r"\.specs\.declared\..*?([A-Z]\w*)")
 
 STYLE = """body { max-width: 60em; margin: 2em auto; padding: 0 1em; font: 17px/1.5 serif; color: #111; background: #fff }
-pre, code { font: 14px/1.45 monospace } pre { overflow-x: auto; padding: .7em; background: #f5f5f2 }
+pre, code { font: 14px/1.45 monospace } pre { white-space: pre-wrap; padding: .7em; background: #f5f5f2 }
 pre a, code a { color: inherit; text-decoration: underline dotted #888 } :target { background: #fe9 }
 table { border-collapse: collapse } td, th { border: 1px solid #bbb; padding: .2em .5em; text-align: left }"""
 
@@ -48,9 +48,10 @@ class Page:
     def __init__(self, defined, circle, outer):
         self.defined, self.circle, self.outer = defined, circle, outer
         self.by_name = {name: (module, name) for module, name in circle}
-        self.shown, self.types, self.kit, self.wrong = {}, set(), {}, []
-        self.text = ""
-        self.parts = []
+        names = [name for _, name in circle]
+        self.wrong = [f"two of this name: {it}" for it in sorted(set(names)) if names.count(it) > 1]
+        self.shown, self.types, self.kit = set(), set(), {}
+        self.text, self.parts = "", []
 
     # ---- what each line of the frame asks for
 
@@ -133,7 +134,7 @@ class Page:
         it = self.by_name.get(name)
         if name in self.shown:
             self.wrong.append(f"twice: {name}")
-        self.shown[name] = True
+        self.shown.add(name)
         if not it:
             return
         for below in sorted(self.defined.rests_on[it] & set(self.circle)):
@@ -143,7 +144,6 @@ class Page:
             type_of = DECLARED.search(module)
             if type_of and type_of[1] not in self.types:
                 self.wrong.append(f"{name} stands before {type_of[1]}, which it uses")
-                self.types.add(type_of[1])
         if not self.defined.blocks[it][0].startswith("--") and f"`{name}" not in self.text:
             self.wrong.append(f"{name} has no sentence")
 
@@ -158,7 +158,9 @@ class Page:
         self.parts.append((kind, code, names))
 
     def end(self):
-        self.wrong += [f"missing: {it}" for it in sorted(self.by_name.keys() - self.shown.keys())]
+        types = {it[1] for it in map(DECLARED.search, (module for module, _ in self.named())) if it}
+        self.wrong += [f"missing: {it}" for it in sorted(types - self.types | self.by_name.keys() - self.shown)]
+        self.wrong += [f"not cited: {it}" for it in sorted(self.types - types)]
 
 
 def source(path):
