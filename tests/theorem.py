@@ -20,6 +20,8 @@ SPOILED = [
     ("@define sum_nodes", "@define sum_nodes IsWalk", "of several files: sum_nodes IsWalk"),
     ("`Unreachable` says", "This says", "Unreachable has no sentence"),
     ("@declared dimacs_network/src/network.rt ArcView", "", "MaxValue stands before ArcView, which it uses"),
+    ("JudgeKind\n", "CertifyKind\n", "missing: JudgeKind"),
+    ("JudgeKind\n", "CertifyKind\n", "not cited: CertifyKind"),
     ("@kit AllZip :", "@kit OneZip :", "missing in the table of the kit: AllZip"),
     ("@kit AllZip :", "@kit OneZip :", "not cited of the kit: OneZip"),
 ]

@@ -6,11 +6,11 @@ own. tools/theorem.md has the text, with these lines between:
 
     @contract FILE FUNCTION     the declaration of a public function, without its body
     @trait FILE NAME            a trait of Rust
-    @declared FILE NAME         a type of Rust; a list of the names, if it has only variants without fields
+    @declared FILE NAME..       types of Rust of one file
     @define NAME..              definitions, one after another, of one file of specs
     @table NAME                 a definition that has a line for each reason, cut short: each gives the reason's own name
     @kit NAME : MEANING         a row of the table of what is cited of the kit
-    @adds CIRCLE CONTRACTS      what a wider contract cites beside that, by name
+    @adds command|library       the names of what wider contracts cite beside that
 
 tools/believed.py finds what the contract cites. The script ends with 1 if something cited is missing on the page, if
 something there isn't cited, stands twice or before what it uses, or if a definition has neither a comment nor its name
@@ -18,6 +18,7 @@ in the text above it. With --check it writes nothing, and also ends with 1 if th
 """
 import functools
 import html
+import itertools
 import os
 import re
 import sys
@@ -36,7 +37,7 @@ KIT = re.compile(r"Rattle\.(std|core)\.specs\.")
 DECLARED = re.compile(r"\.specs\.declared\..*?([A-Z]\w*)")
 
 STYLE = """body { max-width: 60em; margin: 2em auto; padding: 0 1em; font: 17px/1.5 serif; color: #111; background: #fff }
-pre, code { font: 14px/1.45 monospace } pre { overflow-x: auto; padding: .7em; background: #f5f5f2 }
+pre, code { font: 14px/1.45 monospace } pre { white-space: pre-wrap; padding: .7em; background: #f5f5f2 }
 pre a, code a { color: inherit; text-decoration: underline dotted #888 } :target { background: #fe9 }
 table { border-collapse: collapse } td, th { border: 1px solid #bbb; padding: .2em .5em; text-align: left }"""
 
@@ -47,9 +48,10 @@ class Page:
     def __init__(self, defined, circle, outer):
         self.defined, self.circle, self.outer = defined, circle, outer
         self.by_name = {name: (module, name) for module, name in circle}
-        self.shown, self.types, self.kit, self.wrong = {}, set(), {}, []
-        self.text = ""
-        self.parts = []
+        names = [name for _, name in circle]
+        self.wrong = [f"two of this name: {it}" for it in sorted(set(names)) if names.count(it) > 1]
+        self.shown, self.types, self.kit = set(), set(), {}
+        self.text, self.parts = "", []
 
     # ---- what each line of the frame asks for
 
@@ -67,7 +69,7 @@ class Page:
             item = re.search(rf"^pub (?:enum|struct) {name} .*?^\}}", source(path), re.M | re.S)
             self.types.add(name)
             code.append(shortened(item[0]))
-        self.add_code("\n".join(code), "rust")
+        self.add_code("\n".join(code), "rust", names)
 
     def define(self, *names):
         self.add_definitions(names, [self.defined.blocks[it] for it in map(self.place, names) if it])
@@ -110,19 +112,29 @@ class Page:
         """All that the contract and the definitions of the circle name."""
         return set().union(believed.named_by(*believed.CIRCLES[CIRCLE]), *(self.defined.rests_on[it] for it in self.circle))
 
+    def anchored(self):
+        """All names that have a place on the page of HTML."""
+        return {*self.shown, *self.types, *(it for it in self.kit if it.isidentifier() and it.isascii())}
+
+    def names_in(self, name):
+        """Those of them that a definition uses."""
+        below = self.defined.rests_on[self.by_name[name]]
+        types = {it[1] for it in map(DECLARED.search, (module for module, _ in below)) if it}
+        return {name, *types, *(it for _, it in below)} & self.anchored()
+
     def add_definitions(self, names, blocks):
         for name in names:
             self.check(name)
         modules = {module_of(self.by_name[it]) for it in names if it in self.by_name}
         if len(modules) > 1:
             self.wrong.append(f"of several files: {' '.join(names)}")
-        self.add_code("\n\n".join([f"---- {' '.join(modules)}", *map(bare, blocks)]), "text", names)
+        self.add_code(f"---- {' '.join(modules)}\n{spaced(map(bare, blocks))}", "text", names)
 
     def check(self, name):
         it = self.by_name.get(name)
         if name in self.shown:
             self.wrong.append(f"twice: {name}")
-        self.shown[name] = True
+        self.shown.add(name)
         if not it:
             return
         for below in sorted(self.defined.rests_on[it] & set(self.circle)):
@@ -132,7 +144,6 @@ class Page:
             type_of = DECLARED.search(module)
             if type_of and type_of[1] not in self.types:
                 self.wrong.append(f"{name} stands before {type_of[1]}, which it uses")
-                self.types.add(type_of[1])
         if not self.defined.blocks[it][0].startswith("--") and f"`{name}" not in self.text:
             self.wrong.append(f"{name} has no sentence")
 
@@ -147,7 +158,9 @@ class Page:
         self.parts.append((kind, code, names))
 
     def end(self):
-        self.wrong += [f"missing: {it}" for it in sorted(self.by_name.keys() - self.shown.keys())]
+        types = {it[1] for it in map(DECLARED.search, (module for module, _ in self.named())) if it}
+        self.wrong += [f"missing: {it}" for it in sorted(types - self.types | self.by_name.keys() - self.shown)]
+        self.wrong += [f"not cited: {it}" for it in sorted(self.types - types)]
 
 
 def source(path):
@@ -159,8 +172,43 @@ def module_of(it):
 
 
 def bare(block):
-    """A definition without the words that each has."""
-    return re.sub(r"^( *)(?:abbrev )?pub ", r"\1", "\n".join(block), flags=re.M)
+    """A definition without the words that each has, with the types of its arguments beside their names."""
+    comments = list(itertools.takewhile(lambda it: it.startswith("--"), block))
+    lines = [re.sub(r"^( *)(?:abbrev )?pub ", r"\1", it) for it in block[len(comments) :]]
+    return "\n".join([*comments, *fused(lines)])
+
+
+def spaced(blocks):
+    """Definitions one after another: with a line between two, unless each has one line."""
+    text, before = "", ""
+    for block in blocks:
+        text += ("" if not before else "\n\n" if "\n" in before + block else "\n") + block
+        before = block
+    return text
+
+
+def fused(lines):
+    """The lines of a definition, with its type and its equation in one, if it has one for all arguments."""
+    head = re.match(r"(\w+) : (.*)$", lines[0])
+    equation = re.match(r"(\w+)((?: \w+)*) =(.*)", lines[1]) if head and len(lines) > 1 else None
+    if not equation or any(not it.startswith((" ", "}")) for it in lines[2:]):
+        return lines
+    types, names = re.split(r" → (?![^()]*\))", head[2]), equation[2].split()
+    given = [it for it in types if it.startswith("{")]
+    taken, left = types[len(given) :][: len(names)], types[len(given) + len(names) :]
+    if not left or any(it.count("(") != it.count(")") for it in types):
+        return lines
+    groups = []
+    for name, its_type in zip(names, (re.sub(r"^\(([^()]*)\)$", r"\1", it) for it in taken)):
+        if groups and groups[-1][1] == its_type:
+            groups[-1][0].append(name)
+        else:
+            groups.append(([name], its_type))
+    told = [*given, *(f"({' '.join(names)} : {its_type})" for names, its_type in groups)]
+    start = f"{' '.join([head[1], *told])} : {' → '.join(left)} ="
+    if len(start + equation[3]) <= 120:
+        return [start + equation[3], *lines[2:]]
+    return [start, *([f"   {equation[3]}"] if equation[3] else []), *lines[2:]]
 
 
 def filled(item):
@@ -225,57 +273,69 @@ def markdown(page):
 
 
 def html_page(page):
-    anchors = {name: f"d{n}" for n, name in enumerate(page.shown)}
     body = []
     for kind, text, names in page.parts:
         if kind == "prose":
-            body += [html_block(*it, anchors) for it in man_pages.blocks(text)]
+            body += [html_block(page, *it) for it in man_pages.blocks(text)]
         else:
-            body.append(f"<pre>{linked(text, anchors, names)}</pre>")
+            body.append(f"<pre>{linked(page, text, names)}</pre>")
     head = f'<!DOCTYPE html>\n<html lang="en"><meta charset="utf-8"><title>The theorem</title>\n<style>{STYLE}</style>\n'
-    return head + "\n".join(body).replace("</ul>\n<ul>\n", "") + "\n</html>\n"
+    return head + "\n".join(body).replace("</ul>\n<ul>\n", "\n") + "\n</html>\n"
 
 
-def linked(text, anchors, names=()):
+def linked(page, text, names=()):
     """Code with links from names to their definitions. Of these names it has the definitions."""
-    here = set(names)
+    here, known, lines = set(names), page.anchored(), []
 
     def token(it):
         name, word = it[0], html.escape(it[0])
         if name in here:
             here.remove(name)
-            return f'<b id="{anchors[name]}">{word}</b>'
-        return f'<a href="#{anchors[name]}">{word}</a>' if name in anchors else word
+            return f'<b id="{anchor(name)}">{word}</b>'
+        is_field = it.start() and it.string[it.start() - 1] == "."
+        return f'<a href="#{anchor(name)}">{word}</a>' if name in known and not is_field else word
 
-    lines = text.split("\n")
-    return "\n".join(html.escape(it) if it.startswith("--") else believed.WORD.sub(token, it) for it in lines)
+    for line in text.split("\n"):
+        starts = re.match(r"(?:record |data )?(\w+)", line)
+        if starts and starts[1] in names and starts[1] in page.by_name:
+            known = page.names_in(starts[1])
+        lines.append(html.escape(line) if line.startswith("--") else believed.WORD.sub(token, line))
+    return "\n".join(lines)
 
 
-def html_block(kind, lines, anchors):
+def anchor(name):
+    return f"of-{html.escape(name)}"
+
+
+def html_block(page, kind, lines):
     if kind == "heading":
         marks, title = lines[0].split(" ", 1)
-        return f'<h{len(marks)} id="{man_pages.slug(title)}">{inline(title, anchors)}</h{len(marks)}>'
-    if kind == "code":
-        return f"<pre>{linked(chr(10).join(lines), anchors)}</pre>"
+        return f'<h{len(marks)} id="{man_pages.slug(title)}">{inline(page, title)}</h{len(marks)}>'
     if kind == "item":
-        return f"<ul>\n<li>{inline(' '.join(lines)[2:], anchors)}</ul>"
+        return f"<ul>\n<li>{inline(page, ' '.join(lines)[2:])}\n</ul>"
     if kind == "table":
-        rows = [[inline(it.strip(), anchors) for it in re.split(r"(?<!\\)\|", line.strip("|"))] for line in lines]
-        cells = "\n".join("<tr>" + "".join(f"<td>{it}" for it in row) for row in rows if row[0] != "---")
-        return f"<table>\n{cells}\n</table>"
-    return f"<p>{inline(' '.join(lines), anchors)}"
+        rows = [re.split(r" (?<!\\)\| ", line.strip("| ")) for line in lines if not line.startswith("|--")]
+        cells = ["<td>".join([first_cell(page, row[0]), *(inline(page, it) for it in row[1:])]) for row in rows]
+        return "<table>\n" + "\n".join(f"<tr><td>{it}" for it in cells) + "\n</table>"
+    return f"<p>{inline(page, ' '.join(lines))}"
 
 
-def inline(text, anchors):
-    """Text with its code, what is strong, and links; those to other pages lead to the names of files alone."""
+def first_cell(page, text):
+    """The first cell of a row. If it is a name of the kit alone, links to the name lead here."""
+    name = text.strip("`")
+    return f'<code id="{anchor(name)}">{name}</code>' if name in page.kit and text == f"`{name}`" else inline(page, text)
+
+
+def inline(page, text):
     parts = []
     for part in re.split(r"(`[^`]+`)", text.replace("\\|", "|")):
         if part.startswith("`"):
-            parts.append(f"<code>{linked(part[1:-1], anchors)}</code>")
+            parts.append(f"<code>{linked(page, part[1:-1])}</code>")
         else:
-            part = re.sub(r"\*\*([^*]+)\*\*", r"<strong>\1</strong>", html.escape(part))
-            parts.append(part)
-    return re.sub(r"\[([^\]]*)\]\(([^)]*)\)", r'<a href="\2">\1</a>', "".join(parts))
+            parts.append(re.sub(r"\*\*([^*]+)\*\*", r"<strong>\1</strong>", html.escape(part)))
+    # the page of HTML stands beside docs
+    text = re.sub(r"\]\((?=\w)", "](../docs/", "".join(parts))
+    return re.sub(r"\[([^\]]*)\]\(([^)]*)\)", r'<a href="\2">\1</a>', text)
 
 
 def unlike(text):
