@@ -113,14 +113,17 @@ class Page:
         return set().union(believed.named_by(*believed.CIRCLES[CIRCLE]), *(self.defined.rests_on[it] for it in self.circle))
 
     def anchored(self):
-        """All names that have a place on the page of HTML."""
-        return {*self.shown, *self.types, *(it for it in self.kit if it.isidentifier() and it.isascii())}
+        """All names that have a place on the page of HTML, each with the name at that place: its own."""
+        kit = (it for it in self.kit if it.isidentifier() and it.isascii())
+        return {it: it for it in (*self.shown, *self.types, *kit)}
 
     def names_in(self, name):
-        """Those of them that a definition uses."""
-        below = self.defined.rests_on[self.by_name[name]]
-        types = {it[1] for it in map(DECLARED.search, (module for module, _ in below)) if it}
-        return {name, *types, *(it for _, it in below)} & self.anchored()
+        """Those of them that a definition uses. A variant has the place of its type."""
+        places = {name: name}
+        for module, it in self.defined.rests_on[self.by_name[name]]:
+            type_of = DECLARED.search(module)
+            places[it] = type_of[1] if type_of else it
+        return {it: place for it, place in places.items() if place in self.anchored()}
 
     def add_definitions(self, names, blocks):
         for name in names:
@@ -289,17 +292,18 @@ def linked(page, text, names=()):
 
     def token(it):
         name, word = it[0], html.escape(it[0])
-        if name in here:
+        if starts and name == starts[1] and name in here:
             here.remove(name)
             return f'<b id="{anchor(name)}">{word}</b>'
-        is_field = it.start() and it.string[it.start() - 1] == "."
-        return f'<a href="#{anchor(name)}">{word}</a>' if name in known and not is_field else word
+        is_field = it.string[: it.start()].endswith(".") or it.string[it.end() :].startswith(":")
+        return f'<a href="#{anchor(known[name])}">{word}</a>' if name in known and not is_field else word
 
     for line in text.split("\n"):
-        starts = re.match(r"(?:record |data )?(\w+)", line)
+        starts = re.match(r"(?:record |data |pub enum |pub struct )?(\w+)", line)
         if starts and starts[1] in names and starts[1] in page.by_name:
             known = page.names_in(starts[1])
-        lines.append(html.escape(line) if line.startswith("--") else believed.WORD.sub(token, line))
+        code, comment = re.match(r"(.*?)(\s*//.*|--.*|)$", line).groups()
+        lines.append(believed.WORD.sub(token, code) + html.escape(comment))
     return "\n".join(lines)
 
 
