@@ -56,19 +56,14 @@ class Page:
     # ---- what each line of the frame asks for
 
     def contract(self, path, name):
-        item = re.search(rf"^ *pub fn {name}\b.*?(?=^ *\{{$)", source(path), re.M | re.S)
-        self.add_code(textwrap.dedent(item[0]).rstrip(), "rust")
+        self.add_code(textwrap.dedent(item_of(path, "fn", name, r"(?=^ *\{$)")).rstrip(), "rust")
 
     def trait(self, path, name):
-        item = re.search(rf"^pub trait {name} .*?^\}}", source(path), re.M | re.S)
-        self.add_code(item[0], "rust")
+        self.add_code(item_of(path, "trait", name), "rust")
 
     def declared(self, path, *names):
-        code = []
-        for name in names:
-            item = re.search(rf"^pub (?:enum|struct) {name} .*?^\}}", source(path), re.M | re.S)
-            self.types.add(name)
-            code.append(shortened(item[0]))
+        self.types.update(names)
+        code = [shortened(item_of(path, "(?:enum|struct)", name)) for name in names]
         self.add_code("\n".join(code), "rust", names)
 
     def define(self, *names):
@@ -166,8 +161,13 @@ class Page:
         self.wrong += [f"not cited: {it}" for it in sorted(self.types - types)]
 
 
-def source(path):
-    return read(f"{ROOT}/crates/{path}")
+ASKED = {f"@{it.__name__}": it for it in (Page.contract, Page.trait, Page.declared, Page.define, Page.table, Page.adds)}
+
+
+def item_of(path, kind, name, end=r"^\}"):
+    """An item of a file of code, from its head to its end."""
+    found = re.search(rf"^ *pub {kind} {name}\b.*?{end}", read(f"{ROOT}/crates/{path}"), re.M | re.S)
+    return found[0] if found else sys.exit(f"crates/{path} has no {name}")
 
 
 def module_of(it):
@@ -261,8 +261,10 @@ def follow(page, paragraph):
         asked, *words = line.split()
         if asked == "@kit":
             page.kit[words[0]] = line.split(" : ", 1)[1]
+        elif asked in ASKED:
+            ASKED[asked](page, *words)
         else:
-            getattr(page, asked[1:])(*words)
+            sys.exit(f"{FRAME}: what is {asked}?")
     if paragraph.startswith("@kit"):
         page.kit_table()
 
