@@ -37,7 +37,8 @@ KIT = re.compile(r"Rattle\.(std|core)\.specs\.")
 DECLARED = re.compile(r"\.specs\.declared\..*?([A-Z]\w*)")
 
 STYLE = """body { max-width: 60em; margin: 2em auto; padding: 0 1em; font: 17px/1.5 serif; color: #111; background: #fff }
-pre, code { font: 14px/1.45 monospace } pre { white-space: pre-wrap; padding: .7em; background: #f5f5f2 }
+pre, code { font: 14px/1.45 monospace } pre { white-space: pre-wrap;
+padding: .7em; background: #f5f5f2 }
 pre a, code a { color: inherit; text-decoration: underline dotted #888 } :target { background: #fe9 }
 table { border-collapse: collapse } td, th { border: 1px solid #bbb; padding: .2em .5em; text-align: left }"""
 
@@ -105,7 +106,8 @@ class Page:
 
     def named(self):
         """All that the contract and the definitions of the circle name."""
-        return set().union(believed.named_by(*believed.CIRCLES[CIRCLE]), *(self.defined.rests_on[it] for it in self.circle))
+        by_definitions = (self.defined.rests_on[it] for it in self.circle)
+        return set().union(believed.named_by(*believed.CIRCLES[CIRCLE]), *by_definitions)
 
     def anchored(self):
         """All names that have a place on the page of HTML, each with the name at that place: its own."""
@@ -284,7 +286,8 @@ def html_page(page):
             body += [html_block(page, *it) for it in man_pages.blocks(text)]
         else:
             body.append(f"<pre>{linked(page, text, names)}</pre>")
-    head = f'<!DOCTYPE html>\n<html lang="en"><meta charset="utf-8"><title>The theorem</title>\n<style>{STYLE}</style>\n'
+    title = '<!DOCTYPE html>\n<html lang="en"><meta charset="utf-8"><title>The theorem</title>'
+    head = f"{title}\n<style>{STYLE}</style>\n"
     return head + "\n".join(body).replace("</ul>\n<ul>\n", "\n") + "\n</html>\n"
 
 
