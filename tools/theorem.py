@@ -36,9 +36,9 @@ CIRCLE = "judge"
 KIT = re.compile(r"Rattle\.(std|core)\.specs\.")
 DECLARED = re.compile(r"\.specs\.declared\..*?([A-Z]\w*)")
 
-STYLE = """body { max-width: 60em; margin: 2em auto; padding: 0 1em; font: 17px/1.5 serif; color: #111; background: #fff }
-pre, code { font: 14px/1.45 monospace } pre { white-space: pre-wrap;
-padding: .7em; background: #f5f5f2 }
+STYLE = """
+body { max-width: 60em; margin: 2em auto; padding: 0 1em; font: 17px/1.5 serif; color: #111; background: #fff }
+pre, code { font: 14px/1.45 monospace } pre { white-space: pre-wrap; padding: .7em; background: #f5f5f2 }
 pre a, code a { color: inherit; text-decoration: underline dotted #888 } :target { background: #fe9 }
 table { border-collapse: collapse } td, th { border: 1px solid #bbb; padding: .2em .5em; text-align: left }"""
 
