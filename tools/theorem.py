@@ -36,7 +36,8 @@ CIRCLE = "judge"
 KIT = re.compile(r"Rattle\.(std|core)\.specs\.")
 DECLARED = re.compile(r"\.specs\.declared\..*?([A-Z]\w*)")
 
-STYLE = """body { max-width: 60em; margin: 2em auto; padding: 0 1em; font: 17px/1.5 serif; color: #111; background: #fff }
+STYLE = """
+body { max-width: 60em; margin: 2em auto; padding: 0 1em; font: 17px/1.5 serif; color: #111; background: #fff }
 pre, code { font: 14px/1.45 monospace } pre { white-space: pre-wrap; padding: .7em; background: #f5f5f2 }
 pre a, code a { color: inherit; text-decoration: underline dotted #888 } :target { background: #fe9 }
 table { border-collapse: collapse } td, th { border: 1px solid #bbb; padding: .2em .5em; text-align: left }"""
@@ -56,19 +57,14 @@ class Page:
     # ---- what each line of the frame asks for
 
     def contract(self, path, name):
-        item = re.search(rf"^ *pub fn {name}\b.*?(?=^ *\{{$)", source(path), re.M | re.S)
-        self.add_code(textwrap.dedent(item[0]).rstrip(), "rust")
+        self.add_code(textwrap.dedent(item_of(path, "fn", name, r"(?=^ *\{$)")).rstrip(), "rust")
 
     def trait(self, path, name):
-        item = re.search(rf"^pub trait {name} .*?^\}}", source(path), re.M | re.S)
-        self.add_code(item[0], "rust")
+        self.add_code(item_of(path, "trait", name), "rust")
 
     def declared(self, path, *names):
-        code = []
-        for name in names:
-            item = re.search(rf"^pub (?:enum|struct) {name} .*?^\}}", source(path), re.M | re.S)
-            self.types.add(name)
-            code.append(shortened(item[0]))
+        self.types.update(names)
+        code = [shortened(item_of(path, "(?:enum|struct)", name)) for name in names]
         self.add_code("\n".join(code), "rust", names)
 
     def define(self, *names):
@@ -110,17 +106,21 @@ class Page:
 
     def named(self):
         """All that the contract and the definitions of the circle name."""
-        return set().union(believed.named_by(*believed.CIRCLES[CIRCLE]), *(self.defined.rests_on[it] for it in self.circle))
+        by_definitions = (self.defined.rests_on[it] for it in self.circle)
+        return set().union(believed.named_by(*believed.CIRCLES[CIRCLE]), *by_definitions)
 
     def anchored(self):
-        """All names that have a place on the page of HTML."""
-        return {*self.shown, *self.types, *(it for it in self.kit if it.isidentifier() and it.isascii())}
+        """All names that have a place on the page of HTML, each with the name at that place: its own."""
+        kit = (it for it in self.kit if it.isidentifier() and it.isascii())
+        return {it: it for it in (*self.shown, *self.types, *kit)}
 
     def names_in(self, name):
-        """Those of them that a definition uses."""
-        below = self.defined.rests_on[self.by_name[name]]
-        types = {it[1] for it in map(DECLARED.search, (module for module, _ in below)) if it}
-        return {name, *types, *(it for _, it in below)} & self.anchored()
+        """Those of them that a definition uses. A variant has the place of its type."""
+        places = {name: name}
+        for module, it in self.defined.rests_on[self.by_name[name]]:
+            type_of = DECLARED.search(module)
+            places[it] = type_of[1] if type_of else it
+        return {it: place for it, place in places.items() if place in self.anchored()}
 
     def add_definitions(self, names, blocks):
         for name in names:
@@ -163,8 +163,13 @@ class Page:
         self.wrong += [f"not cited: {it}" for it in sorted(self.types - types)]
 
 
-def source(path):
-    return read(f"{ROOT}/crates/{path}")
+ASKED = {f"@{it.__name__}": it for it in (Page.contract, Page.trait, Page.declared, Page.define, Page.table, Page.adds)}
+
+
+def item_of(path, kind, name, end=r"^\}"):
+    """An item of a file of code, from its head to its end."""
+    found = re.search(rf"^ *pub {kind} {name}\b.*?{end}", read(f"{ROOT}/crates/{path}"), re.M | re.S)
+    return found[0] if found else sys.exit(f"crates/{path} has no {name}")
 
 
 def module_of(it):
@@ -258,8 +263,10 @@ def follow(page, paragraph):
         asked, *words = line.split()
         if asked == "@kit":
             page.kit[words[0]] = line.split(" : ", 1)[1]
+        elif asked in ASKED:
+            ASKED[asked](page, *words)
         else:
-            getattr(page, asked[1:])(*words)
+            sys.exit(f"{FRAME}: what is {asked}?")
     if paragraph.startswith("@kit"):
         page.kit_table()
 
@@ -279,7 +286,8 @@ def html_page(page):
             body += [html_block(page, *it) for it in man_pages.blocks(text)]
         else:
             body.append(f"<pre>{linked(page, text, names)}</pre>")
-    head = f'<!DOCTYPE html>\n<html lang="en"><meta charset="utf-8"><title>The theorem</title>\n<style>{STYLE}</style>\n'
+    title = '<!DOCTYPE html>\n<html lang="en"><meta charset="utf-8"><title>The theorem</title>'
+    head = f"{title}\n<style>{STYLE}</style>\n"
     return head + "\n".join(body).replace("</ul>\n<ul>\n", "\n") + "\n</html>\n"
 
 
@@ -289,17 +297,18 @@ def linked(page, text, names=()):
 
     def token(it):
         name, word = it[0], html.escape(it[0])
-        if name in here:
+        if starts and name == starts[1] and name in here:
             here.remove(name)
             return f'<b id="{anchor(name)}">{word}</b>'
-        is_field = it.start() and it.string[it.start() - 1] == "."
-        return f'<a href="#{anchor(name)}">{word}</a>' if name in known and not is_field else word
+        is_field = it.string[: it.start()].endswith(".") or it.string[it.end() :].startswith(":")
+        return f'<a href="#{anchor(known[name])}">{word}</a>' if name in known and not is_field else word
 
     for line in text.split("\n"):
-        starts = re.match(r"(?:record |data )?(\w+)", line)
+        starts = re.match(r"(?:record |data |pub enum |pub struct )?(\w+)", line)
         if starts and starts[1] in names and starts[1] in page.by_name:
             known = page.names_in(starts[1])
-        lines.append(html.escape(line) if line.startswith("--") else believed.WORD.sub(token, line))
+        code, comment = re.match(r"(.*?)(\s*//.*|--.*|)$", line).groups()
+        lines.append(believed.WORD.sub(token, code) + html.escape(comment))
     return "\n".join(lines)
 
 
