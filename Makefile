@@ -129,6 +129,10 @@ proved-only:
 	@echo "make dist: packages are made of what is proved alone" >&2
 	@exit 2
 
+## make release: goes through what a release wants, runs the gate, dist and check-packages, and prints the tag's text
+release:
+	tools/release.py
+
 ## make bench: measures; WORK=WORD measures one work, and bench/README.md names them
 bench:
 	bench/run $(WORK)
@@ -142,5 +146,5 @@ include targets.mk
 # Of these, what a failed proof leaves is whole, and of the sources that are noted beside it.
 .PRECIOUS: build/dimacs build/dimacs_c.a build/dimacs_c.bc %/dimacs.o %/libdimacs.a %/libdimacs.so.0 \
     %/libdimacs.so
-.PHONY: all help quick check prove prove-all proved-by-ci install uninstall linked dist check-packages proved-only bench \
+.PHONY: all help quick check prove prove-all proved-by-ci install uninstall linked dist check-packages proved-only release bench \
     clean FORCE
