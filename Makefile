@@ -133,6 +133,11 @@ proved-only:
 release:
 	tools/release.py
 
+## make theorem: writes docs/THEOREM.md, and build/THEOREM.html with links from names to their definitions
+theorem:
+	tools/theorem.py
+	tools/theorem.py --html build/THEOREM.html
+
 ## make bench: measures; WORK=WORD measures one work, and bench/README.md names them
 bench:
 	bench/run $(WORK)
@@ -146,5 +151,5 @@ include targets.mk
 # Of these, what a failed proof leaves is whole, and of the sources that are noted beside it.
 .PRECIOUS: build/dimacs build/dimacs_c.a build/dimacs_c.bc %/dimacs.o %/libdimacs.a %/libdimacs.so.0 \
     %/libdimacs.so
-.PHONY: all help quick check prove prove-all proved-by-ci install uninstall linked dist check-packages proved-only release bench \
-    clean FORCE
+.PHONY: all help quick check prove prove-all proved-by-ci install uninstall linked dist check-packages proved-only \
+    release theorem bench clean FORCE

@@ -74,11 +74,13 @@ _dimacs_batch() {
     local word=${COMP_WORDS[COMP_CWORD]}
     COMPREPLY=()
     case ${COMP_WORDS[COMP_CWORD - 1]} in
-        -j | --jobs | --seconds) ;;
+        -j | --jobs | --seconds | --match | --shard | --commands) ;;
+        --format) mapfile -t COMPREPLY < <(compgen -W 'csv jsonl markdown latex' -- "$word") ;;
         --run) mapfile -t COMPREPLY < <(compgen -W 'max= min= gr=' -- "$word") && compopt -o nospace ;;
         *)
             if [[ $word == -* ]]; then
-                mapfile -t COMPREPLY < <(compgen -W '--output --jobs --run --seconds --program' -- "$word")
+                mapfile -t COMPREPLY < <(compgen -W '--output --jobs --answers --match --show --keep --format --shard
+                    --commands --join --report --recheck --referee --run --seconds --program --version' -- "$word")
             else
                 mapfile -t COMPREPLY < <(compgen -f -- "$word") && compopt -o filenames 2>/dev/null
             fi

@@ -246,8 +246,9 @@ try_batch() {
     cp "$examples/pipes-careless.solution" "$folder/careless.solution"
     sed 's/^f 1 2 6/f 1 2 5/' "$examples/pipes.solution" >"$folder/wrong.solution"
     "$PYTHON" "$here/../tools/dimacs-batch" -o "$dir/batch" "$examples/pipes.max" "$folder" 2>"$dir/log" || [ $? = 3 ]
-    for line in "$right .*,v max 12,12,.*,0," "1 .*/wrong.solution,x node 2 Balance,,.*,1,claim" \
-        "1 .*/careless.solution,x solution 2 2 NotMaximum,,.*,1,claim" "1 .*/folder.solution,dimacs: .*,,.*,3,"; do
+    for line in "$right .*,v max 12,12,yes,0,.*" "1 .*/wrong.solution,x node 2 Balance,,no,1,.*" \
+        "1 .*/careless.solution,x solution 2 2 NotMaximum,,no,1,.*" \
+        "1 .*,.*/folder.solution: not a regular file,,failed,.*"; do
         [ "$(grep -c -x "${line#* }" "$dir/batch")" = "${line%% *}" ] ||
             fail "dimacs-batch: $(cat "$dir/batch" "$dir/log")"
     done

@@ -2,27 +2,41 @@
 """Tests tools/dimacs-batch: tests/batch.py [BINARY]
 
 A stand-in for the program answers by what the file after the word holds: the seconds that it takes, its status, and
-what it prints. Tested are the rows and their order, the commands that are chosen, and that an interrupted table is
-taken up again. The reasons that JUDGING.md and TEXTS.md name have to be of the claim and of the texts. BINARY is the
-built program, with which the examples are judged; crates/dimacs/out/dimacs by default and that is there.
+what it prints. Tested are which answers belong to which instance, the commands, the rows, their classes and their
+order; that a table that was interrupted or killed is taken up again, and what doesn't fit any more made anew; shards,
+formats, and the files that are written. The reasons that JUDGING.md and TEXTS.md name have to be of the claim and of
+the texts. BINARY is the built program, with which the examples are judged; crates/dimacs/out/dimacs by default and that
+is there.
 """
 import csv
 import functools
+import hashlib
 import io
+import json
 import os
+import pty
+import random
 import re
+import resource
+import shlex
+import shutil
 import signal
 import subprocess
 import sys
 import tempfile
 import time
+import traceback
 
 TOP = os.path.join(os.path.dirname(os.path.abspath(__file__)), "..")
 BATCH = os.path.join(TOP, "tools/dimacs-batch")
 BUILT = os.path.join(TOP, "crates/dimacs/out/dimacs")
+sys.path.append(os.path.join(TOP, "tools"))
+
+from dimacs_batch.runs import OF_THE_CLAIM
 
 # The file after the word, or after the kind, has the seconds, the status and the line. Each run is noted in `ran`.
 STAND_IN = """#!/bin/sh
+[ "$1" = --version ] && exec echo "dimacs 9.8 (proved by a kit)"
 echo "$*" >>"$RAN"
 [ "$1" = show ] && shift
 read -r seconds status line <"$2"
@@ -31,24 +45,52 @@ case $status in [0-15]) printf '%b\\n' "$line" ;; *) printf '%b\\n' "$line" >&2 
 exit "$status"
 """
 
+# One that says nothing about itself, and takes 200 MB.
+HEAVY = """#!/bin/sh
+[ "$1" = --version ] && exit 2
+exec python3 -c "x = [1] * 25_000_000; print('v max 1')"
+"""
+
+CLASSES = ["yes", "no", "faulty text", "gave up", "no answer", "unmatched", "failed"]
+
 # What the examples are judged as: instance, answers, the words of the command up to its files, the line and its class.
 EXAMPLES = """
-bridges.max | bridges-sums.solution | certify-max | x arc 2 AboveCap | claim
-bridges.max | bridges.solution bridges.cut | judge-max | v max 8 |
-canning.min | canning.solution canning.pot | judge-min | v min 153675 |
-detroit.min | detroit.cut | judge-infeasible | v infeasible |
-freight.min | freight-dear.solution | certify-min | x solution 2 2 NotLeast | claim
-freight.min | freight.solution freight.pot | judge-min | v min 55 |
-pipes.max | pipes-careless.solution | certify-max | x solution 2 2 NotMaximum | claim
-pipes.max | pipes.solution pipes.cut | judge-max | v max 12 |
-road-faulty.gr | | show gr | x instance 12 4 BadNumber | instance
-road.gr | road.query road.dist | judge-paths | v 1 5 1400; 2 more |
-road.gr | road-near.distances | certify-paths | x node 5 NoTightArc | claim
-road.gr | road.distances | certify-paths | v sp distances 2 |
-romania.gr | romania.query romania.dist | judge-paths | v 1 2 418; 1 more |
-romania.gr | romania.distances | certify-paths | v sp distances 2 |
-shortage.min | shortage.cut | judge-infeasible | v infeasible |
-trucks.max | trucks.solution trucks.cut | judge-max | v max 23 |
+bridges.max | bridges-sums.solution | certify-max | x arc 2 AboveCap | no
+bridges.max | bridges.solution bridges.cut | judge-max | v max 8 | yes
+canning.min | canning.solution canning.pot | judge-min | v min 153675 | yes
+detroit.min | detroit.cut | judge-infeasible | v infeasible | yes
+freight.min | freight-dear.solution | certify-min | x solution 2 2 NotLeast | no
+freight.min | freight.solution freight.pot | judge-min | v min 55 | yes
+pipes.max | pipes-careless.solution | certify-max | x solution 2 2 NotMaximum | no
+pipes.max | pipes.solution pipes.cut | judge-max | v max 12 | yes
+road-faulty.gr | | show gr | x instance 12 4 BadNumber | faulty text
+road.gr | road.query road.dist | judge-paths | v 1 5 1400; 2 more | yes
+road.gr | road-near.distances | certify-paths | x node 5 NoTightArc | no
+road.gr | road.distances | certify-paths | v sp distances 2 | yes
+romania.gr | romania.query romania.dist | judge-paths | v 1 2 418; 1 more | yes
+romania.gr | romania.distances | certify-paths | v sp distances 2 | yes
+shortage.min | shortage.cut | judge-infeasible | v infeasible | yes
+trucks.max | trucks.solution trucks.cut | judge-max | v max 23 | yes
+"""
+
+# How people lay files out: what is asked, the files, and the rows: instance, answers, solver.
+LAYOUTS = """
+. | a.max a.solution a-lemon.sol a.2.sol | a.max a-lemon.sol lemon ; a.max a.2.sol 2 ; a.max a.solution
+. | a.max a-b.max a-b-c.sol ab.sol | a-b.max a-b-c.sol c ; a.max ; - ab.sol
+. | instances/a.max answers/lemon/a.sol answers/lemon/a.cut answers/igraph/a.sol | a.max a.sol igraph ; a.max a.sol+a.cut lemon
+. | a.max answers/a.lemon.sol answers/b.lemon.sol | a.max a.lemon.sol lemon ; - b.lemon.sol
+. | instances/1/a.max instances/2/a.max answers/x/1/a.sol answers/x/2/a.sol | a.max a.sol x ; a.max a.sol x
+. | instances/1/a.max instances/2/a.max answers/x/a.sol | a.max ; a.max ; - a.sol
+. | instances/a.max answers/a/lemon.sol | a.max lemon.sol lemon
+. | a.max lemon/a.sol | a.max a.sol lemon
+in --answers out | in/a.max out/lemon/a.sol in/a.cut | a.max a.sol lemon ; - a.cut
+. --match {instance}.{solver}.sol | a.b.max a.b.lemon.sol a.b.lemon.cut a.b.sol | a.b.max a.b.lemon.sol+a.b.lemon.cut lemon ; - a.b.sol
+in --answers out --match {solver}/run-{instance}.txt | in/a.max out/lemon/run-a.txt | a.max run-a.txt lemon
+. | g.gr g.query lemon/g.dist g.distances | g.gr g.distances ; g.gr g.query+g.dist lemon
+. | g.gr g.dist | g.gr ; - g.dist
+. | m.min m.cut m-2.sol m-2.pot m.pot | m.min m-2.sol+m-2.pot 2 ; m.min m.cut ; - m.pot
+a.max out | a.max out/lemon.sol out/a-igraph.sol out/x/a.sol | a.max a-igraph.sol igraph ; a.max lemon.sol lemon ; a.max a.sol x
+list | list=a.max,a.sol;a.max,x/a.sol;a.max,lemon.sol a.max a.sol x/a.sol lemon.sol | a.max a.sol ; a.max a.sol x ; a.max lemon.sol lemon
 """
 
 
@@ -61,33 +103,42 @@ class Place:
         self.program = self.write("stand-in", STAND_IN)
         os.chmod(self.program, 0o755)
 
+    def path(self, name):
+        return os.path.join(self.folder, name)
+
     def write(self, name, text):
-        file = os.path.join(self.folder, name)
+        file = self.path(name)
         os.makedirs(os.path.dirname(file), exist_ok=True)
         with open(file, "w", encoding="utf-8") as it:
             it.write(text)
         return file
 
     def read(self, name):
-        with open(os.path.join(self.folder, name), newline="", encoding="utf-8") as it:
+        with open(self.path(name), newline="", encoding="utf-8", errors="surrogateescape") as it:
             return it.read()
 
-    def started(self, *words, program=None):
-        return subprocess.Popen(
-            [sys.executable, "-B", BATCH, "--program", program or self.program, *words],
-            cwd=self.folder,
-            env={**os.environ, "RAN": self.ran},
-            stdin=subprocess.DEVNULL,
-            stdout=subprocess.PIPE,
-            stderr=subprocess.PIPE,
-            text=True,
-        )
+    def table(self, name="table"):
+        return rows(self.read(name))
 
-    def run(self, *words, program=None):
+    def list(self, lines, name="list"):
+        """Instances that are answered by these lines, with a solution each, and a list of them."""
+        for k, line in enumerate(lines):
+            self.write(f"{k}.max", line + "\n")
+            self.write(f"{k}.solution", f"s {k}\n")
+        self.write(name, "".join(f"{k}.max {k}.solution\n" for k in range(len(lines))))
+
+    def started(self, *words, program=None, **how):
+        pipe = subprocess.PIPE
+        usual = {"cwd": self.folder, "stdin": subprocess.DEVNULL, "stdout": pipe, "stderr": pipe, "text": True}
+        its = {**os.environ, "RAN": self.ran, **how.pop("env", {})}
+        words = [sys.executable, "-B", BATCH, "--program", program or self.program, *words]
+        return subprocess.Popen(words, env=its, **{**usual, **how})
+
+    def run(self, *words, program=None, **how):
         """The status, the rows on the standard output, and the standard error."""
-        process = self.started(*words, program=program)
+        process = self.started(*words, program=program, **how)
         out, err = process.communicate(timeout=60)
-        return process.returncode, rows(out), err
+        return process.returncode, rows(out or ""), err
 
     def runs(self):
         """How many runs there were since it was asked last."""
@@ -95,13 +146,35 @@ class Place:
         self.write("ran", "")
         return count
 
+    def wait_for(self, name, lines):
+        """Waits until a file has so many lines."""
+        for _ in range(400):
+            time.sleep(0.05)
+            if os.path.exists(self.path(name)) and self.read(name).count("\n") == lines:
+                return
+
 
 def rows(text):
     return list(csv.DictReader(io.StringIO(text, newline="")))
 
 
+def base_names(files):
+    return [os.path.basename(it) for it in files.split()]
+
+
 def column(table, name):
     return [row[name] for row in table]
+
+
+def counted(*counts, taken_over=0, made_anew=0):
+    """The last line."""
+    line = ", ".join(f"{count} {it}" for count, it in zip(counts, CLASSES, strict=True))
+    return line + (f"; {taken_over} taken over, {made_anew} made anew" if taken_over or made_anew else "") + "\n"
+
+
+def timeless(table):
+    """Rows without what differs from run to run."""
+    return [{name: it for name, it in row.items() if name not in ("seconds", "cpu", "memory", "host")} for row in table]
 
 
 # ---- the tests, each in a folder of its own; a test fails by an assertion
@@ -111,35 +184,48 @@ def order_and_columns(place):
     """Rows stand in the order of the list, whatever ends first, and have the value, the status and the class."""
     lines = ["0.3 0 v max 12", "0 1 x arc 3 AboveCap", "0 1 x instance 4 2 BadNumber", "0 1 x solution 1 1 UnknownLine"]
     lines += ["0 1 x solution 2 2 ValueDiffers", "0 3 dimacs: it: cannot be opened", "0 5 g limit", "0 0 v min -7"]
-    for k, line in enumerate(lines):
-        place.write(f"{k}.max", line + "\n")
-    place.write("list", "# a comment\n\n" + "".join(f"{k}.max {k}.solution\n" for k in range(len(lines))))
+    lines += ["0 0 i max 2 1", "0 1 not a refusal", "0 0"]
+    place.list(lines)
     status, table, err = place.run("list")
     assert status == 3, status
     assert column(table, "instance") == [f"{k}.max" for k in range(len(lines))], table
     assert column(table, "answers") == [f"{k}.solution" for k in range(len(lines))], table
-    assert column(table, "verdict") == [line.split(" ", 2)[2] for line in lines], table
-    assert column(table, "value") == ["12", "", "", "", "", "", "", "-7"], table
-    assert column(table, "status") == ["0", "1", "1", "1", "1", "3", "5", "0"], table
-    assert column(table, "class") == ["", "claim", "instance", "answer", "claim", "", "", ""], table
-    assert column(table, "kind") == ["max"] * 8 and 0.3 <= float(table[0]["seconds"]) < 5, table
-    assert err == "2 yes, 4 refused (1 of the instance, 1 of the answer, 2 of the claim), 2 not judged\n", err
+    assert column(table, "verdict") == [line.partition(" ")[2][2:] for line in lines], table
+    assert column(table, "value") == ["12", "", "", "", "", "", "", "-7", "", "", ""], table
+    assert column(table, "status") == ["0", "1", "1", "1", "1", "3", "5", "0", "0", "1", "0"], table
+    classes = "yes no,faulty text,faulty text,no,failed,gave up,yes,failed,failed,failed".replace(" no", ",no", 1)
+    assert column(table, "class") == classes.split(","), table
+    assert column(table, "kind") == ["max"] * 11 and 0.3 <= float(table[0]["seconds"]) < 5, table
+    assert err == counted(2, 2, 2, 1, 0, 0, 4), err
 
 
 def commands(place):
     """The command is that of the kind and of how many answers there are; --run names another."""
-    for name in ("a.max", "b.min", "c.gr", "d"):
+    for name in ("a.max", "b.min", "c.gr", "d", "{name}.max"):
         place.write(name, "0 0 v\np sp 2 1\n")
-    listed = ["a.max", "a.max\ts t.solution", "a.max s c", "b.min", "b.min s", "b.min it.cut", "b.min s p"]
-    listed += ["c.gr", "c.gr q d", "d q d"]
+    for name in ("s", "c", "t t.solution", "p", "q", "it.cut", "d.dist"):
+        place.write(name, "")
+    listed = ["a.max", "a.max\t../t t.solution", "a.max ../s ../c", "b.min", "b.min ../s", "b.min ../it.cut"]
+    listed += ["b.min ../s ../p", "c.gr", "c.gr ../q ../d", "d ../q ../d"]
     place.write("sub/list", "".join(f"../{line}\n" for line in listed))
-    _, table, _ = place.run("sub/list")
+    _, table, _ = place.run("sub/list", "--show")
     wanted = ["show max", "certify-max", "judge-max", "show min", "certify-min", "judge-infeasible", "judge-min"]
-    words = [row["command"].split(" sub/")[0] for row in table]
+    words = [row["command"].split(" sub/")[0].split(" 'sub/")[0] for row in table]
     assert words == wanted + ["show gr", "judge-paths", "judge-paths"], words
-    assert table[1]["command"] == "certify-max sub/../a.max 'sub/s t.solution'", table[1]
+    assert table[1]["command"] == "certify-max sub/../a.max 'sub/../t t.solution'", table[1]
     _, table, _ = place.run("sub/list", "--run", "max=solve-max {instance} {name}.made {answers} --limit 5")
-    assert table[2]["command"] == "solve-max sub/../a.max sub/s.made sub/s sub/c --limit 5", table[2]
+    assert table[2]["command"] == "solve-max sub/../a.max sub/../s.made sub/../s sub/../c --limit 5", table[2]
+    place.write("list2", "a.max\n")
+    place.runs()
+    status, table, _ = place.run("list2", "--run", "max=certify-max {instance} {answers} {name}.cut")
+    assert status == 3 and column(table, "class") == ["no answer"] and place.runs() == 0, table
+    _, table, _ = place.run("list2", "--show", "--run", "max=certify-max {instance} {answers}")
+    assert table[0]["command"] == "show max a.max", table
+    place.write("list", "{name}.max s c\n")
+    _, table, _ = place.run("list")
+    assert table[0]["command"] == "judge-max '{name}.max' s c", table[0]
+    _, table, _ = place.run("list", "--run", "max=solve-max {instance} {name}.{instance}")
+    assert table[0]["command"] == "solve-max '{name}.max' 's.{name}.max'", table[0]
     place.write("list", "c.gr d.dist\n")
     status, table, err = place.run("list")
     assert status == 2 and not table and "--run gr=" in err, err
@@ -151,8 +237,9 @@ def folders(place):
         place.write(f"all/{name}", "0 0 v max 1\n")
     for name in ("a.solution", "a.cut", "a-c.sol", "a-b.solution", "a-b-d.solution", "ab.solution", "g.ss"):
         place.write(f"all/deep/{name}", "")
-    _, table, _ = place.run("all")
+    _, table, _ = place.run("all", "--show")
     names = [" ".join(map(os.path.basename, row["command"].split())) for row in table]
+    assert column(table, "verdict")[-1] == "it belongs to no instance", table
     assert names == [
         "show min x.min",
         "certify-max a-b.max a-b-d.solution",
@@ -160,64 +247,172 @@ def folders(place):
         "certify-max a.max a-c.sol",
         "judge-max a.max a.solution a.cut",
         "show gr g.gr",
+        "",
     ], names
     _, table, _ = place.run("all", "--run", "gr=solve-paths {instance} {answers} {name}.dist")
-    assert table[-1]["command"] == "solve-paths all/deep/g.gr all/deep/g.ss all/deep/g.dist", table[-1]
+    assert table[-2]["command"] == "solve-paths all/deep/g.gr all/deep/g.ss all/deep/g.dist", table[-2]
+    place.write("all/deep/folder.solution/text", "")
     _, table, _ = place.run("all/x.min", "all/deep")
-    assert len(table) == 5 and column(table, "kind") == ["min"] * 5, table
+    assert column(table, "class") == ["yes"] * 5 + ["failed", "unmatched"], column(table, "class")
+
+
+def layouts(place):
+    """Answers are found as people lay them out; what belongs to no instance has a row."""
+    for number, line in enumerate(LAYOUTS.strip().splitlines()):
+        words, files, wanted = (it.strip() for it in line.split("|"))
+        for file in files.split():
+            name, _, listed = file.partition("=")
+            text = "".join(f"{it}\n" for it in listed.split(";")).replace(",", "\t") if listed else "0 0 v max 1\n"
+            place.write(f"{number}/{name}", text)
+        where = place.path(str(number))
+        process = place.started(*words.split(), cwd=where)
+        out, err = process.communicate(timeout=60)
+        found = [
+            (os.path.basename(row["instance"]) or "-", "+".join(base_names(row["answers"])), row["solver"])
+            for row in rows(out)
+        ]
+        found = " ; ".join(" ".join(filter(None, it)) for it in found)
+        assert found == wanted, (line, found, err)
+
+
+def unanswered(place):
+    """Nothing that isn't answered counts as yes."""
+    for k in range(3):
+        place.write(f"in/{k}.max", "0 0 i max 2 1\n")
+        place.write(f"out/{k}.solution", "s 1\n")
+    status, table, err = place.run("in")
+    assert status == 3 and err == counted(0, 0, 0, 0, 3, 0, 0) and place.runs() == 0, err
+    assert column(table, "class") == ["no answer"] * 3 and set(column(table, "verdict")) == {"it has no answer"}, table
+    status, table, err = place.run("in", "--show")
+    assert status == 3 and err == counted(0, 0, 0, 0, 3, 0, 0) and place.runs() == 3, err
+    assert column(table, "verdict") == ["i max 2 1"] * 3, table
+    for k, line in enumerate(["0 v max 1", "0 v max 2", "1 x arc 1 AboveCap"]):
+        place.write(f"in/{k}.max", f"0 {line}\n")
+    assert place.run("in", "--answers", "out")[0] == 1
+    place.write("in/2.max", "0 0 v max 2\n")
+    assert place.run("in", "--answers", "out")[0] == 0
+    place.write("out/other.solution", "s 1\n")
+    status, table, err = place.run("in", "--answers", "out")
+    assert status == 3 and err == counted(3, 0, 0, 0, 0, 1, 0), err
+    assert (table[3]["answers"], table[3]["class"]) == ("out/other.solution", "unmatched"), table
+    os.mkdir(place.path("empty"))
+    assert place.run("empty")[0] == 2
+
+
+def evidence(place):
+    """A row has what shows later what was judged, and by what."""
+    place.write("a.max", "0 0 v max 3\np max 2 7\n")
+    place.write("a.solution", "s 3\n")
+    place.write("a.cut", "p cut 2 1\n")
+    status, (row,), _ = place.run(".", "--seconds", "50")
+    files = ("a.max", "a.solution", "a.cut", "stand-in")
+    hashes = [hashlib.sha256(place.read(it).encode()).hexdigest() for it in files]
+    assert status == 0 and row["instance_sha256"] == hashes[0], row
+    assert row["answers_sha256"].split() == hashes[1:3] and row["program_sha256"] == hashes[3], row
+    assert (row["size"], row["arcs"], row["limit"], row["host"]) == ("22", "7", "50", os.uname().nodename), row
+    assert (row["version"], row["proof"]) == ("9.8", "proved by a kit"), row
+    place.write("heavy", HEAVY)
+    os.chmod(place.path("heavy"), 0o755)
+    _, (row,), _ = place.run(".", program=place.path("heavy"))
+    assert (row["version"], row["proof"]) == ("unknown", "unproved"), row
+    assert 200_000 < int(row["memory"]) < 300_000, row["memory"]
+    assert 0.02 < float(row["cpu"]) <= float(row["seconds"]) + 0.01, row
+
+
+def made_anew(place):
+    """A row is taken over only if all that decides it is the same."""
+    place.list([f"0 0 v max {k}" for k in range(4)])
+
+    def again(taken_over, *words):
+        status, _, err = place.run("list", "-o", "table", *words)
+        assert status == 0 and place.runs() == 4 - taken_over, (taken_over, words, err)
+        assert err == counted(4, 0, 0, 0, 0, 0, 0, taken_over=taken_over, made_anew=4 - taken_over), err
+
+    place.run("list", "-o", "table")
+    place.runs()
+    again(4)
+    os.utime(place.path("1.solution"))
+    again(4)
+    place.write("1.solution", "s 9\n")
+    again(3)
+    place.write("2.max", "0 0 v max 5\n")
+    again(3)
+    assert place.table()[2]["value"] == "5"
+    again(0, "--seconds", "70")
+    again(4, "--seconds", "70")
+    place.write("stand-in", STAND_IN.replace("by a kit", "by another"))
+    again(0, "--seconds", "70")
+    assert set(column(place.table(), "proof")) == {"proved by another"}
+    place.write("0.max", "0 5 g limit\n")
+    place.write("3.max", "0 3 no\n")
+    place.run("list", "-o", "table", "--seconds", "70")
+    place.runs()
+    status, _, err = place.run("list", "-o", "table", "--seconds", "70")
+    assert place.runs() == 1 and err == counted(2, 0, 0, 1, 0, 0, 1, taken_over=3), err
+
+
+def changed_while_judged(place):
+    """A file that changes while it is judged has no verdict."""
+    place.list(["1 0 v max 1"])
+    process = place.started("list")
+    place.wait_for("ran", 1)
+    place.write("0.solution", "s 77\n")
+    out, _ = process.communicate()
+    assert process.returncode == 3 and column(rows(out), "class") == ["failed"] and "changed" in out, out
 
 
 def taken_up(place):
     """A table that was interrupted is taken up: what was judged isn't run again, and a torn row is."""
-    for k in range(6):
-        place.write(f"{k}.max", f"0 0 v max {k}\n")
+    place.list([f"0 0 v max {k}" for k in range(6)])
     place.write("2.max", "30 0 v max 2\n")
-    place.write("list", "".join(f"{k}.max\n" for k in range(6)))
     process = place.started("list", "-o", "table", "-j", "2")
-    for _ in range(200):
-        time.sleep(0.05)
-        if os.path.exists(os.path.join(place.folder, "table")) and place.read("table").count("\n") == 6:
-            break
+    place.wait_for("table.part", 5)
     process.send_signal(signal.SIGTERM)
     assert process.wait(20) == 130, process.returncode
-    assert column(rows(place.read("table")), "verdict") == [f"v max {k}" for k in (0, 1, 3, 4, 5)], place.read("table")
+    assert column(place.table(), "verdict") == [f"v max {k}" for k in (0, 1, 3, 4, 5)], place.read("table")
     assert place.runs() == 6
     place.write("2.max", "0 0 v max 2\n")
     place.write("table", place.read("table")[:-9])
     status, _, _ = place.run("list", "-o", "table")
     assert status == 0 and place.runs() == 2
-    assert column(rows(place.read("table")), "value") == [str(k) for k in range(6)], place.read("table")
+    assert column(place.table(), "value") == [str(k) for k in range(6)], place.read("table")
     assert place.run("list", "-o", "table")[0] == 0 and place.runs() == 0
-    assert not [name for name in os.listdir(place.folder) if name.endswith(".part")]
-    place.write("other", "5.max\n")
-    assert place.run("other", "-o", "table")[0] == 2 and len(rows(place.read("table"))) == 6
-    place.write("text", "s 1\n")
-    assert place.run("list", "-o", "text")[0] == 2 and place.read("text") == "s 1\n"
+    assert not [name for name in os.listdir(place.folder) if name.startswith("table.")]
+    place.write("other", "5.max 5.solution\n")
+    assert place.run("other", "-o", "table")[0] == 2 and len(place.table()) == 6
+    for text in ("s 1\n", "{}\n", 'a,"b\n'):
+        place.write("text", text)
+        assert place.run("list", "-o", "text")[0] == 2 and place.read("text") == text
+        assert not os.path.exists(place.path("text.part"))
 
 
 def killed(place):
-    """So is one whose run was killed: its rows stand as they came."""
-    for k, line in enumerate(["30 0 v max 0", "0 0 v max 1", "0 3 no", "0 1 x arc 1 AboveCap"]):
-        place.write(f"{k}.max", line + "\n")
-    place.write("list", "0.max\n1.max\n2.max\n3.max\n")
-    process = place.started("list", "-o", "table", "-j", "2")
-    for _ in range(200):
-        time.sleep(0.05)
-        if os.path.exists(os.path.join(place.folder, "table")) and place.read("table").count("\n") == 4:
-            break
-    process.kill()
-    process.wait()
-    place.runs()
-    place.write("0.max", "0 0 v max 0\n")
-    place.write("2.max", "0 0 v max 2\n")
-    assert place.run("list", "-o", "table")[0] == 1 and place.runs() == 2
-    assert column(rows(place.read("table")), "instance") == ["0.max", "1.max", "2.max", "3.max"]
+    """So is one whose run was killed, ten times, at any moment. 2,000 rows take no more memory than few."""
+    count = 2000
+    lines = [f"0 0 v max {k}" if k % 3 else f"0 1 x arc {k + 1} AboveCap" for k in range(count)]
+    place.list(lines)
+    chance = random.Random(7)
+    for _ in range(10):
+        process = place.started("list", "-o", "table", "-j", "4", stderr=subprocess.DEVNULL)
+        time.sleep(chance.uniform(0.1, 1.5))
+        process.kill()
+        process.wait()
+    with open(os.devnull, "w", encoding="ascii") as nothing:
+        process = place.started("list", "-o", "table", "-j", "4", stdout=nothing, stderr=nothing)
+        _, status, usage = os.wait4(process.pid, 0)
+        process.returncode = os.waitstatus_to_exitcode(status)
+    table = place.table()
+    assert process.returncode == 1 and usage.ru_maxrss < 60_000, (process.returncode, usage.ru_maxrss)
+    assert column(table, "verdict") == [line[4:] for line in lines]
+    assert column(table, "number") == [str(k + 1) for k in range(count)] and set(column(table, "of")) == {str(count)}
+    assert count <= place.runs() <= count + 10 * 12  # what ran when it was killed ran again
+    assert set(column(table, "memory")) == {""}  # too little to be told from what the batch has itself
+    assert not [it for it in os.listdir(place.folder) if it.startswith("table.")]
 
 
 def late(place):
     """A run that takes too long is ended, and run again the next time."""
-    place.write("1.max", "30 0 v max 1\n")
-    place.write("list", "1.max\n")
+    place.list(["30 0 v max 1"])
     status, table, _ = place.run("list", "--seconds", "0.3")
     assert status == 3 and table[0]["status"] == "124" and table[0]["verdict"] == "ended after 0.3 s", table
 
@@ -227,62 +422,273 @@ def odd(place):
     name = os.fsdecode(b"\xff.max")
     place.write(name, "0 2 dimacs: usage\\nUsage: ..\n")
     place.write("1.max", "0 1 x solution 2 2 NotMaximum\\n..\n")
-    place.write("list", "1.max\n")
-    with open(os.path.join(place.folder, "list"), "ab") as it:
-        it.write(b"\xff.max\n")
+    place.write("s", "")
+    with open(place.path("list"), "wb") as it:
+        it.write(b"1.max s\n\xff.max s\n")
     status, _, _ = place.run("list", "-o", "table")
-    with open(os.path.join(place.folder, "table"), newline="", encoding="utf-8", errors="surrogateescape") as it:
-        table = rows(it.read())
+    table = place.table()
     assert status == 3 and column(table, "instance") == ["1.max", name], table
     assert column(table, "verdict") == ["x solution 2 2 NotMaximum; 1 more", "dimacs: usage"], table
-    assert column(table, "class") == ["claim", ""], table
+    assert column(table, "class") == ["no", "failed"], table
+    place.write("list", "1.max gone\ngone.max s\n1.max .\n")
+    _, table, _ = place.run("list")
+    wanted = ["gone: No such file or directory", "gone.max: No such file or directory", ".: not a regular file"]
+    assert column(table, "verdict") == wanted and set(column(table, "class")) == {"failed"}, table
 
 
 def misused(place):
     """Words that ask for nothing, and a program that isn't there."""
-    place.write("1.max", "0 0 v max 1\n")
-    place.write("list", "1.max\n")
+    place.list(["0 0 v max 1"])
     assert place.run()[0] == 2 and place.run("list", "--run", "max")[0] == 2 and place.run("missing")[0] == 2
-    assert place.run("list", "--run", "max='")[0] == 2
+    assert place.run("list", "--run", "max='")[0] == 2 and place.run("list", "--run", "max=")[0] == 2
+    assert place.run("list", "--answers", ".")[0] == 2 and place.run(".", "--match", "x")[0] == 2
     status, _, err = place.run("list", program="/nowhere/dimacs")
     assert status == 2 and "/nowhere/dimacs" in err, err
+    with open(os.path.join(TOP, "VERSION"), encoding="ascii") as it:
+        assert place.started("--version").communicate()[0] == f"dimacs-batch {it.read().strip()}\n"
 
 
-def classes(_):
+def safe_files(place):
+    """A table replaces only a regular file, by way of links, and no other run may write it."""
+    place.list(["0 0 v max 1"])
+    os.mkfifo(place.path("pipe"))
+    for name in ("/dev/full", "/dev/null", "pipe", "."):
+        status, _, err = place.run("list", "-o", name)
+        assert status == 2 and err == f"dimacs-batch: {name}: not a regular file\n", err
+    os.mkdir(place.path("real"))
+    os.symlink("real/table", place.path("link"))
+    for _ in range(2):
+        assert place.run("list", "-o", "link")[0] == 0 and os.path.islink(place.path("link"))
+    assert len(place.table("real/table")) == 1 and os.listdir(place.path("real")) == ["table"]
+    os.chmod(place.path("real/table"), 0o640)
+    place.run("list", "-o", "link")
+    assert os.stat(place.path("real/table")).st_mode & 0o777 == 0o640
+    place.write("0.max", "3 0 v max 1\n")
+    place.runs()
+    process = place.started("list", "-o", "link")
+    place.wait_for("ran", 1)
+    status, _, err = place.run("list", "-o", "real/table")
+    assert status == 2 and err == "dimacs-batch: real/table: another dimacs-batch writes it\n", err
+    process.kill()
+    process.communicate()
+    status, _, err = place.run("list", "-o", "nowhere/table")
+    assert status == 2 and err.endswith("nowhere/table.part: No such file or directory\n"), err
+
+
+def full(place):
+    """A disk that is full, and a reader that has gone, are told in words."""
+    place.list([f"0 0 v max {k}" for k in range(300)])
+    with open("/dev/full", "w", encoding="ascii") as it:
+        status, _, err = place.run("list", stdout=it)
+    assert status == 2 and err == "dimacs-batch: standard output: No space left on device\n", err
+    process = place.started("list")
+    process.stdout.close()
+    err = process.stderr.read()
+    assert err == "dimacs-batch: standard output: Broken pipe\n" and process.wait() == 2, err
+    place.write("short", "0.max 0.solution\n")
+    place.run("short", "-o", "table")
+    for room in (1_000, 50_000):  # bytes that a file may have, as on a disk with little room
+        limit = functools.partial(resource.setrlimit, resource.RLIMIT_FSIZE, (room, room))
+        status, _, err = place.run("list", "-o", "table", preexec_fn=limit)
+        assert status == 2 and err.endswith(": File too large\n") and "Traceback" not in err, err
+        table = place.table()
+        assert table and all(int(row["value"]) == int(row["number"]) - 1 for row in table), table
+    status, _, _ = place.run("list", "-o", "table")
+    assert status == 0 and len(place.table()) == 300
+
+
+def shards(place):
+    """Tables of shards are joined to that of one run but for times; what differs and what is missing is named."""
+    lines = ["0 0 v max 1", "0 1 x arc 1 AboveCap", "0 3 no", "0 5 g limit", "0 0 v max 2", "0 0 v max 3", "0 0 v max 4"]
+    place.list(lines)
+    place.run("list", "-o", "whole")
+    place.runs()
+    commands, _ = place.started("list", "-o", "t.{shard}", "--commands", "3").communicate()
+    for command, status in zip(commands.splitlines(), (3, 1, 3), strict=True):
+        words = shlex.split(command)
+        assert words[0] == BATCH and place.run(*words[1:])[0] == status, command
+    assert place.runs() == 7
+    for task in range(4):
+        slurm = {"ID": 10 + 2 * task, "MIN": 10, "STEP": 2, "COUNT": 4, "MAX": 16}
+        names = {f"SLURM_ARRAY_TASK_{name}": str(value) for name, value in slurm.items()}
+        err = place.run("list", "-o", "s.{shard}", env=names)[2]
+        assert err.startswith(f"shard {task + 1} of 4: "), err
+    for tables in (["t.3", "t.1", "t.2"], ["s.1", "s.2", "s.3", "s.4", "t.2"]):
+        status, table, err = place.run("--join", *tables)
+        assert status == 3 and err == counted(4, 1, 0, 1, 0, 0, 1), err
+        assert timeless(table) == timeless(place.table("whole")), table
+
+    status, table, err = place.run("--join", "s.1", "s.4")
+    gaps = "rows 2 to 3 are in no table\nrows 6 to 7 are in no table\n"
+    assert status == 3 and column(table, "number") == ["1", "4", "5"], table
+    assert err == gaps + counted(2, 0, 0, 1, 0, 0, 0).rstrip("\n") + "; 4 in no table\n", err
+    place.write("other", place.read("s.1").replace("v max 2", "v max 7"))
+    status, table, err = place.run("--join", "s.1", "other", "-o", "joined")
+    assert status == 2 and err == "dimacs-batch: row 5: verdict is v max 7 in other, and v max 2 in s.1\n", err
+    assert not os.path.exists(place.path("joined"))
+    place.write("list", place.read("list") + "6.max 0.solution\n")
+    place.run("list", "-o", "other")
+    status, _, err = place.run("--join", "s.1", "other")
+    assert status == 2 and err == "dimacs-batch: other: has rows of another list than s.1\n", err
+    for wrong in ("0/3", "4/3", "1", "a/b"):
+        assert place.run("list", "--shard", wrong)[0] == 2, wrong
+
+
+def formats(place):
+    """A table is written in each format, and taken up again where the format has all of it."""
+    place.list(["0 0 v max 1", "0 1 x arc 1 AboveCap", "0 0 v max |_&"])
+    _, table, _ = place.run("list")
+    out, _ = place.started("list", "--format", "jsonl").communicate()
+    assert timeless(map(json.loads, out.splitlines())) == timeless(table), out
+    out, _ = place.started("list", "--format", "markdown").communicate()
+    lines = out.splitlines()
+    assert lines[0] == "| instance | solver | arcs | class | verdict | seconds | KiB |", lines
+    assert lines[3].startswith("| 1.max |  |  | no | x arc 1 AboveCap | 0."), lines
+    assert r"| v max \|\_& |" in lines[4], lines
+    assert lines[6].startswith("Judged by dimacs 9.8 (proved by a kit), whose program has the SHA-256 "), lines
+    out, _ = place.started("list", "--format", "latex").communicate()
+    lines = out.splitlines()
+    assert lines[0] == r"\begin{tabular}{llrllrr}" and lines.index(r"\end{tabular}") == 8, lines
+    assert r" & v max $|$\_\& & " in lines[6], lines
+    place.run("list", "-o", "table", "--format", "jsonl")
+    place.runs()
+    assert place.run("list", "-o", "table", "--format", "jsonl")[0] == 1 and place.runs() == 0
+    assert place.run("list", "-o", "table", "--format", "latex")[0] == 2
+    assert place.run("--join", "table", "--format", "latex", "-o", "table.tex")[0] == 1
+    assert place.read("table.tex").splitlines()[0] == lines[0]
+
+
+def report(place, binary):
+    """A page has the counts, each refusal explained, a point for each row, and nothing of a network."""
+    place.run(os.path.join(TOP, "examples"), "-o", "table.csv", program=binary)
+    status, _, err = place.run("--report", "table.csv", program=binary)
+    page = place.read("table.html")
+    assert status == 0 and err.endswith("table.html\n"), err
+    assert not re.search(r"https?:|src=|href=|@import|url\(", page)
+    assert page.count("<circle") == 15 and page.count("<dt>") == 4, page
+    assert "<td class=\"\">careless</td><td class=\"number\">0</td><td class=\"number\">1</td>" in page, page
+    assert "arc 2 carries 8, more than its CAP, 3" in page and "the nearest leads there at 1400" in page, page
+    os.rename(place.path("table.csv"), place.path("<b>&.csv"))
+    place.run("--report", "<b>&.csv", program=binary)
+    assert "<b>&.csv" not in place.read("<b>&.html") and "&lt;b&gt;&amp;.csv" in place.read("<b>&.html")
+    assert place.run("--report", "table.csv", program=binary)[0] == 2
+
+
+def on_terminal(place):
+    """What is left is shown on a terminal alone."""
+    place.list(["0.2 0 v max 1"] * 4)
+    master, terminal = pty.openpty()
+    process = place.started("list", "-j", "1", stderr=terminal)
+    process.communicate()
+    os.close(terminal)
+    shown = os.read(master, 1 << 16).decode()
+    assert re.search(r"2 of 4: 2 yes, .*; \d+ s left", shown), shown
+    assert shown.endswith(counted(4, 0, 0, 0, 0, 0, 0).replace("\n", "\r\n")), shown
+    os.close(master)
+
+
+def reasons(_):
     """Each reason at a place of a text that the pages name is of the class that its page names."""
-    source = open(BATCH, encoding="utf-8").read()
-    of_the_claim = set(re.findall(r'"(\w+)"', re.search(r"OF_THE_CLAIM = \{(.*?)\}", source, re.DOTALL)[1]))
     texts, judging = (open(f"{TOP}/docs/{name}.md", encoding="utf-8").read() for name in ("TEXTS", "JUDGING"))
     judged = set(re.findall(r"`x (?:(?:solution|certificate) \S+ \S+|\w+ 0 0) (\w+)`", judging))
     of_texts = set(re.findall(r"^\| \d+ \| (\w+) \|", texts, re.MULTILINE))
-    assert of_the_claim == judged, of_the_claim ^ judged
-    assert len(of_texts) == 21 and not of_texts & of_the_claim, of_texts
+    assert OF_THE_CLAIM == judged, OF_THE_CLAIM ^ judged
+    assert len(of_texts) == 21 and not of_texts & OF_THE_CLAIM, of_texts
 
 
 def examples(place, binary):
     """The examples are judged as their page shows."""
     wanted = [[cell.strip() for cell in line.split("|")] for line in EXAMPLES.strip().splitlines()]
-    status, table, _ = place.run(os.path.join(TOP, "examples"), program=binary)
+    status, table, _ = place.run(os.path.join(TOP, "examples"), "--show", program=binary)
     assert status == 1, status
-    for row, (instance, answers, command, line, refused) in zip(table, wanted, strict=True):
+    for row, (instance, answers, command, line, its_class) in zip(table, wanted, strict=True):
         seen = [os.path.basename(row["instance"]), " ".join(map(os.path.basename, row["answers"].split()))]
         seen += [row["command"].split(" /")[0], row["verdict"], row["class"]]
-        assert seen == [instance, answers, command, line, refused], row
+        assert seen == [instance, answers, command, line, its_class], row
+
+
+def kept(place, binary):
+    """What is kept of the examples shows it again, to the judges and to the referee."""
+    shutil.copytree(os.path.join(TOP, "examples"), place.path("in"), ignore=shutil.ignore_patterns("library"))
+    for name in ("road", "romania"):
+        os.unlink(place.path(f"in/{name}.dist"))
+    place.write("in/pipes-lemon.solution", place.read("in/pipes.solution"))
+    place.write("in/freight-odd.solution", "s x\n")
+    words = ["in", "-o", "table", "--keep", "kept"]
+    assert place.run(*words, program=binary)[0] == 3
+    wanted = "bridges.cut canning.pot detroit.cut freight.dear.better.solution freight.pot"
+    wanted += " pipes.careless.better.solution pipes.cut pipes.lemon.cut road.dist romania.dist shortage.cut trucks.cut"
+    assert sorted(os.listdir(place.path("kept"))) == wanted.split(), os.listdir(place.path("kept"))
+    table = place.table()
+    for row in table:
+        text = place.read(f"kept/{row['kept']}").encode() if row["kept"] else b""
+        assert row["kept_sha256"] == (hashlib.sha256(text).hexdigest() if text else ""), row
+    status, _, err = place.run(*words, program=binary)
+    assert err == counted(10, 4, 1, 0, 1, 0, 0, taken_over=15), err
+    recheck = ["--recheck", "--referee", "table", "kept"]
+    status, _, err = place.run(*recheck, program=binary)
+    assert status == 0 and err == "15 agree, 0 differ, 0 not there, 1 not judged\n", err
+
+    place.write("kept/pipes.cut", place.read("kept/pipes.cut") + "c\n")
+    place.write("in/canning.solution", place.read("in/canning.solution") + "c\n")
+    os.unlink(place.path("kept/trucks.cut"))
+    assert place.run(*recheck, program=binary)[2] == "12 agree, 2 differ, 1 not there, 1 not judged\n"
+    status, _, err = place.run(*words, program=binary)
+    assert err == counted(10, 4, 1, 0, 1, 0, 0, taken_over=12, made_anew=3), err
+    spoiled = place.read("table").replace(",v max 23,23,", ",v max 24,24,").replace("AboveCap", "BelowLow")
+    place.write("table", spoiled)
+    assert place.run(*recheck, program=binary)[2] == "13 agree, 2 differ, 0 not there, 1 not judged\n"
+    place.run("in", "-o", "bare", program=binary)
+    status, _, err = place.run("--recheck", "bare", "kept", program=binary)
+    assert status == 3 and err == "10 agree, 0 differ, 5 not there, 1 not judged\n", err
+
+
+def same_names(place, binary):
+    """Files of one name don't replace each other."""
+    for folder in "12":
+        shutil.copytree(os.path.join(TOP, "examples"), place.path(f"in/{folder}"))
+    place.run("in", "-o", "table", "--keep", "kept", program=binary)
+    names = [it for it in column(place.table(), "kept") if it]
+    assert len(set(names)) == len(names) == 26 and "pipes.8.cut" in names, names
+    assert place.run("--recheck", "table", "kept", program=binary)[0] == 0
+
+
+def solved(place, binary):
+    """What a solver wrote is judged again where it lies."""
+    for name in ("pipes.max", "freight.min", "shortage.min", "road.gr", "road.query"):
+        shutil.copy(os.path.join(TOP, "examples", name), place.folder)
+    words = ["--run", "max=solve-max {instance} {name}.made {name}.cut --limit 9"]
+    words += ["--run", "min=solve-min {instance} {name}.made {name}.pot"]
+    words += ["--run", "gr=solve-paths {instance} {answers} {name}.dist"]
+    status, table, _ = place.run(".", *words, "-o", "table", program=binary)
+    verdicts = ["v min 55", "v max 12", "v 1 5 1400; 2 more", "v infeasible"]
+    assert status == 0 and column(place.table(), "verdict") == verdicts, place.table()
+    recheck = ["--recheck", "--referee", "table", "."]
+    assert place.run(*recheck, program=binary)[2] == "4 agree, 0 differ, 0 not there, 0 not judged\n"
+    place.write("pipes.cut", "p cut 5 1\nu 1\n")
+    assert place.run(*recheck, program=binary)[2] == "3 agree, 1 differ, 0 not there, 0 not judged\n"
+
+
+TESTS = [
+    order_and_columns, commands, folders, layouts, unanswered, evidence, made_anew, changed_while_judged, taken_up,
+    killed, late, odd, misused, safe_files, full, shards, formats, on_terminal, reasons,
+]
+WITH_BINARY = [examples, kept, same_names, solved, report]
 
 
 def main():
-    tests = [order_and_columns, commands, folders, taken_up, killed, late, odd, misused, classes]
+    tests = [(it.__name__, it) for it in TESTS]
     binary = os.path.abspath(sys.argv[1]) if len(sys.argv) > 1 else BUILT
     if len(sys.argv) > 1 or os.path.exists(BUILT):
-        tests.append(functools.partial(examples, binary=binary))
+        tests += [(it.__name__, functools.partial(it, binary=binary)) for it in WITH_BINARY]
     failed = 0
-    for test in tests:
+    for name, test in tests:
         with tempfile.TemporaryDirectory() as folder:
             try:
                 test(Place(folder))
             except AssertionError as error:
                 failed += 1
-                print(f"{getattr(test, '__name__', 'examples')}: {error!r}")
+                print(f"{name}, line {traceback.extract_tb(error.__traceback__)[-1].lineno}: {error!r}")
     print(f"{len(tests) - failed} passed, {failed} failed")
     return 1 if failed else 0
 

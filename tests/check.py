@@ -38,6 +38,7 @@ SCRIPTS = {
     "release": [],
     "install": ["{build}"],
     "promises": [],
+    "theorem": [],
     "man_pages": [],
     "completion": [],
     "lower_addresses": [],

@@ -45,10 +45,10 @@ def wanted():
         yield "dimacs.5", "reason", reason
     for heading in re.findall(r"^### (.*)$", texts, re.MULTILINE):
         yield "dimacs.5", "heading", heading
-    batch = read("tools/dimacs-batch")
-    for option in re.findall(r'"(--?[a-z]+)"', batch):
+    for option in re.findall(r'"(--?[a-z]+)"', read("tools/dimacs_batch/options.py")):
         yield "dimacs-batch.1", "option", option
-    for column in re.findall(r'"(\w+)"', re.search(r"^COLUMNS = \[(.*)\]$", batch, re.MULTILINE)[1]):
+    rows = read("tools/dimacs_batch/rows.py")
+    for column in re.findall(r'"(\w+)"', re.search(r"^COLUMNS = \[(.*?)^\]$", rows, re.MULTILINE | re.DOTALL)[1]):
         yield "dimacs-batch.1", "column", f" {column} "
 
 

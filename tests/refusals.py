@@ -184,7 +184,7 @@ CLOSED = [
 # What is complained of arguments that ask for nothing, as a pattern. After the first line it is left out for
 # want of memory.
 USAGE = {
-    "convert foo odd": r"dimacs: usage\nno kind foo\nPrints its canonical form\n\nUsage: dimacs convert KIND FILE\n.*",
+    "convert foo odd": r"dimacs: usage\nno kind foo\nPrints the canonical form\n\nUsage: dimacs convert KIND FILE\n.*",
     "foo odd": r"dimacs: usage\nno command foo\ndimacs \d.*\nUsage: dimacs COMMAND FILE\.\.\.\n.*\n  convert KIND FILE .*\n",
 }
 NO_TEXT = "dimacs: usage\n"

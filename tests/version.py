@@ -72,9 +72,10 @@ def of_library(file, wanted):
 def of_python(file, wanted):
     """Yields what the package for Python names: a version as PEP 440 spells it."""
     environment = {**os.environ, "DIMACS_LIBRARY": os.path.abspath(file), "PYTHONPATH": f"{TOP}/lib/python"}
-    words = [sys.executable, "-B", "-c", "import dimacs; print(dimacs.__version__)"]
+    words = [sys.executable, "-B", "-c", "import dimacs; print(dimacs.__version__, dimacs.proved)"]
     ran = subprocess.run(words, capture_output=True, text=True, check=False, env=environment)
-    yield "dimacs.__version__", ran.stdout.strip().partition("+")[0], wanted.replace("-dev", ".dev0")
+    version = wanted.replace("-dev", ".dev0") + ("" if is_proved(file) else "+unproved")
+    yield "dimacs.__version__, dimacs.proved", ran.stdout.strip(), f"{version} {is_proved(file)}"
 
 
 def of_files(wanted):
@@ -84,6 +85,8 @@ def of_files(wanted):
     yield "dimacs.h", header, {"": f'"{wanted}"', **numbers}
     crate = [re.findall(r'^version = "(.*)"$', read(f"lib/rust/Cargo.{it}"), re.MULTILINE) for it in ("toml", "lock")]
     yield "the crate for Cargo", crate, [[wanted], [wanted]]
+    if os.path.exists(f"{TOP}/CITATION.cff"):
+        yield "CITATION.cff", re.findall(r'^version: "(.*)"$', read("CITATION.cff"), re.MULTILINE), [wanted]
     if os.path.exists(f"{TOP}/CHANGELOG.md"):
         yield "CHANGELOG.md", re.findall(r"^## ([^\s,]+)", read("CHANGELOG.md"), re.MULTILINE)[:1], [wanted]
 

@@ -100,7 +100,7 @@ class Definitions:
                 if not line.strip():
                     held = []
                 continue
-            if not start and not line.startswith(" ") and (name is None or not line.split(" ")[0] == name):
+            if not start and not line.startswith((" ", "}")) and (name is None or not line.split(" ")[0] == name):
                 held.append(line)
                 continue
             if name:

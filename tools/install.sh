@@ -62,7 +62,9 @@ programs() {
     put 755 "$BINDIR" "$build/dimacs"
     fill tools/dimacs-batch "$BINDIR/dimacs-batch"
     chmod 755 "$DESTDIR$BINDIR/dimacs-batch"
-    [ ! -d tools/dimacs_batch ] || tree "$DATADIR/dimacs/dimacs_batch" tools/dimacs_batch
+    tree "$DATADIR/dimacs/dimacs_batch" tools/dimacs_batch
+    copy 644 VERSION "$DATADIR/dimacs/dimacs_batch/VERSION"
+    copy 755 referee/referee.py "$DATADIR/dimacs/referee.py"
     for page in build/man/*.[15]; do
         [ ! -e "$page" ] || put 644 "$MANDIR/man${page##*.}" "$page"
     done

@@ -120,8 +120,8 @@ uint32_t dimacs_spread(uint32_t kind, const uint8_t *instance, size_t instance_l
  * flow is feasible, it hands out `v infeasible`, and only a set. Only for paths it reads the queries. Then it hands
  * out the lines that answer them, and only labels. If a text has a fault or a weight is negative, it hands out only
  * the line. It gives up after `limit` flows that aren't maximum (DIMACS_MAX), after `limit` steps to better flows
- * (DIMACS_MIN), or if the least cost is out of range. Paths have no limit. The length of the texts doesn't bound the
- * time, except for paths. */
+ * (DIMACS_MIN), or if the least cost is out of range. Paths have no limit; labels of more than 10^12 lines would be
+ * more than a text may have. The length of the texts doesn't bound the time, except for paths. */
 uint32_t dimacs_solve(uint32_t kind, const uint8_t *instance, size_t instance_length, const uint8_t *queries,
                       size_t queries_length, uint64_t limit, uint8_t *out, size_t room, size_t *needed,
                       uint8_t *solution, size_t solution_room, size_t *solution_needed, uint8_t *certificate,

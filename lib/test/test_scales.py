@@ -152,6 +152,48 @@ class Flows(unittest.TestCase):
         self.assertEqual(dimacs.certify_networkx_paths(graph, "a", {"a": 0, "b": 0.1}, scale=10).predecessors["b"], "a")
 
 
+@unittest.skipUnless(networkx, "no networkx")
+class Graphs(unittest.TestCase):
+    def drawn(self, chance, unit):
+        """A graph whose numbers are multiples of 1 / unit, in floats, and the same in whole numbers."""
+        graph = chance.choice([networkx.DiGraph, networkx.MultiDiGraph])()
+        nodes = chance.randrange(2, 6)
+        graph.add_nodes_from(range(nodes), demand=0)
+        for _ in range(chance.randrange(1, 9)):
+            data = {"capacity": chance.choice([INF, chance.randrange(12)]), "weight": chance.randrange(-1, 12)}
+            tail, head = chance.randrange(nodes), chance.randrange(nodes)
+            graph.add_edge(tail, head, **data)
+        for tail, head, data in graph.edges(data=True):
+            amount = chance.randrange(min(data["capacity"], 2) + 1)
+            graph.nodes[tail]["demand"] -= amount
+            graph.nodes[head]["demand"] += amount
+        scaled = graph.copy()
+        for data in [it for *_, it in scaled.nodes(data=True)] + [it for *_, it in scaled.edges(data=True)]:
+            data.update({name: number / unit for name, number in data.items()})
+        return graph, scaled
+
+    def test_what_networkx_finds(self):
+        chance = random.Random(6)
+        kinds = {"yes": 0, "unbounded": 0}
+        for _ in range(400):
+            unit = chance.choice([1, 4, 10])
+            whole, graph = self.drawn(chance, unit)
+            scale = chance.choice([unit, Decimal(1) / unit, 2 * unit, "exact" if unit != 10 else unit])
+            try:
+                wanted = Fraction(networkx.network_simplex(whole)[0], unit * unit)
+            except networkx.NetworkXUnbounded:
+                kinds["unbounded"] += 1
+                with self.assertRaises(networkx.NetworkXUnbounded):
+                    dimacs.solve_networkx_min(graph, scale=scale)
+                continue
+            kinds["yes"] += 1
+            cost, flow, prices = dimacs.solve_networkx_min(graph, scale=scale)
+            self.assertEqual(Fraction(cost), wanted)
+            self.assertEqual(Fraction(dimacs.certify_networkx_min(graph, flow, scale=scale).value), wanted)
+            self.assertEqual(Fraction(dimacs.judge_networkx_min(graph, flow, prices, scale=scale).value), wanted)
+        self.assertGreater(min(kinds.values()), 5, kinds)
+
+
 class Limitless(unittest.TestCase):
     """Capacities of inf."""
 

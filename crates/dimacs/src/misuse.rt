@@ -141,7 +141,12 @@ fn unknown(
     given: &str,
     words: &[&'static str],
 ) -> Result<String, AllocError> {
-    let mut line = format!(in alloc; "no {what} {given}")?;
+    let mut line = format!(in alloc; "no {what} ")?;
+    if given.chars().any(|it| it.is_control()) {
+        write!(line, "{given:?}")?;
+    } else {
+        line.push_str(given)?;
+    }
     if let Some(word) = nearest(alloc, given, words)? {
         write!(line, ": {word}?")?;
     }

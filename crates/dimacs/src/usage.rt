@@ -60,8 +60,8 @@ const LIMIT: &str = " [--limit N]";
 
 /// The commands, in the order of the usage text.
 pub static COMMANDS: [Command; 17] = [
-    Command("convert KIND FILE", "Prints its canonical form"),
-    Command("show KIND FILE", "Prints a line about it"),
+    Command("convert KIND FILE", "Prints the canonical form"),
+    Command("show KIND FILE", "Prints a line about FILE"),
     Command("judge-max INSTANCE SOLUTION CUT", "Is the flow maximum?"),
     Command(
         "judge-min INSTANCE SOLUTION POTENTIALS",
@@ -100,10 +100,10 @@ pub static COMMANDS: [Command; 17] = [
     ),
     Command(
         "spread-min INSTANCE SOLUTION OUT",
-        "The same, at least cost",
+        "Deals out at least cost",
     ),
-    Command("explain COMMAND FILE...", "Explains its refusal"),
-    Command("help [COMMAND]", "Prints this, or its usage"),
+    Command("explain COMMAND FILE...", "Explains a refusal"),
+    Command("help [COMMAND]", "Prints the usage"),
 ];
 
 /// What else there is to know about the commands whose names begin like this.

@@ -4,6 +4,10 @@
 
 #include <windows.h>
 
+/* Words that windows.h defines, and tests use as names. */
+#undef far
+#undef near
+
 enum { PROT_NONE, MAP_PRIVATE = 0, MAP_ANONYMOUS = 0, MAP_NORESERVE = 0 };
 #define MAP_FAILED NULL
 

@@ -1,0 +1,8 @@
+#!/bin/sh
+# The last job of slurm.sh: slurm_join.sh DIMACS_BATCH SHARDS TABLE
+batch=$1 shards=$2 table=$3
+set --
+for shard in $(seq "$shards"); do
+    [ ! -e "$table.$shard" ] || set -- "$@" "$table.$shard"
+done
+exec "$batch" --join --output "$table" "$@"

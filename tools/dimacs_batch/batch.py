@@ -1,0 +1,167 @@
+"""Judges all that is asked, and writes a row for each."""
+import collections
+import contextlib
+import os
+import shlex
+import sys
+import time
+
+from dimacs_batch import answers, evidence, fail, runs
+from dimacs_batch.keep import Keep
+from dimacs_batch.parallel import in_parallel
+from dimacs_batch.rows import COLUMNS, DECIDING, Rows
+from dimacs_batch.runs import CLASSES, FAILED, FAULTY, JUDGED, NO, NO_ANSWER, UNMATCHED, YES
+from dimacs_batch.table import Kept, Printed
+
+
+class Judge:
+    """Makes the row of a task: takes over an earlier one if all that decides it is the same."""
+
+    def __init__(self, options):
+        self.program = evidence.Program(options.program)
+        self.runs = runs.Runs(options.seconds)
+        self.limit = f"{options.seconds:g}" if options.seconds else ""
+        self.keep = Keep(options.keep) if options.keep else None
+
+    def row(self, item):
+        """The row, and whether it is an earlier one."""
+        _, task, old, name = item
+        row = dict.fromkeys(COLUMNS, "")
+        named = {"instance": task.instance, "answers": " ".join(task.answers), "solver": task.solver}
+        row.update(named, kind=task.kind, command=shlex.join(task.words), host=os.uname().nodename)
+        if task.reason:
+            return {**row, "verdict": task.reason, "class": NO_ANSWER if task.instance else UNMATCHED}, False
+        try:
+            texts = [evidence.text_of(it) for it in (task.instance, *task.answers)]
+        except OSError as error:
+            return {**row, "verdict": f"{error.filename}: {error.strerror}", "class": FAILED}, False
+        row.update(self.evidence(texts))
+        if old and self.decides(row, old) and (not self.keep or self.keep.has(old, name)):
+            return {**old, **named}, True
+        row.update(self.judged(task, name, row))
+        files = [task.instance, *task.answers, self.program.file]
+        texts.append(self.program.text)
+        if not all(map(evidence.is_unchanged, files, texts)):
+            row.update({"verdict": "a file was changed while it was judged", "value": "", "class": FAILED})
+        return row, False
+
+    def evidence(self, texts):
+        """The columns that show what was judged, and by what."""
+        return {
+            "size": str(texts[0].size),
+            "arcs": texts[0].arcs,
+            "instance_sha256": texts[0].sha256,
+            "answers_sha256": " ".join(it.sha256 for it in texts[1:]),
+            "limit": self.limit,
+            "version": self.program.version,
+            "proof": self.program.proof,
+            "program_sha256": self.program.text.sha256,
+        }
+
+    def decides(self, row, old):
+        return old["class"] in JUDGED and all(row[it] == old[it] for it in DECIDING)
+
+    def judged(self, task, name, row):
+        """Runs the command; the columns that say how it ended, and what was kept."""
+        made = self.keep and self.keep.made_by(task.words, name)
+        ended = self.runs.run([self.program.file, *task.words, *([made] if made else [])])
+        value = ended.line.split(" ")[2] if ended.line.startswith(("v max ", "v min ")) else ""
+        found = {
+            "verdict": ended.line,
+            "value": value,
+            "class": runs.class_of(task.words[0], ended),
+            "status": str(ended.status),
+            "seconds": f"{ended.seconds:.3f}",
+            "cpu": f"{ended.cpu:.3f}",
+            "memory": ended.memory,
+        }
+        if self.keep:
+            found.update(self.keep.take({**row, **found}, made or task.words[-1], bool(made), name))
+        return found
+
+
+class Counts:
+    """How many rows have which class, and how many were taken over, or made again though they were there."""
+
+    def __init__(self):
+        self.classes = collections.Counter()
+        self.taken_over = self.made_anew = 0
+
+    def add(self, row, was_taken_over=False, had_one=False):
+        self.classes[row["class"]] += 1
+        self.taken_over += was_taken_over
+        self.made_anew += had_one and not was_taken_over
+
+    def __str__(self):
+        line = ", ".join(f"{self.classes[it]} {it}" for it in CLASSES)
+        if self.taken_over or self.made_anew:
+            line += f"; {self.taken_over} taken over, {self.made_anew} made anew"
+        return line
+
+    def status(self):
+        """The exit status: whether all were yes, and if not, whether all were judged."""
+        if set(+self.classes) - {YES, NO, FAULTY}:
+            return 3
+        return 1 if self.classes[NO] or self.classes[FAULTY] else 0
+
+
+class Progress:
+    """Shows on a terminal how far it is, ten times in a second at most."""
+
+    def __init__(self, rows):
+        self.rows = rows
+        self.begun = time.monotonic()
+        self.shown, self.done, self.made = 0, 0, 0
+
+    def show(self, counts, was_taken_over):
+        self.done += 1
+        self.made += not was_taken_over
+        now = time.monotonic()
+        if sys.stderr.isatty() and now > self.shown + 0.1:
+            self.shown = now
+            left = (now - self.begun) / max(self.made, 1) * (self.rows - self.done)
+            line = f"{self.done} of {self.rows}: {counts}; {span(left)} left"
+            print(f"\r\x1b[K{line}", end="", file=sys.stderr, flush=True)
+
+    def end(self):
+        if sys.stderr.isatty():
+            print("\r\x1b[K", end="", file=sys.stderr)
+
+
+def span(seconds):
+    """A time in words."""
+    for unit, length in (("h", 3600), ("min", 60)):
+        if seconds >= 1.5 * length:
+            return f"{seconds / length:.1f} {unit}"
+    return f"{seconds:.0f} s"
+
+
+def asked(options):
+    """The list of what is asked."""
+    rows = Rows(options.shard)
+    for task in answers.tasks(options.places, options.answers, options.match, options.runs, options.show):
+        rows.ask(task)
+    if not rows.count:
+        fail(f"{' '.join(options.places)}: no instance, and no answer")
+    return rows
+
+
+def judge_all(options, writer):
+    """Writes the table, taking up what an earlier run wrote; what it counts."""
+    rows, judge, counts = asked(options), Judge(options), Counts()
+    table = Kept(options.output, writer) if options.output else Printed(writer)
+    table.begin(rows)
+    progress = Progress(rows.in_shard())
+    todo = ((number, task, old, rows.file_name(number, task)) for number, task, old in rows.todo())
+    try:
+        with contextlib.closing(in_parallel(options.jobs, judge.row, todo, judge.runs.end)) as found:
+            for (number, _, old, _), (row, was_taken_over) in found:
+                row.update(rows.place_of(number))
+                rows.take(number, row)
+                table.add(row)
+                counts.add(row, was_taken_over, bool(old) and old["class"] in JUDGED)
+                progress.show(counts, was_taken_over)
+    finally:
+        progress.end()
+        table.end(rows)
+    return counts

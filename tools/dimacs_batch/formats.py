@@ -1,0 +1,116 @@
+"""How a table is written: as CSV or JSON, with all columns, or to be read."""
+import csv
+import json
+import os
+import re
+
+from dimacs_batch.rows import COLUMNS
+
+# The columns of a table that is read: their titles, and whether they are numbers.
+READ = {
+    "instance": ("instance", False),
+    "solver": ("solver", False),
+    "arcs": ("arcs", True),
+    "class": ("class", False),
+    "verdict": ("verdict", False),
+    "seconds": ("seconds", True),
+    "memory": ("KiB", True),
+}
+
+
+def read_cells(row):
+    """The cells of a row that is read. An answer that belongs to no instance stands in the instance's place."""
+    name = os.path.basename(row["instance"] or row["answers"])
+    return [name, *(row[it] for it in list(READ)[1:])]
+
+
+class Csv:
+    """A line of titles, then a line for each row."""
+
+    def __init__(self, out):
+        self.writer = csv.DictWriter(out, COLUMNS, lineterminator="\n")
+        self.row = self.writer.writerow
+
+    def head(self):
+        self.writer.writeheader()
+
+    def end(self):
+        pass
+
+
+class JsonLines:
+    """A JSON object for each row, on a line."""
+
+    def __init__(self, out):
+        self.out = out
+
+    def head(self):
+        pass
+
+    def row(self, row):
+        self.out.write(json.dumps({it: row[it] for it in COLUMNS}) + "\n")
+
+    def end(self):
+        pass
+
+
+class ToRead:
+    """A table of some columns, and a line about the programs that judged."""
+
+    def __init__(self, out):
+        self.out, self.programs = out, set()
+
+    def row(self, row):
+        if row["program_sha256"]:
+            self.programs.add((row["version"], row["proof"], row["program_sha256"]))
+        self.out.write(self.line([self.escaped(it) for it in read_cells(row)]))
+
+    def judged_by(self):
+        """A sentence for each program."""
+        for version, proof, sha256 in sorted(self.programs):
+            yield f"Judged by dimacs {version} ({proof}), whose program has the SHA-256 {sha256}."
+
+
+class Markdown(ToRead):
+    """A table of Markdown."""
+
+    def escaped(self, text):
+        return re.sub(r"([\\`*_{}\[\]<>|~])", r"\\\1", text).replace("\n", " ")
+
+    def line(self, cells):
+        return f"| {' | '.join(cells)} |\n"
+
+    def head(self):
+        self.out.write(self.line([title for title, _ in READ.values()]))
+        self.out.write(self.line(["--:" if is_number else "---" for _, is_number in READ.values()]))
+
+    def end(self):
+        for sentence in self.judged_by():
+            self.out.write(f"\n{self.escaped(sentence)}\n")
+
+
+class Latex(ToRead):
+    """A `tabular` of LaTeX."""
+
+    SPECIAL = {"\\": r"\textbackslash{}", "~": r"\textasciitilde{}", "^": r"\textasciicircum{}", "\n": " "}
+
+    def escaped(self, text):
+        text = re.sub(r"[\\~^\n]|([{}$&#_%])", lambda it: self.SPECIAL.get(it[0]) or f"\\{it[1]}", text)
+        return re.sub(r"[<>|]", r"$\g<0>$", text)
+
+    def line(self, cells):
+        return f"{' & '.join(cells)} \\\\\n"
+
+    def head(self):
+        form = "".join("r" if is_number else "l" for _, is_number in READ.values())
+        self.out.write(f"\\begin{{tabular}}{{{form}}}\n\\hline\n")
+        self.out.write(self.line([title for title, _ in READ.values()]) + "\\hline\n")
+
+    def end(self):
+        self.out.write("\\hline\n\\end{tabular}\n")
+        for sentence in self.judged_by():
+            self.out.write(f"\n{self.escaped(sentence)}\n")
+
+
+FORMATS = {"csv": Csv, "jsonl": JsonLines, "markdown": Markdown, "latex": Latex}
+TAKEN_UP = ("csv", "jsonl")  # the formats that have all of a row

@@ -1,0 +1,64 @@
+"""Joins the tables of the shards of a list."""
+import sys
+
+from dimacs_batch import fail
+from dimacs_batch.batch import Counts
+from dimacs_batch.rows import DECIDING, Rows
+from dimacs_batch.runs import JUDGED
+from dimacs_batch.table import Printed, place_of, put_table, read_table
+
+# The columns that are the same wherever a row is made.
+COMPARED = [*DECIDING, "instance", "answers", "solver", "kind", "verdict", "value", "class", "status"]
+
+
+def compare(row, other, table, before):
+    """Fails if two tables have different rows of one number, and both were judged."""
+    for column in COMPARED:
+        if row[column] != other[column]:
+            fail(f"row {row['number']}: {column} is {row[column]} in {table}, and {other[column]} in {before}")
+
+
+def joined(tables):
+    """The rows of all tables, by number."""
+    rows, lists = Rows(), {}
+    for table in tables:
+        for row in read_table(table):
+            lists.setdefault((row["list"], row["of"]), table)
+            if len(lists) > 1:
+                fail(f"{table}: has rows of another list than {tables[0]}")
+            before, other = rows.joined(int(row["number"]))
+            if other and before != table and row["class"] in JUDGED and other["class"] in JUDGED:
+                compare(row, other, table, before)
+            elif not other or before == table or row["class"] in JUDGED:
+                rows.join(int(row["number"]), table, row)
+    return rows, int(next(iter(lists))[1]) if lists else 0
+
+
+def gaps(rows, count):
+    """Yields the first and the last of rows that stand side by side and aren't there."""
+    expected = 1
+    for row in rows.in_order():
+        number = int(row["number"])
+        if number > expected:
+            yield expected, number - 1
+        expected = number + 1
+    if expected <= count:
+        yield expected, count
+
+
+def join(options, writer):
+    """Writes the rows of all tables as one, and names what none of them has; the exit status."""
+    rows, count = joined(options.places)
+    counts, missing = Counts(), 0
+    for row in rows.in_order():
+        counts.add(row)
+    if options.output:
+        put_table(place_of(options.output), writer, rows.in_order())
+    else:
+        Printed(writer).put_all(rows.in_order())
+    for first, last in gaps(rows, count):
+        missing += last - first + 1
+        what = f"row {first} is" if first == last else f"rows {first} to {last} are"
+        print(f"{what} in no table", file=sys.stderr)
+    print(f"{counts}" + (f"; {missing} in no table" if missing else ""), file=sys.stderr)
+    return 3 if missing or not count else counts.status()

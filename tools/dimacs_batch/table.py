@@ -1,0 +1,176 @@
+"""The table: in a file, which can be taken up again, or printed."""
+import csv
+import fcntl
+import json
+import os
+import stat
+import sys
+
+from dimacs_batch import ANY_NAMES, fail
+from dimacs_batch.rows import COLUMNS
+
+csv.field_size_limit(1 << 24)
+
+
+def in_words(error, name):
+    """Fails with what the system says of a file."""
+    fail(f"{error.filename or name}: {error.strerror}")
+
+
+# ---- a table that is read
+
+
+def rows_of_csv(lines, file):
+    """The rows of a CSV, but for one that is torn."""
+    table = csv.reader(lines, strict=True)
+    try:
+        head = next(table, COLUMNS)
+        if head != COLUMNS:
+            fail(f"{file}: not a table of dimacs-batch")
+        for fields in table:
+            if len(fields) == len(COLUMNS):
+                yield dict(zip(COLUMNS, fields))
+    except csv.Error as error:
+        if table.line_num < 2:
+            fail(f"{file}: not a table of dimacs-batch: {error}")
+
+
+def rows_of_json(lines, file):
+    """The rows of a text with a JSON object on each line, but for one that is torn."""
+    for line in lines:
+        try:
+            row = json.loads(line)
+        except ValueError:
+            continue
+        if not isinstance(row, dict) or list(row) != COLUMNS:
+            fail(f"{file}: not a table of dimacs-batch")
+        yield row
+
+
+def read_table(file):
+    """Yields the rows of a table, and those that a run which was killed had added beside it."""
+    for each in [it for it in (file, f"{file}.part") if os.path.exists(it)] or [file]:
+        with open(each, newline="", **ANY_NAMES) as lines:
+            is_json = lines.read(1) == "{"
+            lines.seek(0)
+            yield from (rows_of_json if is_json else rows_of_csv)(lines, each)
+
+
+# ---- a table that is written
+
+
+def place_of(file):
+    """Where a file lies, with links followed. One that isn't a regular file isn't replaced by one."""
+    place = os.path.realpath(file)
+    for it in (place, f"{place}.part"):
+        if os.path.lexists(it) and not stat.S_ISREG(os.lstat(it).st_mode):
+            fail(f"{file}: not a regular file")
+    return place
+
+
+def put_file(place, fill):
+    """Writes a file beside its place, and then puts it there: so it is whole at any time."""
+    new = f"{place}.new"
+    try:
+        with open(new, "w", newline="", **ANY_NAMES) as out:
+            fill(out)
+            out.flush()
+            os.fsync(out.fileno())
+        if os.path.exists(place):
+            os.chmod(new, stat.S_IMODE(os.stat(place).st_mode))
+        os.replace(new, place)
+    except OSError as error:
+        in_words(error, place)
+    finally:
+        if os.path.exists(new):
+            os.unlink(new)
+
+
+def fill(writer, rows):
+    """Writes all of a table."""
+    writer.head()
+    for row in rows:
+        writer.row(row)
+    writer.end()
+
+
+def put_table(place, writer, rows):
+    put_file(place, lambda out: fill(writer(out), rows))
+
+
+class Kept:
+    """A table in a file. While a run goes on its rows are added to FILE.part, as they come; at its end all of them are
+    put into the file, in order. FILE.part is locked, so that no other run writes the same table."""
+
+    def __init__(self, file, writer):
+        self.file, self.place, self.writer = file, place_of(file), writer
+        try:
+            self.part = self.locked(f"{self.place}.part")
+        except OSError as error:
+            in_words(error, file)
+
+    def locked(self, name):
+        while True:
+            part = open(name, "a", newline="", **ANY_NAMES)
+            try:
+                fcntl.flock(part, fcntl.LOCK_EX | fcntl.LOCK_NB)
+            except BlockingIOError:
+                fail(f"{self.file}: another dimacs-batch writes it")
+            # It may have been removed by the run that had the lock.
+            if os.path.exists(name) and os.path.samestat(os.fstat(part.fileno()), os.stat(name)):
+                return part
+            part.close()
+
+    def begin(self, rows):
+        """Takes the rows of earlier runs, and puts them into the file."""
+        try:
+            if not all([rows.take_old(row) for row in read_table(self.place)]):
+                fail(f"{self.file}: has rows of other commands; name another file")
+        except SystemExit:
+            if not os.path.getsize(self.part.name):
+                os.unlink(self.part.name)
+            raise
+        put_table(self.place, self.writer, rows.in_order(earlier=True))
+        self.part.truncate(0)
+
+    def add(self, row):
+        try:
+            self.part.write(json.dumps(row) + "\n")
+            self.part.flush()
+        except OSError as error:
+            in_words(error, self.part.name)
+
+    def end(self, rows):
+        put_table(self.place, self.writer, rows.in_order(earlier=True))
+        os.unlink(self.part.name)
+        self.part.close()
+
+
+class Printed:
+    """A table on the standard output: each row is written once those before it are there."""
+
+    def __init__(self, writer):
+        self.writer = writer(sys.stdout)
+
+    def begin(self, rows):
+        self.rows = rows
+        self.in_words(self.writer.head)
+
+    def add(self, _):
+        for row in self.rows.next_ones():
+            self.in_words(self.writer.row, row)
+
+    def end(self, _):
+        self.in_words(self.writer.end)
+
+    def put_all(self, rows):
+        self.in_words(fill, self.writer, rows)
+
+    def in_words(self, put, *what):
+        """Writes, or ends in words if the output is closed or full."""
+        try:
+            put(*what)
+            sys.stdout.flush()
+        except OSError as error:
+            os.dup2(os.open(os.devnull, os.O_WRONLY), sys.stdout.fileno())  # what is left is of no use
+            in_words(error, "standard output")

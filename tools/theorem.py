@@ -1,0 +1,373 @@
+#!/usr/bin/env python3
+"""Makes the page of all that the judge's contract cites: tools/theorem.py [--check | --html FILE]
+
+It writes docs/THEOREM.md, or with --html the same as one page of HTML, where each name in a definition is a link to its
+own. tools/theorem.md has the text, with these lines between:
+
+    @contract FILE FUNCTION     the declaration of a public function, without its body
+    @trait FILE NAME            a trait of Rust
+    @declared FILE NAME..       types of Rust of one file
+    @define NAME..              definitions, one after another, of one file of specs
+    @table NAME                 a definition that has a line for each reason, cut short: each gives the reason's own name
+    @kit NAME : MEANING         a row of the table of what is cited of the kit
+    @adds command|library       the names of what wider contracts cite beside that
+
+tools/believed.py finds what the contract cites. The script ends with 1 if something cited is missing on the page, if
+something there isn't cited, stands twice or before what it uses, or if a definition has neither a comment nor its name
+in the text above it. With --check it writes nothing, and also ends with 1 if the page isn't what it would write.
+"""
+import functools
+import html
+import itertools
+import os
+import re
+import sys
+import textwrap
+
+import believed
+import man_pages
+
+ROOT = believed.ROOT
+FRAME = f"{ROOT}/tools/theorem.md"
+PAGE = f"{ROOT}/docs/THEOREM.md"
+CIRCLE = "judge"
+
+# A kit's module, or that of a type of Rust.
+KIT = re.compile(r"Rattle\.(std|core)\.specs\.")
+DECLARED = re.compile(r"\.specs\.declared\..*?([A-Z]\w*)")
+
+STYLE = """body { max-width: 60em; margin: 2em auto; padding: 0 1em; font: 17px/1.5 serif; color: #111; background: #fff }
+pre, code { font: 14px/1.45 monospace } pre { white-space: pre-wrap; padding: .7em; background: #f5f5f2 }
+pre a, code a { color: inherit; text-decoration: underline dotted #888 } :target { background: #fe9 }
+table { border-collapse: collapse } td, th { border: 1px solid #bbb; padding: .2em .5em; text-align: left }"""
+
+
+class Page:
+    """What the frame asks for, block by block, and what is wrong with it."""
+
+    def __init__(self, defined, circle, outer):
+        self.defined, self.circle, self.outer = defined, circle, outer
+        self.by_name = {name: (module, name) for module, name in circle}
+        names = [name for _, name in circle]
+        self.wrong = [f"two of this name: {it}" for it in sorted(set(names)) if names.count(it) > 1]
+        self.shown, self.types, self.kit = set(), set(), {}
+        self.text, self.parts = "", []
+
+    # ---- what each line of the frame asks for
+
+    def contract(self, path, name):
+        item = re.search(rf"^ *pub fn {name}\b.*?(?=^ *\{{$)", source(path), re.M | re.S)
+        self.add_code(textwrap.dedent(item[0]).rstrip(), "rust")
+
+    def trait(self, path, name):
+        item = re.search(rf"^pub trait {name} .*?^\}}", source(path), re.M | re.S)
+        self.add_code(item[0], "rust")
+
+    def declared(self, path, *names):
+        code = []
+        for name in names:
+            item = re.search(rf"^pub (?:enum|struct) {name} .*?^\}}", source(path), re.M | re.S)
+            self.types.add(name)
+            code.append(shortened(item[0]))
+        self.add_code("\n".join(code), "rust", names)
+
+    def define(self, *names):
+        self.add_definitions(names, [self.defined.blocks[it] for it in map(self.place, names) if it])
+
+    def table(self, name):
+        first, *rows = self.defined.blocks[self.place(name)]
+        own = re.compile(rf'{name} (\w+) = codes "\1"')
+        self.wrong += [f"{name}: not the reason's own name: {it}" for it in rows if not own.fullmatch(it)]
+        self.add_definitions([name], [[first, *rows[:2], f"-- and so on, {len(rows)} lines"]])
+
+    def kit_table(self):
+        cited = {}
+        for module, name in sorted(self.named() - set(self.circle)):
+            if KIT.match(module):
+                cited.setdefault(name, KIT.sub("", module))
+        self.wrong += [f"missing in the table of the kit: {it}" for it in sorted(cited.keys() - self.kit.keys())]
+        self.wrong += [f"not cited of the kit: {it}" for it in sorted(self.kit.keys() - cited.keys())]
+        rows = [f"| {as_code(name)} | {meaning} | `{cited.get(name, '')}` |" for name, meaning in self.kit.items()]
+        self.add_text("\n".join(["| Name | Meaning | Module |", "|---|---|---|", *rows]))
+
+    def adds(self, circle):
+        items = []
+        for module in believed.modules_in_order(self.defined, self.outer[circle]):
+            names = [it for it in self.defined.blocks if it[0] == module and it in self.outer[circle]]
+            if names:
+                lines = believed.lines_of(self.defined, names)
+                listed = ", ".join(f"`{name}`" for _, name in names)
+                path = os.path.relpath(self.defined.files[names[0]], f"{ROOT}/docs")
+                items.append(filled(f"- [{module_of(names[0])}]({path}), {lines} line{'s' * (lines > 1)}: {listed}"))
+        self.add_text("\n".join(items))
+
+    # ---- what they have in common
+
+    def place(self, name):
+        if name not in self.by_name:
+            self.wrong.append(f"not cited: {name}")
+        return self.by_name.get(name)
+
+    def named(self):
+        """All that the contract and the definitions of the circle name."""
+        return set().union(believed.named_by(*believed.CIRCLES[CIRCLE]), *(self.defined.rests_on[it] for it in self.circle))
+
+    def anchored(self):
+        """All names that have a place on the page of HTML."""
+        return {*self.shown, *self.types, *(it for it in self.kit if it.isidentifier() and it.isascii())}
+
+    def names_in(self, name):
+        """Those of them that a definition uses."""
+        below = self.defined.rests_on[self.by_name[name]]
+        types = {it[1] for it in map(DECLARED.search, (module for module, _ in below)) if it}
+        return {name, *types, *(it for _, it in below)} & self.anchored()
+
+    def add_definitions(self, names, blocks):
+        for name in names:
+            self.check(name)
+        modules = {module_of(self.by_name[it]) for it in names if it in self.by_name}
+        if len(modules) > 1:
+            self.wrong.append(f"of several files: {' '.join(names)}")
+        self.add_code(f"---- {' '.join(modules)}\n{spaced(map(bare, blocks))}", "text", names)
+
+    def check(self, name):
+        it = self.by_name.get(name)
+        if name in self.shown:
+            self.wrong.append(f"twice: {name}")
+        self.shown.add(name)
+        if not it:
+            return
+        for below in sorted(self.defined.rests_on[it] & set(self.circle)):
+            if below[1] not in self.shown:
+                self.wrong.append(f"{name} stands before {below[1]}, which it uses")
+        for module, below in sorted(self.defined.rests_on[it]):
+            type_of = DECLARED.search(module)
+            if type_of and type_of[1] not in self.types:
+                self.wrong.append(f"{name} stands before {type_of[1]}, which it uses")
+        if not self.defined.blocks[it][0].startswith("--") and f"`{name}" not in self.text:
+            self.wrong.append(f"{name} has no sentence")
+
+    def add_text(self, text):
+        self.text += text + "\n"
+        self.parts.append(("prose", text, ()))
+
+    def add_code(self, code, kind, names=()):
+        if self.parts and self.parts[-1][0] == kind:
+            _, before, earlier = self.parts.pop()
+            code, names = f"{before}\n\n{code}", [*earlier, *names]
+        self.parts.append((kind, code, names))
+
+    def end(self):
+        types = {it[1] for it in map(DECLARED.search, (module for module, _ in self.named())) if it}
+        self.wrong += [f"missing: {it}" for it in sorted(types - self.types | self.by_name.keys() - self.shown)]
+        self.wrong += [f"not cited: {it}" for it in sorted(self.types - types)]
+
+
+def source(path):
+    return read(f"{ROOT}/crates/{path}")
+
+
+def module_of(it):
+    return it[0].removeprefix("Rattle.").replace(".specs.", ": ")
+
+
+def bare(block):
+    """A definition without the words that each has, with the types of its arguments beside their names."""
+    comments = list(itertools.takewhile(lambda it: it.startswith("--"), block))
+    lines = [re.sub(r"^( *)(?:abbrev )?pub ", r"\1", it) for it in block[len(comments) :]]
+    return "\n".join([*comments, *fused(lines)])
+
+
+def spaced(blocks):
+    """Definitions one after another: with a line between two, unless each has one line."""
+    text, before = "", ""
+    for block in blocks:
+        text += ("" if not before else "\n\n" if "\n" in before + block else "\n") + block
+        before = block
+    return text
+
+
+def fused(lines):
+    """The lines of a definition, with its type and its equation in one, if it has one for all arguments."""
+    head = re.match(r"(\w+) : (.*)$", lines[0])
+    equation = re.match(r"(\w+)((?: \w+)*) =(.*)", lines[1]) if head and len(lines) > 1 else None
+    if not equation or any(not it.startswith((" ", "}")) for it in lines[2:]):
+        return lines
+    types, names = re.split(r" → (?![^()]*\))", head[2]), equation[2].split()
+    given = [it for it in types if it.startswith("{")]
+    taken, left = types[len(given) :][: len(names)], types[len(given) + len(names) :]
+    if not left or any(it.count("(") != it.count(")") for it in types):
+        return lines
+    groups = []
+    for name, its_type in zip(names, (re.sub(r"^\(([^()]*)\)$", r"\1", it) for it in taken)):
+        if groups and groups[-1][1] == its_type:
+            groups[-1][0].append(name)
+        else:
+            groups.append(([name], its_type))
+    told = [*given, *(f"({' '.join(names)} : {its_type})" for names, its_type in groups)]
+    start = f"{' '.join([head[1], *told])} : {' → '.join(left)} ="
+    if len(start + equation[3]) <= 120:
+        return [start + equation[3], *lines[2:]]
+    return [start, *([f"   {equation[3]}"] if equation[3] else []), *lines[2:]]
+
+
+def filled(item):
+    return textwrap.fill(item, 120, subsequent_indent="  ", break_long_words=False, break_on_hyphens=False)
+
+
+def as_code(name):
+    return f"`{name.replace('◌', ' ').strip()}`".replace("|", "\\|")
+
+
+def shortened(item):
+    """A type of Rust, each variant or field on a line with its comment; variants that have none stand side by side."""
+    item = re.sub(r"^ *#\[.*\n", "", item, flags=re.M)
+    item = re.sub(r"\{\n((?: {8}.*\n)+) {4}\}", lambda it: "{ " + " ".join(it[1].split()).rstrip(",") + " }", item)
+    item = re.sub(r"^ */// (.*)\n( *)(.*)$", r"\2\3  // \1", item, flags=re.M)
+    head, *inner, end = item.split("\n")
+    if all(re.fullmatch(r" +\w+,", it) for it in inner):
+        return f"{head} {' '.join(it.strip() for it in inner).rstrip(',')} {end}"
+    return item
+
+
+@functools.cache
+def cited():
+    """The definitions, those that the judge's contract cites, and those that wider ones cite beside them."""
+    defined = believed.all_definitions()
+    circles = {name: believed.reached_from(defined, believed.named_by(*it)) for name, it in believed.CIRCLES.items()}
+    outer = {name: it - circles[CIRCLE] for name, it in circles.items()}
+    outer["library"] = believed.reached_from(defined, believed.named_by_all()) - set().union(*circles.values())
+    return defined, circles[CIRCLE], outer
+
+
+def build(frame):
+    """The page of this frame."""
+    page = Page(*cited())
+    for paragraph in frame.strip().split("\n\n"):
+        follow(page, paragraph)
+    page.end()
+    return page
+
+
+def follow(page, paragraph):
+    """Adds a paragraph of the frame, or what its lines ask for."""
+    if not paragraph.startswith("@"):
+        page.add_text(paragraph)
+        return
+    for line in re.sub(r"\n  +", " ", paragraph).split("\n"):
+        asked, *words = line.split()
+        if asked == "@kit":
+            page.kit[words[0]] = line.split(" : ", 1)[1]
+        else:
+            getattr(page, asked[1:])(*words)
+    if paragraph.startswith("@kit"):
+        page.kit_table()
+
+
+def markdown(page):
+    blocks = [text if kind == "prose" else f"```{kind}\n{text}\n```" for kind, text, _ in page.parts]
+    return "\n\n".join(blocks) + "\n"
+
+
+# ---- the page of HTML
+
+
+def html_page(page):
+    body = []
+    for kind, text, names in page.parts:
+        if kind == "prose":
+            body += [html_block(page, *it) for it in man_pages.blocks(text)]
+        else:
+            body.append(f"<pre>{linked(page, text, names)}</pre>")
+    head = f'<!DOCTYPE html>\n<html lang="en"><meta charset="utf-8"><title>The theorem</title>\n<style>{STYLE}</style>\n'
+    return head + "\n".join(body).replace("</ul>\n<ul>\n", "\n") + "\n</html>\n"
+
+
+def linked(page, text, names=()):
+    """Code with links from names to their definitions. Of these names it has the definitions."""
+    here, known, lines = set(names), page.anchored(), []
+
+    def token(it):
+        name, word = it[0], html.escape(it[0])
+        if name in here:
+            here.remove(name)
+            return f'<b id="{anchor(name)}">{word}</b>'
+        is_field = it.start() and it.string[it.start() - 1] == "."
+        return f'<a href="#{anchor(name)}">{word}</a>' if name in known and not is_field else word
+
+    for line in text.split("\n"):
+        starts = re.match(r"(?:record |data )?(\w+)", line)
+        if starts and starts[1] in names and starts[1] in page.by_name:
+            known = page.names_in(starts[1])
+        lines.append(html.escape(line) if line.startswith("--") else believed.WORD.sub(token, line))
+    return "\n".join(lines)
+
+
+def anchor(name):
+    return f"of-{html.escape(name)}"
+
+
+def html_block(page, kind, lines):
+    if kind == "heading":
+        marks, title = lines[0].split(" ", 1)
+        return f'<h{len(marks)} id="{man_pages.slug(title)}">{inline(page, title)}</h{len(marks)}>'
+    if kind == "item":
+        return f"<ul>\n<li>{inline(page, ' '.join(lines)[2:])}\n</ul>"
+    if kind == "table":
+        rows = [re.split(r" (?<!\\)\| ", line.strip("| ")) for line in lines if not line.startswith("|--")]
+        cells = ["<td>".join([first_cell(page, row[0]), *(inline(page, it) for it in row[1:])]) for row in rows]
+        return "<table>\n" + "\n".join(f"<tr><td>{it}" for it in cells) + "\n</table>"
+    return f"<p>{inline(page, ' '.join(lines))}"
+
+
+def first_cell(page, text):
+    """The first cell of a row. If it is a name of the kit alone, links to the name lead here."""
+    name = text.strip("`")
+    return f'<code id="{anchor(name)}">{name}</code>' if name in page.kit and text == f"`{name}`" else inline(page, text)
+
+
+def inline(page, text):
+    parts = []
+    for part in re.split(r"(`[^`]+`)", text.replace("\\|", "|")):
+        if part.startswith("`"):
+            parts.append(f"<code>{linked(page, part[1:-1])}</code>")
+        else:
+            parts.append(re.sub(r"\*\*([^*]+)\*\*", r"<strong>\1</strong>", html.escape(part)))
+    # the page of HTML stands beside docs
+    text = re.sub(r"\]\((?=\w)", "](../docs/", "".join(parts))
+    return re.sub(r"\[([^\]]*)\]\(([^)]*)\)", r'<a href="\2">\1</a>', text)
+
+
+def unlike(text):
+    """What is wrong if the page that is kept isn't this text."""
+    return [] if os.path.exists(PAGE) and text == read(PAGE) else ["docs/THEOREM.md isn't what tools/theorem.py writes"]
+
+
+def main(words):
+    page = build(read(FRAME))
+    wrong = page.wrong
+    if words == ["--check"]:
+        wrong = wrong + unlike(markdown(page))
+    elif words[:1] == ["--html"] and len(words) == 2:
+        write(words[1], html_page(page))
+    elif not words:
+        write(PAGE, markdown(page))
+    else:
+        sys.exit("usage: tools/theorem.py [--check | --html FILE]")
+    print("\n".join(wrong), end="\n" if wrong else "")
+    return 1 if wrong else 0
+
+
+def read(path):
+    with open(path, encoding="utf-8") as it:
+        return it.read()
+
+
+def write(path, text):
+    os.makedirs(os.path.dirname(os.path.abspath(path)), exist_ok=True)
+    with open(path, "w", encoding="utf-8") as it:
+        it.write(text)
+
+
+if __name__ == "__main__":
+    sys.exit(main(sys.argv[1:]))
