@@ -26,8 +26,9 @@ TOP = os.path.dirname(os.path.dirname(os.path.abspath(__file__)))
 # What the empty Debian has beside its base.
 TOOLS = "python3,python3-venv,python3-numpy,gcc,libc6-dev,cmake,make,pkg-config,man-db,bash-completion"
 
-# The packages for Debian, in an order in which they can be installed, and the folder of their libraries.
-DEBIAN = ["libdimacs0", "libdimacs-dev", "python3-dimacs", "dimacs"]
+# The packages for Debian, in an order in which dpkg can install them, and the folder of their libraries. libdimacs-dev
+# takes over files of the old dimacs, and waits for the new one.
+DEBIAN = ["dimacs", "libdimacs0", "libdimacs-dev", "python3-dimacs"]
 LIBRARIES = "lib/x86_64-linux-gnu"
 
 # The package of version 0.1.0: one with all files, of which these are some.
@@ -102,6 +103,7 @@ class Packages:
         ran = subprocess.run(
             words, cwd=self.place, env=self.environment, capture_output=True, text=True, check=False, **more
         )
+        self.succeeded = ran.returncode == 0
         self.message = f"$ {' '.join(words)}: status {ran.returncode}\n{ran.stdout}{ran.stderr}"
         return ran.stdout + ran.stderr
 
@@ -214,7 +216,8 @@ def test_upgrade(its, packages):
     its.run("sh", "-c", "dpkg-deb -b old old.deb && dpkg -i old.deb")
     its.expect("installing version 0.1.0", os.path.exists("/usr/lib/libdimacs.so.0.1.0"))
     for how in ("installing over 0.1.0", "installing again"):
-        its.expect(how, its.run("dpkg", "-i", *packages).find("error") < 0)
+        its.run("dpkg", "-i", *packages)
+        its.expect(how, its.succeeded)
     its.expect("the old library is gone", not os.path.exists("/usr/lib/libdimacs.so.0.1.0"))
     its.expect("the new one is found", "libdimacs.so.0" in its.run("ldconfig", "-p"))
 
