@@ -129,6 +129,10 @@ proved-only:
 	@echo "make dist: packages are made of what is proved alone" >&2
 	@exit 2
 
+## make release: goes through what a release wants, runs the gate, dist and check-packages, and prints the tag's text
+release:
+	tools/release.py
+
 ## make theorem: writes docs/THEOREM.md, and build/THEOREM.html with links from names to their definitions
 theorem:
 	tools/theorem.py
@@ -148,4 +152,4 @@ include targets.mk
 .PRECIOUS: build/dimacs build/dimacs_c.a build/dimacs_c.bc %/dimacs.o %/libdimacs.a %/libdimacs.so.0 \
     %/libdimacs.so
 .PHONY: all help quick check prove prove-all proved-by-ci install uninstall linked dist check-packages proved-only \
-    theorem bench clean FORCE
+    release theorem bench clean FORCE

@@ -35,6 +35,7 @@ SCRIPTS = {
     "shown_runs": ["{build}/dimacs"],
     "version": ["{build}"],
     "abi": ["{build}"],
+    "release": [],
     "install": ["{build}"],
     "promises": [],
     "theorem": [],

@@ -29,9 +29,8 @@ FILES = {
     "dimacs": ["*"],
 }
 
-# What a release names, and nobody did.
-NO_MAINTAINER = """make dist: who makes packages of a release is their contact: MAINTAINER="Name <name@example.org>" names you
-"""
+NO_MAINTAINER = 'make dist: name the contact of the packages as MAINTAINER="Name <name@example.org>"'
+CONTACT = r"[^<>]+ <[^<>@\s]+@[^<>@\s]+>"
 PLACEHOLDER = "nobody yet <nobody@example.invalid>"
 
 
@@ -56,8 +55,8 @@ def files_of(folder):
 def maintainer(version):
     """Who the packages name as their contact. A release isn't made without one."""
     named = os.environ.get("MAINTAINER") or ("" if "-" not in version else PLACEHOLDER)
-    if not re.fullmatch(r"[^<>]+ <[^<>@\s]+@[^<>@\s]+>", named):
-        sys.exit(f"{NO_MAINTAINER}{f'and not {named}' if named else ''}".strip())
+    if not re.fullmatch(CONTACT, named):
+        sys.exit(f"{NO_MAINTAINER}, and not as {named}" if named else NO_MAINTAINER)
     return named
 
 
