@@ -487,6 +487,8 @@ class Programs(Scipy):
             program = {"c": [1, 1], "A_eq": A_eq, "b_eq": [1] * len(A_eq)}
             result = optimize.OptimizeResult(x=[1, 1], fun=2, status=0)
             self.raises(ValueError, message, ours.certify_linprog, result, **program)
+        program = {"c": [1], "A_eq": [[numpy.nan]], "b_eq": [1]}
+        self.raises(ValueError, r"A_eq\[0, 0\] is nan", ours.certify_linprog, result, **program)
         free = {"c": [1], "A_eq": [[1]], "b_eq": [1], "bounds": (None, None)}
         self.raises(ValueError, r"x\[0\] has no lower bound", ours.certify_linprog, result, **free)
 
@@ -505,6 +507,60 @@ class Programs(Scipy):
         self.assertEqual(no.arc, "x[0]")
         self.raises(dimacs.Refused, "ValueDiffers: 23 is claimed, it is 22", certify, [5.0, 1.0], 23)
         self.raises(ValueError, r"x\[0\] is 4.5, not a whole number: the nearest is 4", certify, [4.5, 1.5], 24)
+        self.raises(ValueError, r"x\[1\] is nan, not a finite number", certify, [5.0, numpy.nan], 22)
+        self.raises(ValueError, "fun is nan, not a finite number", certify, [5.0, 1.0], numpy.nan)
+        self.raises(ValueError, "fun is inf, not a finite number", certify, [5.0, 1.0], numpy.inf)
+
+    def test_a_tolerance(self):
+        program = {"c": [1], "A_eq": [[1]], "b_eq": [2**53 + 1], "bounds": (0, None)}
+
+        def certify(fun, tolerance):
+            result = optimize.OptimizeResult(x=[2**53 + 1], fun=fun, status=0)
+            return ours.certify_linprog(result, **program, tolerance=tolerance)
+
+        self.assertEqual(certify(2**53 + 1, 0).x.tolist(), [2**53 + 1])
+        for fun in 2.0**53, numpy.float64(2**53):
+            self.raises(dimacs.Refused, "ValueDiffers", certify, fun, 0)
+        for wrong in numpy.nan, numpy.inf, -1e-9:
+            self.raises(ValueError, f"tolerance is {wrong}, and has to be", certify, 2**53 + 1, wrong)
+
+    def test_sizes(self):
+        program = {"c": [3], "A_ub": [[1]], "b_ub": [9], "A_eq": [[1]], "b_eq": [5]}
+        result = optimize.OptimizeResult(x=[5.0], fun=15, status=0)
+        self.assertEqual(ours.certify_linprog(result, **program).value, 15)
+        for name, numbers, message in (
+            ("b_eq", [5, 9], "b_eq has 2 numbers, and A_eq has 1 rows"),
+            ("b_eq", [], "b_eq has 0 numbers, and A_eq has 1 rows"),
+            ("b_eq", None, "b_eq has 0 numbers, and A_eq has 1 rows"),
+            ("b_ub", [9, 5], "b_ub has 2 numbers, and A_ub has 1 rows"),
+            ("A_ub", None, "b_ub has 1 numbers, and A_ub has 0 rows"),
+        ):
+            self.raises(ValueError, message, ours.certify_linprog, result, **{**program, name: numbers})
+        both = {**program, "b_ub": [9, 5], "b_eq": []}
+        self.raises(ValueError, "b_ub has 2 numbers", ours.certify_linprog, result, **both)
+        result.x = [5, 0, 7, 8]
+        self.raises(ValueError, "x has 4 numbers, and c has 1", ours.certify_linprog, result, **program)
+
+    def test_numbers_of_numpy(self):
+        """The numbers of a program are exact, also where those of numpy wrap around or are rounded."""
+        program = {"c": [4], "A_eq": [[1]], "b_eq": [5], "bounds": numpy.array([[-(2**62), 2**61]])}
+        result = optimize.OptimizeResult(x=[5.0], fun=20, status=0)
+        self.assertEqual(ours.certify_linprog(result, **program).value, 20)
+        for name, numbers, message in (
+            ("b_eq", [1e-17], r"b_eq\[0\] is 1e-17, not a whole number"),
+            ("c", [4.5], r"c\[0\] is 4.5, not a whole number"),
+            ("bounds", [(-0.5, 5.5)], r"bounds\[0\] is -0.5, not a whole number"),
+        ):
+            low = {"bounds": (-1, None), name: numbers}
+            self.raises(ValueError, message, ours.certify_linprog, result, **{**program, **low})
+        last = 2**53 + 1
+        program = {"c": [last, 0.0], "A_eq": [[1, 1]], "b_eq": [1], "bounds": [(0, 1), (0, 0)]}
+        result = optimize.OptimizeResult(x=[1.0, 0.0], fun=last, status=0)
+        self.assertEqual(ours.certify_linprog(result, **program).value, last)
+        wrapped = sparse.coo_matrix((numpy.array([127, 127, 3], "int8"), ([0] * 3, [0] * 3)), shape=(1, 1))
+        program = {"c": [1], "A_eq": wrapped, "b_eq": [1]}
+        result = optimize.OptimizeResult(x=[1.0], fun=1, status=0)
+        self.raises(ValueError, r"x\[0\] has an entry of 257", ours.certify_linprog, result, **program)
 
 
 class Names(Scipy):
