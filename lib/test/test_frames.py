@@ -81,6 +81,20 @@ class Frames(unittest.TestCase):
         no = self.refused(ValueError, dimacs.from_frame, self.edges, "from", "where")
         self.assertEqual(str(no), "the frame has no column 'where': it has 'from', 'to', 'room', 'price'")
 
+    def test_a_label_twice(self):
+        twice = pandas.Series([3, 4, -7], index=["spring", "spring", "town"])
+        no = self.refused(ValueError, lambda: self.network(supply=twice))
+        self.assertEqual(str(no), "supply has the node 'spring' twice")
+        twice = pandas.Series([9, 0, 3], index=["town", "mill", "town"])
+        no = self.refused(ValueError, self.network().certify_paths, "mill", twice)
+        self.assertEqual(str(no), "distances has the node 'town' twice")
+        twice = pandas.Series([1, 1.0], index=[0, 0.0])
+        no = self.refused(ValueError, lambda: self.network(supply=twice))
+        self.assertEqual(str(no), "supply has the node 0.0 twice")
+        self.edges.columns = ["from", "to", "room", "room"]
+        no = self.refused(ValueError, lambda: dimacs.from_frame(self.edges, "from", "to", capacity="room"))
+        self.assertEqual(str(no), "the frame has the column 'room' twice")
+
     def test_nodes_of_any_name(self):
         edges = pandas.DataFrame({"u": [(0, 0), 1, "x"], "v": [1, "x", (0, 0)]})
         self.assertEqual(dimacs.from_frame(edges, "u", "v").solve_paths((0, 0)).nodes["distance"].tolist(), [0, 1, 2])

@@ -6,6 +6,11 @@ import dimacs
 from dimacs import ortools
 
 try:
+    import numpy
+except ImportError:
+    numpy = None
+
+try:
     from ortools.graph.python import max_flow, min_cost_flow
 except ImportError:
     max_flow = min_cost_flow = None
@@ -85,6 +90,19 @@ class Standing(unittest.TestCase):
         self.assertEqual((no.arc, no.node, no.reason), (None, 1, "Balance"))
         for solver in MaxFlow([4, 2, 2, 2, 4], 5), MinCostFlow([2, 2, 2, 0, 4], 15):
             self.assertEqual(self.raises(dimacs.Refused, solver).reason, "ValueDiffers")
+
+    @unittest.skipUnless(numpy, "no numpy")
+    def test_claimed_values(self):
+        arcs, flows = [(0, 1, 2**53 + 1, 1)], [2**53 + 1]
+        costs = MinCostFlow(flows, 0, arcs)
+        costs.SUPPLIES = [2**53 + 1, -(2**53) - 1]
+        for solver in MaxFlow(flows, 0, arcs), costs:
+            solver.value = numpy.int64(2**53 + 1)
+            self.assertEqual(ortools.certify(solver).value, 2**53 + 1)
+            solver.value = numpy.float64(2**53)
+            self.assertEqual(self.raises(dimacs.Refused, solver).reason, "ValueDiffers")
+            solver.value = float("nan")
+            self.assertIn("is nan, not a whole number", str(self.raises(ValueError, solver)))
 
     def test_ends_that_the_flow_does_not_show(self):
         solver = MaxFlow([0], 0, [(0, 1, 0, 0)])

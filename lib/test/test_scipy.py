@@ -2,6 +2,7 @@
 
 import random
 import unittest
+from decimal import Decimal
 
 import dimacs
 
@@ -130,6 +131,28 @@ class MaximumFlow(Scipy):
         one = stored([2**63 - 1], [1], [0, 1, 1])
         self.assertEqual(ours.certify_maximum_flow(one, 0, 1, ours.maximum_flow(one, 0, 1)).value, 2**63 - 1)
 
+    def test_claimed_values(self):
+        for amount, rounded in (2**53 + 1, 2**53), (2**63 - 1, 2**63):
+            graph = stored([amount], [1], [0, 1, 1])
+            claim = ours.maximum_flow(graph, 0, 1)
+            for value in numpy.int64(amount), numpy.uint64(amount), Decimal(amount), numpy.array(amount):
+                claim.flow_value = value
+                self.assertEqual(ours.certify_maximum_flow(graph, 0, 1, claim).value, amount)
+            for value in numpy.float64(rounded), float(rounded), numpy.longdouble(rounded), rounded:
+                claim.flow_value = value
+                no = self.raises(dimacs.Refused, "ValueDiffers", ours.certify_maximum_flow, graph, 0, 1, claim)
+                self.assertEqual(no.numbers, {"claimed": rounded, "value": amount})
+        for value, kind, message in (
+            (numpy.array([4]), TypeError, r"flow_value is array\(\[4\]\), not a number"),
+            (numpy.array([4, 4]), TypeError, r"flow_value is array\(\[4, 4\]\), not a number"),
+            (None, TypeError, "flow_value is None, not a number"),
+            ("4", TypeError, "flow_value is '4', not a number"),
+            (numpy.nan, ValueError, "flow_value is nan, not a whole number"),
+            (0.5, ValueError, "flow_value is 0.5, not a whole number"),
+        ):
+            claim.flow_value = value
+            self.raises(kind, message, ours.certify_maximum_flow, graph, 0, 1, claim)
+
     def test_no_edges(self):
         found = ours.maximum_flow(sparse.csr_matrix((3, 3), dtype="int32"), 0, 2)
         self.assertEqual((found.flow_value, found.flow.nnz), (0, 0))
@@ -242,6 +265,9 @@ class ShortestPath(Scipy):
         self.raises(ValueError, "out of range", call, numpy.eye(2), indices=[2])
         self.raises(ValueError, "indices", call, numpy.eye(2), indices=[1], method="FW")
         self.raises(TypeError, "no numbers", call, sparse.csr_matrix(numpy.eye(2) * 1j))
+        self.raises(ValueError, r"indices\[0\] is 0.9, not a whole number", call, numpy.eye(2), indices=[0.9])
+        self.raises(ValueError, "indices is 0.9, not a whole number", call, numpy.eye(2), indices=0.9)
+        self.raises(TypeError, "no numbers", call, numpy.eye(2), indices=["0"])
         far = sparse.csr_matrix(numpy.array([[0, 2**53, 0], [0, 0, 1], [0, 0, 0]]))
         self.raises(dimacs.GaveUp, "from 0 to 2 is 9007199254740993", call, far)
         self.assertEqual(call(far, indices=1)[2], 1)
@@ -288,6 +314,31 @@ class Tables(Scipy):
         dist[0, 2] = 9.5
         self.raises(ValueError, r"distances\[0, 2\] is 9.5, not a whole number", certify, graph, dist)
         self.raises(ValueError, r"dist has the shape \(2, 3\), and has to have \(3, 3\)", certify, graph, dist[:2])
+
+    def test_predecessors(self):
+        graph, dist, certify = [[0, 5, 0], [0, 0, 4], [0, 0, 0]], [[0, 5, 9]], ours.certify_shortest_path
+        true = [-9999, 0, 1]
+        for kind in "int16", "int64", "float32", "float64", "object":
+            self.assertEqual(certify(graph, dist, numpy.array([true], kind), indices=[0]).tolist(), [true])
+        for place, wrong, message in (
+            (1, 0.9, r"predecessors\[0, 1\] is 0.9, not a whole number"),
+            (2, numpy.nan, r"predecessors\[0, 2\] is nan, not a whole number"),
+            (0, numpy.inf, r"predecessors\[0, 0\] is inf, not a whole number"),
+            (0, -5, r"predecessors\[0, 0\] is -5, which is no vertex, and not -9999"),
+            (0, -1, r"predecessors\[0, 0\] is -1, which is no vertex, and not -9999"),
+            (2, 3, r"predecessors\[0, 2\] is 3, which is no vertex, and not -9999"),
+            (2, 2**32, r"predecessors\[0, 2\] is 4294967296, which is no vertex, and not -9999"),
+        ):
+            claim = [[*true[:place], wrong, *true[place + 1 :]]]
+            self.raises(ValueError, message, certify, graph, dist, claim, indices=[0])
+        none = numpy.array([[2**64 - 1, 0, 1]], "uint64")
+        self.raises(ValueError, r"\[0, 0\] is 18446744073709551615, not", certify, graph, dist, none, indices=[0])
+        texts = [["-9999", "0", "1"]]
+        self.raises(TypeError, "no numbers", certify, graph, dist, texts, indices=[0])
+        no = self.raises(dimacs.Refused, "", certify, graph, dist, [[-9999, 0, 0]], indices=[0])
+        self.assertEqual(no.node, (0, 2))
+        masked = numpy.ma.array(dist, mask=[[0, 1, 0]])
+        self.raises(TypeError, "dist is a masked array", certify, graph, masked, indices=[0])
 
     def test_negative_weights(self):
         graph = numpy.array([[0, -5, 0], [0, 0, 4], [0, 0, 0]])
@@ -339,6 +390,10 @@ class Assignments(Scipy):
         self.assertEqual(no.arc, ("column", 0))
         self.raises(ValueError, r"\(0, 2\) is no place", certify, costs, [0, 1], [2, 0])
         self.raises(ValueError, r"the entry at \(0, 1\) is 0.5", certify, [[4, 0.5], [2, 3]], [0, 1], [1, 0])
+        self.raises(ValueError, r"row_ind\[1\] is 1.2, not a whole number", certify, costs, [0, 1.2], [1, 0])
+        self.raises(ValueError, r"col_ind\[0\] is 0.9, not a whole number", certify, costs, [0, 1], [0.9, 0])
+        self.raises(TypeError, "'0', not a number", certify, costs, ["0", "1"], [1, 0])
+        self.raises(ValueError, "row_ind has 2 items, and col_ind 1", certify, costs, [0, 1], [1])
         for wrong in ([1, 2], [[numpy.nan]], [[-numpy.inf]]):
             with self.assertRaises(ValueError) as theirs:
                 optimize.linear_sum_assignment(wrong)
@@ -432,6 +487,8 @@ class Programs(Scipy):
             program = {"c": [1, 1], "A_eq": A_eq, "b_eq": [1] * len(A_eq)}
             result = optimize.OptimizeResult(x=[1, 1], fun=2, status=0)
             self.raises(ValueError, message, ours.certify_linprog, result, **program)
+        program = {"c": [1], "A_eq": [[numpy.nan]], "b_eq": [1]}
+        self.raises(ValueError, r"A_eq\[0, 0\] is nan", ours.certify_linprog, result, **program)
         free = {"c": [1], "A_eq": [[1]], "b_eq": [1], "bounds": (None, None)}
         self.raises(ValueError, r"x\[0\] has no lower bound", ours.certify_linprog, result, **free)
 
@@ -450,6 +507,60 @@ class Programs(Scipy):
         self.assertEqual(no.arc, "x[0]")
         self.raises(dimacs.Refused, "ValueDiffers: 23 is claimed, it is 22", certify, [5.0, 1.0], 23)
         self.raises(ValueError, r"x\[0\] is 4.5, not a whole number: the nearest is 4", certify, [4.5, 1.5], 24)
+        self.raises(ValueError, r"x\[1\] is nan, not a finite number", certify, [5.0, numpy.nan], 22)
+        self.raises(ValueError, "fun is nan, not a finite number", certify, [5.0, 1.0], numpy.nan)
+        self.raises(ValueError, "fun is inf, not a finite number", certify, [5.0, 1.0], numpy.inf)
+
+    def test_a_tolerance(self):
+        program = {"c": [1], "A_eq": [[1]], "b_eq": [2**53 + 1], "bounds": (0, None)}
+
+        def certify(fun, tolerance):
+            result = optimize.OptimizeResult(x=[2**53 + 1], fun=fun, status=0)
+            return ours.certify_linprog(result, **program, tolerance=tolerance)
+
+        self.assertEqual(certify(2**53 + 1, 0).x.tolist(), [2**53 + 1])
+        for fun in 2.0**53, numpy.float64(2**53):
+            self.raises(dimacs.Refused, "ValueDiffers", certify, fun, 0)
+        for wrong in numpy.nan, numpy.inf, -1e-9:
+            self.raises(ValueError, f"tolerance is {wrong}, and has to be", certify, 2**53 + 1, wrong)
+
+    def test_sizes(self):
+        program = {"c": [3], "A_ub": [[1]], "b_ub": [9], "A_eq": [[1]], "b_eq": [5]}
+        result = optimize.OptimizeResult(x=[5.0], fun=15, status=0)
+        self.assertEqual(ours.certify_linprog(result, **program).value, 15)
+        for name, numbers, message in (
+            ("b_eq", [5, 9], "b_eq has 2 numbers, and A_eq has 1 rows"),
+            ("b_eq", [], "b_eq has 0 numbers, and A_eq has 1 rows"),
+            ("b_eq", None, "b_eq has 0 numbers, and A_eq has 1 rows"),
+            ("b_ub", [9, 5], "b_ub has 2 numbers, and A_ub has 1 rows"),
+            ("A_ub", None, "b_ub has 1 numbers, and A_ub has 0 rows"),
+        ):
+            self.raises(ValueError, message, ours.certify_linprog, result, **{**program, name: numbers})
+        both = {**program, "b_ub": [9, 5], "b_eq": []}
+        self.raises(ValueError, "b_ub has 2 numbers", ours.certify_linprog, result, **both)
+        result.x = [5, 0, 7, 8]
+        self.raises(ValueError, "x has 4 numbers, and c has 1", ours.certify_linprog, result, **program)
+
+    def test_numbers_of_numpy(self):
+        """The numbers of a program are exact, also where those of numpy wrap around or are rounded."""
+        program = {"c": [4], "A_eq": [[1]], "b_eq": [5], "bounds": numpy.array([[-(2**62), 2**61]])}
+        result = optimize.OptimizeResult(x=[5.0], fun=20, status=0)
+        self.assertEqual(ours.certify_linprog(result, **program).value, 20)
+        for name, numbers, message in (
+            ("b_eq", [1e-17], r"b_eq\[0\] is 1e-17, not a whole number"),
+            ("c", [4.5], r"c\[0\] is 4.5, not a whole number"),
+            ("bounds", [(-0.5, 5.5)], r"bounds\[0\] is -0.5, not a whole number"),
+        ):
+            low = {"bounds": (-1, None), name: numbers}
+            self.raises(ValueError, message, ours.certify_linprog, result, **{**program, **low})
+        last = 2**53 + 1
+        program = {"c": [last, 0.0], "A_eq": [[1, 1]], "b_eq": [1], "bounds": [(0, 1), (0, 0)]}
+        result = optimize.OptimizeResult(x=[1.0, 0.0], fun=last, status=0)
+        self.assertEqual(ours.certify_linprog(result, **program).value, last)
+        wrapped = sparse.coo_matrix((numpy.array([127, 127, 3], "int8"), ([0] * 3, [0] * 3)), shape=(1, 1))
+        program = {"c": [1], "A_eq": wrapped, "b_eq": [1]}
+        result = optimize.OptimizeResult(x=[1.0], fun=1, status=0)
+        self.raises(ValueError, r"x\[0\] has an entry of 257", ours.certify_linprog, result, **program)
 
 
 class Names(Scipy):

@@ -108,6 +108,8 @@ UNLIMITED = 2**63 - 1
 CAPACITIES = NUMBERS._replace(infinity=UNLIMITED)
 LENGTHS = NUMBERS._replace(infinity=UNREACHED)
 LIMITS = Items("Q", 8, 0, 2**64 - 1)
+#: A value or a cost, which may have more than 64 bits.
+VALUES = Items("q", 16, -(2**127), 2**127 - 1)
 
 #: The limit if none is given.
 LIMIT = 1_000_000
@@ -185,7 +187,7 @@ def _from_view(view: memoryview, items: Items) -> Buffer:
 
 def _from_numpy(numpy: Any, numbers: Any, items: Items, name: Name) -> Buffer:
     """Takes a numpy array as it is if its items have the width, else converts it."""
-    _test_mask(numbers, name)
+    test_mask(numbers, name)
     numbers = numpy.asarray(numbers)  # other subclasses have a least and a greatest item of their own
     wanted = numpy.dtype(items.code)
     kind = numbers.dtype.kind
@@ -234,7 +236,8 @@ def _array(name: Name) -> str:
     return name if isinstance(name, str) else "an array"
 
 
-def _test_mask(numbers: Any, name: Name) -> None:
+def test_mask(numbers: Any, name: Name) -> None:
+    """Raises TypeError for a masked array."""
     numpy = sys.modules.get("numpy")
     if numpy is not None and isinstance(numbers, numpy.ma.MaskedArray):
         raise TypeError(f"{_array(name)} is a masked array, and what is masked has no number")
@@ -242,7 +245,7 @@ def _test_mask(numbers: Any, name: Name) -> None:
 
 def gone_through(numbers: Any, name: Name) -> list[Any]:
     """The items of an object one by one: those of numpy keep their type."""
-    _test_mask(numbers, name)
+    test_mask(numbers, name)
     if isinstance(numbers, (Mapping, Set)):
         raise TypeError(
             f"{_array(name)} is a {type(numbers).__name__}, whose items have no places as those of an array"
@@ -317,6 +320,15 @@ def number_of(number: Any, items: Items, name: str) -> int:
     if not items.least <= whole <= items.greatest:
         raise _refuse(name, number, items)
     return whole
+
+
+def value_of(claimed: Any, name: str) -> int:
+    """A value or a cost that is claimed, as an int: numpy compares a float with an int by the nearest float."""
+    if is_numpy(claimed):
+        claimed = claimed[()]  # one of no dimension is a number
+    if not is_single(claimed):
+        raise TypeError(f"{name} is {claimed!r}, not a number")
+    return number_of(claimed, VALUES, name)
 
 
 class Room:

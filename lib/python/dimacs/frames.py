@@ -53,6 +53,16 @@ class _FrameNames(Names):
         return f"{self._frame.columns.get(name, name)} of row {self.arc(place)!r}"
 
 
+def _by_label(given: Any, name: str) -> dict[Any, Any]:
+    """A dict or Series by node. Raises ValueError if a Series has a node twice: which of its numbers is meant isn't said."""
+    found: dict[Any, Any] = {}
+    for node, number in given.items():
+        if node in found:
+            raise ValueError(f"{name} has the node {node!r} twice")
+        found[node] = number
+    return found
+
+
 class Frame:
     """A network of edges in a DataFrame. See from_frame.
 
@@ -79,7 +89,9 @@ class Frame:
         for name in (tail, head, *columns.values()):
             if name not in edges.columns:
                 raise ValueError(f"the frame has no column {name!r}: it has {', '.join(map(repr, edges.columns))}")
-        supplies = {} if supply is None else dict(supply.items())
+            if edges.columns.tolist().count(name) > 1:
+                raise ValueError(f"the frame has the column {name!r} twice")
+        supplies = {} if supply is None else _by_label(supply, "supply")
         if edges[[tail, head]].isna().to_numpy().any():
             raise ValueError("an edge has an end without a name")
         tails, heads = edges[tail].tolist(), edges[head].tolist()
@@ -202,8 +214,8 @@ class Frame:
 
     def certify_paths(self, source: Any, distances: Any) -> FrameAnswer:
         """Decides whether these are the distances from a node: a dict or Series by node, without those that aren't reached,
-        or with inf. Raises Refused if one isn't true."""
-        claimed = dict(distances.items())
+        or with inf. Raises Refused if one isn't true, and ValueError if a Series has a node twice."""
+        claimed = _by_label(distances, "distances")
         for node in claimed:
             self._number(node)
         by_node = [claimed.get(node, math.inf) for node in self.nodes]
@@ -227,8 +239,8 @@ def from_frame(
     """The network of a DataFrame, each row of which is an edge between the nodes that two columns name.
 
     capacity, cost and low name columns of numbers. Without one, edges carry any amount, cost 0 (for distances they are 1
-    long), and may carry 0. supply is a dict or a Series by node: what leaves it less what enters it. With scale= (see
-    dimacs.arrays) numbers are multiples of a unit. Answers are on the index of the frame, or on that of the nodes.
+    long), and may carry 0. supply is a dict or a Series by node, each once: what leaves it less what enters it. With
+    scale= (see dimacs.arrays) numbers are multiples of a unit. Answers are on the index of the frame, or on that of the nodes.
 
     >>> import pandas
     >>> table = {"from": ["mine", "mine"], "to": ["port", "port"], "tons": [5, 5], "price": [3, 7]}

@@ -18,6 +18,7 @@ from typing import Any
 
 from .answers import Certified, Refused
 from .arrays import certify_max_arrays, certify_min_arrays
+from .buffers import value_of
 
 
 __all__ = ["certify"]
@@ -77,8 +78,9 @@ def _certify_min(solver: Any) -> Certified:
     return _tested(certify_min_arrays(given.nodes, *arcs, supplies, given.flows, base=0), solver.optimal_cost())
 
 
-def _tested(certified: Certified, claimed: int) -> Certified:
+def _tested(certified: Certified, reported: Any) -> Certified:
     """The certified flow. Raises Refused if the solver reports another value."""
+    claimed = value_of(reported, "the solver's value")
     if certified.value != claimed:
         numbers = {"claimed": claimed, "value": certified.value}
         raise Refused("ValueDiffers", text="solution", line=0, field=0, numbers=numbers)

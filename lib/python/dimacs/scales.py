@@ -58,7 +58,7 @@ class Scale(NamedTuple):
                 return found
         if not _is_nan(number) and number == math.inf:
             return math.inf
-        return self._whole(_fraction(number, name), number, name)
+        return self._whole(fraction_of(number, name), number, name)
 
     def _whole(self, exact: Fraction, number: Any, name: Callable[[], str]) -> int:
         product = exact * self.factor
@@ -86,8 +86,8 @@ class Scale(NamedTuple):
 _WHOLE = Scale(Fraction(1))
 
 
-def _fraction(number: Any, name: Callable[[], str]) -> Fraction:
-    """The exact value of a number."""
+def fraction_of(number: Any, name: Callable[[], str]) -> Fraction:
+    """The exact value of a number. Raises ValueError if it isn't finite, and TypeError if it is none."""
     try:
         if isinstance(number, str):  # a Fraction reads texts too
             raise TypeError
@@ -114,7 +114,7 @@ def exact_scale(groups: Iterable[tuple[Sequence[Any], Callable[[int], str]]]) ->
     for numbers, name in groups:
         for k, number in enumerate(numbers):
             if _is_nan(number) or number != math.inf:
-                exact.append((_fraction(number, partial(name, k)), partial(name, k)))
+                exact.append((fraction_of(number, partial(name, k)), partial(name, k)))
     common = math.lcm(*(it.denominator for it, _ in exact))
     for it, named in exact:
         if not -(2**63) <= it * common < 2**63:

@@ -77,8 +77,9 @@ def spread_max_arrays(
     """Deals sums out to the arcs of a maximum flow instance: sums[k] is carried from pair_tails[k] to pair_heads[k].
 
     Returns the flow of each arc, in the form of sums: arcs with the same ends carry the sum between these, each within its
-    bounds if possible. Raises Refused if no arc has the ends of a pair, with its line in a text of the pairs from line 2 on;
-    PastLimit as the other calls over arrays. With base=0 nodes and arcs are numbered from 0.
+    bounds if possible. Raises Refused if no arc has the ends of a pair, with its line in a text of the pairs from line 2 on,
+    or if what is left for the first of parallel arcs has more than 64 bits: then AboveCap or BelowLow names that arc; PastLimit
+    as the other calls over arrays. With base=0 nodes and arcs are numbered from 0.
 
     >>> spread_max_arrays(2, 1, 2, [1, 1], [2, 2], [3, 5], [1], [2], [6])
     [3, 3]

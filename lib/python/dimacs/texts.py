@@ -170,7 +170,8 @@ def spread_max(instance: Text, solution: Text) -> Any:
     r"""Deals a solution out to parallel arcs: adds up the entries with the same ends, and gives each arc with these ends its
     share, within its bounds if possible. Returns the text of a solution with the claimed value and an entry for every arc.
 
-    Raises Refused if a text has a fault or an entry is of no arc. The text is str if the solution is.
+    Raises Refused if a text has a fault, an entry is of no arc, or what is left for the first of parallel arcs has more than
+    64 bits: then AboveCap or BelowLow names that arc. The text is str if the solution is.
 
     >>> spread_max("p max 2 2\nn 1 s\nn 2 t\na 1 2 3\na 1 2 5\n", "s 6\nf 1 2 6\n")
     's 6\nf 1 2 3\nf 1 2 3\n'

@@ -7,7 +7,7 @@ from typing import Any, Callable, NamedTuple
 import numpy as np
 from scipy import sparse
 
-from ..buffers import whole_floats
+from ..buffers import NUMBERS, Name, array_of, whole_floats
 
 
 def whole(values: Any, rows: Any, columns: Any) -> Any:
@@ -25,6 +25,12 @@ def whole(values: Any, rows: Any, columns: Any) -> Any:
         place = int(rows[entry]), int(columns[entry])
         raise ValueError(f"the entry at {place} is {values[entry]}, not a whole number of 64 bits")
     return found
+
+
+def whole_items(values: Any, name: Name) -> Any:
+    """The items of an array, as of rows or vertices, as integers of 64 bits. Raises ValueError that names the first that is
+    none, and TypeError if they are no numbers."""
+    return np.asarray(array_of(values, NUMBERS, name).kept)
 
 
 class Sums(NamedTuple):

@@ -12,7 +12,7 @@ from scipy import sparse
 
 from .. import calls, library
 from ..answers import Certified, GaveUp, NotOptimal, Refused
-from ..buffers import LIMIT, LIMITS
+from ..buffers import LIMIT, LIMITS, value_of
 from ..given import FLOWS, INSIDE, MAX, Given, Names
 from .entries import Places, entries_of, matrix_of, whole
 
@@ -108,8 +108,8 @@ def certify_maximum_flow(csgraph: Any, source: int, sink: int, flow: Any) -> Cer
 
     flow is the result of maximum_flow, or its matrix: an entry that isn't stored is 0, and the one at (j, i) is that at
     (i, j) negated. Raises NotOptimal with such a matrix of greater value if the flow is feasible, but not maximum; Refused
-    if the flow isn't feasible, or doesn't have the value of the result; ValueError if it is no such matrix. A refusal names a
-    vertex, or an edge as (i, j).
+    if the flow isn't feasible, or doesn't have the value of the result; ValueError if it is no such matrix, or if the value
+    isn't whole. A refusal names a vertex, or an edge as (i, j).
 
     >>> from scipy.sparse import csgraph, csr_matrix
     >>> capacities = csr_matrix([[0, 5, 0], [0, 0, 4], [0, 0, 0]])
@@ -123,7 +123,7 @@ def certify_maximum_flow(csgraph: Any, source: int, sink: int, flow: Any) -> Cer
     except NotOptimal as it:
         it.better = given.matrix(it.better)
         raise
-    claimed = getattr(flow, "flow_value", value)
+    claimed = value_of(getattr(flow, "flow_value", value), "flow_value")
     if claimed != value:
         numbers = {"claimed": claimed, "value": value}
         raise Refused("ValueDiffers", text="solution", line=0, field=0, numbers=numbers)

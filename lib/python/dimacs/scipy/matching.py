@@ -2,6 +2,7 @@
 
 from __future__ import annotations
 
+from itertools import chain
 from typing import Any, NamedTuple
 
 import numpy as np
@@ -9,10 +10,10 @@ from numpy.typing import NDArray
 from scipy import sparse
 
 from .. import calls, library
-from ..answers import Infeasible, NotOptimal
-from ..buffers import LIMIT, LIMITS
+from ..answers import GaveUp, Infeasible, NotOptimal
+from ..buffers import LIMIT, LIMITS, NUMBERS
 from ..given import FLOWS, MAX, MIN, POTENTIALS, Given, Names
-from .entries import edges_of, entries_of, whole
+from .entries import edges_of, entries_of, whole, whole_items
 
 
 class Assignment(NamedTuple):
@@ -26,7 +27,8 @@ class CertifiedAssignment(NamedTuple):
     """The cost of an assignment, and numbers that show that it is the least (or the greatest).
 
     By row and by column: the cost of each entry is at least u[row] + v[column], and exactly that if it is assigned. No v is
-    above 0, and v is 0 if the column isn't assigned. If the greatest is meant, all of this holds of costs negated.
+    above 0, and v is 0 if the column isn't assigned; where rows outnumber columns, this holds of u and the rows in place of
+    v and the columns. If the greatest is meant, all of this holds of costs negated.
     """
 
     value: int
@@ -96,8 +98,14 @@ class _Edges:
             raise ValueError(infeasible) from None
 
     def duals(self, potentials: Any) -> tuple[Any, Any]:
-        prices = potentials - potentials[-1]
-        rows, columns = prices[: self.shape[0]], np.minimum(-prices[self.shape[0] : -1], 0)
+        """What rows and columns add to the costs of their entries. Raises GaveUp if a number has more than 64 bits."""
+        *prices, last = potentials.tolist()  # as ints, since differences may have more
+        count = self.shape[0]
+        found = [it - last for it in prices[:count]], [min(last - it, 0) for it in prices[count:]]
+        for it in chain(*found):
+            if not NUMBERS.least <= it <= NUMBERS.greatest:
+                raise GaveUp(f"the assignment is optimal, but {it}, which would show it, has more than 64 bits")
+        rows, columns = (np.array(it, np.int64) for it in found)
         return (columns, rows) if self.is_turned else (rows, columns)
 
 
@@ -128,7 +136,8 @@ def certify_assignment(cost_matrix: Any, row_ind: Any, col_ind: Any, maximize: b
     """Decides whether an assignment costs least. Returns its cost, and numbers by row and column that show it.
 
     Raises NotOptimal with a better Assignment if it doesn't cost least; Refused with a row or column if it isn't assigned
-    once; ValueError if a place isn't in the matrix.
+    once; ValueError if a place isn't in the matrix, or isn't whole; GaveUp if the assignment costs least, but one of the
+    numbers that were found has more than 64 bits; others may fit.
 
     >>> certify_assignment([[4, 1, 3], [2, 0, 5], [3, 2, 2]], [0, 1, 2], [1, 0, 2]).value
     5
@@ -148,9 +157,9 @@ def certify_assignment(cost_matrix: Any, row_ind: Any, col_ind: Any, maximize: b
 
 def _claimed(edges: _Edges, row_ind: Any, col_ind: Any) -> Any:
     """The flow of an assignment."""
-    rows, columns = (np.asarray(it, np.int64) for it in (row_ind, col_ind))
-    if rows.shape != columns.shape or rows.ndim != 1:
-        raise ValueError(f"row_ind has the shape {rows.shape}, and col_ind {columns.shape}")
+    rows, columns = whole_items(row_ind, "row_ind"), whole_items(col_ind, "col_ind")
+    if len(rows) != len(columns):
+        raise ValueError(f"row_ind has {len(rows)} items, and col_ind {len(columns)}")
     if edges.is_turned:
         rows, columns = columns, rows
     flows = np.zeros(len(edges.costs) + edges.shape[1], np.int64)

@@ -12,9 +12,10 @@ from scipy.sparse import csgraph as scipy_graphs
 from .. import calls, library
 from ..answers import UNREACHED, GaveUp
 from ..arrays import solve_paths_arrays
+from ..buffers import test_mask
 from ..distances import NegativeCycle, distances_from, potentials_of
 from ..given import DISTANCES, GRAPH, PREDECESSORS, Given, Names
-from .entries import SEVERAL, Places, edges_of, entries_of, numbers_of, whole
+from .entries import SEVERAL, Places, edges_of, entries_of, numbers_of, whole, whole_items
 
 #: SciPy's predecessor of a vertex that has none.
 NO_PREDECESSOR = -9999
@@ -59,8 +60,9 @@ def _sources(indices: Any, vertices: int) -> Any:
     """The vertices that are asked for, in the shape in which they are."""
     if indices is None:
         return np.arange(vertices)
-    found = np.array(indices, dtype=np.int64)
-    found[found < 0] += vertices
+    given = np.asarray(indices)
+    found = whole_items(given.ravel(), "indices" if given.ndim else lambda place: "indices")
+    found = np.where(found < 0, found + vertices, found).reshape(given.shape)
     if ((found < 0) | (found >= vertices)).any():
         raise ValueError("indices out of range 0...N")
     return found
@@ -178,7 +180,8 @@ def certify_shortest_path(
 
     dist has a row for each source, as predecessors: for each vertex, or for those that indices names. Returns predecessors
     by which the rows were judged. Raises Refused if an entry isn't true, which it names as (source, vertex), or an arc by
-    its two vertices; ValueError if an entry isn't a whole number below 2^63 - 1, or inf.
+    its two vertices; ValueError if an entry of dist isn't a whole number below 2^63 - 1, or inf, or one of predecessors no
+    vertex, or NO_PREDECESSOR.
 
     >>> certify_shortest_path([[0, 5, 0], [0, 0, 4], [0, 0, 0]], [[0, 5, 9]], indices=[0])
     array([[-9999,     0,     1]], dtype=int32)
@@ -187,7 +190,7 @@ def certify_shortest_path(
     sources = _sources(indices, vertices)
     rows, before = _table(dist, "dist", sources, vertices), None
     if predecessors is not None:
-        before = _table(predecessors, "predecessors", sources, vertices)
+        before = _predecessors(predecessors, sources, vertices)
     found = np.empty((sources.size, vertices), np.int32)
     ends = numbers_of(tails), numbers_of(heads)
     for row, source in enumerate(map(int, sources.flat)):
@@ -197,16 +200,31 @@ def certify_shortest_path(
             shown = calls.certify(library.certify_paths_arrays, given, rows[row], PREDECESSORS).predecessors
             found[row] = np.where(shown > 0, shown.astype(np.int64) - 1, NO_PREDECESSOR)
         else:
-            found[row] = before[row]
-            calls.judge(
-                library.judge_paths_arrays, given.add(PREDECESSORS, np.maximum(before[row].astype(np.int64) + 1, 0))
-            )
+            calls.judge(library.judge_paths_arrays, given.add(PREDECESSORS, before[row]))
+            found[row] = np.where(before[row] > 0, before[row] - 1, NO_PREDECESSOR)
     return found.reshape((*sources.shape, vertices))
 
 
 def _table(given: Any, name: str, sources: Any, vertices: int) -> Any:
     """A table with a row for each source."""
+    test_mask(given, name)
     found, wanted = np.asarray(given), (*sources.shape, vertices)
     if found.shape != wanted:
         raise ValueError(f"{name} has the shape {found.shape}, and has to have {wanted}")
     return found.reshape((sources.size, vertices))
+
+
+def _predecessors(given: Any, sources: Any, vertices: int) -> Any:
+    """A table of predecessors by their numbers, from 1; 0 is none, which SciPy alone has a number for."""
+    table = _table(given, "predecessors", sources, vertices)
+
+    def name(place: int) -> str:
+        return f"predecessors[{sources.flat[place // vertices]}, {place % vertices}]"
+
+    found = whole_items(table.ravel(), name)
+    is_none = found == NO_PREDECESSOR
+    wrong = ~is_none & ((found < 0) | (found >= vertices))
+    if wrong.any():
+        place = int(np.argmax(wrong))
+        raise ValueError(f"{name(place)} is {found[place]}, which is no vertex, and not {NO_PREDECESSOR}")
+    return np.where(is_none, 0, found + 1).reshape(table.shape)

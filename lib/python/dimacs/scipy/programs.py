@@ -8,7 +8,9 @@ there, for what it leaves open.
 from __future__ import annotations
 
 import math
-from typing import Any, NamedTuple, Sequence
+from fractions import Fraction
+from functools import partial
+from typing import Any, Iterator, NamedTuple, Sequence
 
 import numpy as np
 from numpy.typing import NDArray
@@ -16,7 +18,9 @@ from scipy import sparse
 
 from .. import calls, library
 from ..answers import NotOptimal, Refused
+from ..buffers import NUMBERS, number_of
 from ..given import FLOWS, MIN, POTENTIALS, Given, Names
+from ..scales import fraction_of
 
 
 class CertifiedProgram(NamedTuple):
@@ -45,28 +49,57 @@ class _ConstraintNames(Names):
         return f"{name} of {self.node(place) if name == 'supplies' else self.arc(place)}"
 
 
+class _Part:
+    """The constraints of a matrix, A_ub or A_eq, and their right sides."""
+
+    def __init__(self, A: Any, b: Any, name: str, variables: int) -> None:
+        self._name = name
+        self._matrix = sparse.coo_matrix((0, variables), dtype=np.int64) if A is None else sparse.coo_matrix(A)
+        self.rows, columns = self._matrix.shape
+        if columns != variables:
+            raise ValueError(f"A_{name} has {columns} columns, and c has {variables} numbers")
+        self.right = [] if b is None else _numbers(b, f"b_{name}")
+        if len(self.right) != self.rows:
+            raise ValueError(f"b_{name} has {len(self.right)} numbers, and A_{name} has {self.rows} rows")
+
+    def entries(self) -> Iterator[tuple[int, int, Fraction]]:
+        """The row, the column and the value of each entry that is stored, several at a place among them."""
+        stored = self._matrix.row.tolist(), self._matrix.col.tolist(), self._matrix.data.tolist()
+        for row, column, it in zip(*stored):
+            yield row, column, fraction_of(it, partial("A_{}[{}, {}]".format, self._name, row, column))
+
+
+def _numbers(given: Any, name: str) -> list[int]:
+    """Numbers as ints. As objects they keep what they are: in an array of floats an int may be rounded."""
+    listed = np.asarray(given, object).ravel().tolist()
+    return [number_of(it, NUMBERS, f"{name}[{place}]") for place, it in enumerate(listed)]
+
+
+def _columns(parts: Sequence[_Part], count: int) -> list[list[tuple[int, Fraction]]]:
+    """The entries of each variable that aren't 0, by constraints: several at a place are their exact sum."""
+    found: list[dict[int, Fraction]] = [{} for _ in range(count)]
+    first = 0
+    for part in parts:
+        for row, column, it in part.entries():
+            found[column][first + row] = found[column].get(first + row, 0) + it
+        first += part.rows
+    return [[(row, it) for row, it in by_row.items() if it != 0] for by_row in found]
+
+
 class _Program:
     """The arcs of a program, and its numbers."""
 
     def __init__(self, c: Any, A_ub: Any, b_ub: Any, A_eq: Any, b_eq: Any, bounds: Any) -> None:
-        self.costs = np.asarray(c).ravel().tolist()
-        parts = [(A, b) for A, b in ((A_ub, b_ub), (A_eq, b_eq)) if A is not None]
-        none = sparse.csr_matrix((0, len(self.costs)), dtype=np.int64)
-        matrix = sparse.vstack([none, *(sparse.csr_matrix(A) for A, _ in parts)]).tocsc()
-        matrix.eliminate_zeros()
-        self.right = [_exact(it) for _, b in parts for it in np.asarray(b).ravel().tolist()]
-        self.inequalities = 0 if A_ub is None else sparse.csr_matrix(A_ub).shape[0]
-        self.rows = matrix.shape[0]
-        entries = [list(zip(*self._column(matrix, j))) for j in range(matrix.shape[1])]
+        self.costs = _numbers(c, "c")
+        parts = [_Part(A, b, name, len(self.costs)) for A, b, name in ((A_ub, b_ub, "ub"), (A_eq, b_eq, "eq"))]
+        self.right = [it for part in parts for it in part.right]
+        self.inequalities, self.rows = parts[0].rows, sum(part.rows for part in parts)
+        entries = _columns(parts, len(self.costs))
         self.signs = _signs(self.rows, entries)
         slacks = [[(row, 1)] for row in range(self.inequalities)]
         self.ends: list[tuple[Any, Any]] = [_ends(it, self.signs) for it in [*entries, *slacks]]
         self.bounds = _bounds(bounds, len(self.costs)) + [(0, math.inf)] * self.inequalities
         self.shifts = [min(low, 0) for low, _ in self.bounds]  # an arc carries 0 or more
-
-    def _column(self, matrix: Any, column: int) -> tuple[list[int], list[Any]]:
-        where = slice(matrix.indptr[column], matrix.indptr[column + 1])
-        return matrix.indices[where].tolist(), matrix.data[where].tolist()
 
     def given(self) -> Given:
         """The instance."""
@@ -97,7 +130,7 @@ class _Program:
 
     def constant(self) -> Any:
         """What arcs cost more than variables."""
-        return sum(_exact(cost) * shift for cost, shift in zip(self.costs, self.shifts))
+        return sum(cost * shift for cost, shift in zip(self.costs, self.shifts))
 
 
 def _signs(rows: int, entries: list[list[tuple[int, Any]]]) -> list[int]:
@@ -143,16 +176,16 @@ def _bounds(bounds: Any, count: int) -> list[tuple[Any, Any]]:
     table = [tuple(given)] * count if len(given) == 2 and np.ndim(given[0]) == 0 else [tuple(it) for it in given]
     if len(table) != count:
         raise ValueError(f"there are {len(table)} bounds, and {count} variables")
-    found = [(-math.inf if low is None else low, math.inf if high is None else high) for low, high in table]
-    for place, (low, _) in enumerate(found):
-        if low == -math.inf:
+    for place, (low, _) in enumerate(table):
+        if low is None or low == -math.inf:
             raise ValueError(f"x[{place}] has no lower bound: a variable of a network has to have one")
-    return [(_exact(low), _exact(high)) for low, high in found]
+    return [tuple(_bound(it, place) for it in pair) for place, pair in enumerate(table)]
 
 
-def _exact(number: Any) -> Any:
-    """A whole float as an int."""
-    return int(number) if isinstance(number, float) and number.is_integer() else number
+def _bound(number: Any, place: int) -> Any:
+    """A bound as an int, or inf."""
+    is_limitless = number is None or number == math.inf
+    return math.inf if is_limitless else number_of(number, NUMBERS, f"bounds[{place}]")
 
 
 def certify_linprog(
@@ -168,16 +201,20 @@ def certify_linprog(
 ) -> CertifiedProgram:
     """Decides whether a result of scipy.optimize.linprog is optimal, of a program of a network, whose numbers are whole.
 
-    The words after the result are those of linprog. Each x may be this far from a whole number, which is taken then, and the
-    value of the result from that of x. Raises NotOptimal with a better x; Refused if x isn't feasible, or the value differs;
-    ValueError that names a variable if the matrix isn't that of a network, or if a number isn't whole. The result of status 2
-    is certified to be infeasible: then value and x are None, and duals are the constraints that can't be met together.
+    The words after the result are those of linprog. Each x may be as far as the tolerance from a whole number, which is taken
+    then, and the value of the result from that of x (times that, if it is above 1). Raises NotOptimal with a better x; Refused
+    if x isn't feasible, or the value differs; ValueError that names a variable if the matrix isn't that of a network, or if a
+    number isn't whole, or a size doesn't fit, or the tolerance isn't finite or is below 0. The result of status 2 is certified
+    to be infeasible: then value and x are None, and duals are the constraints that can't be met together.
 
     >>> from scipy.optimize import linprog
     >>> program = dict(c=[3, 7], A_eq=[[1, 1]], b_eq=[6], bounds=(0, 5))
     >>> certify_linprog(linprog(**program), **program).x
     array([5, 1])
     """
+    if not 0 <= tolerance < math.inf:
+        raise ValueError(f"tolerance is {tolerance}, and has to be finite, and 0 or above")
+    allowed = fraction_of(tolerance, lambda: "tolerance")
     program = _Program(c, A_ub, b_ub, A_eq, b_eq, bounds)
     if result.status == 2:
         inside = calls.certify_infeasible(program.given(), []).inside
@@ -185,7 +222,9 @@ def certify_linprog(
         return CertifiedProgram(None, None, [names.node(row) for row in range(program.rows) if inside[row]])
     if result.status != 0:
         raise ValueError(f"the result has the status {result.status}, and no solution")
-    x = _rounded(result.x, tolerance)
+    x = _rounded(result.x, allowed)
+    if len(x) != len(program.costs):
+        raise ValueError(f"x has {len(x)} numbers, and c has {len(program.costs)}")
     try:
         given = program.given().add(FLOWS, program.flows(x))
         cost, potentials = calls.certify(library.certify_min_arrays, given, [], POTENTIALS, FLOWS)
@@ -194,15 +233,18 @@ def certify_linprog(
         it.numbers = {name: number + program.constant() for name, number in it.numbers.items()}
         raise
     value = cost + program.constant()
-    if abs(result.fun - value) > tolerance * max(1, abs(value)):
+    if abs(fraction_of(result.fun, lambda: "fun") - value) > allowed * max(1, abs(value)):
         raise Refused("ValueDiffers", text="solution", line=0, field=0, numbers={"claimed": result.fun, "value": value})
     duals = [sign * (it - potentials[-1]) for sign, it in zip(program.signs, potentials)]
     return CertifiedProgram(value, np.array(x, np.int64), duals)
 
 
-def _rounded(x: Any, tolerance: float) -> list[int]:
-    found = [round(float(it)) for it in x]
-    for place, (near, it) in enumerate(zip(found, x)):
-        if abs(it - near) > tolerance:
+def _rounded(x: Any, allowed: Fraction) -> list[int]:
+    found = []
+    for place, it in enumerate(x):
+        exact = fraction_of(it, partial("x[{}]".format, place))
+        near = round(exact)
+        if abs(exact - near) > allowed:
             raise ValueError(f"x[{place}] is {it}, not a whole number: the nearest is {near}")
+        found.append(near)
     return found
