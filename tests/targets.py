@@ -6,7 +6,7 @@ What a part tests is built by make first. The parts:
   module    the module that is kept is the one of which clang made the archive
   wasm      in node the library's tests, with each call compared with the library for this system, and 5,000 random
             instances; its heap, up to the end of 32-bit addresses; the layer for JavaScript; and the package
-  command   the command in node: its statuses, output and files are those of the program
+  command   the command in node: its statuses, output, files and complaints are those of the program
   page      the page in Chromium: answers, marked lines, downloads, refused requests
   aarch64   under qemu the library's tests in C, and the program, compared as the command
 With --all there are more instances and all runs over the examples, npm installs the package, and two parts more:
@@ -24,6 +24,8 @@ import shutil
 import subprocess
 import sys
 import tempfile
+
+import usage
 
 TOP = os.path.dirname(os.path.dirname(os.path.abspath(__file__)))
 TEST, JS = f"{TOP}/lib/test", f"{TOP}/tests/js"
@@ -194,39 +196,77 @@ solve-min examples/freight.min out out
 solve-max examples/missing.max out cut
 solve-max examples/pipes.max out missing/cut
 solve-paths examples/road.gr examples/road.query labels --limit 5
-help show
-help solve-max
-help frobnicate
 help show gr
 --help show
+solv-max
+slove-max
+show idst examples/road.dist
+show POTS examples/road.dist
+help constructor
+solve-max --limit --limit 5
+solve-max examples/pipes.max out cut --limit --limit 5
+judge-max --limit 5
+certify-max
 """
 
+# What is run with an output that is full.
+FULL = ["help", "--version", "help help", "help show", "frobnicate", "show gr examples/road.gr", "show gr missing"]
 
-def outcome(words, room):
-    """The status, output and files of a command, and the first line of its complaint."""
+
+def outcome(words, room, **outputs):
+    """The status, output, complaint and files of a command."""
     place = tempfile.mkdtemp(dir=room)
     os.symlink(f"{TOP}/examples", f"{place}/examples")
-    ran = subprocess.run(words, cwd=place, capture_output=True, check=False)
+    outputs = {"stdout": subprocess.PIPE, "stderr": subprocess.PIPE} | outputs
+    ran = subprocess.run(words, cwd=place, check=False, **outputs)
     files = {}
     for name in set(os.listdir(place)) - {"examples"}:
         with open(f"{place}/{name}", "rb") as it:
             files[name] = it.read()
-    return ran.returncode, ran.stdout, files, ran.stderr.partition(b"\n")[0]
+    return ran.returncode, ran.stdout or b"", ran.stderr or b"", files
 
 
-def compare_commands(tests, name, words):
-    """Runs another command as the program for this system, over the examples."""
+def compare_commands(tests, name, words, likened=lambda text: text):
+    """Runs another command as the program for this system: over the examples, for what it prints, and in vain."""
     over_examples = runs_over_examples()
     every = 1 if tests.is_all else max(1, len(over_examples) // 40)
     special = [line.split() for line in SPECIAL.split("\n")[1:-1]]
-    for it in [*over_examples[::every], *special]:
-        wanted, found = outcome([f"{tests.build}/dimacs", *it], tests.room), outcome([*words, *it], tests.room)
-        tests.add(f"{name} {' '.join(it)}", int(found == wanted), int(found != wanted), f"{found}\nand not {wanted}")
+    helped = ["--help", "-h", "--version", "-V", "help", *(f"help {it}" for it in usage.usages() if it != "explain")]
+    wrong = [it for it, _, _ in usage.WRONG if it[0] != "explain"]
+
+    def compare(arguments, **outputs):
+        ran = [outcome([*it, *arguments], tests.room, **outputs) for it in ([f"{tests.build}/dimacs"], words)]
+        wanted, found = ((status, likened(out), likened(told), files) for status, out, told, files in ran)
+        tests.add(f"{name} {arguments}", int(found == wanted), int(found != wanted), f"{found}\nand not {wanted}")
+
+    for it in [*over_examples[::every], *special, *map(str.split, helped), *wrong]:
+        compare(it)
+    with open("/dev/full", "wb") as full:
+        for it, output in itertools.product(FULL, ("stdout", "stderr")):
+            compare(it.split(), **{output: full})
+
+
+def in_words_of_node(text):
+    """Node says in its own words why the system failed a file, and its command doesn't explain."""
+    text = re.sub(rb"(: cannot be \w+): .*", rb"\1", text)
+    text = re.sub(rb"^compiled to WebAssembly, .*\n", b"", text, flags=re.MULTILINE)
+    return re.sub(rb"^ +explain .*\n", b"", text, flags=re.MULTILINE)
 
 
 def test_command(tests):
-    if tests.made("npm/dimacs.tgz", "dimacs"):
-        compare_commands(tests, "npx dimacs", ["node", f"{tests.build}/npm/package/cli.js"])
+    if not tests.made("npm/dimacs.tgz", "dimacs"):
+        return
+    command = ["node", f"{tests.build}/npm/package/cli.js"]
+    compare_commands(tests, "npx dimacs", command, in_words_of_node)
+    wanted = 2, b"", b"dimacs: usage\nno command explain\n" + outcome([*command, "help"], tests.room)[1], {}
+    for words in (["explain"], ["help", "explain"], ["explain", "show", "gr", "examples/road.gr"]):
+        found = outcome([*command, *words], tests.room)
+        tests.add(f"npx dimacs {words}", int(found == wanted), int(found != wanted), f"{found}")
+    for module in ("/dev/null", f"{tests.room}/missing"):
+        environment = {**os.environ, "DIMACS_WASM": module}
+        ran = run(*command, "show", "gr", f"{TOP}/examples/road.gr", env=environment)
+        is_fine = ran.returncode == 4 and re.fullmatch(r"dimacs: .+\n", ran.stderr) and not ran.stdout
+        tests.add(f"npx dimacs over {module}", int(bool(is_fine)), int(not is_fine), ran.stderr)
 
 
 # ---- the page

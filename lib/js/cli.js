@@ -1,13 +1,14 @@
 #!/usr/bin/env node
 // The command, on each system that has node: its arguments, output, files and statuses. Texts go through dimacs.wasm.
 import {closeSync, existsSync, fstatSync, openSync, readFileSync, readSync, writeSync} from "node:fs";
-import {KINDS, LIMIT, Library, OutOfMemory, TEXTS, Texts} from "./library.js";
+import {LIMIT, Library, OutOfMemory, TEXTS, Texts} from "./library.js";
+import {Usage, isText} from "./misuse.js";
 
 const DONE = 0, NO_RUN = 2, DEVICE = 3, NO_MEMORY = 4;
 const COMPLAINTS = {[NO_RUN]: "dimacs: usage", [DEVICE]: "dimacs: device fault", [NO_MEMORY]: "dimacs: out of memory"};
 const GREATEST_LIMIT = 1_000_000_000n;
 const NONE = new Uint8Array(0);
-const STDOUT = 1;
+const STDOUT = 1, STDERR = 2;
 
 /** At most so many bytes are read or written at once. */
 const PIECE = 2 ** 30;
@@ -152,54 +153,69 @@ function run(texts, job) {
     const {status, handed} = answered(texts, job, job.reads, files);
     files.forEach((it) => closeSync(it));
     writeTexts(job, handed, created);
-    attempt("standard output", "written", () => writeAll(STDOUT, handed[0]));
+    print(handed[0]);
     return status;
 }
 
+/** A file of the package, or of the tree where it was built. */
+function fileOf(name, built) {
+    const own = new URL(name, import.meta.url);
+    return existsSync(own) ? own : new URL(`../../build/${built}`, import.meta.url);
+}
+
 function loaded() {
-    const own = new URL("dimacs.wasm", import.meta.url);
-    const built = new URL("../../build/wasm/dimacs.wasm", import.meta.url);
-    const place = process.env.DIMACS_WASM || (existsSync(own) ? own : built);
+    const place = process.env.DIMACS_WASM || fileOf("dimacs.wasm", "wasm/dimacs.wasm");
     return new Library(new WebAssembly.Module(readFileSync(place)));
 }
 
-/** What the program prints of the use of a command, or of all; it was noted when the package was made. */
-function usage(name = "") {
-    const noted = new URL("usage.json", import.meta.url);
-    if (!existsSync(noted)) return "dimacs COMMAND FILE..., as docs/JUDGING.md describes\n";
-    const texts = JSON.parse(readFileSync(noted, "utf8"));
-    return Object.hasOwn(texts, name) ? texts[name] : texts[""];
+function usage() {
+    return new Usage(JSON.parse(readFileSync(fileOf("usage.json", "npm/package/usage.json"), "utf8")));
+}
+
+/** Writes to the standard error. If it can't be written, the status alone tells. */
+function tell(text) {
+    try {
+        writeAll(STDERR, Buffer.from(text));
+    } catch {
+        return;
+    }
 }
 
 function complain(status, more = "") {
-    process.stderr.write(`${COMPLAINTS[status]}\n${more}`);
+    tell(`${COMPLAINTS[status]}\n${more}`);
     return status;
 }
 
 function print(text) {
-    writeAll(STDOUT, Buffer.from(text));
-    return DONE;
+    attempt("standard output", "written", () => writeAll(STDOUT, Buffer.from(text)));
 }
 
 const TRANSLATED = "compiled to WebAssembly, by a translation that isn't proved";
 
+/** The text that arguments ask for, or null. */
+function askedText([first, ...rest]) {
+    if (first === "help" && rest.length === 1) return usage().commands.get(rest[0])?.usage ?? null;
+    if (rest.length) return null;
+    if (["--version", "-V"].includes(first)) return `dimacs ${loaded().description}\n${TRANSLATED}\n`;
+    return ["--help", "-h", "help"].includes(first) ? usage().all : null;
+}
+
+/** Does what arguments ask for, and returns the status. */
 function main(words) {
-    const [first, second] = words, isAlone = words.length === 1;
-    if (isAlone && ["--version", "-V"].includes(first)) return print(`dimacs ${loaded().description}\n${TRANSLATED}\n`);
-    if (isAlone && ["--help", "-h", "help"].includes(first)) return print(usage());
-    const isVerb = Object.hasOwn({...FILES, ...ONE_FILE}, second ?? "");
-    if (words.length === 2 && first === "help" && isVerb) return print(usage(second));
-    const job = jobOf(words);
-    if (!job) return complain(NO_RUN, usage(first));
-    const twice = job.writes.length === 2 && job.writes[0] === job.writes[1];
+    const areTexts = words.every(isText);
+    const text = areTexts && askedText(words), job = areTexts && jobOf(words);
+    if (!text && !job) return complain(NO_RUN, usage().complaintOf(words));
     try {
-        return run(new Texts(loaded()), job);
+        if (job) return run(new Texts(loaded()), job);
+        print(text);
+        return DONE;
     } catch (why) {
         if (why instanceof Failure) return complain(DEVICE, `${why.message}\n`);
         if (why instanceof OutOfMemory) return complain(NO_MEMORY);
         throw why;
     } finally {
-        if (twice) process.stderr.write(`dimacs: ${job.writes[0]}: written twice\n`);
+        const [one, other] = job ? job.writes : [];
+        if (other !== undefined && one === other) tell(`dimacs: ${one}: written twice\n`);
     }
 }
 
@@ -207,6 +223,6 @@ function main(words) {
 try {
     process.exitCode = main(process.argv.slice(2));
 } catch (why) {
-    process.stderr.write(`dimacs: ${why.stack}\n`);
+    tell(`dimacs: ${String(why?.message ?? why).split("\n")[0]}\n`);
     process.exitCode = NO_MEMORY;
 }

@@ -23,7 +23,7 @@ def without_explain(text):
 def main():
     program, out = sys.argv[1:]
     texts = {"": without_explain(printed(program, "help"))}
-    for name in re.findall(r"^ +([a-z]+-?[a-z]*) [A-Z]", texts[""], re.MULTILINE):
+    for name in re.findall(r"^ +([a-z]+-?[a-z]*) [A-Z[]", texts[""], re.MULTILINE):
         texts[name] = printed(program, "help", name)
     with open(out, "w", encoding="utf-8") as it:
         json.dump(texts, it, indent=1)
