@@ -87,7 +87,7 @@ proved-by-ci:
 
 %/libdimacs.so.0: %/dimacs.o lib/exports.map
 	$(CC) $(CFLAGS) $(LDFLAGS) -shared -o $@ $< -Wl,-soname,libdimacs.so.0 -Wl,--version-script=lib/exports.map \
-	    -Wl,-z,defs -Wl,-z,noexecstack
+	    -Wl,-z,defs -Wl,-z,noexecstack -Wl,-z,relro -Wl,-z,now
 
 %/libdimacs.so: %/libdimacs.so.0
 	ln -sf libdimacs.so.0 $@

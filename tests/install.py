@@ -94,7 +94,7 @@ def write(path, text):
 
 def copy(its):
     """Links all of the repository but what is built, which is copied: the sources of the copy are its newest files."""
-    subprocess.run(["make", "-s", "-C", TOP, f"{its.build}/linked"], check=True)
+    subprocess.run(["make", "-s", "-C", TOP, f"{its.build}/dimacs", f"{its.build}/linked"], check=True)
     made = f"{its.place}/copy"
     os.makedirs(f"{made}/{its.build}")
     for it in os.listdir(TOP):
@@ -163,6 +163,8 @@ def test_uninstall(its):
     asked = [*its.words, "uninstall", f"DESTDIR={its.root}", *FOLDERS]
     kept = f"{its.root}/usr/share/doc/libdimacs-doc/of-a-user"
     write(kept, "")
+    os.mkdir(f"{its.root}/usr/share/dimacs/dimacs_batch/__pycache__")
+    write(f"{its.root}/usr/share/dimacs/dimacs_batch/__pycache__/main.pyc", "")
     its.expect("make uninstall", its.run(*asked))
     left = names_below(its.root)
     its.printed = "\n".join(left)
@@ -172,16 +174,17 @@ def test_uninstall(its):
 
 
 def test_flags(its):
-    """The flags of a packager reach the link of the shared library."""
+    """The flags of a packager reach the link of the shared library, which is hardened without any."""
     library = f"{its.place}/copy/{its.build}/libdimacs.so.0"
     if not its.has("flags", "cc", "readelf"):
         return
     os.remove(library)
     os.utime(f"{os.path.dirname(library)}/dimacs.o")
-    flags = ["CFLAGS=-O2 -fPIC", "LDFLAGS=-Wl,-z,relro -Wl,-z,now"]
+    flags = ["CFLAGS=-O2 -fPIC", "LDFLAGS=-Wl,--build-id=0xda7ada7a"]
     its.run(*its.words, f"{its.build}/libdimacs.so.0", *flags)
     its.expect("a library that is linked by flags", os.path.exists(library))
-    its.run("readelf", "-dlW", library)
+    its.run("readelf", "-dlnW", library)
+    its.expect("it has what the flags ask for", "Build ID: da7ada7a" in its.printed)
     its.expect("its symbols are bound as it is loaded", "BIND_NOW" in its.printed and "GNU_RELRO" in its.printed)
 
 

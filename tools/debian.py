@@ -138,10 +138,10 @@ def control_of(package, words, size):
     return "\n".join([first, *common, "Priority: optional", f"Installed-Size: {size}", rest, ""])
 
 
-def symbols(words):
-    """The calls, each with the version that it first was in."""
+def symbols():
+    """The calls, each with the version that it first was in, or what came before that: its ~ sorts first."""
     listed = [line.split()[:2] for line in read(f"{TOP}/abi").splitlines() if line.startswith("dimacs_")]
-    lines = sorted(f" {name}@Base {since}" for name, since in listed)
+    lines = sorted(f" {name}@Base {since}~" for name, since in listed)
     return "\n".join(["libdimacs.so.0 libdimacs0 #MINVER#", *lines, ""])
 
 
@@ -156,7 +156,7 @@ def add_control(root, package, words):
     if package == "libdimacs0":
         write(f"{root}/DEBIAN/triggers", "activate-noawait ldconfig\n")
         write(f"{root}/DEBIAN/shlibs", f"libdimacs 0 libdimacs0 (>= {words['VERSION'].partition('-')[0]})\n")
-        write(f"{root}/DEBIAN/symbols", symbols(words))
+        write(f"{root}/DEBIAN/symbols", symbols())
     for script in ("postinst", "prerm"):
         if os.path.exists(f"{SOURCES}/{package}.{script}"):
             write(f"{root}/DEBIAN/{script}", read(f"{SOURCES}/{package}.{script}"), 0o755)

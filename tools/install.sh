@@ -108,6 +108,7 @@ remove() {
     while read -r path; do
         rm -f "$DESTDIR$path"
         folder=${path%/*}
+        ! is_ours "$folder" || rm -rf "$DESTDIR$folder/__pycache__"
         while is_ours "$folder" && rmdir "$DESTDIR$folder" 2>/dev/null; do
             folder=${folder%/*}
         done
