@@ -227,7 +227,7 @@ def outcome(words, room, **outputs):
 
 
 def compare_commands(tests, name, words, likened=lambda text: text):
-    """Runs another command as the program for this system: over the examples, for what it prints, and in vain."""
+    """Runs another command as the program for this system: over the examples, for help and misuse, and with a full output."""
     over_examples = runs_over_examples()
     every = 1 if tests.is_all else max(1, len(over_examples) // 40)
     special = [line.split() for line in SPECIAL.split("\n")[1:-1]]
@@ -239,7 +239,7 @@ def compare_commands(tests, name, words, likened=lambda text: text):
         wanted, found = ((status, likened(out), likened(told), files) for status, out, told, files in ran)
         tests.add(f"{name} {arguments}", int(found == wanted), int(found != wanted), f"{found}\nand not {wanted}")
 
-    for it in [*over_examples[::every], *special, *map(str.split, helped), *wrong]:
+    for it in [*over_examples[::every], *special, *map(str.split, helped), *wrong, ["show", "gr", "two\nlines"]]:
         compare(it)
     with open("/dev/full", "wb") as full:
         for it, output in itertools.product(FULL, ("stdout", "stderr")):

@@ -36,7 +36,7 @@ const ONE_FILE = {convert: true, show: true};
 /** An I/O error: what failed, and how. */
 class Failure extends Error {
     constructor(name, call, why) {
-        const reason = /^\w+: (.*?)(, \w+( '.*')?)?$/.exec(why.message)?.[1] ?? why.message;
+        const reason = /^\w+: (.*?)(, \w+( '.*')?)?$/s.exec(why.message)?.[1] ?? why.message;
         super(`dimacs: ${name}: cannot be ${call}: ${reason} (${why.code})`);
     }
 }
@@ -215,7 +215,7 @@ function main(words) {
         throw why;
     } finally {
         const [one, other] = job ? job.writes : [];
-        if (other !== undefined && one === other) tell(`dimacs: ${one}: written twice\n`);
+        if (one === other && other !== undefined) tell(`dimacs: ${one}: written twice\n`);
     }
 }
 

@@ -173,7 +173,9 @@ export function solvePaths<T extends Text>(graph: T, queries: Text): Solved<Pair
 
 /**
  * Deals a solution out to parallel arcs: adds up the entries with the same ends, and gives each arc with these ends its
- * share, within its bounds if possible. Returns the text of a solution with an entry for every arc.
+ * share, within its bounds if possible. Returns the text of a solution with the claimed value and an entry for every
+ * arc. Throws Refused if a text has a fault, an entry is of no arc, or what is left for the first of an entry's arcs
+ * doesn't fit 64 bits.
  */
 export function spreadMax<T extends Text>(instance: Text, solution: T): Made<T>;
 /** The same for least cost: of all such flows within the bounds, one that costs least. */
