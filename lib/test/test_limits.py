@@ -688,6 +688,13 @@ class Backend(Limits):
             self.assertEqual(found[1], {node: it for node, it in enumerate(true, 1) if it is not None})
 
 
+    def test_cutoffs(self):
+        """A node that isn't reached is within no cutoff; numpy compares one in floats by the nearest float."""
+        graph = networkx.DiGraph([(1, 2), (3, 1)])
+        for cutoff in (2**63, 2.0**63, math.inf, *([numpy.float64(2**63)] if numpy else [])):
+            self.assertEqual(backend.single_source_dijkstra_path_length(graph, 1, cutoff), {1: 0, 2: 1})
+
+
 class Spread(Limits):
     def test_sums(self):
         self.cases(2000, self.dealt)

@@ -563,6 +563,23 @@ class Programs(Scipy):
         self.raises(ValueError, r"x\[0\] has an entry of 257", ours.certify_linprog, result, **program)
 
 
+class Lists(Scipy):
+    """In a list of ints and floats numpy rounds the ints."""
+
+    def test_what_numpy_rounds(self):
+        inf, wide = numpy.inf, 2**53 + 1
+        message = rf"the entry at \(0, 1\) is {wide}, and beside floats it would be {2**53}"
+        self.raises(ValueError, message, ours.linear_sum_assignment, [[inf, wide], [1, 2]])
+        self.raises(ValueError, message, ours.certify_assignment, [[inf, wide], [1, 2]], [0, 1], [1, 0])
+        self.raises(ValueError, message, ours.shortest_path, [[0, wide], [1.0, 0]])
+        graph = sparse.csr_matrix(numpy.array([[0, 2**53, 0], [0, 0, 0], [0, 0, 0]]))
+        certify = ours.certify_shortest_path
+        self.raises(ValueError, message, certify, graph, [[0, wide, inf]], indices=[0])
+        self.assertEqual(certify(graph, [[0, 2**53, inf]], indices=[0])[0, 1], 0)
+        flow = [[0, wide, 0.0], [-wide, 0, 0], [0, 0, 0]]
+        self.raises(ValueError, message, ours.certify_maximum_flow, graph, 0, 1, flow)
+
+
 class Names(Scipy):
     def test_what_is_there(self):
         self.assertEqual(dir(ours), sorted(ours.__all__))

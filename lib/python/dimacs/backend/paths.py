@@ -45,9 +45,12 @@ class _Tree:
     def within(self, cutoff: Any = None) -> list[int]:
         """The places of the nodes whose distance isn't above the cutoff."""
         distances = self._distances
-        most = UNREACHED - 1 if cutoff is None else min(cutoff, UNREACHED - 1)
-        reached = (place for place in range(len(self._nodes)) if distances[place] <= most)
-        return sorted(reached, key=distances.__getitem__)
+        within = (place for place in range(len(self._nodes)) if self._is_within(distances[place], cutoff))
+        return sorted(within, key=distances.__getitem__)
+
+    def _is_within(self, length: int, cutoff: Any) -> bool:
+        """Whether a node at this distance is reached, and not above the cutoff."""
+        return length != UNREACHED and (cutoff is None or not length > cutoff)
 
     def lengths(self, cutoff: Any = None) -> Lengths:
         """The distances up to a cutoff, and those of the sources, which have one whatever the cutoff is."""
@@ -73,7 +76,7 @@ class _Tree:
         if target not in self._number:
             return None
         length = self._distances[self._number[target] - 1]
-        if length == UNREACHED or cutoff is not None and length > cutoff:
+        if not self._is_within(length, cutoff):
             return None
         return answered([length], self._are_floats)[0]
 

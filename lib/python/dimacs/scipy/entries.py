@@ -2,12 +2,25 @@
 
 from __future__ import annotations
 
+import operator
 from typing import Any, Callable, NamedTuple
 
 import numpy as np
 from scipy import sparse
 
 from ..buffers import NUMBERS, Name, array_of, whole_floats
+
+
+def exact(given: Any) -> Any:
+    """An array, or a list as one. Raises ValueError that names the place of the first int that numpy would round, as it does
+    beside floats."""
+    found = given if hasattr(given, "dtype") else np.asarray(given)
+    if found is given or found.dtype.kind != "f":
+        return found
+    for place, number in np.ndenumerate(np.asarray(given, object)):
+        if hasattr(number, "__index__") and operator.index(number) != float(found[place]):
+            raise ValueError(f"the entry at {place} is {number}, and beside floats it would be {found[place]:.0f}")
+    return found
 
 
 def whole(values: Any, rows: Any, columns: Any) -> Any:

@@ -14,7 +14,7 @@ from .. import calls, library
 from ..answers import Certified, GaveUp, NotOptimal, Refused
 from ..buffers import LIMIT, LIMITS, value_of
 from ..given import FLOWS, INSIDE, MAX, Given, Names
-from .entries import Places, entries_of, matrix_of, whole
+from .entries import Places, entries_of, exact, matrix_of, whole
 
 
 @dataclass(repr=False)
@@ -132,7 +132,7 @@ def certify_maximum_flow(csgraph: Any, source: int, sink: int, flow: Any) -> Cer
 
 def _by_pair(given: _Network, flow: Any) -> tuple[Any, Any, Any, Any]:
     """Each pair of vertices from one of which to the other there is a capacity or a flow: the two, and the sum of either."""
-    matrix = sparse.coo_matrix(flow)
+    matrix = sparse.coo_matrix(exact(flow))
     if matrix.shape != (given.vertices, given.vertices):
         raise ValueError(f"the flow has the shape {matrix.shape}, and the graph has {given.vertices} vertices")
     rows, columns, values = entries_of(matrix)

@@ -13,7 +13,7 @@ from .. import calls, library
 from ..answers import GaveUp, Infeasible, NotOptimal
 from ..buffers import LIMIT, LIMITS, NUMBERS
 from ..given import FLOWS, MAX, MIN, POTENTIALS, Given, Names
-from .entries import edges_of, entries_of, whole, whole_items
+from .entries import edges_of, entries_of, exact, whole, whole_items
 
 
 class Assignment(NamedTuple):
@@ -111,7 +111,7 @@ class _Edges:
 
 def _of_matrix(cost_matrix: Any, maximize: bool) -> _Edges:
     """The entries of a matrix. One of inf (or of -inf, for the greatest) is no edge, as by SciPy."""
-    matrix = np.asarray(cost_matrix)
+    matrix = np.asarray(exact(cost_matrix))
     if matrix.ndim != 2:
         raise ValueError(f"expected a matrix (2-D array), got a {matrix.ndim} array")
     if matrix.dtype.kind == "f" and (np.isnan(matrix).any() or (matrix == (np.inf if maximize else -np.inf)).any()):

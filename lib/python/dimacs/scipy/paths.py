@@ -15,7 +15,7 @@ from ..arrays import solve_paths_arrays
 from ..buffers import test_mask
 from ..distances import NegativeCycle, distances_from, potentials_of
 from ..given import DISTANCES, GRAPH, PREDECESSORS, Given, Names
-from .entries import SEVERAL, Places, edges_of, entries_of, numbers_of, whole, whole_items
+from .entries import SEVERAL, Places, edges_of, entries_of, exact, numbers_of, whole, whole_items
 
 #: SciPy's predecessor of a vertex that has none.
 NO_PREDECESSOR = -9999
@@ -35,7 +35,7 @@ def _stored(matrix: Any) -> tuple[Any, Any, Any]:
 def _shown(csgraph: Any) -> tuple[Any, Any, Any, Any]:
     """The shape of a matrix that isn't sparse, and its entries that are edges."""
     masked: Any = np.ma
-    matrix = masked.masked_invalid(masked.asarray(csgraph), copy=True)
+    matrix = masked.masked_invalid(masked.asarray(exact(csgraph)), copy=True)
     if matrix.ndim != 2:
         raise ValueError("compressed-sparse graph must be 2-D")
     filled = matrix.filled(0)
@@ -208,7 +208,7 @@ def certify_shortest_path(
 def _table(given: Any, name: str, sources: Any, vertices: int) -> Any:
     """A table with a row for each source."""
     test_mask(given, name)
-    found, wanted = np.asarray(given), (*sources.shape, vertices)
+    found, wanted = np.asarray(exact(given)), (*sources.shape, vertices)
     if found.shape != wanted:
         raise ValueError(f"{name} has the shape {found.shape}, and has to have {wanted}")
     return found.reshape((sources.size, vertices))

@@ -179,7 +179,7 @@ def _bounds(bounds: Any, count: int) -> list[tuple[Any, Any]]:
     for place, (low, _) in enumerate(table):
         if low is None or low == -math.inf:
             raise ValueError(f"x[{place}] has no lower bound: a variable of a network has to have one")
-    return [tuple(_bound(it, place) for it in pair) for place, pair in enumerate(table)]
+    return [(_bound(low, place), _bound(high, place)) for place, (low, high) in enumerate(table)]
 
 
 def _bound(number: Any, place: int) -> Any:
