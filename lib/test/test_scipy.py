@@ -85,6 +85,8 @@ class MaximumFlow(Scipy):
         self.raises(ValueError, r"at \(0, 2\) isn't that at \(2, 0\)", certify, graph, 0, 3, flow)
         self.raises(ValueError, "shape", certify, graph, 0, 3, flow[1:, 1:])
         self.raises(ValueError, r"at \(0, 1\) is 0.5", certify, graph, 0, 3, flow / 8)
+        masked = numpy.ma.masked_equal(flow, 1)
+        self.raises(TypeError, "the flow is a masked array", certify, graph, 0, 3, masked)
         flow[:] = 0
         flow[0, 3], flow[3, 0] = 6, -6
         no = self.raises(dimacs.Refused, "AboveCap", certify, graph, 0, 3, flow)

@@ -12,7 +12,7 @@ from scipy import sparse
 
 from .. import calls, library
 from ..answers import Certified, GaveUp, NotOptimal, Refused
-from ..buffers import LIMIT, LIMITS, value_of
+from ..buffers import LIMIT, LIMITS, test_mask, value_of
 from ..given import FLOWS, INSIDE, MAX, Given, Names
 from .entries import Places, entries_of, exact, matrix_of, whole
 
@@ -132,6 +132,7 @@ def certify_maximum_flow(csgraph: Any, source: int, sink: int, flow: Any) -> Cer
 
 def _by_pair(given: _Network, flow: Any) -> tuple[Any, Any, Any, Any]:
     """Each pair of vertices from one of which to the other there is a capacity or a flow: the two, and the sum of either."""
+    test_mask(flow, "the flow")
     matrix = sparse.coo_matrix(exact(flow))
     if matrix.shape != (given.vertices, given.vertices):
         raise ValueError(f"the flow has the shape {matrix.shape}, and the graph has {given.vertices} vertices")

@@ -75,7 +75,7 @@ def _numbers(given: Any, name: str) -> list[int]:
     return [number_of(it, NUMBERS, f"{name}[{place}]") for place, it in enumerate(listed)]
 
 
-def _columns(parts: Sequence[_Part], count: int) -> list[list[tuple[int, Fraction]]]:
+def _columns(parts: Sequence[_Part], count: int) -> list[list[tuple[int, Any]]]:
     """The entries of each variable that aren't 0, by constraints: several at a place are their exact sum."""
     found: list[dict[int, Fraction]] = [{} for _ in range(count)]
     first = 0
@@ -202,10 +202,11 @@ def certify_linprog(
     """Decides whether a result of scipy.optimize.linprog is optimal, of a program of a network, whose numbers are whole.
 
     The words after the result are those of linprog. Each x may be as far as the tolerance from a whole number, which is taken
-    then, and the value of the result from that of x (times that, if it is above 1). Raises NotOptimal with a better x; Refused
-    if x isn't feasible, or the value differs; ValueError that names a variable if the matrix isn't that of a network, or if a
-    number isn't whole, or a size doesn't fit, or the tolerance isn't finite or is below 0. The result of status 2 is certified
-    to be infeasible: then value and x are None, and duals are the constraints that can't be met together.
+    then; the value of the result from that of x too, or by that value times the tolerance if it is above 1. Raises NotOptimal
+    with a better x; Refused if x isn't feasible, or the value differs; ValueError that names a variable if the matrix isn't
+    that of a network, and if a number isn't whole, a size doesn't fit, or the tolerance is below 0 or not finite. The result
+    of status 2 is certified to be infeasible: then value and x are None, and duals are the constraints that can't be met
+    together.
 
     >>> from scipy.optimize import linprog
     >>> program = dict(c=[3, 7], A_eq=[[1, 1]], b_eq=[6], bounds=(0, 5))
