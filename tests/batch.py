@@ -663,17 +663,33 @@ def solved(place, binary):
     status, table, _ = place.run(".", *words, "-o", "table", program=binary)
     verdicts = ["v min 55", "v max 12", "v 1 5 1400; 2 more", "v infeasible"]
     assert status == 0 and column(place.table(), "verdict") == verdicts, place.table()
+    status, _, err = place.run(".", *words, "-o", "table", program=binary)
+    assert status == 0 and err == counted(4, 0, 0, 0, 0, 0, 0, taken_over=4), err
     recheck = ["--recheck", "--referee", "table", "."]
     assert place.run(*recheck, program=binary)[2] == "4 agree, 0 differ, 0 not there, 0 not judged\n"
     place.write("pipes.cut", "p cut 5 1\nu 1\n")
     assert place.run(*recheck, program=binary)[2] == "3 agree, 1 differ, 0 not there, 0 not judged\n"
 
 
+def repeated(place, binary):
+    """A command that writes beside the instances is repeated: what it wrote is no answer, and goes with its row."""
+    for name in ("pipes.max", "trucks.max", "road.gr", "road.distances"):
+        shutil.copy(os.path.join(TOP, "examples", name), place.folder)
+    place.write("trucks-lemon.solution", "s 1\n")
+    words = [".", "-o", "table", "--run", "max=solve-max {instance} {name}.solution {name}.cut"]
+    words += ["--run", "gr=certify-paths {instance} {answers} {name}.dist"]
+    status, _, err = place.run(*words, program=binary)
+    assert status == 0 and err == counted(3, 0, 0, 0, 0, 0, 0), err
+
+    status, _, err = place.run(*words, program=binary)
+    assert status == 0 and err == counted(3, 0, 0, 0, 0, 0, 0, taken_over=3), err
+
+
 TESTS = [
     order_and_columns, commands, folders, layouts, unanswered, evidence, made_anew, changed_while_judged, taken_up,
     killed, late, odd, misused, safe_files, full, shards, formats, on_terminal, reasons,
 ]
-WITH_BINARY = [examples, kept, same_names, solved, report]
+WITH_BINARY = [examples, kept, same_names, solved, repeated, report]
 
 
 def main():

@@ -91,6 +91,21 @@ def words_of(kind, instance, answers, commands):
     return words
 
 
+def takes_answers(kind, commands):
+    """Whether the command for a kind has a place for answers."""
+    return kind not in commands or "{answers}" in shlex.split(commands[kind])
+
+
+def answers_for(kind, instance, files, commands):
+    """The files of an answer that the command takes: no file that it names itself, since it may write that one."""
+    if kind not in commands:
+        return files
+    if not takes_answers(kind, commands):
+        return []
+    its_own = words_of(kind, instance, files, {kind: commands[kind].replace("{answers}", "")})
+    return [it for it in files if it not in its_own]
+
+
 # ---- folders
 
 
@@ -260,13 +275,16 @@ def pairs(instances, folders, find, match, commands):
     claimed, used, why = collections.defaultdict(list), set(), {}
     for claim in claims_of({it.kind for it in instances}, folders, match, commands):
         instance, files, solver = owner_of(claim, find, commands)
-        if instance:
-            claimed[instance.file].append((files, solver))
-            used.update(files)
-        else:
+        if not instance:
             why.update(dict.fromkeys(claim.files, solver))
+            continue
+        used.update(files)
+        files = answers_for(claim.kind, instance.file, files, commands)
+        if files:
+            claimed[instance.file].append((files, solver))
     for it in instances:
         for files, solver in claimed[it.file] or [([], "")]:
+            used.update(words_of(it.kind, it.file, files, commands) if it.kind in commands else [])
             yield it, files, solver
     for parent, _, names in folders:
         for file in (os.path.join(parent, it) for it in names if it.endswith(ANSWERS)):
@@ -332,10 +350,11 @@ def tasks(places, answers, match, commands, show):
         asked = in_folder(places[0], answers, match, commands) if len(places) == 1 else to_one(*places, match, commands)
         found = ((it.kind, it.file, its, solver) if it else ("", "", its, solver) for it, its, solver in asked)
     for kind, instance, its, solver in found:
-        made = kind in commands and "{answers}" not in commands[kind]  # the command needs no answer
         if not instance:
             yield Task("", its, "", "", [], solver)
-        elif its or made:
+        elif not takes_answers(kind, commands):
+            yield Task(instance, [], solver, kind, words_of(kind, instance, its, commands))
+        elif its:
             yield Task(instance, its, solver, kind, words_of(kind, instance, its, commands))
         elif show:
             yield Task(instance, its, solver, kind, words_of(kind, instance, its, {}))
