@@ -683,11 +683,48 @@ def repeated(place, binary):
 
     status, _, err = place.run(*words, program=binary)
     assert status == 0 and err == counted(3, 0, 0, 0, 0, 0, 0, taken_over=3), err
+    place.write("pipes.solution", "s 77\n")
+    status, _, err = place.run(*words, program=binary)
+    assert status == 0 and err == counted(3, 0, 0, 0, 0, 0, 0, taken_over=2, made_anew=1), err
+    assert place.read("pipes.solution").startswith("s 12\n")
+
+
+def other_files(place):
+    """A row isn't taken over if a file that its command names by another word is another now."""
+    place.list(["0 0 v max 1"])
+    place.write("certificate", "c\n")
+    words = ["list", "-o", "table", "--run", "max=judge-max {instance} {answers} certificate"]
+    place.run(*words)
+    assert place.run(*words)[2] == counted(1, 0, 0, 0, 0, 0, 0, taken_over=1)
+    digest = hashlib.sha256(b"c\n").hexdigest()
+    assert column(place.table(), "files_sha256") == [digest], place.table()
+    place.write("certificate", "d\n")
+    assert place.run(*words)[2] == counted(1, 0, 0, 0, 0, 0, 0, made_anew=1)
+    os.unlink(place.path("certificate"))
+    assert place.run(*words)[2] == counted(1, 0, 0, 0, 0, 0, 0, made_anew=1)
+    place.write("certificate", "c\n")
+    place.write("0.max", "1 0 v max 1\n")
+    place.runs()
+    process = place.started(*words)
+    place.wait_for("ran", 1)
+    place.write("certificate", "e\n")
+    process.communicate()
+    assert process.returncode == 3 and "changed" in place.table()[0]["verdict"], place.table()
+
+
+def same_command(place):
+    """Instances that are judged by one command have a row each."""
+    for name in "ab":
+        place.write(f"in/{name}.max", "0 0 v max 1\n")
+    words = ["in", "-o", "table", "--run", "max=solve-max in/a.max out cut"]
+    for _ in range(2):
+        assert place.run(*words)[0] == 0
+        assert column(place.table(), "instance") == ["in/a.max", "in/b.max"], place.table()
 
 
 TESTS = [
     order_and_columns, commands, folders, layouts, unanswered, evidence, made_anew, changed_while_judged, taken_up,
-    killed, late, odd, misused, safe_files, full, shards, formats, on_terminal, reasons,
+    killed, late, odd, other_files, same_command, misused, safe_files, full, shards, formats, on_terminal, reasons,
 ]
 WITH_BINARY = [examples, kept, same_names, solved, repeated, report]
 

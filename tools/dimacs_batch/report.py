@@ -19,7 +19,7 @@ WIDTH, HEIGHT, MARGIN = 720, 400, 60  # of the plot, in pixels
 COLOURS = ["#0072b2", "#d55e00", "#009e73", "#cc79a7", "#e69f00", "#56b4e9", "#000000"]
 
 # What decides a row, and is shown where the pointer is.
-EVIDENCE = ["answers", "command", "instance_sha256", "answers_sha256", "kept", "kept_sha256", "host"]
+EVIDENCE = ["answers", "command", "instance_sha256", "answers_sha256", "files_sha256", "kept", "kept_sha256", "host"]
 
 
 def text(value):

@@ -9,17 +9,19 @@ from dimacs_batch.answers import Task
 
 COLUMNS = [
     "number", "of", "list", "instance", "answers", "solver", "kind", "command", "verdict", "value", "class", "status",
-    "seconds", "cpu", "memory", "limit", "size", "arcs", "instance_sha256", "answers_sha256", "kept", "kept_sha256",
-    "host", "version", "proof", "program_sha256",
+    "seconds", "cpu", "memory", "limit", "size", "arcs", "instance_sha256", "answers_sha256", "files_sha256",
+    "kept", "kept_sha256", "host", "version", "proof", "program_sha256",
 ]
 
 # The columns that decide a verdict.
-DECIDING = ["command", "instance_sha256", "answers_sha256", "limit", "version", "proof", "program_sha256"]
+DECIDING = [
+    "command", "instance_sha256", "answers_sha256", "files_sha256", "limit", "version", "proof", "program_sha256",
+]
 
 
 def key_of(command, instance, answers):
-    """By what a row is known: its command, or else its files."""
-    return command or f"{instance} {answers}"
+    """By what a row is known: its command and its files."""
+    return [command, instance, answers]
 
 
 def name_of(task):
