@@ -85,6 +85,7 @@ LAYOUTS = """
 . | a.max lemon/a.sol | a.max a.sol lemon
 in --answers out | in/a.max out/lemon/a.sol in/a.cut | a.max a.sol lemon ; - a.cut
 . --match {instance}.{solver}.sol | a.b.max a.b.lemon.sol a.b.lemon.cut a.b.sol | a.b.max a.b.lemon.sol+a.b.lemon.cut lemon ; - a.b.sol
+. --match {instance}.{solver}.txt | a.max a.lemon.txt b.lemon.txt note.txt | a.max a.lemon.txt lemon ; - b.lemon.txt
 in --answers out --match {solver}/run-{instance}.txt | in/a.max out/lemon/run-a.txt | a.max run-a.txt lemon
 . | g.gr g.query lemon/g.dist g.distances | g.gr g.distances ; g.gr g.query+g.dist lemon
 . | g.gr g.dist | g.gr ; - g.dist
@@ -273,6 +274,32 @@ def layouts(place):
         ]
         found = " ; ".join(" ".join(filter(None, it)) for it in found)
         assert found == wanted, (line, found, err)
+
+
+def links(place):
+    """Folders that are links are searched, and one that leads back isn't searched again."""
+    for name in ("set/instances/a.max", "elsewhere/a.sol", "set/answers/igraph/a.sol"):
+        place.write(name, "0 0 v max 1\n")
+    os.symlink("../../elsewhere", place.path("set/answers/lemon"))
+    os.symlink("igraph", place.path("set/answers/same"))
+    os.symlink("..", place.path("elsewhere/back"))
+    os.symlink(".", place.path("set/answers/igraph/itself"))
+    status, table, _ = place.run("set")
+    assert status == 0 and column(table, "solver") == ["igraph", "lemon", "same"], table
+
+
+def kept_inside(place, binary):
+    """What is kept inside the folder is no answer the next time; the folder itself is no place for it."""
+    for name in ("pipes.max", "pipes.solution"):
+        place.write(f"set/{name}", "")
+        shutil.copy(os.path.join(TOP, "examples", name), place.path("set"))
+    for taken_over in (0, 1):
+        status, _, err = place.run("set", "-o", "table", "--keep", "set/kept", program=binary)
+        assert status == 0 and err == counted(1, 0, 0, 0, 0, 0, 0, taken_over=taken_over), err
+    os.mkdir(place.path("set/answers"))
+    for words in (["set", "--keep", "set/."], ["set", "--keep", "set/answers"], ["set/pipes.max", "set", "--keep", "set"]):
+        status, _, err = place.run(*words, program=binary)
+        assert status == 2 and "--keep" in err and "Traceback" not in err, err
 
 
 def unanswered(place):
@@ -723,10 +750,10 @@ def same_command(place):
 
 
 TESTS = [
-    order_and_columns, commands, folders, layouts, unanswered, evidence, made_anew, changed_while_judged, taken_up,
+    order_and_columns, commands, folders, layouts, links, unanswered, evidence, made_anew, changed_while_judged, taken_up,
     killed, late, odd, other_files, same_command, misused, safe_files, full, shards, formats, on_terminal, reasons,
 ]
-WITH_BINARY = [examples, kept, same_names, solved, repeated, report]
+WITH_BINARY = [examples, kept, same_names, solved, repeated, kept_inside, report]
 
 
 def main():

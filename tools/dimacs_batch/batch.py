@@ -161,7 +161,7 @@ def span(seconds):
 def asked(options):
     """The list of what is asked."""
     rows = Rows(options.shard)
-    for task in answers.tasks(options.places, options.answers, options.match, options.runs, options.show):
+    for task in answers.tasks(options):
         rows.ask(task)
     if not rows.count:
         fail(f"{' '.join(options.places)}: no instance, and no answer")
