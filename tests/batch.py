@@ -437,6 +437,27 @@ def killed(place):
     assert not [it for it in os.listdir(place.folder) if it.startswith("table.")]
 
 
+def beside(place):
+    """The rows beside a table whose run was killed replace those of their number, and numbers are those of the list."""
+    place.list(["0 0 v max 1", "0 1 x arc 1 AboveCap"])
+    place.run("list", "-o", "table")
+    rows_there = place.table()
+    place.write("table.part", "".join(json.dumps({**it, "verdict": "v max 7"}) + "\n" for it in rows_there[1:]))
+    _, table, err = place.run("--join", "table")
+    assert column(table, "verdict") == ["v max 1", "v max 7"], table
+    place.run("--report", "table")
+    assert place.read("table.html").count("<circle") <= 2 and place.read("table.html").count("<tr title=\"answers") == 2
+    os.unlink(place.path("table.part"))
+    place.write("list", "2.max\n" + place.read("list"))
+    place.write("2.max", "30 0 i\n")
+    place.runs()
+    process = place.started("list", "--show", "-j", "1", "-o", "table")
+    place.wait_for("ran", 1)
+    process.kill()
+    process.communicate()
+    assert column(place.table(), "number") == ["2", "3"], place.table()
+
+
 def late(place):
     """A run that takes too long is ended, and run again the next time."""
     place.list(["30 0 v max 1"])
@@ -670,6 +691,33 @@ def kept(place, binary):
     assert status == 3 and err == "10 agree, 0 differ, 5 not there, 1 not judged\n", err
 
 
+def recheck_whole(place, binary):
+    """A table that was cut, torn or edited isn't rechecked with status 0."""
+    for name in ("pipes", "trucks", "bridges"):
+        for ending in ("max", "solution", "cut"):
+            shutil.copy(os.path.join(TOP, "examples", f"{name}.{ending}"), place.folder)
+    place.run(".", "-o", "table", program=binary)
+    whole = place.read("table")
+    lines = whole.splitlines(keepends=True)
+    counts = "2 agree, 0 differ, 0 not there, 0 not judged; 1 in no table\n"
+    none = "0 agree, 0 differ, 0 not there, 0 not judged\n"
+    for text, wanted in (
+        ("", none), (lines[0], none), ("".join(lines[:-1]), "row 3 is in no table\n" + counts),
+        (lines[0] + "".join(lines[2:]), "row 1 is in no table\n" + counts),
+        (whole[:-9], "row 3 is in no table\n" + counts),
+    ):
+        place.write("cut", text)
+        status, _, err = place.run("--recheck", "cut", ".", program=binary)
+        assert status == 3 and err == wanted, (text, err)
+    for old, new in ((",v max 12,12,yes", ",v max 12,13,yes"), (",v max 12,12,yes", ",v max 12,12,no")):
+        place.write("edited", whole.replace(old, new))
+        status, _, err = place.run("--recheck", "edited", ".", program=binary)
+        assert status == 1 and err == "2 agree, 1 differ, 0 not there, 0 not judged\n", err
+    place.write("table", whole.replace(",v max 12,12,yes,0,", ",x arc 1 AboveCap,,yes,1,"))
+    status, _, err = place.run(".", "-o", "table", program=binary)
+    assert status == 0 and err == counted(3, 0, 0, 0, 0, 0, 0, taken_over=2, made_anew=1), err
+
+
 def same_names(place, binary):
     """Files of one name don't replace each other."""
     for folder in "12":
@@ -751,9 +799,9 @@ def same_command(place):
 
 TESTS = [
     order_and_columns, commands, folders, layouts, links, unanswered, evidence, made_anew, changed_while_judged, taken_up,
-    killed, late, odd, other_files, same_command, misused, safe_files, full, shards, formats, on_terminal, reasons,
+    killed, beside, late, odd, other_files, same_command, misused, safe_files, full, shards, formats, on_terminal, reasons,
 ]
-WITH_BINARY = [examples, kept, same_names, solved, repeated, kept_inside, report]
+WITH_BINARY = [examples, kept, recheck_whole, same_names, solved, repeated, kept_inside, report]
 
 
 def main():

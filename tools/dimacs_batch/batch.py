@@ -81,16 +81,15 @@ class Judge:
         }
 
     def decides(self, row, old):
-        return old["class"] in JUDGED and all(row[it] == old[it] for it in DECIDING)
+        return old["class"] in JUDGED and runs.is_whole(old) and all(row[it] == old[it] for it in DECIDING)
 
     def judged(self, task, name, row):
         """Runs the command; the columns that say how it ended, and what was kept."""
         made = self.keep and self.keep.made_by(task.words, name)
         ended = self.runs.run([self.program.file, *task.words, *([made] if made else [])])
-        value = ended.line.split(" ")[2] if ended.line.startswith(("v max ", "v min ")) else ""
         found = {
             "verdict": ended.line,
-            "value": value,
+            "value": runs.value_of(ended.line),
             "class": runs.class_of(task.words[0], ended),
             "status": str(ended.status),
             "seconds": f"{ended.seconds:.3f}",

@@ -34,11 +34,11 @@ def joined(tables):
     return rows, int(next(iter(lists))[1]) if lists else 0
 
 
-def gaps(rows, count):
-    """Yields the first and the last of rows that stand side by side and aren't there."""
+def gaps(numbers, count):
+    """Yields the first and the last of rows that stand side by side and aren't there, by the numbers of those that are,
+    in order."""
     expected = 1
-    for row in rows.in_order():
-        number = int(row["number"])
+    for number in numbers:
         if number > expected:
             yield expected, number - 1
         expected = number + 1
@@ -46,19 +46,26 @@ def gaps(rows, count):
         yield expected, count
 
 
+def missing(numbers, count):
+    """Names what isn't there of so many rows; how many they are."""
+    found = 0
+    for first, last in gaps(numbers, count):
+        found += last - first + 1
+        what = f"row {first} is" if first == last else f"rows {first} to {last} are"
+        print(f"{what} in no table", file=sys.stderr)
+    return found
+
+
 def join(options, writer):
     """Writes the rows of all tables as one, and names what none of them has; the exit status."""
     rows, count = joined(options.places)
-    counts, missing = Counts(), 0
+    counts = Counts()
     for row in rows.in_order():
         counts.add(row)
     if options.output:
         put_table(place_of(options.output), writer, rows.in_order())
     else:
         Printed(writer).put_all(rows.in_order())
-    for first, last in gaps(rows, count):
-        missing += last - first + 1
-        what = f"row {first} is" if first == last else f"rows {first} to {last} are"
-        print(f"{what} in no table", file=sys.stderr)
-    print(f"{counts}" + (f"; {missing} in no table" if missing else ""), file=sys.stderr)
-    return 3 if missing or not count else counts.status()
+    left = missing((int(row["number"]) for row in rows.in_order()), count)
+    print(f"{counts}" + (f"; {left} in no table" if left else ""), file=sys.stderr)
+    return 3 if left or not count else counts.status()

@@ -80,10 +80,13 @@ class Rows:
         self.db.execute("update task set row = ? where number = ?", (json.dumps(row), number))
 
     def in_order(self, earlier=False):
-        """Yields the rows that are there; with those of the earlier run where there is no other yet."""
+        """Yields the rows that are there; with those of the earlier run where there is no other yet, whose numbers are
+        those of this list then."""
         wanted = "coalesce(row, old)" if earlier else "row"
-        for (row,) in self.db.execute(f"select {wanted} from task where {wanted} is not null order by number"):
-            yield json.loads(row)
+        for number, row in self.db.execute(
+            f"select number, {wanted} from task where {wanted} is not null order by number"
+        ):
+            yield {**json.loads(row), **(self.place_of(number) if earlier else {})}
 
     def in_shard(self):
         """How many rows the shard has."""

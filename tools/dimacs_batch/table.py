@@ -3,11 +3,14 @@ import csv
 import fcntl
 import json
 import os
+import re
 import stat
 import sys
 
 from dimacs_batch import ANY_NAMES, fail
 from dimacs_batch.rows import COLUMNS
+
+SHA256 = 64  # digits
 
 csv.field_size_limit(1 << 24)
 
@@ -28,8 +31,10 @@ def rows_of_csv(lines, file):
         if head != COLUMNS:
             fail(f"{file}: not a table of dimacs-batch")
         for fields in table:
-            if len(fields) == len(COLUMNS):
-                yield dict(zip(COLUMNS, fields))
+            row = dict(zip(COLUMNS, fields))
+            is_torn = len(fields) != len(COLUMNS) or row["status"] and len(fields[-1]) < SHA256
+            if not is_torn:
+                yield row
     except csv.Error as error:
         if table.line_num < 2:
             fail(f"{file}: not a table of dimacs-batch: {error}")
@@ -47,13 +52,26 @@ def rows_of_json(lines, file):
         yield row
 
 
+def rows_of(file):
+    """The rows of a file, in either format."""
+    with open(file, newline="", **ANY_NAMES) as lines:
+        is_json = lines.read(1) == "{"
+        lines.seek(0)
+        for row in (rows_of_json if is_json else rows_of_csv)(lines, file):
+            wrong = [it for it in ("number", "of") if not re.fullmatch("[0-9]{1,15}", str(row[it]))]
+            if wrong or not all(isinstance(it, str) for it in row.values()):
+                fail(f"{file}: not a table of dimacs-batch" + "".join(f": {it} is {row[it]}" for it in wrong))
+            yield row
+
+
 def read_table(file):
-    """Yields the rows of a table, and those that a run which was killed had added beside it."""
-    for each in [it for it in (file, f"{file}.part") if os.path.exists(it)] or [file]:
-        with open(each, newline="", **ANY_NAMES) as lines:
-            is_json = lines.read(1) == "{"
-            lines.seek(0)
-            yield from (rows_of_json if is_json else rows_of_csv)(lines, each)
+    """Yields the rows of a table. Those that a run which was killed had added beside it replace those of their number."""
+    part = f"{os.path.realpath(file)}.part"
+    added = {row["number"] for row in rows_of(part)} if os.path.exists(part) else ()
+    if os.path.exists(file) or not os.path.exists(part):
+        yield from (row for row in rows_of(file) if row["number"] not in added)
+    if added:
+        yield from rows_of(part)
 
 
 # ---- a table that is written
