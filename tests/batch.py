@@ -9,6 +9,7 @@ the texts. BINARY is the built program, with which the examples are judged; crat
 is there.
 """
 import csv
+import fcntl
 import functools
 import hashlib
 import io
@@ -489,6 +490,19 @@ def misused(place):
     place.list(["0 0 v max 1"])
     assert place.run()[0] == 2 and place.run("list", "--run", "max")[0] == 2 and place.run("missing")[0] == 2
     assert place.run("list", "--run", "max='")[0] == 2 and place.run("list", "--run", "max=")[0] == 2
+    for match in ("{instance}{instance}.txt", "{instance}.{solver}.{solver}.txt"):
+        status, _, err = place.run(".", "--match", match)
+        assert status == 2 and "once" in err and "Traceback" not in err, err
+    for seconds in ("inf", "nan", "-1", "0", "1e300"):
+        status, _, err = place.run("list", f"--seconds={seconds}")
+        assert status == 2 and "--seconds" in err and "Traceback" not in err, err
+    step = {f"SLURM_ARRAY_TASK_{it}": "0" for it in ("ID", "MIN", "STEP")}
+    status, _, err = place.run("list", env={**step, "SLURM_ARRAY_TASK_COUNT": "1"})
+    assert status == 2 and "SLURM_ARRAY_TASK_STEP" in err and "Traceback" not in err, err
+    place.run("list", "-o", "numbered")
+    place.write("numbered", place.read("numbered").replace("\n1,", "\nx,"))
+    status, _, err = place.run("--join", "numbered")
+    assert status == 2 and err == "dimacs-batch: numbered: not a table of dimacs-batch: number is x\n", err
     assert place.run("list", "--answers", ".")[0] == 2 and place.run(".", "--match", "x")[0] == 2
     status, _, err = place.run("list", program="/nowhere/dimacs")
     assert status == 2 and "/nowhere/dimacs" in err, err
@@ -521,6 +535,62 @@ def safe_files(place):
     process.communicate()
     status, _, err = place.run("list", "-o", "nowhere/table")
     assert status == 2 and err.endswith("nowhere/table.part: No such file or directory\n"), err
+
+
+def other_outputs(place):
+    """What --join and --report write replaces only what they made, and nothing that another run writes."""
+    place.list(["0 0 v max 1"])
+    place.run("list", "-o", "table")
+    text = place.read("table")
+    place.write("page.html", "<!doctype html>\n")
+    for words in (["--join", "table", "-o", "0.max"], ["--report", "table", "-o", "0.max"],
+                  ["--report", "table", "-o", "table"], ["--report", "table", "-o", "page.html"],
+                  ["--join", "table", "-o", "page.html"], ["--join", "table", "--format", "latex", "-o", "table"]):
+        before = place.read(words[words.index("-o") + 1])
+        status, _, err = place.run(*words)
+        assert status == 2 and place.read(words[words.index("-o") + 1]) == before and "not a" in err, (words, err)
+        assert not [it for it in os.listdir(place.folder) if it.endswith(".part")], words
+    assert place.read("table") == text
+    for words in (["--join", "table", "-o", "joined"], ["--report", "table"],
+                  ["--join", "table", "--format", "latex", "-o", "table.tex"],
+                  ["--join", "table", "--format", "jsonl", "-o", "table.jsonl"],
+                  ["--join", "table", "--format", "markdown", "-o", "table.md"]):
+        for _ in range(2):
+            status, _, err = place.run(*words)
+            assert status == 0, (words, err)
+    with open(place.path("joined.part"), "a", encoding="ascii") as part:
+        fcntl.flock(part, fcntl.LOCK_EX)
+        status, _, err = place.run("--join", "table", "-o", "joined")
+        assert status == 2 and err == "dimacs-batch: joined: another dimacs-batch writes it\n", err
+    place.write("joined.part", text)
+    status, _, err = place.run("--join", "table", "-o", "joined")
+    assert status == 2 and place.read("joined.part") == text, err
+
+
+def new_is_a_link(place):
+    """A link beside the table isn't written through."""
+    place.list(["0 0 v max 1"])
+    place.write("precious", "1\n")
+    os.symlink("precious", place.path("table.new"))
+    status, _, err = place.run("list", "-o", "table")
+    assert place.read("precious") == "1\n" and len(place.table()) == 1, err
+
+
+def closed_streams(place):
+    """Standard streams that are closed give no traceback, and no status of a refusal."""
+    place.list(["0 0 v max 1"])
+    words = f"{shlex.quote(sys.executable)} -B {shlex.quote(BATCH)} --program ./stand-in"
+    for rest, wanted in (
+        ("list <&-", 0), ("list -o table <&-", 0), ("list -o table >&-", 0), ("list >&-", 2), ("- <&-", 2),
+        ("list 2>&- >out", 0), ("list -o table 2>&-", 0), ("list -o t2 <&- >&- 2>&-", 0), ("list 2>/dev/full", 0),
+        ("missing 2>&-", 2), ("--commands 2 -o {shard} list >&-", 2), ("--commands 2 -o {shard} list >/dev/full", 2),
+        ("--recheck table . >&- 2>&-", 2), ("--version >&-", 0), ("missing 2>/dev/full", 2),
+    ):
+        how = {"cwd": place.folder, "env": {**os.environ, "RAN": place.ran}, "capture_output": True, "text": True}
+        ran = subprocess.run(["sh", "-c", f"exec {words} {rest}"], check=False, **how)
+        assert ran.returncode == wanted, (rest, ran)
+        assert ran.returncode != 1 and "Traceback" not in ran.stderr and "Exception" not in ran.stderr, (rest, ran)
+    assert len(rows(place.read("out"))) == 1, place.read("out")
 
 
 def full(place):
@@ -713,6 +783,10 @@ def recheck_whole(place, binary):
         place.write("edited", whole.replace(old, new))
         status, _, err = place.run("--recheck", "edited", ".", program=binary)
         assert status == 1 and err == "2 agree, 1 differ, 0 not there, 0 not judged\n", err
+    process = place.started("--recheck", "edited", ".", program=binary)
+    process.stdout.close()
+    err = process.stderr.read()
+    assert err == "dimacs-batch: standard output: Broken pipe\n" and process.wait() == 2, err
     place.write("table", whole.replace(",v max 12,12,yes,0,", ",x arc 1 AboveCap,,yes,1,"))
     status, _, err = place.run(".", "-o", "table", program=binary)
     assert status == 0 and err == counted(3, 0, 0, 0, 0, 0, 0, taken_over=2, made_anew=1), err
@@ -799,7 +873,7 @@ def same_command(place):
 
 TESTS = [
     order_and_columns, commands, folders, layouts, links, unanswered, evidence, made_anew, changed_while_judged, taken_up,
-    killed, beside, late, odd, other_files, same_command, misused, safe_files, full, shards, formats, on_terminal, reasons,
+    killed, beside, late, odd, other_files, same_command, misused, safe_files, other_outputs, new_is_a_link, closed_streams, full, shards, formats, on_terminal, reasons,
 ]
 WITH_BINARY = [examples, kept, recheck_whole, same_names, solved, repeated, kept_inside, report]
 

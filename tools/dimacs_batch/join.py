@@ -1,11 +1,9 @@
 """Joins the tables of the shards of a list."""
-import sys
-
-from dimacs_batch import fail
+from dimacs_batch import fail, say
 from dimacs_batch.batch import Counts
 from dimacs_batch.rows import DECIDING, Rows
 from dimacs_batch.runs import JUDGED
-from dimacs_batch.table import Printed, place_of, put_table, read_table
+from dimacs_batch.table import Printed, fill, put_alone, read_table, test_table
 
 # The columns that are the same wherever a row is made.
 COMPARED = [*DECIDING, "instance", "answers", "solver", "kind", "verdict", "value", "class", "status"]
@@ -52,7 +50,7 @@ def missing(numbers, count):
     for first, last in gaps(numbers, count):
         found += last - first + 1
         what = f"row {first} is" if first == last else f"rows {first} to {last} are"
-        print(f"{what} in no table", file=sys.stderr)
+        say(f"{what} in no table")
     return found
 
 
@@ -63,9 +61,9 @@ def join(options, writer):
     for row in rows.in_order():
         counts.add(row)
     if options.output:
-        put_table(place_of(options.output), writer, rows.in_order())
+        put_alone(options.output, lambda out: fill(writer(out), rows.in_order()), lambda it: test_table(it, writer))
     else:
         Printed(writer).put_all(rows.in_order())
     left = missing((int(row["number"]) for row in rows.in_order()), count)
-    print(f"{counts}" + (f"; {left} in no table" if left else ""), file=sys.stderr)
+    say(f"{counts}" + (f"; {left} in no table" if left else ""))
     return 3 if left or not count else counts.status()

@@ -7,12 +7,12 @@ import subprocess
 import sys
 import tempfile
 
-from dimacs_batch import evidence, fail
+from dimacs_batch import evidence, fail, say
 from dimacs_batch.join import missing
 from dimacs_batch.keep import CERTIFIERS, ending_of
 from dimacs_batch.parallel import in_parallel
 from dimacs_batch.runs import JUDGED, NO, YES, Runs, is_whole
-from dimacs_batch.table import read_table
+from dimacs_batch.table import in_words, read_table
 
 HERE = os.path.dirname(os.path.realpath(__file__))
 REFEREES = ["../../referee/referee.py", "../referee.py"]  # in the repository, and where it is installed
@@ -181,9 +181,9 @@ def recheck(options):
             numbers.append(int(row["number"]))
             most = max(most, int(row["of"]))
             if why:
-                print(f"row {row['number']}: {why}", flush=True)
+                in_words(print, f"row {row['number']}: {why}")
     left = missing(sorted(numbers), most)
-    print(", ".join(f"{counts[it]} {it}" for it in WORDS) + (f"; {left} in no table" if left else ""), file=sys.stderr)
+    say(", ".join(f"{counts[it]} {it}" for it in WORDS) + (f"; {left} in no table" if left else ""))
     if counts["differ"]:
         return 1
     return 3 if counts["not there"] or left or not counts["agree"] else 0
