@@ -87,6 +87,10 @@ LAYOUTS = """
 in --answers out | in/a.max out/lemon/a.sol in/a.cut | a.max a.sol lemon ; - a.cut
 . --match {instance}.{solver}.sol | a.b.max a.b.lemon.sol a.b.lemon.cut a.b.sol | a.b.max a.b.lemon.sol+a.b.lemon.cut lemon ; - a.b.sol
 . --match {instance}.{solver}.txt | a.max a.lemon.txt b.lemon.txt note.txt | a.max a.lemon.txt lemon ; - b.lemon.txt
+. | instances/a.max instances/b.max answers/lemon/a.sol answers/lemon/b.sol answers/igraph/a.sol | a.max a.sol igraph ; a.max a.sol lemon ; b.max b.sol lemon ; b.max  igraph
+. | instances/a.max instances/b.max instances/c.max answers/lemon/a.sol answers/igraph/a.sol | a.max a.sol igraph ; a.max a.sol lemon ; b.max ; b.max  igraph ; b.max  lemon ; c.max ; c.max  igraph ; c.max  lemon
+. --match {instance}.{solver}.txt | a.max b.max a.lemon.txt | a.max a.lemon.txt lemon ; b.max ; b.max  lemon
+. | a.max b.max a-lemon.sol b.sol | a.max a-lemon.sol lemon ; b.max b.sol
 in --answers out --match {solver}/run-{instance}.txt | in/a.max out/lemon/run-a.txt | a.max run-a.txt lemon
 . | g.gr g.query lemon/g.dist g.distances | g.gr g.distances ; g.gr g.query+g.dist lemon
 . | g.gr g.dist | g.gr ; - g.dist
@@ -274,7 +278,24 @@ def layouts(place):
             for row in rows(out)
         ]
         found = " ; ".join(" ".join(filter(None, it)) for it in found)
-        assert found == wanted, (line, found, err)
+        assert found == re.sub(" +", " ", wanted), (line, found, err)
+
+
+def gaps(place):
+    """A solver whose folder lacks an answer has a row for it, which isn't yes, and stays in a table."""
+    for name in ("set/instances/a.max", "set/instances/b.max", "set/answers/lemon/a.sol", "set/answers/igraph/b.sol"):
+        place.write(name, "0 0 v max 1\n")
+    for again in (0, 2):
+        status, _, err = place.run("set", "-o", "table")
+        assert status == 3 and err == counted(2, 0, 0, 0, 2, 0, 0, taken_over=again), err
+        seen = [(row["class"], row["solver"], row["verdict"]) for row in place.table()]
+        lacks = "it has no answer of this solver"
+        assert seen == [("yes", "lemon", "v max 1"), ("no answer", "igraph", lacks)] + [
+            ("yes", "igraph", "v max 1"), ("no answer", "lemon", lacks)
+        ], seen
+    place.runs()
+    status, _, err = place.run("set", "--show")
+    assert status == 3 and err == counted(2, 0, 0, 0, 2, 0, 0), err
 
 
 def links(place):
@@ -872,7 +893,7 @@ def same_command(place):
 
 
 TESTS = [
-    order_and_columns, commands, folders, layouts, links, unanswered, evidence, made_anew, changed_while_judged, taken_up,
+    order_and_columns, commands, folders, layouts, gaps, links, unanswered, evidence, made_anew, changed_while_judged, taken_up,
     killed, beside, late, odd, other_files, same_command, misused, safe_files, other_outputs, new_is_a_link, closed_streams, full, shards, formats, on_terminal, reasons,
 ]
 WITH_BINARY = [examples, kept, recheck_whole, same_names, solved, repeated, kept_inside, report]

@@ -288,9 +288,10 @@ def claims_of(kinds, folders, match, commands):
 
 
 def pairs(instances, folders, find, match, commands):
-    """Yields each instance with the files of each of its answers, or of none, and the name of the solver; then without
-    an instance each answer that belongs to none, and why."""
-    claimed, used, why = collections.defaultdict(list), set(), {}
+    """Yields each instance with the files of each of its answers, or of none, and the name of the solver; also of none
+    for each solver with a folder of its own that has answers to others. Then come, without an instance, each answer that
+    belongs to none, and why."""
+    claimed, solvers, used, why = collections.defaultdict(list), collections.defaultdict(set), set(), {}
     for claim in claims_of({it.kind for it in instances}, folders, match, commands):
         instance, files, solver = owner_of(claim, find, commands)
         if not instance:
@@ -300,9 +301,13 @@ def pairs(instances, folders, find, match, commands):
         files = answers_for(claim.kind, instance.file, files, commands)
         if files:
             claimed[instance.file].append((files, solver))
+            solvers[claim.kind].update({solver} if claim.folders != instance.folders else ())
     for it in instances:
-        for files, solver in claimed[it.file] or [([], "")]:
-            used.update(words_of(it.kind, it.file, files, commands) if it.kind in commands else [])
+        its = claimed[it.file] or [([], "")]
+        lacking = sorted(solvers[it.kind] - {solver for _, solver in its} - {""})
+        for files, solver in [*its, *(([], solver) for solver in lacking)]:
+            if it.kind in commands and (files or not takes_answers(it.kind, commands)):
+                used.update(words_of(it.kind, it.file, files, commands))
             yield it, files, solver
     for parent, _, names in folders:
         for file in (os.path.join(parent, it) for it in names):
@@ -385,6 +390,8 @@ def tasks(options):
             yield Task(instance, [], solver, kind, words_of(kind, instance, its, commands))
         elif its:
             yield Task(instance, its, solver, kind, words_of(kind, instance, its, commands))
+        elif solver:
+            yield Task(instance, its, solver, kind, [], "it has no answer of this solver")
         elif options.show:
             yield Task(instance, its, solver, kind, words_of(kind, instance, its, {}))
         else:

@@ -19,9 +19,9 @@ DECIDING = [
 ]
 
 
-def key_of(command, instance, answers):
-    """By what a row is known: its command and its files."""
-    return [command, instance, answers]
+def key_of(command, instance, answers, solver):
+    """By what a row is known: its files, and its command, or else the solver that has none."""
+    return [command, instance, answers, "" if command else solver]
 
 
 def name_of(task):
@@ -45,7 +45,7 @@ class Rows:
 
     def ask(self, task):
         """Adds what is asked; what is asked twice has one row."""
-        key = json.dumps(key_of(shlex.join(task.words), task.instance, " ".join(task.answers)))
+        key = json.dumps(key_of(shlex.join(task.words), task.instance, " ".join(task.answers), task.solver))
         values = (self.count + 1, key, json.dumps(name_of(task)), json.dumps(task))
         added = self.db.execute("insert or ignore into task values (?, ?, ?, ?, null, null)", values).rowcount
         self.count += added
@@ -54,7 +54,7 @@ class Rows:
 
     def take_old(self, row):
         """Adds a row of an earlier run; whether it is one of those that are asked."""
-        key = json.dumps(key_of(row["command"], row["instance"], row["answers"]))
+        key = json.dumps(key_of(row["command"], row["instance"], row["answers"], row["solver"]))
         return self.db.execute("update task set old = ? where key = ?", (json.dumps(row), key)).rowcount == 1
 
     def todo(self):
