@@ -9,6 +9,7 @@ the texts. BINARY is the built program, with which the examples are judged; crat
 is there.
 """
 import csv
+import fcntl
 import functools
 import hashlib
 import io
@@ -85,6 +86,11 @@ LAYOUTS = """
 . | a.max lemon/a.sol | a.max a.sol lemon
 in --answers out | in/a.max out/lemon/a.sol in/a.cut | a.max a.sol lemon ; - a.cut
 . --match {instance}.{solver}.sol | a.b.max a.b.lemon.sol a.b.lemon.cut a.b.sol | a.b.max a.b.lemon.sol+a.b.lemon.cut lemon ; - a.b.sol
+. --match {instance}.{solver}.txt | a.max a.lemon.txt b.lemon.txt note.txt | a.max a.lemon.txt lemon ; - b.lemon.txt
+. | instances/a.max instances/b.max answers/lemon/a.sol answers/lemon/b.sol answers/igraph/a.sol | a.max a.sol igraph ; a.max a.sol lemon ; b.max b.sol lemon ; b.max  igraph
+. | instances/a.max instances/b.max instances/c.max answers/lemon/a.sol answers/igraph/a.sol | a.max a.sol igraph ; a.max a.sol lemon ; b.max ; b.max  igraph ; b.max  lemon ; c.max ; c.max  igraph ; c.max  lemon
+. --match {instance}.{solver}.txt | a.max b.max a.lemon.txt | a.max a.lemon.txt lemon ; b.max ; b.max  lemon
+. | a.max b.max a-lemon.sol b.sol | a.max a-lemon.sol lemon ; b.max b.sol
 in --answers out --match {solver}/run-{instance}.txt | in/a.max out/lemon/run-a.txt | a.max run-a.txt lemon
 . | g.gr g.query lemon/g.dist g.distances | g.gr g.distances ; g.gr g.query+g.dist lemon
 . | g.gr g.dist | g.gr ; - g.dist
@@ -272,7 +278,50 @@ def layouts(place):
             for row in rows(out)
         ]
         found = " ; ".join(" ".join(filter(None, it)) for it in found)
-        assert found == wanted, (line, found, err)
+        assert found == re.sub(" +", " ", wanted), (line, found, err)
+
+
+def gaps(place):
+    """A solver whose folder lacks an answer has a row for it, which isn't yes, and stays in a table."""
+    for name in ("set/instances/a.max", "set/instances/b.max", "set/answers/lemon/a.sol", "set/answers/igraph/b.sol"):
+        place.write(name, "0 0 v max 1\n")
+    for again in (0, 2):
+        status, _, err = place.run("set", "-o", "table")
+        assert status == 3 and err == counted(2, 0, 0, 0, 2, 0, 0, taken_over=again), err
+        seen = [(row["class"], row["solver"], row["verdict"]) for row in place.table()]
+        lacks = "it has no answer of this solver"
+        assert seen == [("yes", "lemon", "v max 1"), ("no answer", "igraph", lacks)] + [
+            ("yes", "igraph", "v max 1"), ("no answer", "lemon", lacks)
+        ], seen
+    place.runs()
+    status, _, err = place.run("set", "--show")
+    assert status == 3 and err == counted(2, 0, 0, 0, 2, 0, 0), err
+
+
+def links(place):
+    """Folders that are links are searched, and one that leads back isn't searched again."""
+    for name in ("set/instances/a.max", "elsewhere/a.sol", "set/answers/igraph/a.sol"):
+        place.write(name, "0 0 v max 1\n")
+    os.symlink("../../elsewhere", place.path("set/answers/lemon"))
+    os.symlink("igraph", place.path("set/answers/same"))
+    os.symlink("..", place.path("elsewhere/back"))
+    os.symlink(".", place.path("set/answers/igraph/itself"))
+    status, table, _ = place.run("set")
+    assert status == 0 and column(table, "solver") == ["igraph", "lemon", "same"], table
+
+
+def kept_inside(place, binary):
+    """What is kept inside the folder is no answer the next time; the folder itself is no place for it."""
+    for name in ("pipes.max", "pipes.solution"):
+        place.write(f"set/{name}", "")
+        shutil.copy(os.path.join(TOP, "examples", name), place.path("set"))
+    for taken_over in (0, 1):
+        status, _, err = place.run("set", "-o", "table", "--keep", "set/kept", program=binary)
+        assert status == 0 and err == counted(1, 0, 0, 0, 0, 0, 0, taken_over=taken_over), err
+    os.mkdir(place.path("set/answers"))
+    for words in (["set", "--keep", "set/."], ["set", "--keep", "set/answers"], ["set/pipes.max", "set", "--keep", "set"]):
+        status, _, err = place.run(*words, program=binary)
+        assert status == 2 and "--keep" in err and "Traceback" not in err, err
 
 
 def unanswered(place):
@@ -410,6 +459,27 @@ def killed(place):
     assert not [it for it in os.listdir(place.folder) if it.startswith("table.")]
 
 
+def beside(place):
+    """The rows beside a table whose run was killed replace those of their number, and numbers are those of the list."""
+    place.list(["0 0 v max 1", "0 1 x arc 1 AboveCap"])
+    place.run("list", "-o", "table")
+    rows_there = place.table()
+    place.write("table.part", "".join(json.dumps({**it, "verdict": "v max 7"}) + "\n" for it in rows_there[1:]))
+    _, table, err = place.run("--join", "table")
+    assert column(table, "verdict") == ["v max 1", "v max 7"], table
+    place.run("--report", "table")
+    assert place.read("table.html").count("<circle") <= 2 and place.read("table.html").count("<tr title=\"answers") == 2
+    os.unlink(place.path("table.part"))
+    place.write("list", "2.max\n" + place.read("list"))
+    place.write("2.max", "30 0 i\n")
+    place.runs()
+    process = place.started("list", "--show", "-j", "1", "-o", "table")
+    place.wait_for("ran", 1)
+    process.kill()
+    process.communicate()
+    assert column(place.table(), "number") == ["2", "3"], place.table()
+
+
 def late(place):
     """A run that takes too long is ended, and run again the next time."""
     place.list(["30 0 v max 1"])
@@ -441,6 +511,19 @@ def misused(place):
     place.list(["0 0 v max 1"])
     assert place.run()[0] == 2 and place.run("list", "--run", "max")[0] == 2 and place.run("missing")[0] == 2
     assert place.run("list", "--run", "max='")[0] == 2 and place.run("list", "--run", "max=")[0] == 2
+    for match in ("{instance}{instance}.txt", "{instance}.{solver}.{solver}.txt"):
+        status, _, err = place.run(".", "--match", match)
+        assert status == 2 and "once" in err and "Traceback" not in err, err
+    for seconds in ("inf", "nan", "-1", "0", "1e300"):
+        status, _, err = place.run("list", f"--seconds={seconds}")
+        assert status == 2 and "--seconds" in err and "Traceback" not in err, err
+    step = {f"SLURM_ARRAY_TASK_{it}": "0" for it in ("ID", "MIN", "STEP")}
+    status, _, err = place.run("list", env={**step, "SLURM_ARRAY_TASK_COUNT": "1"})
+    assert status == 2 and "SLURM_ARRAY_TASK_STEP" in err and "Traceback" not in err, err
+    place.run("list", "-o", "numbered")
+    place.write("numbered", place.read("numbered").replace("\n1,", "\nx,"))
+    status, _, err = place.run("--join", "numbered")
+    assert status == 2 and err == "dimacs-batch: numbered: not a table of dimacs-batch: number is x\n", err
     assert place.run("list", "--answers", ".")[0] == 2 and place.run(".", "--match", "x")[0] == 2
     status, _, err = place.run("list", program="/nowhere/dimacs")
     assert status == 2 and "/nowhere/dimacs" in err, err
@@ -473,6 +556,62 @@ def safe_files(place):
     process.communicate()
     status, _, err = place.run("list", "-o", "nowhere/table")
     assert status == 2 and err.endswith("nowhere/table.part: No such file or directory\n"), err
+
+
+def other_outputs(place):
+    """What --join and --report write replaces only what they made, and nothing that another run writes."""
+    place.list(["0 0 v max 1"])
+    place.run("list", "-o", "table")
+    text = place.read("table")
+    place.write("page.html", "<!doctype html>\n")
+    for words in (["--join", "table", "-o", "0.max"], ["--report", "table", "-o", "0.max"],
+                  ["--report", "table", "-o", "table"], ["--report", "table", "-o", "page.html"],
+                  ["--join", "table", "-o", "page.html"], ["--join", "table", "--format", "latex", "-o", "table"]):
+        before = place.read(words[words.index("-o") + 1])
+        status, _, err = place.run(*words)
+        assert status == 2 and place.read(words[words.index("-o") + 1]) == before and "not a" in err, (words, err)
+        assert not [it for it in os.listdir(place.folder) if it.endswith(".part")], words
+    assert place.read("table") == text
+    for words in (["--join", "table", "-o", "joined"], ["--report", "table"],
+                  ["--join", "table", "--format", "latex", "-o", "table.tex"],
+                  ["--join", "table", "--format", "jsonl", "-o", "table.jsonl"],
+                  ["--join", "table", "--format", "markdown", "-o", "table.md"]):
+        for _ in range(2):
+            status, _, err = place.run(*words)
+            assert status == 0, (words, err)
+    with open(place.path("joined.part"), "a", encoding="ascii") as part:
+        fcntl.flock(part, fcntl.LOCK_EX)
+        status, _, err = place.run("--join", "table", "-o", "joined")
+        assert status == 2 and err == "dimacs-batch: joined: another dimacs-batch writes it\n", err
+    place.write("joined.part", text)
+    status, _, err = place.run("--join", "table", "-o", "joined")
+    assert status == 2 and place.read("joined.part") == text, err
+
+
+def new_is_a_link(place):
+    """A link beside the table isn't written through."""
+    place.list(["0 0 v max 1"])
+    place.write("precious", "1\n")
+    os.symlink("precious", place.path("table.new"))
+    status, _, err = place.run("list", "-o", "table")
+    assert place.read("precious") == "1\n" and len(place.table()) == 1, err
+
+
+def closed_streams(place):
+    """Standard streams that are closed give no traceback, and no status of a refusal."""
+    place.list(["0 0 v max 1"])
+    words = f"{shlex.quote(sys.executable)} -B {shlex.quote(BATCH)} --program ./stand-in"
+    for rest, wanted in (
+        ("list <&-", 0), ("list -o table <&-", 0), ("list -o table >&-", 0), ("list >&-", 2), ("- <&-", 2),
+        ("list 2>&- >out", 0), ("list -o table 2>&-", 0), ("list -o t2 <&- >&- 2>&-", 0), ("list 2>/dev/full", 0),
+        ("missing 2>&-", 2), ("--commands 2 -o {shard} list >&-", 2), ("--commands 2 -o {shard} list >/dev/full", 2),
+        ("--recheck table . >&- 2>&-", 2), ("--version >&-", 0), ("missing 2>/dev/full", 2),
+    ):
+        how = {"cwd": place.folder, "env": {**os.environ, "RAN": place.ran}, "capture_output": True, "text": True}
+        ran = subprocess.run(["sh", "-c", f"exec {words} {rest}"], check=False, **how)
+        assert ran.returncode == wanted, (rest, ran)
+        assert ran.returncode != 1 and "Traceback" not in ran.stderr and "Exception" not in ran.stderr, (rest, ran)
+    assert len(rows(place.read("out"))) == 1, place.read("out")
 
 
 def full(place):
@@ -643,6 +782,37 @@ def kept(place, binary):
     assert status == 3 and err == "10 agree, 0 differ, 5 not there, 1 not judged\n", err
 
 
+def recheck_whole(place, binary):
+    """A table that was cut, torn or edited isn't rechecked with status 0."""
+    for name in ("pipes", "trucks", "bridges"):
+        for ending in ("max", "solution", "cut"):
+            shutil.copy(os.path.join(TOP, "examples", f"{name}.{ending}"), place.folder)
+    place.run(".", "-o", "table", program=binary)
+    whole = place.read("table")
+    lines = whole.splitlines(keepends=True)
+    counts = "2 agree, 0 differ, 0 not there, 0 not judged; 1 in no table\n"
+    none = "0 agree, 0 differ, 0 not there, 0 not judged\n"
+    for text, wanted in (
+        ("", none), (lines[0], none), ("".join(lines[:-1]), "row 3 is in no table\n" + counts),
+        (lines[0] + "".join(lines[2:]), "row 1 is in no table\n" + counts),
+        (whole[:-9], "row 3 is in no table\n" + counts),
+    ):
+        place.write("cut", text)
+        status, _, err = place.run("--recheck", "cut", ".", program=binary)
+        assert status == 3 and err == wanted, (text, err)
+    for old, new in ((",v max 12,12,yes", ",v max 12,13,yes"), (",v max 12,12,yes", ",v max 12,12,no")):
+        place.write("edited", whole.replace(old, new))
+        status, _, err = place.run("--recheck", "edited", ".", program=binary)
+        assert status == 1 and err == "2 agree, 1 differ, 0 not there, 0 not judged\n", err
+    process = place.started("--recheck", "edited", ".", program=binary)
+    process.stdout.close()
+    err = process.stderr.read()
+    assert err == "dimacs-batch: standard output: Broken pipe\n" and process.wait() == 2, err
+    place.write("table", whole.replace(",v max 12,12,yes,0,", ",x arc 1 AboveCap,,yes,1,"))
+    status, _, err = place.run(".", "-o", "table", program=binary)
+    assert status == 0 and err == counted(3, 0, 0, 0, 0, 0, 0, taken_over=2, made_anew=1), err
+
+
 def same_names(place, binary):
     """Files of one name don't replace each other."""
     for folder in "12":
@@ -663,17 +833,70 @@ def solved(place, binary):
     status, table, _ = place.run(".", *words, "-o", "table", program=binary)
     verdicts = ["v min 55", "v max 12", "v 1 5 1400; 2 more", "v infeasible"]
     assert status == 0 and column(place.table(), "verdict") == verdicts, place.table()
+    status, _, err = place.run(".", *words, "-o", "table", program=binary)
+    assert status == 0 and err == counted(4, 0, 0, 0, 0, 0, 0, taken_over=4), err
     recheck = ["--recheck", "--referee", "table", "."]
     assert place.run(*recheck, program=binary)[2] == "4 agree, 0 differ, 0 not there, 0 not judged\n"
     place.write("pipes.cut", "p cut 5 1\nu 1\n")
     assert place.run(*recheck, program=binary)[2] == "3 agree, 1 differ, 0 not there, 0 not judged\n"
 
 
+def repeated(place, binary):
+    """A command that writes beside the instances is repeated: what it wrote is no answer, and goes with its row."""
+    for name in ("pipes.max", "trucks.max", "road.gr", "road.distances"):
+        shutil.copy(os.path.join(TOP, "examples", name), place.folder)
+    place.write("trucks-lemon.solution", "s 1\n")
+    words = [".", "-o", "table", "--run", "max=solve-max {instance} {name}.solution {name}.cut"]
+    words += ["--run", "gr=certify-paths {instance} {answers} {name}.dist"]
+    status, _, err = place.run(*words, program=binary)
+    assert status == 0 and err == counted(3, 0, 0, 0, 0, 0, 0), err
+
+    status, _, err = place.run(*words, program=binary)
+    assert status == 0 and err == counted(3, 0, 0, 0, 0, 0, 0, taken_over=3), err
+    place.write("pipes.solution", "s 77\n")
+    status, _, err = place.run(*words, program=binary)
+    assert status == 0 and err == counted(3, 0, 0, 0, 0, 0, 0, taken_over=2, made_anew=1), err
+    assert place.read("pipes.solution").startswith("s 12\n")
+
+
+def other_files(place):
+    """A row isn't taken over if a file that its command names by another word is another now."""
+    place.list(["0 0 v max 1"])
+    place.write("certificate", "c\n")
+    words = ["list", "-o", "table", "--run", "max=judge-max {instance} {answers} certificate"]
+    place.run(*words)
+    assert place.run(*words)[2] == counted(1, 0, 0, 0, 0, 0, 0, taken_over=1)
+    digest = hashlib.sha256(b"c\n").hexdigest()
+    assert column(place.table(), "files_sha256") == [digest], place.table()
+    place.write("certificate", "d\n")
+    assert place.run(*words)[2] == counted(1, 0, 0, 0, 0, 0, 0, made_anew=1)
+    os.unlink(place.path("certificate"))
+    assert place.run(*words)[2] == counted(1, 0, 0, 0, 0, 0, 0, made_anew=1)
+    place.write("certificate", "c\n")
+    place.write("0.max", "1 0 v max 1\n")
+    place.runs()
+    process = place.started(*words)
+    place.wait_for("ran", 1)
+    place.write("certificate", "e\n")
+    process.communicate()
+    assert process.returncode == 3 and "changed" in place.table()[0]["verdict"], place.table()
+
+
+def same_command(place):
+    """Instances that are judged by one command have a row each."""
+    for name in "ab":
+        place.write(f"in/{name}.max", "0 0 v max 1\n")
+    words = ["in", "-o", "table", "--run", "max=solve-max in/a.max out cut"]
+    for _ in range(2):
+        assert place.run(*words)[0] == 0
+        assert column(place.table(), "instance") == ["in/a.max", "in/b.max"], place.table()
+
+
 TESTS = [
-    order_and_columns, commands, folders, layouts, unanswered, evidence, made_anew, changed_while_judged, taken_up,
-    killed, late, odd, misused, safe_files, full, shards, formats, on_terminal, reasons,
+    order_and_columns, commands, folders, layouts, gaps, links, unanswered, evidence, made_anew, changed_while_judged, taken_up,
+    killed, beside, late, odd, other_files, same_command, misused, safe_files, other_outputs, new_is_a_link, closed_streams, full, shards, formats, on_terminal, reasons,
 ]
-WITH_BINARY = [examples, kept, same_names, solved, report]
+WITH_BINARY = [examples, kept, recheck_whole, same_names, solved, repeated, kept_inside, report]
 
 
 def main():

@@ -10,6 +10,7 @@
     join       one table of those of shards; recheck judges a table again
     formats    how a table is written, report as a page
 """
+import contextlib
 import sys
 
 # Names of files need not be UTF-8.
@@ -18,5 +19,11 @@ ANY_NAMES = {"encoding": "utf-8", "errors": "surrogateescape"}
 
 def fail(message):
     """Ends with a line, and the status of arguments that are wrong and files that fail."""
-    print(f"dimacs-batch: {message}", file=sys.stderr)
+    say(f"dimacs-batch: {message}")
     sys.exit(2)
+
+
+def say(line):
+    """A line on the standard error, if there is room for it."""
+    with contextlib.suppress(OSError):
+        print(line, file=sys.stderr)

@@ -91,17 +91,50 @@ def words_of(kind, instance, answers, commands):
     return words
 
 
+def takes_answers(kind, commands):
+    """Whether the command for a kind has a place for answers."""
+    return kind not in commands or "{answers}" in shlex.split(commands[kind])
+
+
+def answers_for(kind, instance, files, commands):
+    """The files of an answer that the command takes: no file that it names itself, since it may write that one."""
+    if kind not in commands:
+        return files
+    if not takes_answers(kind, commands):
+        return []
+    its_own = words_of(kind, instance, files, {kind: commands[kind].replace("{answers}", "")})
+    return [it for it in files if it not in its_own]
+
+
 # ---- folders
 
 
-def walk(root, but=None):
-    """Yields each folder below one, the names of those between them, and the names of its files, in order."""
+def identity(folder):
+    """By what a folder is known under all its names."""
+    status = os.stat(folder)
+    return status.st_dev, status.st_ino
+
+
+def with_parents(folder):
+    """A folder, and all those in which it lies."""
+    folder = os.path.realpath(folder)
+    return {identity(folder), *(with_parents(os.path.dirname(folder)) if folder != os.path.dirname(folder) else ())}
+
+
+def walk(root, but=()):
+    """Yields each folder below one, the names of those between them, and the names of its files, in order. Links are
+    followed, unless they lead back."""
 
     def raise_it(error):
         raise error
 
-    for parent, folders, names in os.walk(root, onerror=raise_it, followlinks=False):
-        folders[:] = sorted(it for it in folders if not but or not os.path.samefile(os.path.join(parent, it), but))
+    left_out = {identity(it) for it in but if it and os.path.isdir(it)}
+    above = {root: with_parents(root)}
+    for parent, folders, names in os.walk(root, onerror=raise_it, followlinks=True):
+        known = {it: identity(os.path.join(parent, it)) for it in sorted(folders)}
+        its = above.pop(parent)
+        folders[:] = [it for it in known if known[it] not in left_out | its]
+        above.update((os.path.join(parent, it), its | {known[it]}) for it in folders)
         below = os.path.relpath(parent, root)
         # A folder with the ending of an answer isn't one that can be read: it gets a row that says so.
         odd = [it for it in folders if it.endswith(ANSWERS)]
@@ -255,22 +288,30 @@ def claims_of(kinds, folders, match, commands):
 
 
 def pairs(instances, folders, find, match, commands):
-    """Yields each instance with the files of each of its answers, or of none, and the name of the solver; then without
-    an instance each answer that belongs to none, and why."""
-    claimed, used, why = collections.defaultdict(list), set(), {}
+    """Yields each instance with the files of each of its answers, or of none, and the name of the solver; also of none
+    for each solver with a folder of its own that has answers to others. Then come, without an instance, each answer that
+    belongs to none, and why."""
+    claimed, solvers, used, why = collections.defaultdict(list), collections.defaultdict(set), set(), {}
     for claim in claims_of({it.kind for it in instances}, folders, match, commands):
         instance, files, solver = owner_of(claim, find, commands)
-        if instance:
-            claimed[instance.file].append((files, solver))
-            used.update(files)
-        else:
+        if not instance:
             why.update(dict.fromkeys(claim.files, solver))
+            continue
+        used.update(files)
+        files = answers_for(claim.kind, instance.file, files, commands)
+        if files:
+            claimed[instance.file].append((files, solver))
+            solvers[claim.kind].update({solver} if claim.folders != instance.folders else ())
     for it in instances:
-        for files, solver in claimed[it.file] or [([], "")]:
+        its = claimed[it.file] or [([], "")]
+        lacking = sorted(solvers[it.kind] - {solver for _, solver in its} - {""})
+        for files, solver in [*its, *(([], solver) for solver in lacking)]:
+            if it.kind in commands and (files or not takes_answers(it.kind, commands)):
+                used.update(words_of(it.kind, it.file, files, commands))
             yield it, files, solver
     for parent, _, names in folders:
-        for file in (os.path.join(parent, it) for it in names if it.endswith(ANSWERS)):
-            if file not in used:
+        for file in (os.path.join(parent, it) for it in names):
+            if file not in used and (file in why or file.endswith(ANSWERS)):
                 yield None, [file], why.get(file) or unused(file, match)
 
 
@@ -285,23 +326,32 @@ def unused(file, match):
 # ---- the places that are named
 
 
-def in_folder(folder, answers, match, commands):
+def test_keep(keep, *folders):
+    """Fails if what is kept would lie among the answers of a folder."""
+    for it in filter(None, folders):
+        if keep and os.path.isdir(keep) and os.path.samefile(it, keep):
+            fail(f"--keep {keep}: instances or answers are looked for there; name another folder")
+
+
+def in_folder(folder, answers, match, commands, keep):
     """What is in a folder, with the answers beside the instances, in the folder `answers` in it, or in another one."""
     if not answers and os.path.isdir(os.path.join(folder, "answers")):
         answers = os.path.join(folder, "answers")
         inside = os.path.join(folder, "instances")
         folder = inside if os.path.isdir(inside) else folder
+    test_keep(keep, folder, answers)
     apart = answers and not os.path.samefile(answers, folder)
-    folders = list(walk(folder, but=answers if apart else None))
+    folders = list(walk(folder, but=[keep, answers if apart else None]))
     instances = [one for it in folders for one in instances_in(*it)]
-    folders += walk(answers) if apart else []
+    folders += walk(answers, but=[keep]) if apart else []
     return pairs(instances, folders, Names(instances).of, match, commands)
 
 
-def to_one(file, folder, match, commands):
+def to_one(file, folder, match, commands, keep):
     """An instance, with each answer in a folder."""
+    test_keep(keep, folder)
     instance = Instance(kind_of(file), file, [], os.path.splitext(os.path.basename(file))[0])
-    return pairs([instance], list(walk(folder)), of_one(instance), match, commands)
+    return pairs([instance], list(walk(folder, but=[keep])), of_one(instance), match, commands)
 
 
 def solver_of(instance, answer):
@@ -324,20 +374,25 @@ def in_list(file):
             yield instance, answers
 
 
-def tasks(places, answers, match, commands, show):
+def tasks(options):
     """Yields what is to be judged, in order."""
+    places, commands = options.places, options.runs
+    how = options.match, commands, options.keep
     if len(places) == 1 and not os.path.isdir(places[0]):
         found = ((kind_of(it), it, its, solver_of(it, its[0]) if its else "") for it, its in in_list(places[0]))
     else:
-        asked = in_folder(places[0], answers, match, commands) if len(places) == 1 else to_one(*places, match, commands)
+        asked = in_folder(places[0], options.answers, *how) if len(places) == 1 else to_one(*places, *how)
         found = ((it.kind, it.file, its, solver) if it else ("", "", its, solver) for it, its, solver in asked)
     for kind, instance, its, solver in found:
-        made = kind in commands and "{answers}" not in commands[kind]  # the command needs no answer
         if not instance:
             yield Task("", its, "", "", [], solver)
-        elif its or made:
+        elif not takes_answers(kind, commands):
+            yield Task(instance, [], solver, kind, words_of(kind, instance, its, commands))
+        elif its:
             yield Task(instance, its, solver, kind, words_of(kind, instance, its, commands))
-        elif show:
+        elif solver:
+            yield Task(instance, its, solver, kind, [], "it has no answer of this solver")
+        elif options.show:
             yield Task(instance, its, solver, kind, words_of(kind, instance, its, {}))
         else:
             yield Task(instance, its, solver, kind, [], "it has no answer")

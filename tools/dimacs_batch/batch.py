@@ -7,11 +7,31 @@ import sys
 import time
 
 from dimacs_batch import answers, evidence, fail, runs
-from dimacs_batch.keep import Keep
+from dimacs_batch.keep import CERTIFIERS, Keep
 from dimacs_batch.parallel import in_parallel
 from dimacs_batch.rows import COLUMNS, DECIDING, Rows
 from dimacs_batch.runs import CLASSES, FAILED, FAULTY, JUDGED, NO, NO_ANSWER, UNMATCHED, YES
 from dimacs_batch.table import Kept, Printed
+
+
+def other_files(task):
+    """The files that a command names besides the instance and its answers."""
+    return [it for it in task.words[1:] if it not in (task.instance, *task.answers) and os.path.isfile(it)]
+
+
+def read_besides(task):
+    """Those of them that it only reads: all of a judge, and of a certifier all but the last word, which it writes."""
+    last = len(task.words) if task.words[0].startswith("judge-") else CERTIFIERS.get(task.words[0], 0)
+    return [it for it in other_files(task) if it in task.words[1:last]]
+
+
+def hashes_of(files):
+    """Their SHA-256; one that can't be read has none."""
+    found = []
+    for it in files:
+        with contextlib.suppress(OSError):
+            found.append(evidence.text_of(it).sha256)
+    return " ".join(found)
 
 
 class Judge:
@@ -33,13 +53,15 @@ class Judge:
             return {**row, "verdict": task.reason, "class": NO_ANSWER if task.instance else UNMATCHED}, False
         try:
             texts = [evidence.text_of(it) for it in (task.instance, *task.answers)]
+            row.update(self.evidence(texts), files_sha256=hashes_of(other_files(task)))
+            read = read_besides(task)
+            texts += [evidence.text_of(it) for it in read]
         except OSError as error:
             return {**row, "verdict": f"{error.filename}: {error.strerror}", "class": FAILED}, False
-        row.update(self.evidence(texts))
         if old and self.decides(row, old) and (not self.keep or self.keep.has(old, name)):
             return {**old, **named}, True
-        row.update(self.judged(task, name, row))
-        files = [task.instance, *task.answers, self.program.file]
+        row.update(self.judged(task, name, row), files_sha256=hashes_of(other_files(task)))
+        files = [task.instance, *task.answers, *read, self.program.file]
         texts.append(self.program.text)
         if not all(map(evidence.is_unchanged, files, texts)):
             row.update({"verdict": "a file was changed while it was judged", "value": "", "class": FAILED})
@@ -59,16 +81,15 @@ class Judge:
         }
 
     def decides(self, row, old):
-        return old["class"] in JUDGED and all(row[it] == old[it] for it in DECIDING)
+        return old["class"] in JUDGED and runs.is_whole(old) and all(row[it] == old[it] for it in DECIDING)
 
     def judged(self, task, name, row):
         """Runs the command; the columns that say how it ended, and what was kept."""
         made = self.keep and self.keep.made_by(task.words, name)
         ended = self.runs.run([self.program.file, *task.words, *([made] if made else [])])
-        value = ended.line.split(" ")[2] if ended.line.startswith(("v max ", "v min ")) else ""
         found = {
             "verdict": ended.line,
-            "value": value,
+            "value": runs.value_of(ended.line),
             "class": runs.class_of(task.words[0], ended),
             "status": str(ended.status),
             "seconds": f"{ended.seconds:.3f}",
@@ -139,7 +160,7 @@ def span(seconds):
 def asked(options):
     """The list of what is asked."""
     rows = Rows(options.shard)
-    for task in answers.tasks(options.places, options.answers, options.match, options.runs, options.show):
+    for task in answers.tasks(options):
         rows.ask(task)
     if not rows.count:
         fail(f"{' '.join(options.places)}: no instance, and no answer")

@@ -27,6 +27,8 @@ def read_cells(row):
 class Csv:
     """A line of titles, then a line for each row."""
 
+    IS_READ = False
+
     def __init__(self, out):
         self.writer = csv.DictWriter(out, COLUMNS, lineterminator="\n")
         self.row = self.writer.writerow
@@ -40,6 +42,8 @@ class Csv:
 
 class JsonLines:
     """A JSON object for each row, on a line."""
+
+    IS_READ = False
 
     def __init__(self, out):
         self.out = out
@@ -56,6 +60,8 @@ class JsonLines:
 
 class ToRead:
     """A table of some columns, and a line about the programs that judged."""
+
+    IS_READ = True
 
     def __init__(self, out):
         self.out, self.programs = out, set()

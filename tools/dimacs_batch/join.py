@@ -1,11 +1,9 @@
 """Joins the tables of the shards of a list."""
-import sys
-
-from dimacs_batch import fail
+from dimacs_batch import fail, say
 from dimacs_batch.batch import Counts
 from dimacs_batch.rows import DECIDING, Rows
 from dimacs_batch.runs import JUDGED
-from dimacs_batch.table import Printed, place_of, put_table, read_table
+from dimacs_batch.table import Printed, fill, put_alone, read_table, test_table
 
 # The columns that are the same wherever a row is made.
 COMPARED = [*DECIDING, "instance", "answers", "solver", "kind", "verdict", "value", "class", "status"]
@@ -34,11 +32,11 @@ def joined(tables):
     return rows, int(next(iter(lists))[1]) if lists else 0
 
 
-def gaps(rows, count):
-    """Yields the first and the last of rows that stand side by side and aren't there."""
+def gaps(numbers, count):
+    """Yields the first and the last of rows that stand side by side and aren't there, by the numbers of those that are,
+    in order."""
     expected = 1
-    for row in rows.in_order():
-        number = int(row["number"])
+    for number in numbers:
         if number > expected:
             yield expected, number - 1
         expected = number + 1
@@ -46,19 +44,26 @@ def gaps(rows, count):
         yield expected, count
 
 
+def missing(numbers, count):
+    """Names what isn't there of so many rows; how many they are."""
+    found = 0
+    for first, last in gaps(numbers, count):
+        found += last - first + 1
+        what = f"row {first} is" if first == last else f"rows {first} to {last} are"
+        say(f"{what} in no table")
+    return found
+
+
 def join(options, writer):
     """Writes the rows of all tables as one, and names what none of them has; the exit status."""
     rows, count = joined(options.places)
-    counts, missing = Counts(), 0
+    counts = Counts()
     for row in rows.in_order():
         counts.add(row)
     if options.output:
-        put_table(place_of(options.output), writer, rows.in_order())
+        put_alone(options.output, lambda out: fill(writer(out), rows.in_order()), lambda it: test_table(it, writer))
     else:
         Printed(writer).put_all(rows.in_order())
-    for first, last in gaps(rows, count):
-        missing += last - first + 1
-        what = f"row {first} is" if first == last else f"rows {first} to {last} are"
-        print(f"{what} in no table", file=sys.stderr)
-    print(f"{counts}" + (f"; {missing} in no table" if missing else ""), file=sys.stderr)
-    return 3 if missing or not count else counts.status()
+    left = missing((int(row["number"]) for row in rows.in_order()), count)
+    say(f"{counts}" + (f"; {left} in no table" if left else ""))
+    return 3 if left or not count else counts.status()

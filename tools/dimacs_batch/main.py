@@ -1,9 +1,10 @@
 """The command."""
+import os
 import shlex
 import signal
 import sys
 
-from dimacs_batch import ANY_NAMES, batch, fail
+from dimacs_batch import ANY_NAMES, batch, fail, say
 from dimacs_batch.formats import FORMATS
 from dimacs_batch.join import join
 from dimacs_batch.options import options_of
@@ -38,19 +39,51 @@ def run(options):
         return print_commands(options)
     counts = batch.judge_all(options, writer)
     index, shards = options.shard
-    print((f"shard {index} of {shards}: " if shards > 1 else "") + str(counts), file=sys.stderr)
+    say((f"shard {index} of {shards}: " if shards > 1 else "") + str(counts))
     return counts.status()
 
 
+def open_streams():
+    """Opens the standard streams that are closed: so no other file takes their place. Reading and writing fails there,
+    but for the standard error, which goes nowhere then."""
+    for number, (name, access, mode) in enumerate(
+        [("stdin", os.O_WRONLY, "r"), ("stdout", os.O_RDONLY, "w"), ("stderr", os.O_WRONLY, "w")]
+    ):
+        if getattr(sys, name) is None:
+            os.open(os.devnull, access)  # it has the lowest number that is free, which is this one
+            setattr(sys, name, open(number, mode, closefd=False))
+
+
+def drop_output():
+    """What is left for the standard output is of no use once that is closed or full."""
+    os.dup2(os.open(os.devnull, os.O_WRONLY), 1)
+
+
+def flush():
+    """Writes what the options print, such as a version, if there is room for it."""
+    try:
+        sys.stdout.flush()
+    except OSError:
+        drop_output()
+
+
 def main():
-    options = options_of()
+    open_streams()
+    try:
+        options = options_of()
+    finally:
+        flush()
     for stream in (sys.stdin, sys.stdout):
         stream.reconfigure(**ANY_NAMES)
     signal.signal(signal.SIGTERM, interrupt)
     try:
-        return run(options)
+        status = run(options)
+        sys.stdout.flush()
+        return status
     except KeyboardInterrupt:
-        print("dimacs-batch: stopped" + ("; the same words go on from here" if options.output else ""), file=sys.stderr)
+        say("dimacs-batch: stopped" + ("; the same words go on from here" if options.output else ""))
         return 130
     except OSError as error:
-        fail(f"{error.filename}: {error.strerror}")
+        if error.filename is None:
+            drop_output()
+        return fail(f"{error.filename or 'standard input or output'}: {error.strerror}")

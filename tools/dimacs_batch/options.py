@@ -8,6 +8,7 @@ import sys
 from dimacs_batch.answers import KINDS
 from dimacs_batch.formats import FORMATS, TAKEN_UP
 
+MOST_SECONDS = 10**9  # more can't be waited for
 HERE = os.path.dirname(os.path.realpath(__file__))
 USAGE = """dimacs-batch [OPTIONS] FOLDER | LIST | INSTANCE FOLDER
        dimacs-batch --join [OPTIONS] TABLE..
@@ -77,6 +78,8 @@ def shard_of(options, parser):
     """The shard (I, N) that is named, or that is the task's of a job array of Slurm."""
     of_slurm = {it: os.environ.get(f"SLURM_ARRAY_TASK_{it}", "") for it in ("ID", "COUNT", "MIN", "STEP")}
     shard = options.shard
+    if of_slurm["STEP"] and not re.fullmatch("0*[1-9][0-9]*", of_slurm["STEP"]):
+        parser.error(f"SLURM_ARRAY_TASK_STEP is at least 1, and not {of_slurm['STEP']}")
     if not shard and of_slurm["ID"].isdigit() and of_slurm["COUNT"].isdigit():
         begin = int(of_slurm["MIN"] or 0), int(of_slurm["STEP"] or 1)
         shard = f"{(int(of_slurm['ID']) - begin[0]) // begin[1] + 1}/{of_slurm['COUNT']}"
@@ -108,6 +111,10 @@ def rules(options):
     yield options.referee and not options.recheck, "--referee is of --recheck"
     yield not options.join and len(options.places) > 2, "one or two places"
     yield options.match and "{instance}" not in options.match, "--match is a pattern with {instance} in it"
+    match = options.match or ""
+    yield max(match.count("{instance}"), match.count("{solver}")) > 1, "--match has {instance} and {solver} once each"
+    seconds = options.seconds
+    yield seconds is not None and not 0 < seconds <= MOST_SECONDS, f"--seconds is above 0, and {MOST_SECONDS} at most"
     yield options.answers and len(options.places) != 1, "--answers is about one folder of instances"
     is_folder = os.path.isdir(options.places[-1])
     yield (options.answers or options.match) and not is_folder, "--answers and --match are about a folder"

@@ -7,11 +7,12 @@ import subprocess
 import sys
 import tempfile
 
-from dimacs_batch import evidence, fail
+from dimacs_batch import evidence, fail, say
+from dimacs_batch.join import missing
 from dimacs_batch.keep import CERTIFIERS, ending_of
 from dimacs_batch.parallel import in_parallel
-from dimacs_batch.runs import JUDGED, NO, YES, Runs
-from dimacs_batch.table import read_table
+from dimacs_batch.runs import JUDGED, NO, YES, Runs, is_whole
+from dimacs_batch.table import in_words, read_table
 
 HERE = os.path.dirname(os.path.realpath(__file__))
 REFEREES = ["../../referee/referee.py", "../referee.py"]  # in the repository, and where it is installed
@@ -70,6 +71,8 @@ class Recheck:
         if row["class"] not in JUDGED:
             return "not judged", ""
         try:
+            if not is_whole(row):
+                raise Differs(f"class {row['class']} and value {row['value']} aren't those of {row['verdict']}")
             verb, *files = shlex.split(row["command"])
             for file, sha256 in zip(files, [row["instance_sha256"], *row["answers_sha256"].split()]):
                 compare_file(file, sha256)
@@ -171,11 +174,16 @@ def recheck(options):
     """Judges all rows of a table again, and prints those that aren't as it has them; the exit status."""
     table, folder = options.places
     judge = Recheck(evidence.Program(options.program), folder, options.referee)
-    counts = collections.Counter()
+    counts, numbers, most = collections.Counter(), [], 0
     with contextlib.closing(in_parallel(options.jobs, judge.row, read_table(table), judge.runs.end)) as found:
         for row, (word, why) in found:
             counts[word] += 1
+            numbers.append(int(row["number"]))
+            most = max(most, int(row["of"]))
             if why:
-                print(f"row {row['number']}: {why}", flush=True)
-    print(", ".join(f"{counts[it]} {it}" for it in WORDS), file=sys.stderr)
-    return 1 if counts["differ"] else 3 if counts["not there"] else 0
+                in_words(print, f"row {row['number']}: {why}")
+    left = missing(sorted(numbers), most)
+    say(", ".join(f"{counts[it]} {it}" for it in WORDS) + (f"; {left} in no table" if left else ""))
+    if counts["differ"]:
+        return 1
+    return 3 if counts["not there"] or left or not counts["agree"] else 0

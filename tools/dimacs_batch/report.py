@@ -1,25 +1,25 @@
 """A table as one page of HTML, which needs no network."""
 import collections
+import functools
 import html
 import math
 import os
 import shlex
 import shutil
 import subprocess
-import sys
 
-from dimacs_batch import evidence
+from dimacs_batch import evidence, fail, say
 from dimacs_batch.formats import READ, read_cells
 from dimacs_batch.options import HERE
 from dimacs_batch.runs import CLASSES, FAULTY, NO
-from dimacs_batch.table import place_of, put_file, read_table
+from dimacs_batch.table import put_alone, read_table
 
 MOST_LINES = 20  # of an explanation
 WIDTH, HEIGHT, MARGIN = 720, 400, 60  # of the plot, in pixels
 COLOURS = ["#0072b2", "#d55e00", "#009e73", "#cc79a7", "#e69f00", "#56b4e9", "#000000"]
 
 # What decides a row, and is shown where the pointer is.
-EVIDENCE = ["answers", "command", "instance_sha256", "answers_sha256", "kept", "kept_sha256", "host"]
+EVIDENCE = ["answers", "command", "instance_sha256", "answers_sha256", "files_sha256", "kept", "kept_sha256", "host"]
 
 
 def text(value):
@@ -175,10 +175,19 @@ def page(table, program):
         yield rest if end else piece
 
 
+def test_page(place):
+    """Fails if a file is no page of this kind."""
+    with open(os.path.join(HERE, "report.html"), "rb") as frame, open(place, "rb") as it:
+        begin = frame.read().partition(b"{{")[0]
+        if it.read(len(begin)) != begin:
+            fail(f"{place}: not a page of dimacs-batch; name another file")
+
+
 def report(options):
     """Writes the page about a table."""
     (table,) = options.places
-    place = place_of(options.output or f"{os.path.splitext(table)[0]}.html")
-    put_file(place, lambda out: out.writelines(page(table, shutil.which(options.program))))
-    print(f"wrote {place}", file=sys.stderr)
+    name = options.output or f"{os.path.splitext(table)[0]}.html"
+    write = functools.partial(page, table, shutil.which(options.program))
+    put_alone(name, lambda out: out.writelines(write()), test_page)
+    say(f"wrote {os.path.realpath(name)}")
     return 0

@@ -9,17 +9,19 @@ from dimacs_batch.answers import Task
 
 COLUMNS = [
     "number", "of", "list", "instance", "answers", "solver", "kind", "command", "verdict", "value", "class", "status",
-    "seconds", "cpu", "memory", "limit", "size", "arcs", "instance_sha256", "answers_sha256", "kept", "kept_sha256",
-    "host", "version", "proof", "program_sha256",
+    "seconds", "cpu", "memory", "limit", "size", "arcs", "instance_sha256", "answers_sha256", "files_sha256",
+    "kept", "kept_sha256", "host", "version", "proof", "program_sha256",
 ]
 
 # The columns that decide a verdict.
-DECIDING = ["command", "instance_sha256", "answers_sha256", "limit", "version", "proof", "program_sha256"]
+DECIDING = [
+    "command", "instance_sha256", "answers_sha256", "files_sha256", "limit", "version", "proof", "program_sha256",
+]
 
 
-def key_of(command, instance, answers):
-    """By what a row is known: its command, or else its files."""
-    return command or f"{instance} {answers}"
+def key_of(command, instance, answers, solver):
+    """By what a row is known: its files, and its command, or else the solver that has none."""
+    return [command, instance, answers, "" if command else solver]
 
 
 def name_of(task):
@@ -43,7 +45,7 @@ class Rows:
 
     def ask(self, task):
         """Adds what is asked; what is asked twice has one row."""
-        key = json.dumps(key_of(shlex.join(task.words), task.instance, " ".join(task.answers)))
+        key = json.dumps(key_of(shlex.join(task.words), task.instance, " ".join(task.answers), task.solver))
         values = (self.count + 1, key, json.dumps(name_of(task)), json.dumps(task))
         added = self.db.execute("insert or ignore into task values (?, ?, ?, ?, null, null)", values).rowcount
         self.count += added
@@ -52,7 +54,7 @@ class Rows:
 
     def take_old(self, row):
         """Adds a row of an earlier run; whether it is one of those that are asked."""
-        key = json.dumps(key_of(row["command"], row["instance"], row["answers"]))
+        key = json.dumps(key_of(row["command"], row["instance"], row["answers"], row["solver"]))
         return self.db.execute("update task set old = ? where key = ?", (json.dumps(row), key)).rowcount == 1
 
     def todo(self):
@@ -78,10 +80,13 @@ class Rows:
         self.db.execute("update task set row = ? where number = ?", (json.dumps(row), number))
 
     def in_order(self, earlier=False):
-        """Yields the rows that are there; with those of the earlier run where there is no other yet."""
+        """Yields the rows that are there; with those of the earlier run where there is no other yet, whose numbers are
+        those of this list then."""
         wanted = "coalesce(row, old)" if earlier else "row"
-        for (row,) in self.db.execute(f"select {wanted} from task where {wanted} is not null order by number"):
-            yield json.loads(row)
+        for number, row in self.db.execute(
+            f"select number, {wanted} from task where {wanted} is not null order by number"
+        ):
+            yield {**json.loads(row), **(self.place_of(number) if earlier else {})}
 
     def in_shard(self):
         """How many rows the shard has."""

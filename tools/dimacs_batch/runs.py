@@ -57,6 +57,20 @@ def class_of(command, ended):
     return FAILED
 
 
+def value_of(line):
+    """The value or the cost of a verdict, if it has one."""
+    return line.split(" ")[2] if line.startswith(("v max ", "v min ")) else ""
+
+
+def is_whole(row):
+    """Whether a row's class and its value are those of its verdict."""
+    if not row["command"] or not re.fullmatch(r"[0-9]{1,9}", row["status"]):
+        return False
+    ended = Ended(row["verdict"], int(row["status"]), 0, 0, "")
+    command = row["command"].split(" ")[0]
+    return row["class"] == class_of(command, ended) and row["value"] == value_of(row["verdict"])
+
+
 def first_line(stream):
     """The first line that a run prints, and how many lines come after it. The rest isn't kept."""
     line = stream.readline(LONGEST)

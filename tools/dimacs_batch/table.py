@@ -1,20 +1,35 @@
 """The table: in a file, which can be taken up again, or printed."""
+import collections
 import csv
 import fcntl
+import io
 import json
 import os
+import re
 import stat
 import sys
 
 from dimacs_batch import ANY_NAMES, fail
 from dimacs_batch.rows import COLUMNS
 
+SHA256 = 64  # digits
+
 csv.field_size_limit(1 << 24)
 
 
-def in_words(error, name):
+def fail_of(error, name):
     """Fails with what the system says of a file."""
     fail(f"{error.filename or name}: {error.strerror}")
+
+
+def in_words(put, *what):
+    """Writes on the standard output, or ends in words if that is closed or full."""
+    try:
+        put(*what)
+        sys.stdout.flush()
+    except OSError as error:
+        os.dup2(os.open(os.devnull, os.O_WRONLY), sys.stdout.fileno())  # what is left is of no use
+        fail_of(error, "standard output")
 
 
 # ---- a table that is read
@@ -28,8 +43,10 @@ def rows_of_csv(lines, file):
         if head != COLUMNS:
             fail(f"{file}: not a table of dimacs-batch")
         for fields in table:
-            if len(fields) == len(COLUMNS):
-                yield dict(zip(COLUMNS, fields))
+            row = dict(zip(COLUMNS, fields))
+            is_torn = len(fields) != len(COLUMNS) or row["status"] and len(fields[-1]) < SHA256
+            if not is_torn:
+                yield row
     except csv.Error as error:
         if table.line_num < 2:
             fail(f"{file}: not a table of dimacs-batch: {error}")
@@ -47,13 +64,26 @@ def rows_of_json(lines, file):
         yield row
 
 
+def rows_of(file):
+    """The rows of a file, in either format."""
+    with open(file, newline="", **ANY_NAMES) as lines:
+        is_json = lines.read(1) == "{"
+        lines.seek(0)
+        for row in (rows_of_json if is_json else rows_of_csv)(lines, file):
+            wrong = [it for it in ("number", "of") if not re.fullmatch("[0-9]{1,15}", str(row[it]))]
+            if wrong or not all(isinstance(it, str) for it in row.values()):
+                fail(f"{file}: not a table of dimacs-batch" + "".join(f": {it} is {row[it]}" for it in wrong))
+            yield row
+
+
 def read_table(file):
-    """Yields the rows of a table, and those that a run which was killed had added beside it."""
-    for each in [it for it in (file, f"{file}.part") if os.path.exists(it)] or [file]:
-        with open(each, newline="", **ANY_NAMES) as lines:
-            is_json = lines.read(1) == "{"
-            lines.seek(0)
-            yield from (rows_of_json if is_json else rows_of_csv)(lines, each)
+    """Yields the rows of a table. Those that a run which was killed had added beside it replace those of their number."""
+    part = f"{os.path.realpath(file)}.part"
+    added = {row["number"] for row in rows_of(part)} if os.path.exists(part) else ()
+    if os.path.exists(file) or not os.path.exists(part):
+        yield from (row for row in rows_of(file) if row["number"] not in added)
+    if added:
+        yield from rows_of(part)
 
 
 # ---- a table that is written
@@ -72,7 +102,9 @@ def put_file(place, fill):
     """Writes a file beside its place, and then puts it there: so it is whole at any time."""
     new = f"{place}.new"
     try:
-        with open(new, "w", newline="", **ANY_NAMES) as out:
+        if os.path.lexists(new):
+            os.unlink(new)  # one that was left, or a link
+        with open(new, "x", newline="", **ANY_NAMES) as out:
             fill(out)
             out.flush()
             os.fsync(out.fileno())
@@ -80,9 +112,9 @@ def put_file(place, fill):
             os.chmod(new, stat.S_IMODE(os.stat(place).st_mode))
         os.replace(new, place)
     except OSError as error:
-        in_words(error, place)
+        fail_of(error, place)
     finally:
-        if os.path.exists(new):
+        if os.path.lexists(new):
             os.unlink(new)
 
 
@@ -98,6 +130,57 @@ def put_table(place, writer, rows):
     put_file(place, lambda out: fill(writer(out), rows))
 
 
+def locked(file, place):
+    """The file beside a table to which rows are added, locked: so no other run writes the same table."""
+    name = f"{place}.part"
+    while True:
+        part = open(name, "a", newline="", **ANY_NAMES)
+        try:
+            fcntl.flock(part, fcntl.LOCK_EX | fcntl.LOCK_NB)
+        except BlockingIOError:
+            fail(f"{file}: another dimacs-batch writes it")
+        # It may have been removed by the run that had the lock.
+        if os.path.exists(name) and os.path.samestat(os.fstat(part.fileno()), os.stat(name)):
+            return part
+        part.close()
+
+
+def unlocked(part):
+    """Ends a lock. The file is left if it has rows."""
+    if not os.path.getsize(part.name):
+        os.unlink(part.name)
+    part.close()
+
+
+def test_table(place, writer):
+    """Fails if a file is neither a table that can be read, nor one that this writer wrote."""
+    begin = io.StringIO()
+    writer(begin).head()
+    with open(place, newline="", **ANY_NAMES) as it:
+        if begin.getvalue() and it.read(len(begin.getvalue())) == begin.getvalue():
+            return
+    if writer.IS_READ:
+        fail(f"{place}: not a table of this format; name another file")
+    collections.deque(read_table(place), maxlen=0)
+
+
+def put_alone(file, write, test):
+    """Writes a file that no other run writes, if a test says nothing against the one that is there."""
+    place = place_of(file)
+    try:
+        part = locked(file, place)
+    except OSError as error:
+        fail_of(error, file)
+    try:
+        if os.path.getsize(part.name):
+            fail(f"{file}: a run that was killed left rows in {part.name}; continue it, or name another file")
+        if os.path.exists(place):
+            test(place)
+        put_file(place, write)
+    finally:
+        unlocked(part)
+
+
 class Kept:
     """A table in a file. While a run goes on its rows are added to FILE.part, as they come; at its end all of them are
     put into the file, in order. FILE.part is locked, so that no other run writes the same table."""
@@ -105,21 +188,9 @@ class Kept:
     def __init__(self, file, writer):
         self.file, self.place, self.writer = file, place_of(file), writer
         try:
-            self.part = self.locked(f"{self.place}.part")
+            self.part = locked(file, self.place)
         except OSError as error:
-            in_words(error, file)
-
-    def locked(self, name):
-        while True:
-            part = open(name, "a", newline="", **ANY_NAMES)
-            try:
-                fcntl.flock(part, fcntl.LOCK_EX | fcntl.LOCK_NB)
-            except BlockingIOError:
-                fail(f"{self.file}: another dimacs-batch writes it")
-            # It may have been removed by the run that had the lock.
-            if os.path.exists(name) and os.path.samestat(os.fstat(part.fileno()), os.stat(name)):
-                return part
-            part.close()
+            fail_of(error, file)
 
     def begin(self, rows):
         """Takes the rows of earlier runs, and puts them into the file."""
@@ -127,8 +198,7 @@ class Kept:
             if not all([rows.take_old(row) for row in read_table(self.place)]):
                 fail(f"{self.file}: has rows of other commands; name another file")
         except SystemExit:
-            if not os.path.getsize(self.part.name):
-                os.unlink(self.part.name)
+            unlocked(self.part)
             raise
         put_table(self.place, self.writer, rows.in_order(earlier=True))
         self.part.truncate(0)
@@ -138,7 +208,7 @@ class Kept:
             self.part.write(json.dumps(row) + "\n")
             self.part.flush()
         except OSError as error:
-            in_words(error, self.part.name)
+            fail_of(error, self.part.name)
 
     def end(self, rows):
         put_table(self.place, self.writer, rows.in_order(earlier=True))
@@ -154,23 +224,14 @@ class Printed:
 
     def begin(self, rows):
         self.rows = rows
-        self.in_words(self.writer.head)
+        in_words(self.writer.head)
 
     def add(self, _):
         for row in self.rows.next_ones():
-            self.in_words(self.writer.row, row)
+            in_words(self.writer.row, row)
 
     def end(self, _):
-        self.in_words(self.writer.end)
+        in_words(self.writer.end)
 
     def put_all(self, rows):
-        self.in_words(fill, self.writer, rows)
-
-    def in_words(self, put, *what):
-        """Writes, or ends in words if the output is closed or full."""
-        try:
-            put(*what)
-            sys.stdout.flush()
-        except OSError as error:
-            os.dup2(os.open(os.devnull, os.O_WRONLY), sys.stdout.fileno())  # what is left is of no use
-            in_words(error, "standard output")
+        in_words(fill, self.writer, rows)
