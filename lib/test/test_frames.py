@@ -81,6 +81,27 @@ class Frames(unittest.TestCase):
         no = self.refused(ValueError, dimacs.from_frame, self.edges, "from", "where")
         self.assertEqual(str(no), "the frame has no column 'where': it has 'from', 'to', 'room', 'price'")
 
+    def test_lower_bounds(self):
+        """A maximum flow has none: a flow that breaks one is no answer."""
+        self.edges["least"] = [0, 8, 0, 0]
+        network = self.network(low="least")
+        for call, *words in (network.solve_max,), (network.certify_max, [4, 5, 4, 5]):
+            no = self.refused(ValueError, call, "spring", "town", *words)
+            self.assertEqual(str(no), "a maximum flow has no lower bounds: column 'least'")
+
+    def test_distances_above_2_to_53(self):
+        """They stay what they are beside a node that isn't reached."""
+        self.edges["price"] = [1, 2, 2**53 + 1, 4]
+        network = self.network()
+        found = network.solve_paths("mill").nodes["distance"]
+        self.assertEqual(found["town"], 2**53 + 1)
+        self.assertEqual(found["spring"], float("inf"))
+        for claim in found, found.to_dict(), {"mill": 0, "town": 2**53 + 1}:
+            again = network.certify_paths("mill", claim).nodes["distance"]
+            self.assertEqual([again["town"], again["farm"]], [2**53 + 1, float("inf")])
+        no = self.refused(dimacs.Refused, network.certify_paths, "mill", {"mill": 0, "town": 2**53})
+        self.assertEqual(str(no), f"node 'town' NoTightArc: no arc gives its distance {2**53}")
+
     def test_a_label_twice(self):
         twice = pandas.Series([3, 4, -7], index=["spring", "spring", "town"])
         no = self.refused(ValueError, lambda: self.network(supply=twice))

@@ -63,6 +63,12 @@ def _by_label(given: Any, name: str) -> dict[Any, Any]:
     return found
 
 
+def _column_of(items: Any, index: Any) -> pd.Series:
+    """A column in which items stay what they are: pandas makes ints beside inf or None floats, which lose digits."""
+    listed = list(items)
+    return pd.Series(listed, index, dtype=None if len(set(map(type, listed))) == 1 else object)
+
+
 class Frame:
     """A network of edges in a DataFrame. See from_frame.
 
@@ -117,6 +123,8 @@ class Frame:
         return Given(form, len(self.nodes), *numbers, scale=self._scale, names=_FrameNames(self))
 
     def _max(self, source: Any, sink: Any) -> Given:
+        if "lows" in self.columns:
+            raise ValueError(f"a maximum flow has no lower bounds: column {self.columns['lows']!r}")
         ends = self._number(source), self._number(sink)
         return self._given(MAX, *ends, self._tails, self._heads, self._column("caps", math.inf))
 
@@ -145,15 +153,15 @@ class Frame:
         return flows
 
     def _by_edge(self, flows: Any) -> pd.Series:
-        return pd.Series(list(flows), index=self.edges.index, name="flow")
+        return _column_of(flows, self.edges.index).rename("flow")
 
     def _answer(self, value: Any, flows: Any, **columns: Any) -> FrameAnswer:
         edges = self.edges[self._named].assign(flow=self._by_edge(flows)) if flows is not None else None
         return FrameAnswer(value, edges, self._by_node(**columns))
 
     def _by_node(self, **columns: Any) -> pd.DataFrame:
-        made = {name: list(it) for name, it in columns.items()}
-        return pd.DataFrame(made, index=pd.Index(self.nodes, name="node", tupleize_cols=False))
+        index = pd.Index(self.nodes, name="node", tupleize_cols=False)
+        return pd.DataFrame({name: _column_of(it, index) for name, it in columns.items()}, index)
 
     @contextmanager
     def _shown(self) -> Iterator[None]:
@@ -171,7 +179,8 @@ class Frame:
             raise
 
     def solve_max(self, source: Any, sink: Any, limit: int = LIMIT) -> FrameAnswer:
-        """A maximum flow, and which nodes are on the source's side of a cut that shows it. Raises as solve_max_arrays."""
+        """A maximum flow, and which nodes are on the source's side of a cut that shows it. Raises as solve_max_arrays,
+        and ValueError if the frame has a column of lower bounds."""
         with self._shown():
             value, flows, inside = calls.solve_max(self._max(source, sink).add_number("limit", limit, LIMITS), [])
         return self._answer(value, flows, inside=inside)
@@ -183,7 +192,8 @@ class Frame:
         return self._answer(cost, flows, potential=prices)
 
     def solve_paths(self, source: Any) -> FrameAnswer:
-        """The distances from a node, by the column of costs, and predecessors; inf and None of a node that isn't reached."""
+        """The distances from a node, by the column of costs, and predecessors; inf and None of a node that isn't reached:
+        these columns have the dtype object then, in which distances stay ints."""
         _, found, before = calls.solve_paths(self._paths(source), [])
         reached = [it != 0 or self.nodes[place] == source for place, it in enumerate(before)]
         distances = [it if is_reached else math.inf for it, is_reached in zip(found, reached)]
@@ -193,7 +203,8 @@ class Frame:
         return [self.nodes[it - 1] if it else None for it in numbers]
 
     def certify_max(self, source: Any, sink: Any, flows: Any) -> FrameAnswer:
-        """Decides whether flows, a column or a Series, are maximum. Raises as certify_max_arrays."""
+        """Decides whether flows, a column or a Series, are maximum. Raises as certify_max_arrays, and ValueError if the
+        frame has a column of lower bounds."""
         claim = self._max(source, sink).add(FLOWS, self._flows(flows))
         with self._shown():
             value, inside = calls.certify(library.certify_max_arrays, claim, [], INSIDE, FLOWS)
