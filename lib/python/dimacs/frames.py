@@ -86,7 +86,7 @@ def _ends(edges: pd.DataFrame, name: Any) -> list[Any]:
     if name == "flow" or isinstance(name, tuple) and name[:1] == ("flow",):
         raise ValueError(f"the column {name!r} is one of ends, and answers have a column 'flow' of their own: rename it")
     missing = column.isna().to_numpy()
-    nodes = column.tolist()
+    nodes: list[Any] = column.tolist()
     for label, node, is_missing in zip(edges.index, nodes, missing):
         if is_missing or not is_hashable(node):
             kind = ValueError if is_missing else TypeError
