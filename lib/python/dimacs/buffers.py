@@ -10,6 +10,7 @@ import os
 import sys
 from collections.abc import Mapping, Set
 from decimal import MAX_EMAX, MIN_EMIN, Context, Decimal
+from functools import partial
 from numbers import Number, Rational
 from pathlib import Path
 from typing import Any, Callable, NamedTuple, Sequence, Union
@@ -263,7 +264,9 @@ def _whole_numpy(numpy: Any, numbers: Any, items: Items, name: Name) -> Any:
 
 
 def _array(name: Name) -> str:
-    """The name of an array itself."""
+    """The name of an array itself. A function of places may begin with it."""
+    if isinstance(name, partial) and name.args:
+        return str(name.args[0])
     return name if isinstance(name, str) else "an array"
 
 

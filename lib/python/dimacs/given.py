@@ -182,7 +182,7 @@ class Given:
     def _namer(self, kind: Array) -> Callable[[int], str] | str:
         if type(self.names) is Names:
             return kind.name
-        return lambda place: self.names.item(kind.name, place)
+        return partial(self.names.item, kind.name)
 
     def _groups(self, unit: str) -> Iterable[tuple[Sequence[Any], Callable[[int], str]]]:
         for kind, numbers in self._raw.items():
