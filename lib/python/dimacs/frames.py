@@ -22,7 +22,19 @@ __all__ = ["Frame", "FrameAnswer", "from_frame"]
 class FrameAnswer(NamedTuple):
     """An answer, which was judged: its value or cost, None for distances; a DataFrame of edges on the index of the frame, with
     its two columns of ends and "flow", None for distances; and a DataFrame by node, with what shows it: "inside",
-    "potential", or "distance" and "predecessor"."""
+    "potential", or "distance" and "predecessor".
+
+    >>> table = {"from": ["mine", "port"], "to": ["port", "town"], "tons": [5, 4]}
+    >>> answer = from_frame(pd.DataFrame(table), "from", "to", capacity="tons").solve_max("mine", "town")
+    >>> answer.value
+    4
+    >>> answer.edges
+       from    to  flow
+    0  mine  port     4
+    1  port  town     4
+    >>> answer.nodes["inside"].to_dict()
+    {'mine': True, 'port': True, 'town': False}
+    """
 
     value: Any
     edges: pd.DataFrame | None
