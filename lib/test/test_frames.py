@@ -136,6 +136,7 @@ class Frames(unittest.TestCase):
             ("to of row 'a' is ['mill'], which can't name a node", frame, lists, "from", "to"),
             ("['mill'] can't name a node", network.solve_max, ["mill"], "town"),
             ("flows: one number, an array of 4 is wanted", network.certify_max, "mill", "town", 5),
+            ("flows is <NA>, not an array", network.certify_min, pandas.NA),
             ("flows is a dict, whose items have no places as those of an array", network.certify_min, {"a": 4}),
         ]
         values = [

@@ -189,7 +189,7 @@ class Frame:
         if not is_hashable(flows) or flows is None:
             return False
         parts = flows if isinstance(flows, tuple) else (flows,)
-        return any(isinstance(it, str) for it in parts) or flows in self.edges.columns.tolist()
+        return any(isinstance(it, str) for it in parts) or flows in self.edges.columns
 
     def _flows(self, flows: Any) -> Any:
         """Claimed flows: a column of the frame, a Series on its index, or an array."""
