@@ -54,11 +54,11 @@ class Docs(unittest.TestCase):
         if readme.is_file():
             self.assertEqual(doctest.testfile(str(readme), module_relative=False), (0, 3))
 
-    def test_each_function_has_an_example(self):
+    def test_each_function_and_class_has_an_example(self):
         for name, it in public():
             with self.subTest(name):
                 self.assertTrue(it.__doc__)
-                if inspect.isfunction(it):
+                if inspect.isfunction(it) or inspect.isclass(it):
                     self.assertIn(">>>", it.__doc__)
 
     def test_help_fits_a_screen(self):

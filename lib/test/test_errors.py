@@ -1,9 +1,11 @@
 """What exceptions say, whole: one row for each."""
 
+import importlib.util
 import pathlib
 import pickle
 import tempfile
 import unittest
+from decimal import Decimal
 from fractions import Fraction
 
 import dimacs
@@ -171,6 +173,43 @@ class Arrays(Errors):
             ],
         )
 
+    def test_numbers_that_are_not_easily_shown(self):
+        """Exceptions name the item whatever stands there, with each scale."""
+        long, shown, third = 10**5000, "about 1E+5000", "about 3.33333E+4999"
+        no, nan, wide = object(), Decimal("sNaN"), "with the least common denominator 1 it has more than 64 bits"
+
+        def solve(number, scale=None, base=1):
+            return dimacs.solve_max_arrays(*changed(MAX, 5, [5, number]), scale=scale, base=base)
+
+        values = [
+            (f"caps[1] is {shown}, not a whole number of 64 bits", solve, long),
+            (f"caps[1] is {third}, not a whole number", solve, Fraction(long, 3)),
+            (f"caps[1] is {shown}, which has more than 64 bits in units of 1/10", solve, long, 10),
+            (f"caps[1] is {third}, which has more than 64 bits in units of 1/10", solve, Fraction(long, 3), 10),
+            (f"caps[1] is 1E+5000: {wide}", solve, long, "exact"),
+            ("caps[1] is sNaN, not a whole number", solve, nan),
+            ("caps[1] is sNaN, not a finite number", solve, nan, 10),
+            (f"limit is {shown}, not a whole number of 0 to 18446744073709551615", dimacs.solve_max_arrays, *MAX, long),
+            ("scale is NaN, not a finite number", solve, 4, Decimal("NaN")),
+            ("scale is Infinity, not a finite number", solve, 4, (10, Decimal("inf"))),
+            ("scale is about -1E+5000, and has to be above 0", solve, 4, -long),
+            ("caps[0] is 5, which has more than 64 bits in units of about 1E-5000", solve, 4, long),
+            (f"base is {shown}, and has to be 0 or 1", solve, 4, None, long),
+        ]
+        self.rows(ValueError, values)
+        kinds = "pass an int or a Fraction, by which numbers are multiplied, or a Decimal, their unit"
+        scales = [[10], 1j, no, (10, None), True, INF, 2.5, b"1"]
+        bases = [0.0, True, None, "0", Decimal(0), no]
+        self.rows(
+            TypeError,
+            [
+                *((f"caps[1] is {no!r}, not a number", solve, no, scale) for scale in (None, 10, "exact")),
+                *((f"scale is {it[1] if type(it) is tuple else it!r}: {kinds}", solve, 4, it) for it in scales),
+                *((f"base is {it!r}, and has to be the int 0 or 1", solve, 4, None, it) for it in bases),
+                (f"caps is {no!r}, not an array", dimacs.solve_max_arrays, *changed(MAX, 5, no)),
+            ],
+        )
+
     @unittest.skipUnless(numpy, "no numpy")
     def test_numbers_of_numpy(self):
         wide = numpy.zeros(20)
@@ -194,6 +233,24 @@ class Arrays(Errors):
             TypeError,
             [("caps: one number, an array of 2 is wanted", certify, *changed(MAX, 5, numpy.array(5)), [0, 0])],
         )
+
+    @unittest.skipUnless(numpy, "no numpy")
+    def test_numbers_of_numpy_and_pandas(self):
+        pandas = importlib.util.find_spec("pandas") and importlib.import_module("pandas")
+        no = [numpy.array([5]), numpy.complex128(1)]
+        no += [pandas.NA, pandas.NaT, pandas.Series([5])] if pandas else []
+
+        def solve(number, scale=None, base=1):
+            return dimacs.solve_max_arrays(*changed(MAX, 5, [5, number]), scale=scale, base=base)
+
+        time = numpy.timedelta64(5, "s")
+        for scale in None, 10, "exact":
+            self.rows(TypeError, [(f"caps[1] is {it!r}, not a number", solve, it, scale) for it in [*no, time]])
+        self.rows(TypeError, [(f"base is {it!r}, and has to be the int 0 or 1", solve, 4, None, it) for it in no])
+        for scale in 10, "exact":
+            nan = "caps[1] is nan, not a finite number"
+            self.rows(ValueError, [(nan, solve, numpy.longdouble("nan"), scale), (nan, solve, numpy.float16(NAN), scale)])
+            self.assertEqual(solve(numpy.longdouble(2.5), scale).value, Fraction(5, 2))
 
     def test_past_limit(self):
         certify, flows, base = dimacs.certify_max_arrays, [4, 4], "nodes are numbered from 1, and there are 3"

@@ -2,6 +2,7 @@
 
 import random
 import unittest
+import warnings
 from fractions import Fraction
 
 import dimacs
@@ -81,6 +82,27 @@ class Frames(unittest.TestCase):
         no = self.refused(ValueError, dimacs.from_frame, self.edges, "from", "where")
         self.assertEqual(str(no), "the frame has no column 'where': it has 'from', 'to', 'room', 'price'")
 
+    def test_lower_bounds(self):
+        """A maximum flow has none: a flow that breaks one is no answer."""
+        self.edges["least"] = [0, 8, 0, 0]
+        network = self.network(low="least")
+        for call, *words in (network.solve_max,), (network.certify_max, [4, 5, 4, 5]):
+            no = self.refused(ValueError, call, "spring", "town", *words)
+            self.assertEqual(str(no), "a maximum flow has no lower bounds: column 'least'")
+
+    def test_distances_above_2_to_53(self):
+        """They stay what they are beside a node that isn't reached."""
+        self.edges["price"] = [1, 2, 2**53 + 1, 4]
+        network = self.network()
+        found = network.solve_paths("mill").nodes["distance"]
+        self.assertEqual(found["town"], 2**53 + 1)
+        self.assertEqual(found["spring"], float("inf"))
+        for claim in found, found.to_dict(), {"mill": 0, "town": 2**53 + 1}:
+            again = network.certify_paths("mill", claim).nodes["distance"]
+            self.assertEqual([again["town"], again["farm"]], [2**53 + 1, float("inf")])
+        no = self.refused(dimacs.Refused, network.certify_paths, "mill", {"mill": 0, "town": 2**53})
+        self.assertEqual(str(no), f"node 'town' NoTightArc: no arc gives its distance {2**53}")
+
     def test_a_label_twice(self):
         twice = pandas.Series([3, 4, -7], index=["spring", "spring", "town"])
         no = self.refused(ValueError, lambda: self.network(supply=twice))
@@ -94,6 +116,66 @@ class Frames(unittest.TestCase):
         self.edges.columns = ["from", "to", "room", "room"]
         no = self.refused(ValueError, lambda: dimacs.from_frame(self.edges, "from", "to", capacity="room"))
         self.assertEqual(str(no), "the frame has the column 'room' twice")
+
+    def test_what_is_given_wrongly(self):
+        edges, network, frame = self.edges, self.network(), dimacs.from_frame
+        lists, missing = edges.assign(to=[["mill"]] * 4), edges.assign(to=["mill", "farm", None, "town"])
+        twice = edges.assign(flow=0)[[*edges, "flow", "flow"]]
+        tables = edges.rename(columns={"from": "flow"}), pandas.concat({"ends": edges}, axis=1)
+        tables += (pandas.concat({"flow": edges}, axis=1),)
+        by_node, own = "and has to be a dict or a Series by node", "and answers have a column 'flow' of their own: rename it"
+        has = "it has 'from', 'to', 'room', 'price'"
+        types = [
+            ("edges is a dict, and has to be a DataFrame", frame, {"from": ["a"], "to": ["b"]}, "from", "to"),
+            ("edges is a NoneType, and has to be a DataFrame", frame, None, "from", "to"),
+            ("a Series names no column: pass the name of one", frame, edges, edges["from"], "to"),
+            ("a list names no column: pass the name of one", frame, edges, "from", ["to"]),
+            (f"supply is a list, {by_node}", lambda: self.network(supply=[1, 2])),
+            (f"supply is a DataFrame, {by_node}", lambda: self.network(supply=edges)),
+            (f"distances is a list, {by_node}", network.certify_paths, "mill", [0, 1]),
+            ("to of row 'a' is ['mill'], which can't name a node", frame, lists, "from", "to"),
+            ("['mill'] can't name a node", network.solve_max, ["mill"], "town"),
+            ("flows: one number, an array of 4 is wanted", network.certify_max, "mill", "town", 5),
+            ("flows is <NA>, not an array", network.certify_min, pandas.NA),
+            ("flows is a dict, whose items have no places as those of an array", network.certify_min, {"a": 4}),
+        ]
+        values = [
+            ("to of row 'c' is None, which can't name a node", frame, missing, "from", "to"),
+            (f"the column 'flow' is one of ends, {own}", frame, tables[0], "flow", "to"),
+            (f"the column ('flow', 'from') is one of ends, {own}", frame, tables[2], ("flow", "from"), ("flow", "to")),
+            (f"the frame has no column 'flw': {has}", network.certify_max, "spring", "town", "flw"),
+            (f"the frame has no column ('f', 'w'): {has}", network.certify_max, "spring", "town", ("f", "w")),
+            ("the frame has the column 'flow' twice", frame(twice, "from", "to").certify_min, "flow"),
+            (
+                "the frame has no column 'ends': it has ('ends', 'from'), ('ends', 'to'), ('ends', 'room'), ('ends', 'price')",
+                *(frame, tables[1], "ends", ("ends", "to")),
+            ),
+        ]
+        for kind, rows in (TypeError, types), (ValueError, values):
+            for message, call, *words in rows:
+                with self.subTest(message):
+                    self.assertEqual(str(self.refused(kind, call, *words)), message)
+
+    def test_flows_in_each_form(self):
+        network, flows = self.network(), [4, 5, 4, 5]
+        for claim in iter(flows), tuple(flows), pandas.Series(flows, list("abcd")), (it for it in flows):
+            self.assertEqual(network.certify_max("spring", "town", claim).flows.tolist(), flows)
+        self.edges[1] = flows
+        self.assertEqual(self.network().certify_max("spring", "town", 1).value, 9)
+
+    def test_columns_of_two_levels(self):
+        self.edges["carried"] = [4, 5, 4, 5]
+        edges = pandas.concat({"mine": self.edges}, axis=1)
+        network = dimacs.from_frame(edges, ("mine", "from"), ("mine", "to"), capacity=("mine", "room"))
+        found = network.certify_max("spring", "town", ("mine", "carried"))
+        self.assertEqual((found.value, found.flows.tolist()), (9, [4, 5, 4, 5]))
+
+    def test_no_edges(self):
+        with warnings.catch_warnings():
+            warnings.simplefilter("error")
+            network = dimacs.from_frame(self.edges[:0], "from", "to", capacity="room", supply={"mill": 0, "town": 0})
+            for answer in network.solve_max("mill", "town"), network.solve_min(), network.certify_min([]):
+                self.assertEqual((answer.value, answer.flows.tolist()), (0, []))
 
     def test_nodes_of_any_name(self):
         edges = pandas.DataFrame({"u": [(0, 0), 1, "x"], "v": [1, "x", (0, 0)]})

@@ -75,6 +75,22 @@ class Floats(unittest.TestCase):
         with self.assertRaises(ValueError):
             Scale.of(10).whole(float(numpy.float32(0.1)), str)
 
+    @unittest.skipUnless(numpy, "no numpy")
+    def test_long_doubles(self):
+        """Each that is read from a decimal stands for it, and its neighbours for nothing."""
+        chance = random.Random(2)
+        for _ in range(300):
+            digits = chance.randrange(1, 18)
+            most = chance.choice([99, 10**9, 10 ** (numpy.finfo(numpy.longdouble).precision - 1)])
+            multiple = chance.randrange(-most, most)
+            number = numpy.longdouble(f"{multiple}e-{digits}")
+            self.assertEqual(Scale.of(10**digits).whole(number, str), multiple)
+        tenth = numpy.longdouble("0.1")
+        others = [numpy.nextafter(tenth, numpy.longdouble(end)) for end in (0, 1)]
+        for number in [*others, numpy.longdouble("1e4000"), numpy.longdouble("nan"), numpy.longdouble("-inf")]:
+            with self.assertRaises(ValueError):
+                Scale.of(10).whole(number, lambda: "it")
+
 
 def best(nodes, source, sink, ends, caps):
     """The capacity of the least cut, in fractions."""

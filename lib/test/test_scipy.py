@@ -463,7 +463,8 @@ class Programs(Scipy):
             theirs = optimize.linprog(**words)
             kinds[theirs.status] = kinds.get(theirs.status, 0) + 1
             if theirs.status == 2:
-                self.assertIsNone(ours.certify_linprog(theirs, **words).value)
+                self.assertIsNone((found := ours.certify_linprog(theirs, **words)).value)
+                self.cannot_be_met(found.duals, **words)
             elif theirs.status == 0:
                 found = ours.certify_linprog(theirs, **words)
                 self.assertAlmostEqual(found.value, theirs.fun)
@@ -471,6 +472,34 @@ class Programs(Scipy):
             else:
                 self.raises(ValueError, "status 3", ours.certify_linprog, theirs, **words)
         self.assertGreater(min(kinds.values()), 5, kinds)
+
+    def cannot_be_met(self, names, c, bounds, **words):
+        """These constraints alone are infeasible by linprog too."""
+        self.assertTrue(names)
+        for side in "ub", "eq":
+            rows = [int(it[5:-1]) for it in names if it.startswith(f"A_{side}")]
+            for name in f"A_{side}", f"b_{side}":
+                if name in words:
+                    words[name] = numpy.array(words[name])[rows]
+        self.assertEqual(optimize.linprog(c, **words, bounds=bounds).status, 2)
+
+    def test_constraints_that_cannot_be_met(self):
+        """The set that shows it may have the node that is no constraint: those outside of it are named then."""
+        pair = [[1, -1], [-1, 1]]
+        rows = [
+            (["A_eq[0]"], {"c": [3, 7], "A_eq": [[1, 1]], "b_eq": [-1]}),
+            (["A_eq[0]"], {"c": [3, 7], "A_eq": [[1, 1]], "b_eq": [11]}),
+            (["A_eq[1]"], {"c": [3, 7], "A_eq": [[1, 0], [0, 1]], "b_eq": [1, -1]}),
+            (["A_ub[0]"], {"c": [1], "A_ub": [[1]], "b_ub": [-1]}),
+            (["A_eq[0]", "A_eq[1]"], {"c": [1, 1], "A_eq": pair, "b_eq": [1, 1]}),
+            (["A_eq[0]", "A_eq[1]"], {"c": [1, 1], "A_eq": pair, "b_eq": [-1, -1]}),
+        ]
+        for wanted, words in rows:
+            with self.subTest(words):
+                words["bounds"] = 0, 5
+                found = ours.certify_linprog(optimize.linprog(**words), **words)
+                self.assertEqual((found.value, found.x, found.duals), (None, None, wanted))
+                self.cannot_be_met(found.duals, **words)
 
     def is_shown(self, found, c, A_ub=None, b_ub=None, A_eq=None, b_eq=None, bounds=None):
         parts = [it for it in (A_ub, A_eq) if it is not None]

@@ -11,13 +11,23 @@ UNREACHED = 2**63 - 1
 
 
 class Beyond(NamedTuple):
-    """In place of a distance: it is greater than this radius, or there is no walk."""
+    r"""In place of a distance: it is greater than this radius, or there is no walk.
+
+    >>> import dimacs
+    >>> dimacs.judge_paths("p sp 2 1\na 1 2 5\n", "p aux sp p2p 1\nq 1 2\n", "p dist 2 1\nt 1 0 3\n").pairs[0].distance
+    Beyond(radius=3)
+    """
 
     radius: int
 
 
 class Pair(NamedTuple):
-    """The answer to a query. The distance is None if there is no walk."""
+    r"""The answer to a query. The distance is None if there is no walk.
+
+    >>> import dimacs
+    >>> dimacs.judge_paths("p sp 2 1\na 1 2 5\n", "p aux sp p2p 1\nq 1 2\n", "p dist 2 1\nt 1 1\nd 2 5 1\n").pairs[0]
+    Pair(source=1, target=2, distance=5)
+    """
 
     source: int
     target: int
@@ -290,6 +300,13 @@ class Feasible(Refused):
 
     flow is such a flow: the text of a solution, over arrays the amount of each arc, or over a graph a dict of those; None
     if its cost is out of the range of solutions.
+
+    >>> import dimacs
+    >>> try:
+    ...     dimacs.certify_infeasible_arrays(2, [1], [2], [0], [9], [3], [6, -6])
+    ... except dimacs.Feasible as no:
+    ...     print(no, no.flow)
+    a flow is feasible [6]
     """
 
     def __init__(self, flow: Any = None) -> None:

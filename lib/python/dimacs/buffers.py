@@ -5,10 +5,12 @@ from __future__ import annotations
 import array
 import ctypes
 import math
+import operator
 import os
 import sys
 from collections.abc import Mapping, Set
-from decimal import Decimal
+from decimal import MAX_EMAX, MIN_EMIN, Context, Decimal
+from functools import partial
 from numbers import Number, Rational
 from pathlib import Path
 from typing import Any, Callable, NamedTuple, Sequence, Union
@@ -114,16 +116,32 @@ VALUES = Items("q", 16, -(2**127), 2**127 - 1)
 #: The limit if none is given.
 LIMIT = 1_000_000
 
+#: Six digits, and any exponent.
+_ROUNDED = Context(prec=6, Emin=MIN_EMIN, Emax=MAX_EMAX)
+
 #: The codes of buffers that have such items already, by their code here.
 _SAME = {"I": ("I", "L", "=I", "@I", "<I"), "q": ("q", "l", "=q", "@q", "<q"), "B": ("B", "?", "<B", "<?")}
+
+
+def rounded(number: Any) -> Decimal:
+    """An int or a fraction to six digits, however great."""
+    return _ROUNDED.divide(Decimal(number.numerator), Decimal(number.denominator)).normalize(_ROUNDED)
+
+
+def written(number: Any) -> str:
+    """A number as an exception shows it. Python doesn't write ints of thousands of digits."""
+    try:
+        return str(number)
+    except ValueError:
+        return f"about {rounded(number)}"
 
 
 def _refuse(name: str, number: Any, items: Items) -> ValueError:
     """The exception for a number out of the range, or one of numpy that isn't whole."""
     if hasattr(number, "is_integer") and not number.is_integer():
-        return ValueError(f"{name} is {number}, not a whole number")
+        return ValueError(f"{name} is {written(number)}, not a whole number")
     width = "64 bits" if items.least < 0 and items.greatest == 2**63 - 1 else f"{items.least} to {items.greatest}"
-    return ValueError(f"{name} is {number}, not a whole number of {width}")
+    return ValueError(f"{name} is {written(number)}, not a whole number of {width}")
 
 
 def _is_numpy_bool(number: Any) -> bool:
@@ -135,19 +153,33 @@ def is_bool(number: Any) -> bool:
     return isinstance(number, bool) or _is_numpy_bool(number)
 
 
+def is_infinite(number: Any) -> bool:
+    """Whether a number is inf. What is no number isn't compared with one, nor is a NaN of the decimal module."""
+    is_compared = isinstance(number, Number) and not (isinstance(number, Decimal) and number.is_nan())
+    return is_compared and bool(number == math.inf)
+
+
 def _whole(number: Any, items: Items, name: str) -> int:
     """A number as an integer."""
     if _is_numpy_bool(number):
         return int(number)
     if hasattr(number, "__index__"):
-        return int(number.__index__())
+        return _as_int(operator.index, number, name)
     if not (hasattr(number, "is_integer") or isinstance(number, (Decimal, Rational))):
         raise TypeError(f"{name} is {number!r}, not a number")
-    if items.infinity is not None and number == math.inf:
+    if items.infinity is not None and is_infinite(number):
         return items.infinity
     if not _is_whole(number):
-        raise ValueError(f"{name} is {number}, not a whole number")
-    return int(number)
+        raise ValueError(f"{name} is {written(number)}, not a whole number")
+    return _as_int(int, number, name)
+
+
+def _as_int(convert: Callable[[Any], int], number: Any, name: str) -> int:
+    """An object as an int. Arrays and times of numpy seem to be numbers until they are converted."""
+    try:
+        return convert(number)
+    except TypeError:
+        raise TypeError(f"{name} is {number!r}, not a number") from None
 
 
 def _is_whole(number: Any) -> bool:
@@ -232,7 +264,9 @@ def _whole_numpy(numpy: Any, numbers: Any, items: Items, name: Name) -> Any:
 
 
 def _array(name: Name) -> str:
-    """The name of an array itself."""
+    """The name of an array itself. A function of places may begin with it."""
+    if isinstance(name, partial) and name.args:
+        return str(name.args[0])
     return name if isinstance(name, str) else "an array"
 
 
@@ -251,6 +285,8 @@ def gone_through(numbers: Any, name: Name) -> list[Any]:
             f"{_array(name)} is a {type(numbers).__name__}, whose items have no places as those of an array"
         )
     is_plain = is_numpy(numbers) and numbers.dtype.char in "?bBhHiIlLqQd"  # whose items are those of Python
+    if not hasattr(numbers, "__iter__") and not hasattr(numbers, "__getitem__"):
+        raise TypeError(f"{_array(name)} is {numbers!r}, not an array")
     return list(numbers.tolist() if is_plain else numbers)
 
 

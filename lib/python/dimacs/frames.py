@@ -3,10 +3,12 @@
 from __future__ import annotations
 
 import math
+from collections.abc import Mapping
 from contextlib import contextmanager
 from typing import Any, Iterator, NamedTuple
 
 import pandas as pd
+from pandas.api.types import is_hashable
 
 from . import calls, library
 from .answers import Feasible, Infeasible, NotOptimal
@@ -20,7 +22,19 @@ __all__ = ["Frame", "FrameAnswer", "from_frame"]
 class FrameAnswer(NamedTuple):
     """An answer, which was judged: its value or cost, None for distances; a DataFrame of edges on the index of the frame, with
     its two columns of ends and "flow", None for distances; and a DataFrame by node, with what shows it: "inside",
-    "potential", or "distance" and "predecessor"."""
+    "potential", or "distance" and "predecessor".
+
+    >>> table = {"from": ["mine", "port"], "to": ["port", "town"], "tons": [5, 4]}
+    >>> answer = from_frame(pd.DataFrame(table), "from", "to", capacity="tons").solve_max("mine", "town")
+    >>> answer.value
+    4
+    >>> answer.edges
+       from    to  flow
+    0  mine  port     4
+    1  port  town     4
+    >>> answer.nodes["inside"].to_dict()
+    {'mine': True, 'port': True, 'town': False}
+    """
 
     value: Any
     edges: pd.DataFrame | None
@@ -54,13 +68,48 @@ class _FrameNames(Names):
 
 
 def _by_label(given: Any, name: str) -> dict[Any, Any]:
-    """A dict or Series by node. Raises ValueError if a Series has a node twice: which of its numbers is meant isn't said."""
+    """A dict or Series by node. Raises TypeError for anything else, and ValueError if a Series has a node twice: which of its
+    numbers is meant isn't said."""
+    if not isinstance(given, (Mapping, pd.Series)):
+        raise TypeError(f"{name} is a {type(given).__name__}, and has to be a dict or a Series by node")
     found: dict[Any, Any] = {}
     for node, number in given.items():
         if node in found:
             raise ValueError(f"{name} has the node {node!r} twice")
         found[node] = number
     return found
+
+
+def _column(edges: pd.DataFrame, name: Any) -> pd.Series:
+    """The only column of this name. Raises ValueError if there isn't one, and TypeError for what can't name one."""
+    if not is_hashable(name):
+        raise TypeError(f"a {type(name).__name__} names no column: pass the name of one")
+    count = edges.columns.tolist().count(name)
+    if count == 0:
+        raise ValueError(f"the frame has no column {name!r}: it has {', '.join(map(repr, edges.columns))}")
+    if count > 1:
+        raise ValueError(f"the frame has the column {name!r} twice")
+    return edges[name]
+
+
+def _ends(edges: pd.DataFrame, name: Any) -> list[Any]:
+    """The nodes that a column names. Raises ValueError if one is missing, and TypeError if one has no hash."""
+    column = _column(edges, name)
+    if name == "flow" or isinstance(name, tuple) and name[:1] == ("flow",):
+        raise ValueError(f"the column {name!r} is one of ends, and answers have a column 'flow' of their own: rename it")
+    missing = column.isna().to_numpy()
+    nodes: list[Any] = column.tolist()
+    for label, node, is_missing in zip(edges.index, nodes, missing):
+        if is_missing or not is_hashable(node):
+            kind = ValueError if is_missing else TypeError
+            raise kind(f"{name} of row {label!r} is {node!r}, which can't name a node")
+    return nodes
+
+
+def _column_of(items: Any, index: Any) -> pd.Series:
+    """A column in which items stay what they are: pandas makes ints beside inf or None floats, which lose digits."""
+    listed = list(items)
+    return pd.Series(listed, index, dtype=None if len(set(map(type, listed))) == 1 else object)
 
 
 class Frame:
@@ -85,16 +134,13 @@ class Frame:
     def __init__(
         self, edges: pd.DataFrame, tail: Any, head: Any, columns: dict[str, Any], supply: Any, scale: Any
     ) -> None:
+        if not isinstance(edges, pd.DataFrame):
+            raise TypeError(f"edges is a {type(edges).__name__}, and has to be a DataFrame")
         self.edges, self.columns, self._scale, self._named = edges, columns, scale, [tail, head]
-        for name in (tail, head, *columns.values()):
-            if name not in edges.columns:
-                raise ValueError(f"the frame has no column {name!r}: it has {', '.join(map(repr, edges.columns))}")
-            if edges.columns.tolist().count(name) > 1:
-                raise ValueError(f"the frame has the column {name!r} twice")
+        tails, heads = _ends(edges, tail), _ends(edges, head)
+        for name in columns.values():
+            _column(edges, name)
         supplies = {} if supply is None else _by_label(supply, "supply")
-        if edges[[tail, head]].isna().to_numpy().any():
-            raise ValueError("an edge has an end without a name")
-        tails, heads = edges[tail].tolist(), edges[head].tolist()
         self._numbers = {node: k for k, node in enumerate(dict.fromkeys([*tails, *heads, *supplies]), 1)}
         self.nodes = list(self._numbers)
         self._tails, self._heads = ([self._numbers[it] for it in ends] for ends in (tails, heads))
@@ -104,56 +150,67 @@ class Frame:
         return f"Frame of {len(self.edges)} edges between {len(self.nodes)} nodes"
 
     def _number(self, node: Any) -> int:
+        if not is_hashable(node):
+            raise TypeError(f"{node!r} can't name a node")
         if node not in self._numbers:
             raise ValueError(f"{node!r} is no node of the frame")
         return self._numbers[node]
 
-    def _column(self, name: str, missing: Any) -> Any:
+    def _numbers_of(self, name: str, missing: Any) -> Any:
         if name not in self.columns:
             return [missing] * len(self.edges)
-        return self.edges[self.columns[name]].tolist()
+        return _column(self.edges, self.columns[name]).tolist()
 
     def _given(self, form: Any, *numbers: Any) -> Given:
         return Given(form, len(self.nodes), *numbers, scale=self._scale, names=_FrameNames(self))
 
     def _max(self, source: Any, sink: Any) -> Given:
+        if "lows" in self.columns:
+            raise ValueError(f"a maximum flow has no lower bounds: column {self.columns['lows']!r}")
         ends = self._number(source), self._number(sink)
-        return self._given(MAX, *ends, self._tails, self._heads, self._column("caps", math.inf))
+        return self._given(MAX, *ends, self._tails, self._heads, self._numbers_of("caps", math.inf))
 
     def _min(self) -> Given:
         arcs = (
             self._tails,
             self._heads,
-            self._column("lows", 0),
-            self._column("caps", math.inf),
-            self._column("costs", 0),
+            self._numbers_of("lows", 0),
+            self._numbers_of("caps", math.inf),
+            self._numbers_of("costs", 0),
         )
         return self._given(MIN, *arcs, self._supplies)
 
     def _paths(self, source: Any) -> Given:
-        graph = self._given(GRAPH, self._tails, self._heads, self._column("costs", 1))
+        graph = self._given(GRAPH, self._tails, self._heads, self._numbers_of("costs", 1))
         return graph.add_number("source", self._number(source))
+
+    def _is_name(self, flows: Any) -> bool:
+        """Whether these flows are a column of the frame: one that it has, or what has letters, and so is no number."""
+        if not is_hashable(flows) or flows is None:
+            return False
+        parts = flows if isinstance(flows, tuple) else (flows,)
+        return any(isinstance(it, str) for it in parts) or flows in self.edges.columns
 
     def _flows(self, flows: Any) -> Any:
         """Claimed flows: a column of the frame, a Series on its index, or an array."""
-        if isinstance(flows, (str, int)) and flows in self.edges.columns:
-            flows = self.edges[flows]
+        if self._is_name(flows):
+            flows = _column(self.edges, flows)
         if isinstance(flows, pd.Series):
             if not flows.index.equals(self.edges.index):
                 raise ValueError("flows has another index than the frame")
             return flows.tolist()
-        return flows
+        return list(flows) if hasattr(flows, "__next__") else flows
 
     def _by_edge(self, flows: Any) -> pd.Series:
-        return pd.Series(list(flows), index=self.edges.index, name="flow")
+        return _column_of(flows, self.edges.index).rename("flow")
 
     def _answer(self, value: Any, flows: Any, **columns: Any) -> FrameAnswer:
         edges = self.edges[self._named].assign(flow=self._by_edge(flows)) if flows is not None else None
         return FrameAnswer(value, edges, self._by_node(**columns))
 
     def _by_node(self, **columns: Any) -> pd.DataFrame:
-        made = {name: list(it) for name, it in columns.items()}
-        return pd.DataFrame(made, index=pd.Index(self.nodes, name="node", tupleize_cols=False))
+        index = pd.Index(self.nodes, name="node", tupleize_cols=False)
+        return pd.DataFrame({name: _column_of(it, index) for name, it in columns.items()}, index)
 
     @contextmanager
     def _shown(self) -> Iterator[None]:
@@ -171,7 +228,8 @@ class Frame:
             raise
 
     def solve_max(self, source: Any, sink: Any, limit: int = LIMIT) -> FrameAnswer:
-        """A maximum flow, and which nodes are on the source's side of a cut that shows it. Raises as solve_max_arrays."""
+        """A maximum flow, and which nodes are on the source's side of a cut that shows it. Raises as solve_max_arrays,
+        and ValueError if the frame has a column of lower bounds."""
         with self._shown():
             value, flows, inside = calls.solve_max(self._max(source, sink).add_number("limit", limit, LIMITS), [])
         return self._answer(value, flows, inside=inside)
@@ -183,7 +241,8 @@ class Frame:
         return self._answer(cost, flows, potential=prices)
 
     def solve_paths(self, source: Any) -> FrameAnswer:
-        """The distances from a node, by the column of costs, and predecessors; inf and None of a node that isn't reached."""
+        """The distances from a node, by the column of costs, and predecessors; inf and None of a node that isn't reached:
+        these columns have the dtype object then, in which distances stay ints."""
         _, found, before = calls.solve_paths(self._paths(source), [])
         reached = [it != 0 or self.nodes[place] == source for place, it in enumerate(before)]
         distances = [it if is_reached else math.inf for it, is_reached in zip(found, reached)]
@@ -193,18 +252,21 @@ class Frame:
         return [self.nodes[it - 1] if it else None for it in numbers]
 
     def certify_max(self, source: Any, sink: Any, flows: Any) -> FrameAnswer:
-        """Decides whether flows, a column or a Series, are maximum. Raises as certify_max_arrays."""
-        claim = self._max(source, sink).add(FLOWS, self._flows(flows))
+        """Decides whether flows, a column or a Series, are maximum. Raises as certify_max_arrays, and ValueError if the
+        frame has a column of lower bounds."""
+        flows = self._flows(flows)
+        claim = self._max(source, sink).add(FLOWS, flows)
         with self._shown():
             value, inside = calls.certify(library.certify_max_arrays, claim, [], INSIDE, FLOWS)
-        return self._answer(value, self._flows(flows), inside=inside)
+        return self._answer(value, flows, inside=inside)
 
     def certify_min(self, flows: Any) -> FrameAnswer:
         """Decides whether flows, a column or a Series, cost least. Raises as certify_min_arrays."""
-        claim = self._min().add(FLOWS, self._flows(flows))
+        flows = self._flows(flows)
+        claim = self._min().add(FLOWS, flows)
         with self._shown():
             cost, prices = calls.certify(library.certify_min_arrays, claim, [], POTENTIALS, FLOWS)
-        return self._answer(cost, self._flows(flows), potential=prices)
+        return self._answer(cost, flows, potential=prices)
 
     def certify_infeasible(self) -> FrameAnswer:
         """Decides whether no flow meets the supplies. Raises Feasible with flows if one does."""
@@ -241,6 +303,8 @@ def from_frame(
     capacity, cost and low name columns of numbers. Without one, edges carry any amount, cost 0 (for distances they are 1
     long), and may carry 0. supply is a dict or a Series by node, each once: what leaves it less what enters it. With
     scale= (see dimacs.arrays) numbers are multiples of a unit. Answers are on the index of the frame, or on that of the nodes.
+    Raises ValueError if a column isn't there or stands twice, an end has no name, or a column of ends is called "flow", as
+    that of answers; TypeError if an argument is of another kind, or a node is, as a list, one that can't be looked up.
 
     >>> import pandas
     >>> table = {"from": ["mine", "mine"], "to": ["port", "port"], "tons": [5, 5], "price": [3, 7]}

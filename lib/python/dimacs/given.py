@@ -9,11 +9,12 @@ import sys
 from array import array
 from contextlib import contextmanager
 from functools import partial
+from numbers import Integral
 from typing import Any, Callable, Iterable, Iterator, NamedTuple, Sequence
 
 from .answers import UNREACHED, PastLimit, Refused
 from .buffers import CAPACITIES, IDS, LENGTHS, MARKS, NUMBERS, UNLIMITED, Buffer, Items, Room
-from .buffers import array_of, gone_through, is_numpy, is_single, item, number_of, unlabelled
+from .buffers import array_of, gone_through, is_bool, is_numpy, is_single, item, number_of, unlabelled, written
 from .scales import units_of
 
 #: The greatest number of nodes.
@@ -74,9 +75,11 @@ class Names:
     has_inf_alone = False
 
     def __init__(self, base: int = 1) -> None:
+        if not isinstance(base, Integral) or is_bool(base):
+            raise TypeError(f"base is {base!r}, and has to be the int 0 or 1")
         if base not in (0, 1):
-            raise ValueError(f"base is {base!r}, and has to be 0 or 1")
-        self.base = base
+            raise ValueError(f"base is {written(base)}, and has to be 0 or 1")
+        self.base: int = int(base)
 
     def arc(self, place: int) -> Any:
         """The name of an arc by its place, from 0."""
@@ -179,7 +182,7 @@ class Given:
     def _namer(self, kind: Array) -> Callable[[int], str] | str:
         if type(self.names) is Names:
             return kind.name
-        return lambda place: self.names.item(kind.name, place)
+        return partial(self.names.item, kind.name)
 
     def _groups(self, unit: str) -> Iterable[tuple[Sequence[Any], Callable[[int], str]]]:
         for kind, numbers in self._raw.items():

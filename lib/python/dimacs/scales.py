@@ -4,9 +4,13 @@ from __future__ import annotations
 
 import decimal
 import math
+import sys
 from fractions import Fraction
 from functools import partial
-from typing import Any, Callable, Iterable, NamedTuple, Sequence
+from numbers import Rational, Real
+from typing import Any, Callable, Iterable, NamedTuple, Sequence, cast
+
+from .buffers import is_bool, is_infinite, rounded, written
 
 #: Digits enough for each product that is shown.
 _EXACT = decimal.Context(prec=200)
@@ -25,13 +29,17 @@ class Scale(NamedTuple):
     @classmethod
     def of(cls, given: Any) -> Scale:
         """The scale that an argument names: a factor, or a decimal as the unit itself."""
-        if isinstance(given, float) and not given.is_integer() or isinstance(given, (str, bool)):
+        try:
+            if is_bool(given) or _is_broken(given):
+                raise TypeError
+            exact = fraction_of(given, lambda: "scale")
+        except TypeError:
             ways = "pass an int or a Fraction, by which numbers are multiplied, or a Decimal, their unit"
-            raise TypeError(f"scale is {given!r}: {ways}")
+            raise TypeError(f"scale is {given!r}: {ways}") from None
+        if exact <= 0:
+            raise ValueError(f"scale is {written(given)}, and has to be above 0")
         is_decimal = isinstance(given, decimal.Decimal)
-        factor = 1 / Fraction(given) if is_decimal and given else Fraction(given)
-        if factor <= 0:
-            raise ValueError(f"scale is {given}, and has to be above 0")
+        factor = 1 / exact if is_decimal else exact
         return cls(factor, is_decimal)
 
     def times(self, other: Scale) -> Scale:
@@ -56,19 +64,20 @@ class Scale(NamedTuple):
             found = round(number * factor)
             if found / factor == number:
                 return found
-        if not _is_nan(number) and number == math.inf:
+        if is_infinite(number):
             return math.inf
         return self._whole(fraction_of(number, name), number, name)
 
     def _whole(self, exact: Fraction, number: Any, name: Callable[[], str]) -> int:
         product = exact * self.factor
         found = round(product)
+        if not -(2**63) <= found < 2**63:
+            wide = f"more than 64 bits in units of {written(self._unit())}"
+            raise ValueError(f"{name()} is {written(number)}, which has {wide}")
         is_exact = isinstance(number, (int, Fraction, decimal.Decimal))
         if product != found and (is_exact or not self._stands_for(found, number)):
-            nearest = _readable(self.shown(found))
-            raise ValueError(f"{name()} is {number}, not a multiple of {self._unit()}: the nearest is {nearest}")
-        if not -(2**63) <= found < 2**63:
-            raise ValueError(f"{name()} is {number}, which has more than 64 bits in units of {self._unit()}")
+            nearest, unit = _readable(self.shown(found)), written(self._unit())
+            raise ValueError(f"{name()} is {written(number)}, not a multiple of {unit}: the nearest is {nearest}")
         return found
 
     def _unit(self) -> Any:
@@ -77,7 +86,7 @@ class Scale(NamedTuple):
     def _stands_for(self, multiple: int, number: Any) -> bool:
         """Whether a float is the nearest one to this multiple of the unit, and to no other."""
         try:
-            same = [type(number)(float(it / self.factor)) == number for it in (multiple - 1, multiple, multiple + 1)]
+            same = [_is_nearest(number, it / self.factor) for it in (multiple - 1, multiple, multiple + 1)]
         except OverflowError:  # it is above all floats
             return False
         return same == [False, True, False]
@@ -89,22 +98,43 @@ _WHOLE = Scale(Fraction(1))
 def fraction_of(number: Any, name: Callable[[], str]) -> Fraction:
     """The exact value of a number. Raises ValueError if it isn't finite, and TypeError if it is none."""
     try:
-        if isinstance(number, str):  # a Fraction reads texts too
+        if isinstance(number, str) or getattr(number, "shape", ()) != ():  # a Fraction reads texts too
             raise TypeError
-        return Fraction(number.item() if hasattr(number, "item") else number)
+        found = number.item() if hasattr(number, "item") else number
+        if _is_long(found):
+            return Fraction(*found.as_integer_ratio())
+        return Fraction(found)
     except TypeError:
         raise TypeError(f"{name()} is {number!r}, not a number") from None
     except (ValueError, OverflowError):
         raise ValueError(f"{name()} is {number}, not a finite number") from None
 
 
-def _is_nan(number: Any) -> bool:
-    """Whether this is no number of the decimal module, which mustn't be compared."""
-    return isinstance(number, decimal.Decimal) and number.is_nan()
+def _is_long(number: Any) -> bool:
+    """Whether this is a long double of numpy, which no float of Python holds."""
+    return isinstance(number, Real) and hasattr(number, "item") and hasattr(number.item(), "item")
+
+
+def _is_broken(number: Any) -> bool:
+    """Whether this is a float that isn't whole."""
+    return isinstance(number, Real) and not isinstance(number, Rational) and not cast(Any, number).is_integer()
+
+
+def _is_nearest(number: Any, value: Fraction) -> bool:
+    """Whether a float is the nearest one of its type to a value."""
+    if not _is_long(number):
+        return bool(type(number)(float(value)) == number)
+    numpy = sys.modules["numpy"]
+    beside = (numpy.nextafter(number, type(number)(end)) for end in (-math.inf, math.inf))
+    here, low, high = (Fraction(*it.as_integer_ratio()) for it in (number, *beside))
+    return here + low < 2 * value < here + high
 
 
 def _readable(number: Any) -> Any:
-    return float(number) if isinstance(number, Fraction) else number
+    try:
+        return float(number) if isinstance(number, Fraction) else number
+    except OverflowError:
+        return rounded(number)
 
 
 def exact_scale(groups: Iterable[tuple[Sequence[Any], Callable[[int], str]]]) -> Scale:
@@ -113,13 +143,13 @@ def exact_scale(groups: Iterable[tuple[Sequence[Any], Callable[[int], str]]]) ->
     exact: list[tuple[Fraction, Callable[[], str]]] = []
     for numbers, name in groups:
         for k, number in enumerate(numbers):
-            if _is_nan(number) or number != math.inf:
+            if not is_infinite(number):
                 exact.append((fraction_of(number, partial(name, k)), partial(name, k)))
     common = math.lcm(*(it.denominator for it, _ in exact))
     for it, named in exact:
         if not -(2**63) <= it * common < 2**63:
-            shown = f"{named()} is {_readable(it)}"
-            raise ValueError(f"{shown}: with the least common denominator {common} it has more than 64 bits")
+            shown, by = f"{named()} is {written(_readable(it))}", written(common)
+            raise ValueError(f"{shown}: with the least common denominator {by} it has more than 64 bits")
     return Scale(Fraction(common))
 
 

@@ -23,6 +23,13 @@ class MaximumFlowResult:
 
     flow_value is its value, flow a matrix in CSR format, whose (i, j)'th entry is what goes from i to j less what goes
     from j to i, and inside has for each vertex whether it is on the source's side of the cut.
+
+    >>> from scipy.sparse import csr_array
+    >>> found = maximum_flow(csr_array([[0, 5, 0], [0, 0, 4], [0, 0, 0]]), 0, 2)
+    >>> found
+    MaximumFlowResult with value of 4
+    >>> found.inside
+    array([ True,  True, False])
     """
 
     flow_value: Any

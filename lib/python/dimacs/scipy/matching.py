@@ -17,7 +17,11 @@ from .entries import edges_of, entries_of, exact, whole, whole_items
 
 
 class Assignment(NamedTuple):
-    """Rows and their columns, as SciPy returns them: row_ind[k] is assigned to col_ind[k]."""
+    """Rows and their columns, as SciPy returns them: row_ind[k] is assigned to col_ind[k].
+
+    >>> linear_sum_assignment([[4, 1, 3], [2, 0, 5], [3, 2, 2]])
+    Assignment(row_ind=array([0, 1, 2]), col_ind=array([1, 0, 2]))
+    """
 
     row_ind: NDArray[np.intp]
     col_ind: NDArray[np.intp]
@@ -29,6 +33,10 @@ class CertifiedAssignment(NamedTuple):
     By row and by column: the cost of each entry is at least u[row] + v[column], and exactly that if it is assigned. No v is
     above 0, and v is 0 if the column isn't assigned; where rows outnumber columns, this holds of u and the rows in place of
     v and the columns. If the greatest is meant, all of this holds of costs negated.
+
+    >>> value, u, v = certify_assignment([[1, 9], [9, 1]], [0, 1], [0, 1])
+    >>> value == u.sum() + v.sum()
+    True
     """
 
     value: int

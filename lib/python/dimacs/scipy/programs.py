@@ -26,7 +26,14 @@ from ..scales import fraction_of
 class CertifiedProgram(NamedTuple):
     """The value of an optimal solution, the solution in whole numbers, and the dual value of each constraint: first those of
     A_ub, then those of A_eq. Each reduced cost, c - A^T duals, is at least 0 where a variable can be greater, and at most 0
-    where it can be less."""
+    where it can be less. Of a program that is infeasible the value and the solution are None, and duals are the names of
+    constraints whose sum can't be met within the bounds, each as it is or negated.
+
+    >>> from scipy.optimize import linprog
+    >>> program = dict(c=[3, 7], A_eq=[[1, 1]], b_eq=[6], bounds=(0, 5))
+    >>> certify_linprog(linprog(**program), **program)
+    CertifiedProgram(value=22, x=array([5, 1]), duals=[7])
+    """
 
     value: Any
     x: NDArray[np.int64] | None
@@ -205,22 +212,22 @@ def certify_linprog(
     then; the value of the result from that of x too, or by that value times the tolerance if it is above 1. Raises NotOptimal
     with a better x; Refused if x isn't feasible, or the value differs; ValueError that names a variable if the matrix isn't
     that of a network, and if a number isn't whole, a size doesn't fit, or the tolerance is below 0 or not finite. The result
-    of status 2 is certified to be infeasible: then value and x are None, and duals are the constraints that can't be met
-    together.
+    of status 2 is certified to be infeasible: see CertifiedProgram for what is returned then.
 
     >>> from scipy.optimize import linprog
     >>> program = dict(c=[3, 7], A_eq=[[1, 1]], b_eq=[6], bounds=(0, 5))
     >>> certify_linprog(linprog(**program), **program).x
     array([5, 1])
+    >>> program["b_eq"] = [11]
+    >>> certify_linprog(linprog(**program), **program)
+    CertifiedProgram(value=None, x=None, duals=['A_eq[0]'])
     """
     if not 0 <= tolerance < math.inf:
         raise ValueError(f"tolerance is {tolerance}, and has to be finite, and 0 or above")
     allowed = fraction_of(tolerance, lambda: "tolerance")
     program = _Program(c, A_ub, b_ub, A_eq, b_eq, bounds)
     if result.status == 2:
-        inside = calls.certify_infeasible(program.given(), []).inside
-        names = program.given().names
-        return CertifiedProgram(None, None, [names.node(row) for row in range(program.rows) if inside[row]])
+        return CertifiedProgram(None, None, _unmet(program))
     if result.status != 0:
         raise ValueError(f"the result has the status {result.status}, and no solution")
     x = _rounded(result.x, allowed)
@@ -238,6 +245,14 @@ def certify_linprog(
         raise Refused("ValueDiffers", text="solution", line=0, field=0, numbers={"claimed": result.fun, "value": value})
     duals = [sign * (it - potentials[-1]) for sign, it in zip(program.signs, potentials)]
     return CertifiedProgram(value, np.array(x, np.int64), duals)
+
+
+def _unmet(program: _Program) -> list[Any]:
+    """The names of constraints that can't be met together: those of a set that is violated, or those outside of it if it has
+    the node that is no constraint."""
+    given = program.given()
+    *rows, last = calls.certify_infeasible(given, []).inside
+    return [given.names.node(row) for row, inside in enumerate(rows) if inside != last]
 
 
 def _rounded(x: Any, allowed: Fraction) -> list[int]:
