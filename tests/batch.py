@@ -321,8 +321,8 @@ def kept_inside(place, binary):
         status, _, err = place.run("set", "-o", "table", "--keep", "set/kept", program=binary)
         assert status == 0 and err == counted(1, 0, 0, 0, 0, 0, 0, taken_over=taken_over), err
     os.mkdir(place.path("set/answers"))
-    for words in (["set", "--keep", "set/."], ["set", "--keep", "set/answers"], ["set/pipes.max", "set", "--keep", "set"]):
-        status, _, err = place.run(*words, program=binary)
+    for words in ("set --keep set/.", "set --keep set/answers", "set/pipes.max set --keep set"):
+        status, _, err = place.run(*words.split(), program=binary)
         assert status == 2 and "--keep" in err and "Traceback" not in err, err
 
 
@@ -470,7 +470,7 @@ def beside(place):
     _, table, err = place.run("--join", "table")
     assert column(table, "verdict") == ["v max 1", "v max 7"], table
     place.run("--report", "table")
-    assert place.read("table.html").count("<circle") <= 2 and place.read("table.html").count("<tr title=\"answers") == 2
+    assert place.read("table.html").count('<tr title="answers') == 2
     os.unlink(place.path("table.part"))
     place.write("list", "2.max\n" + place.read("list"))
     place.write("2.max", "30 0 i\n")
@@ -912,10 +912,13 @@ def same_command(place):
 
 
 TESTS = [
-    order_and_columns, commands, folders, layouts, gaps, links, unanswered, evidence, made_anew, changed_while_judged, taken_up,
-    killed, beside, late, odd, other_files, same_command, misused, safe_files, other_outputs, new_is_a_link, closed_streams, full, shards, formats, on_terminal, reasons,
+    order_and_columns, commands, folders, layouts, gaps, links, unanswered, evidence, made_anew,
+    changed_while_judged, taken_up, killed, beside, late, odd, other_files, same_command, misused, safe_files,
+    other_outputs, new_is_a_link, closed_streams, full, shards, formats, on_terminal, reasons,
 ]
-WITH_BINARY = [examples, kept, recheck_whole, recheck_others, same_names, solved, repeated, kept_inside, report]
+WITH_BINARY = [
+    examples, kept, recheck_whole, recheck_others, same_names, solved, repeated, kept_inside, report,
+]
 
 
 def main():
