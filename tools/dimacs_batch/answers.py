@@ -289,7 +289,7 @@ def claims_of(kinds, folders, match, commands):
 
 def pairs(instances, folders, find, match, commands):
     """Yields each instance with the files of each of its answers, or of none, and the name of the solver; also of none
-    for each solver with a folder of its own that has answers to others. Then come, without an instance, each answer that
+    for each solver with a folder of its own that has answers to others. Then, without an instance, each answer that
     belongs to none, and why."""
     claimed, solvers, used, why = collections.defaultdict(list), collections.defaultdict(set), set(), {}
     for claim in claims_of({it.kind for it in instances}, folders, match, commands):

@@ -58,6 +58,20 @@ def compare_file(file, sha256):
         raise Differs(f"{file} is another file")
 
 
+def compare_files(row, files):
+    """Whether the instance, the answers and the other files that a command names are those of the table."""
+    answers = [it for it in dict.fromkeys(files) if f" {it} " in f" {row['answers']} "]
+    others = [it for it in files if it not in (row["instance"], *answers) and os.path.isfile(it)]
+    wanted = [row["instance_sha256"].split(), row["answers_sha256"].split(), row["files_sha256"].split()]
+    for names, hashes in zip(([row["instance"]], answers, others), wanted):
+        if len(names) < len(hashes):
+            raise NotThere("a file that the command names isn't there")
+        if len(names) > len(hashes):
+            raise Differs("the command names more files")
+        for file, sha256 in zip(names, hashes):
+            compare_file(file, sha256)
+
+
 class Recheck:
     """Judges rows again by `judge-*`, and by the referee if it is asked for."""
 
@@ -74,8 +88,7 @@ class Recheck:
             if not is_whole(row):
                 raise Differs(f"class {row['class']} and value {row['value']} aren't those of {row['verdict']}")
             verb, *files = shlex.split(row["command"])
-            for file, sha256 in zip(files, [row["instance_sha256"], *row["answers_sha256"].split()]):
-                compare_file(file, sha256)
+            compare_files(row, files)
             with tempfile.TemporaryDirectory() as folder:
                 self.judge(row, verb, files, self.kept(row), folder)
         except Differs as error:

@@ -77,7 +77,8 @@ def rows_of(file):
 
 
 def read_table(file):
-    """Yields the rows of a table. Those that a run which was killed had added beside it replace those of their number."""
+    """Yields the rows of a table. Those that a run which was killed had added beside it replace those of their
+    number."""
     part = f"{os.path.realpath(file)}.part"
     added = {row["number"] for row in rows_of(part)} if os.path.exists(part) else ()
     if os.path.exists(file) or not os.path.exists(part):
@@ -195,7 +196,8 @@ class Kept:
     def begin(self, rows):
         """Takes the rows of earlier runs, and puts them into the file."""
         try:
-            if not all([rows.take_old(row) for row in read_table(self.place)]):
+            # A row without a command says that something isn't there, which may have changed.
+            if not all([rows.take_old(row) or not row["command"] for row in read_table(self.place)]):
                 fail(f"{self.file}: has rows of other commands; name another file")
         except SystemExit:
             unlocked(self.part)
