@@ -249,7 +249,7 @@ class Arrays(Errors):
         self.rows(TypeError, [(f"base is {it!r}, and has to be the int 0 or 1", solve, 4, None, it) for it in no])
         for scale in 10, "exact":
             nan = "caps[1] is nan, not a finite number"
-            self.rows(ValueError, [(nan, solve, numpy.longdouble("nan"), scale), (nan, solve, numpy.float16(NAN), scale)])
+            self.rows(ValueError, [(nan, solve, kind(NAN), scale) for kind in (numpy.longdouble, numpy.float16)])
             self.assertEqual(solve(numpy.longdouble(2.5), scale).value, Fraction(5, 2))
 
     def test_past_limit(self):

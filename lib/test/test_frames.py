@@ -123,7 +123,7 @@ class Frames(unittest.TestCase):
         twice = edges.assign(flow=0)[[*edges, "flow", "flow"]]
         tables = edges.rename(columns={"from": "flow"}), pandas.concat({"ends": edges}, axis=1)
         tables += (pandas.concat({"flow": edges}, axis=1),)
-        by_node, own = "and has to be a dict or a Series by node", "and answers have a column 'flow' of their own: rename it"
+        by_node, own = "and has to be a dict or a Series by node", "and answers have a column 'flow' of their own"
         has = "it has 'from', 'to', 'room', 'price'"
         types = [
             ("edges is a dict, and has to be a DataFrame", frame, {"from": ["a"], "to": ["b"]}, "from", "to"),

@@ -96,7 +96,7 @@ def _ends(edges: pd.DataFrame, name: Any) -> list[Any]:
     """The nodes that a column names. Raises ValueError if one is missing, and TypeError if one has no hash."""
     column = _column(edges, name)
     if name == "flow" or isinstance(name, tuple) and name[:1] == ("flow",):
-        raise ValueError(f"the column {name!r} is one of ends, and answers have a column 'flow' of their own: rename it")
+        raise ValueError(f"the column {name!r} is one of ends, and answers have a column 'flow' of their own")
     missing = column.isna().to_numpy()
     nodes: list[Any] = column.tolist()
     for label, node, is_missing in zip(edges.index, nodes, missing):
