@@ -44,9 +44,8 @@ class _Tree:
 
     def within(self, cutoff: Any = None) -> list[int]:
         """The places of the nodes whose distance isn't above the cutoff."""
-        distances = self._distances
-        within = (place for place in range(len(self._nodes)) if self._is_within(distances[place], cutoff))
-        return sorted(within, key=distances.__getitem__)
+        within = (it for it in range(len(self._nodes)) if self._is_within(self._distances[it], cutoff))
+        return sorted(within, key=self._distances.__getitem__)
 
     def _is_within(self, length: int, cutoff: Any) -> bool:
         """Whether a node at this distance is reached, and not above the cutoff."""
