@@ -3,10 +3,10 @@ use Rattle.std.proofs.Common.{◌≡◌, ◌==◌, Bool, true, false, List, [], 
 use Rattle.std.specs.Prelude.{IsErrAnd}
 use Rattle.std.proofs.lemmas.Bool.{eqb-true}
 use Rattle.std.proofs.lemmas.Result.{err_from_is_err_and}
-use Rattle.dimacs_optimality.specs.declared.verdict.JudgeError.{JudgeError}
-use Rattle.dimacs_optimality.specs.declared.verdict.JudgeError.TheVariants as judged
-use Rattle.dimacs_optimality.specs.Tests.{Row, AllClear}
-use Rattle.dimacs_optimality.proofs.Firsts.{AllOneWay, none_first, one_first}
+use Rattle.dimacs_judging.specs.declared.verdict.JudgeError.{JudgeError}
+use Rattle.dimacs_judging.specs.declared.verdict.JudgeError.TheVariants as judged
+use Rattle.dimacs_judging.specs.Tests.{Row, AllClear}
+use Rattle.dimacs_judging.proofs.Firsts.{AllOneWay, none_first, one_first}
 use Rattle.dimacs_arrays.specs.declared.error.Array.{Array}
 use Rattle.dimacs_arrays.specs.declared.error.ArrayError.{ArrayError}
 use Rattle.dimacs_arrays.specs.declared.error.ArrayError.TheVariants as errors

@@ -11,23 +11,23 @@ use Rattle.dimacs_network.specs.declared.network.ArcView.{ArcView}
 use Rattle.dimacs_network.specs.Arcs.{JoinsNodes}
 use Rattle.dimacs_instance.specs.MaxFlows.{MaxValue}
 use Rattle.dimacs_instance.specs.MinFlows.{MinValue}
-use Rattle.dimacs_optimality.specs.declared.verdict.JudgeError.{JudgeError}
-use Rattle.dimacs_optimality.specs.declared.verdict.JudgeError.TheVariants.{Refused}
-use Rattle.dimacs_optimality.specs.declared.verdict.Where.{Where}
-use Rattle.dimacs_optimality.specs.Cuts.{CutTight, members}
-use Rattle.dimacs_optimality.specs.Feasible.{FeasibleMax, FeasibleMin, value}
-use Rattle.dimacs_optimality.specs.Flows.{cost}
-use Rattle.dimacs_optimality.specs.FlowTests.{cost_row, feasible_min_rows, min_demand}
-use Rattle.dimacs_optimality.specs.Optimum.{Least, Maximum}
-use Rattle.dimacs_optimality.specs.Potentials.{IsSlackAt, Slack, reduced_cost}
+use Rattle.dimacs_judging.specs.declared.verdict.JudgeError.{JudgeError}
+use Rattle.dimacs_judging.specs.declared.verdict.JudgeError.TheVariants.{Refused}
+use Rattle.dimacs_judging.specs.declared.verdict.Where.{Where}
+use Rattle.dimacs_judging.specs.Cuts.{CutTight, members}
+use Rattle.dimacs_judging.specs.Feasible.{FeasibleMax, FeasibleMin, value}
+use Rattle.dimacs_judging.specs.Flows.{cost}
+use Rattle.dimacs_judging.specs.FlowTests.{cost_row, feasible_min_rows, min_demand}
+use Rattle.dimacs_judging.specs.Optimum.{Least, Maximum}
+use Rattle.dimacs_judging.specs.Potentials.{IsSlackAt, Slack, reduced_cost}
 use Rattle.std.proofs.lemmas.Int.{ints}
 use Rattle.dimacs_arrays.specs.ByNode.{AreBits, marked, number_of}
-use Rattle.dimacs_optimality.specs.Tests.{AllClear, Clear, First, FirstOfRow, Refutes, Settles, Refuses}
-use Rattle.dimacs_optimality.proofs.Firsts.{AllOneWay}
-use Rattle.dimacs_optimality.proofs.Passing.{costs_clear, costs_wide, feasible_min_clear}
-use Rattle.dimacs_optimality.proofs.Reasons.{balance_one_way, bound_one_way, cost_one_way}
-use Rattle.dimacs_optimality.proofs.RowLists.{all_clear-append, first_after}
-use Rattle.dimacs_optimality.proofs.Settling.{error_settles, refused_in_front, refuted_refuses}
+use Rattle.dimacs_judging.specs.Tests.{AllClear, Clear, First, FirstOfRow, Refutes, Settles, Refuses}
+use Rattle.dimacs_judging.proofs.Firsts.{AllOneWay}
+use Rattle.dimacs_judging.proofs.Passing.{costs_clear, costs_wide, feasible_min_clear}
+use Rattle.dimacs_judging.proofs.Reasons.{balance_one_way, bound_one_way, cost_one_way}
+use Rattle.dimacs_judging.proofs.RowLists.{all_clear-append, first_after}
+use Rattle.dimacs_judging.proofs.Settling.{error_settles, refused_in_front, refuted_refuses}
 use Rattle.dimacs_decide.specs.declared.maximum.MaxDecision.TheVariants as of_max
 use Rattle.dimacs_decide.specs.declared.least.MinDecision.TheVariants as of_min
 use Rattle.dimacs_decide.specs.MaxDecision.{DecidesMax}

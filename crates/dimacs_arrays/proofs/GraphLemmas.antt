@@ -7,9 +7,9 @@ use Rattle.dimacs_records.specs.declared.reasons.Reason.TheVariants.{NodeRange}
 use Rattle.dimacs_network.specs.Arcs.{JoinsNodes}
 use Rattle.dimacs_network.specs.declared.network.ArcView.{ArcView}
 use Rattle.dimacs_instance.specs.Graph.{HasWeightAlone, IsGraph}
-use Rattle.dimacs_optimality.specs.declared.verdict.Where.TheVariants.{Node}
-use Rattle.dimacs_optimality.specs.Tests.{AllClear}
-use Rattle.dimacs_optimality.proofs.Firsts.{AllOneWay, one_test_one_way}
+use Rattle.dimacs_judging.specs.declared.verdict.Where.TheVariants.{Node}
+use Rattle.dimacs_judging.specs.Tests.{AllClear}
+use Rattle.dimacs_judging.proofs.Firsts.{AllOneWay, one_test_one_way}
 use Rattle.dimacs_arrays.specs.declared.graph.GraphArrays.{GraphArrays}
 use Rattle.dimacs_arrays.specs.GraphArrays.{IsGraphFrom, graph_limits, graph_spelled, source_rows, weighted_arc}
 use Rattle.dimacs_arrays.specs.inside.Lent.{IsInRange}

@@ -3,17 +3,17 @@ use Rattle.std.proofs.Common.{◌≡◌, inl, inr, [], ◌∷◌, Result, Ok, Er
 use Rattle.dimacs_claims.specs.Cuts.{CutValue}
 use Rattle.dimacs_instance.specs.MinFlows.{MinValue}
 use Rattle.dimacs_records.specs.declared.reasons.Reason.{Reason}
-use Rattle.dimacs_optimality.specs.declared.verdict.JudgeError.{JudgeError}
-use Rattle.dimacs_optimality.specs.declared.verdict.JudgeError.TheVariants.{Refused, Memory}
-use Rattle.dimacs_optimality.specs.declared.verdict.Verdict.{Verdict}
-use Rattle.dimacs_optimality.specs.declared.verdict.Verdict.TheVariants.{Infeasible}
-use Rattle.dimacs_optimality.specs.declared.verdict.Where.{Where}
-use Rattle.dimacs_optimality.specs.Agreement.{nodes_row}
-use Rattle.dimacs_optimality.specs.CertificateTests.{violated_row}
-use Rattle.dimacs_optimality.specs.Cuts.{members}
-use Rattle.dimacs_optimality.specs.InfeasibleJudge.{ShowsNoFlow, infeasible_rows}
-use Rattle.dimacs_optimality.specs.Tests.{Clear, First, Judges}
-use Rattle.dimacs_optimality.proofs.Passing.{nodes_clear}
+use Rattle.dimacs_judging.specs.declared.verdict.JudgeError.{JudgeError}
+use Rattle.dimacs_judging.specs.declared.verdict.JudgeError.TheVariants.{Refused, Memory}
+use Rattle.dimacs_judging.specs.declared.verdict.Verdict.{Verdict}
+use Rattle.dimacs_judging.specs.declared.verdict.Verdict.TheVariants.{Infeasible}
+use Rattle.dimacs_judging.specs.declared.verdict.Where.{Where}
+use Rattle.dimacs_judging.specs.Agreement.{nodes_row}
+use Rattle.dimacs_judging.specs.CertificateTests.{violated_row}
+use Rattle.dimacs_judging.specs.Cuts.{members}
+use Rattle.dimacs_judging.specs.InfeasibleJudge.{ShowsNoFlow, infeasible_rows}
+use Rattle.dimacs_judging.specs.Tests.{Clear, First, Judges}
+use Rattle.dimacs_judging.proofs.Passing.{nodes_clear}
 use Rattle.dimacs_arrays.specs.MinArrays.{JudgesInfeasible}
 
 module _ (i : MinValue) (c : CutValue) (same : c.nodes ≡ i.nodes) where

@@ -10,14 +10,14 @@ use Rattle.dimacs_records.specs.declared.reasons.Reason.{Reason}
 use Rattle.dimacs_records.specs.declared.reasons.Reason.TheVariants.{NodeRange, NotShortest}
 use Rattle.dimacs_claims.specs.declared.block.Label.{Label}
 use Rattle.dimacs_claims.specs.Labels.{BlockValue, EachAfter, HasPred, IsLabel, LabelsValue, distance_in, label}
-use Rattle.dimacs_optimality.specs.declared.verdict.Verdict.{Verdict}
+use Rattle.dimacs_judging.specs.declared.verdict.Verdict.{Verdict}
 use Rattle.dimacs_network.specs.Arcs.{NetworkValue}
-use Rattle.dimacs_optimality.specs.declared.verdict.Where.{Where}
-use Rattle.dimacs_optimality.specs.declared.verdict.Where.TheVariants.{Node}
-use Rattle.dimacs_optimality.specs.declared.verdict.JudgeError.{JudgeError}
-use Rattle.dimacs_optimality.specs.declared.verdict.JudgeError.TheVariants.{Refused, Memory}
-use Rattle.dimacs_optimality.specs.Tests.{Clear, First, FirstOfRow, FirstAlone, Refutes, Settles, Refuses}
-use Rattle.dimacs_optimality.proofs.Firsts.{AllOneWay, node_one_way, one_first, one_test_one_way}
+use Rattle.dimacs_judging.specs.declared.verdict.Where.{Where}
+use Rattle.dimacs_judging.specs.declared.verdict.Where.TheVariants.{Node}
+use Rattle.dimacs_judging.specs.declared.verdict.JudgeError.{JudgeError}
+use Rattle.dimacs_judging.specs.declared.verdict.JudgeError.TheVariants.{Refused, Memory}
+use Rattle.dimacs_judging.specs.Tests.{Clear, First, FirstOfRow, FirstAlone, Refutes, Settles, Refuses}
+use Rattle.dimacs_judging.proofs.Firsts.{AllOneWay, node_one_way, one_first, one_test_one_way}
 use Rattle.dimacs_decide.specs.Distances.{source_row}
 use Rattle.dimacs_arrays.specs.Paths.{AreInOrder, AreLabelsBy, JudgesByNode, NeedsPredecessor, IsNext, IsPred, LeadsBack, back, back_row, label_rows, pred_row}
 use Rattle.dimacs_arrays.specs.inside.LabelTrees.{AreLabelled, IsLabelTree}

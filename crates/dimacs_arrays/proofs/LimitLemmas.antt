@@ -8,13 +8,13 @@ use Rattle.dimacs_records.specs.declared.reasons.Reason.{Reason}
 use Rattle.dimacs_records.specs.declared.reasons.Reason.TheVariants.{NumberRange}
 use Rattle.dimacs_network.specs.declared.network.ArcView.{ArcView}
 use Rattle.dimacs_network.specs.Arcs.{JoinsNodes, arc_at, no_arc}
-use Rattle.dimacs_optimality.specs.declared.verdict.Where.{Where}
-use Rattle.dimacs_optimality.specs.declared.verdict.Where.TheVariants.{Arc, Node}
-use Rattle.dimacs_optimality.specs.Rows.{one_test}
-use Rattle.dimacs_optimality.specs.Tests.{AllClear, Clear, FirstOfRow, Row}
-use Rattle.dimacs_optimality.proofs.Firsts.{AllOneWay, OneWay, arc_one_way, one_test_one_way}
-use Rattle.dimacs_optimality.proofs.RowLemmas.{arc_first}
-use Rattle.dimacs_optimality.proofs.RowLists.{all_clear-append, all_one_way-append}
+use Rattle.dimacs_judging.specs.declared.verdict.Where.{Where}
+use Rattle.dimacs_judging.specs.declared.verdict.Where.TheVariants.{Arc, Node}
+use Rattle.dimacs_judging.specs.Rows.{one_test}
+use Rattle.dimacs_judging.specs.Tests.{AllClear, Clear, FirstOfRow, Row}
+use Rattle.dimacs_judging.proofs.Firsts.{AllOneWay, OneWay, arc_one_way, one_test_one_way}
+use Rattle.dimacs_judging.proofs.RowLemmas.{arc_first}
+use Rattle.dimacs_judging.proofs.RowLists.{all_clear-append, all_one_way-append}
 use Rattle.dimacs_arrays.specs.Limits.{ArcFails, count_rows, limit_row}
 use Rattle.dimacs_arrays.specs.inside.Lent.{IsInRange}
 

@@ -11,8 +11,8 @@ use Rattle.dimacs_records.proofs.NameLemmas.{map_more, without_zeros-empty}
 use Rattle.dimacs_records.proofs.ZeroLemmas.{without_zeros-insert}
 use Rattle.dimacs_network.specs.declared.network.ArcView.{ArcView}
 use Rattle.dimacs_instance.specs.MinFlows.{MinValue, IsMin, HasBounds, with_supply}
-use Rattle.dimacs_optimality.specs.Tests.{AllClear}
-use Rattle.dimacs_optimality.proofs.Firsts.{AllOneWay}
+use Rattle.dimacs_judging.specs.Tests.{AllClear}
+use Rattle.dimacs_judging.proofs.Firsts.{AllOneWay}
 use Rattle.dimacs_arrays.specs.declared.min.MinArrays.{MinArrays}
 use Rattle.dimacs_arrays.specs.MinArrays.{min_arc, min_limits, min_spelled, supplies_by_node}
 use Rattle.dimacs_arrays.proofs.LentLemmas.{lent_many}

@@ -9,10 +9,10 @@ use Rattle.dimacs_instance.specs.QueryTexts.{Sources}
 use Rattle.dimacs_claims.specs.declared.block.Label.{Label}
 use Rattle.dimacs_claims.specs.Labels.{BlockValue, IsBlock, IsLabel, IsWithinRadius, LabelsValue, distance_in, label, no_label}
 use Rattle.dimacs_claims.proofs.ByIdLemmas.{distance_in-at, fresh_apart}
-use Rattle.dimacs_optimality.specs.Answers.{block_of}
-use Rattle.dimacs_optimality.specs.Labels.{HasTightArc, IsReached, IsRelaxed, LabelsOk}
-use Rattle.dimacs_optimality.specs.PathsJudge.{PassesPaths}
-use Rattle.dimacs_optimality.specs.QueryTests.{HasFullBlock}
+use Rattle.dimacs_judging.specs.Answers.{block_of}
+use Rattle.dimacs_judging.specs.Labels.{HasTightArc, IsReached, IsRelaxed, LabelsOk}
+use Rattle.dimacs_judging.specs.PathsJudge.{PassesPaths}
+use Rattle.dimacs_judging.specs.QueryTests.{HasFullBlock}
 use Rattle.dimacs_decide.specs.Distances.{AreLabelsOf}
 use Rattle.dimacs_arrays.specs.Paths.{AreLabelsBy, ArePredecessors, pred_by_node}
 use Rattle.dimacs_arrays.specs.inside.LabelTrees.{ArePredsOf}

@@ -8,7 +8,7 @@ use Rattle.dimacs_records.specs.Ranges.{IsWide}
 use Rattle.dimacs_claims.specs.declared.block.Label.{Label}
 use Rattle.dimacs_claims.specs.Labels.{BlockValue, IsBlock, IsWithinRadius, LabelsValue, label, with_label}
 use Rattle.dimacs_claims.proofs.BlockLemmas.{block_empty, block_push, label-with_label}
-use Rattle.dimacs_optimality.specs.Tests.{Clear}
+use Rattle.dimacs_judging.specs.Tests.{Clear}
 use Rattle.dimacs_arrays.specs.Paths.{AreInOrder, AreLabelsBy, NeedsPredecessor, IsNext, IsPred, LeadsBack, back, pred_row}
 use Rattle.dimacs_arrays.specs.inside.LabelTrees.{AreLabelled, AreLabelledBelow, IsLabelTree, Keeps}
 use Rattle.dimacs_arrays.proofs.LabelLemmas.{in_order, spelled}

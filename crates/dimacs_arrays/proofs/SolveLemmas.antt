@@ -9,11 +9,11 @@ use Rattle.dimacs_claims.specs.Cuts.{CutValue}
 use Rattle.dimacs_claims.specs.Labels.{BlockValue, IsBlock, LabelsValue, label, label_in}
 use Rattle.dimacs_instance.specs.MinFlows.{MinValue}
 use Rattle.dimacs_instance.specs.QueryTexts.{AreLawful, Sources}
-use Rattle.dimacs_optimality.specs.Answers.{block_of}
-use Rattle.dimacs_optimality.specs.Cuts.{members}
-use Rattle.dimacs_optimality.specs.InfeasibleJudge.{ShowsNoFlow}
-use Rattle.dimacs_optimality.specs.ViolatedSets.{Violated}
-use Rattle.dimacs_optimality.specs.Walks.{IsDistance}
+use Rattle.dimacs_judging.specs.Answers.{block_of}
+use Rattle.dimacs_judging.specs.Cuts.{members}
+use Rattle.dimacs_judging.specs.InfeasibleJudge.{ShowsNoFlow}
+use Rattle.dimacs_judging.specs.ViolatedSets.{Violated}
+use Rattle.dimacs_judging.specs.Walks.{IsDistance}
 use Rattle.dimacs_decide.specs.Claims.{claimed_by_node}
 use Rattle.dimacs_decide.specs.Distances.{AreDistancesFrom, AreLabelsOf}
 use Rattle.dimacs_solve.specs.Paths.{AreProduced, block_source, distinct_after}

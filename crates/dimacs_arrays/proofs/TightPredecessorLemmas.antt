@@ -13,18 +13,18 @@ use Rattle.dimacs_instance.specs.QueryTexts.{Sources}
 use Rattle.dimacs_claims.specs.declared.block.Label.{Label}
 use Rattle.dimacs_claims.specs.Labels.{BlockValue, AreLabels, IsLabel, LabelsValue, distance_in, label, no_label}
 use Rattle.dimacs_claims.proofs.BlockLemmas.{each_after_nil, labels_push}
-use Rattle.dimacs_optimality.specs.declared.verdict.Verdict.TheVariants as verdicts
-use Rattle.dimacs_optimality.proofs.Passing.{nodes_clear}
-use Rattle.dimacs_optimality.proofs.PathsPassing.{passing_shows}
-use Rattle.dimacs_optimality.proofs.QueriesPassing.{query_blocks_clear, query_nodes_clear}
-use Rattle.dimacs_optimality.specs.Answers.{block_of}
-use Rattle.dimacs_optimality.specs.Labels.{HasTightArc, IsRelaxed, LabelsOk}
-use Rattle.dimacs_optimality.specs.PathsJudge.{PassesPaths, paths_rows}
-use Rattle.dimacs_optimality.specs.QueryTests.{HasFullBlock}
-use Rattle.dimacs_optimality.specs.Tests.{AllClear}
-use Rattle.dimacs_optimality.specs.Walks.{IsDistance}
-use Rattle.dimacs_optimality.proofs.Distances.{labels_are_distances}
-use Rattle.dimacs_optimality.proofs.LabelsPassing.{labels_clear, stays_near}
+use Rattle.dimacs_judging.specs.declared.verdict.Verdict.TheVariants as verdicts
+use Rattle.dimacs_judging.proofs.Passing.{nodes_clear}
+use Rattle.dimacs_judging.proofs.PathsPassing.{passing_shows}
+use Rattle.dimacs_judging.proofs.QueriesPassing.{query_blocks_clear, query_nodes_clear}
+use Rattle.dimacs_judging.specs.Answers.{block_of}
+use Rattle.dimacs_judging.specs.Labels.{HasTightArc, IsRelaxed, LabelsOk}
+use Rattle.dimacs_judging.specs.PathsJudge.{PassesPaths, paths_rows}
+use Rattle.dimacs_judging.specs.QueryTests.{HasFullBlock}
+use Rattle.dimacs_judging.specs.Tests.{AllClear}
+use Rattle.dimacs_judging.specs.Walks.{IsDistance}
+use Rattle.dimacs_judging.proofs.Distances.{labels_are_distances}
+use Rattle.dimacs_judging.proofs.LabelsPassing.{labels_clear, stays_near}
 use Rattle.dimacs_claims.proofs.ByIdLemmas.{distance_in-at, fresh_apart}
 use Rattle.dimacs_decide.specs.Claims.{claimed_by_node, unless_greatest}
 use Rattle.dimacs_decide.specs.Distances.{AreDistancesFrom}

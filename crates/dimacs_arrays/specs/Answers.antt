@@ -4,9 +4,9 @@ use Rattle.dimacs_arrays.specs.declared.error.Array.{Array}
 use Rattle.dimacs_arrays.specs.declared.error.ArrayError.{ArrayError}
 use Rattle.dimacs_arrays.specs.declared.error.ArrayError.TheVariants.{Length, Limit, Refused, Memory}
 use Rattle.dimacs_arrays.specs.declared.lengths.ArrayLength.{ArrayLength}
-use Rattle.dimacs_optimality.specs.declared.verdict.JudgeError.{JudgeError}
-use Rattle.dimacs_optimality.specs.declared.verdict.JudgeError.TheVariants as judged
-use Rattle.dimacs_optimality.specs.Tests.{Row, FirstAlone}
+use Rattle.dimacs_judging.specs.declared.verdict.JudgeError.{JudgeError}
+use Rattle.dimacs_judging.specs.declared.verdict.JudgeError.TheVariants as judged
+use Rattle.dimacs_judging.specs.Tests.{Row, FirstAlone}
 
 -- an array with this many items, which has to have that many
 abbrev pub length_of : Array → ℕ → ℕ → ArrayLength

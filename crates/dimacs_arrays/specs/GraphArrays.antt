@@ -8,10 +8,10 @@ use Rattle.dimacs_network.specs.declared.network.ArcView.{ArcView}
 use Rattle.dimacs_network.specs.Arcs.{NetworkValue}
 use Rattle.dimacs_instance.specs.Graph.{IsGraph}
 use Rattle.dimacs_network.specs.KeptArcs.{weight_arc}
-use Rattle.dimacs_optimality.specs.declared.verdict.Verdict.{Verdict}
-use Rattle.dimacs_optimality.specs.declared.verdict.Where.TheVariants.{Node}
-use Rattle.dimacs_optimality.specs.Rows.{one_test}
-use Rattle.dimacs_optimality.specs.Tests.{Row}
+use Rattle.dimacs_judging.specs.declared.verdict.Verdict.{Verdict}
+use Rattle.dimacs_judging.specs.declared.verdict.Where.TheVariants.{Node}
+use Rattle.dimacs_judging.specs.Rows.{one_test}
+use Rattle.dimacs_judging.specs.Tests.{Row}
 use Rattle.dimacs_decide.specs.Claims.{claimed_by_node}
 use Rattle.dimacs_arrays.specs.declared.error.Array.TheVariants as arrays
 use Rattle.dimacs_arrays.specs.declared.error.ArrayError.{ArrayError}

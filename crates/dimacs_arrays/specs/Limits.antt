@@ -5,9 +5,9 @@ use Rattle.dimacs_records.specs.declared.reasons.Reason.{Reason}
 use Rattle.dimacs_records.specs.declared.reasons.Reason.TheVariants.{NumberRange, NodeRange, BoundOrder}
 use Rattle.dimacs_network.specs.declared.network.ArcView.{ArcView}
 use Rattle.dimacs_network.specs.Arcs.{JoinsNodes, arc_at}
-use Rattle.dimacs_optimality.specs.declared.verdict.Where.TheVariants.{Arc, Node}
-use Rattle.dimacs_optimality.specs.Rows.{arc_row, one_test}
-use Rattle.dimacs_optimality.specs.Tests.{Row}
+use Rattle.dimacs_judging.specs.declared.verdict.Where.TheVariants.{Arc, Node}
+use Rattle.dimacs_judging.specs.Rows.{arc_row, one_test}
+use Rattle.dimacs_judging.specs.Tests.{Row}
 
 -- too many nodes, or too many arcs; the place is the first beyond the limit
 abbrev pub count_rows : ℕ → ℕ → List Row

@@ -6,17 +6,17 @@ use Rattle.dimacs_records.specs.declared.reasons.Reason.TheVariants.{NodeRange, 
 use Rattle.dimacs_network.specs.declared.network.ArcView.{ArcView}
 use Rattle.dimacs_instance.specs.MaxFlows.{MaxValue, IsMax}
 use Rattle.dimacs_network.specs.KeptArcs.{capacity_arc}
-use Rattle.dimacs_optimality.specs.declared.verdict.JudgeError.{JudgeError}
-use Rattle.dimacs_optimality.specs.declared.verdict.JudgeError.TheVariants.{Refused, Memory}
-use Rattle.dimacs_optimality.specs.declared.verdict.Verdict.{Verdict}
-use Rattle.dimacs_optimality.specs.declared.verdict.Verdict.TheVariants.{Max}
-use Rattle.dimacs_optimality.specs.declared.verdict.Where.TheVariants.{Node}
-use Rattle.dimacs_optimality.specs.Feasible.{FeasibleMax, value}
-use Rattle.dimacs_judge.specs.FlowJudges.{ShowsMaxFlow, max_flow_rows}
-use Rattle.dimacs_optimality.specs.FlowTests.{feasible_max_rows}
-use Rattle.dimacs_optimality.specs.Optimum.{Maximum}
-use Rattle.dimacs_optimality.specs.Rows.{one_test}
-use Rattle.dimacs_optimality.specs.Tests.{Judges, Row, Settles}
+use Rattle.dimacs_judging.specs.declared.verdict.JudgeError.{JudgeError}
+use Rattle.dimacs_judging.specs.declared.verdict.JudgeError.TheVariants.{Refused, Memory}
+use Rattle.dimacs_judging.specs.declared.verdict.Verdict.{Verdict}
+use Rattle.dimacs_judging.specs.declared.verdict.Verdict.TheVariants.{Max}
+use Rattle.dimacs_judging.specs.declared.verdict.Where.TheVariants.{Node}
+use Rattle.dimacs_judging.specs.Feasible.{FeasibleMax, value}
+use Rattle.dimacs_judging.specs.FlowJudges.{ShowsMaxFlow, max_flow_rows}
+use Rattle.dimacs_judging.specs.FlowTests.{feasible_max_rows}
+use Rattle.dimacs_judging.specs.Optimum.{Maximum}
+use Rattle.dimacs_judging.specs.Rows.{one_test}
+use Rattle.dimacs_judging.specs.Tests.{Judges, Row, Settles}
 use Rattle.dimacs_solve.specs.Climbing.{GivesUp}
 use Rattle.dimacs_arrays.specs.declared.error.Array.TheVariants as arrays
 use Rattle.dimacs_arrays.specs.declared.error.ArrayError.{ArrayError}

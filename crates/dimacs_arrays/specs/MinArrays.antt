@@ -10,18 +10,18 @@ use Rattle.dimacs_claims.specs.Potentials.{PotentialsValue, potential_of}
 use Rattle.dimacs_network.specs.declared.network.ArcView.{ArcView}
 use Rattle.dimacs_instance.specs.MinFlows.{MinValue, IsMin}
 use Rattle.dimacs_network.specs.KeptArcs.{cost_arc}
-use Rattle.dimacs_optimality.specs.declared.verdict.JudgeError.{JudgeError}
-use Rattle.dimacs_optimality.specs.declared.verdict.JudgeError.TheVariants.{Refused, Memory}
-use Rattle.dimacs_optimality.specs.declared.verdict.Verdict.{Verdict}
-use Rattle.dimacs_optimality.specs.declared.verdict.Verdict.TheVariants.{Infeasible, Min}
-use Rattle.dimacs_optimality.specs.CertificateTests.{violated_row}
-use Rattle.dimacs_optimality.specs.Feasible.{FeasibleMin}
-use Rattle.dimacs_optimality.specs.Flows.{cost}
-use Rattle.dimacs_optimality.specs.FlowTests.{feasible_min_rows, cost_row, cost_through}
-use Rattle.dimacs_optimality.specs.Optimum.{Least, NoFlow}
-use Rattle.dimacs_judge.specs.FlowJudges.{ShowsMinFlow, min_flow_rows}
-use Rattle.dimacs_optimality.specs.Tests.{Judges, Row, Settles}
-use Rattle.dimacs_optimality.specs.ViolatedSets.{Violated}
+use Rattle.dimacs_judging.specs.declared.verdict.JudgeError.{JudgeError}
+use Rattle.dimacs_judging.specs.declared.verdict.JudgeError.TheVariants.{Refused, Memory}
+use Rattle.dimacs_judging.specs.declared.verdict.Verdict.{Verdict}
+use Rattle.dimacs_judging.specs.declared.verdict.Verdict.TheVariants.{Infeasible, Min}
+use Rattle.dimacs_judging.specs.CertificateTests.{violated_row}
+use Rattle.dimacs_judging.specs.Feasible.{FeasibleMin}
+use Rattle.dimacs_judging.specs.Flows.{cost}
+use Rattle.dimacs_judging.specs.FlowTests.{feasible_min_rows, cost_row, cost_through}
+use Rattle.dimacs_judging.specs.Optimum.{Least, NoFlow}
+use Rattle.dimacs_judging.specs.FlowJudges.{ShowsMinFlow, min_flow_rows}
+use Rattle.dimacs_judging.specs.Tests.{Judges, Row, Settles}
+use Rattle.dimacs_judging.specs.ViolatedSets.{Violated}
 use Rattle.dimacs_solve.specs.Descending.{GivesUpMin, start_flow}
 use Rattle.dimacs_arrays.specs.declared.error.Array.TheVariants as arrays
 use Rattle.dimacs_arrays.specs.declared.error.ArrayError.{ArrayError}

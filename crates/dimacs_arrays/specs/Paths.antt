@@ -9,14 +9,14 @@ use Rattle.dimacs_network.specs.Arcs.{NetworkValue}
 use Rattle.dimacs_instance.specs.QueryTexts.{Sources}
 use Rattle.dimacs_claims.specs.declared.block.Label.{Label}
 use Rattle.dimacs_claims.specs.Labels.{BlockValue, EachAfter, IsBlock, LabelsValue, distance_in, label}
-use Rattle.dimacs_optimality.specs.Answers.{AnswersQueries}
-use Rattle.dimacs_optimality.specs.PathsJudge.{PassesPaths, ShowsDistances, paths_rows}
-use Rattle.dimacs_optimality.specs.Rows.{node_row}
-use Rattle.dimacs_optimality.specs.Tests.{FirstAlone, Judges, Refutes, Row}
-use Rattle.dimacs_optimality.specs.declared.verdict.JudgeError.{JudgeError}
-use Rattle.dimacs_optimality.specs.declared.verdict.JudgeError.TheVariants.{Refused, Memory}
-use Rattle.dimacs_optimality.specs.declared.verdict.Verdict.{Verdict}
-use Rattle.dimacs_optimality.specs.declared.verdict.Where.TheVariants.{Arc}
+use Rattle.dimacs_judging.specs.Answers.{AnswersQueries}
+use Rattle.dimacs_judging.specs.PathsJudge.{PassesPaths, ShowsDistances, paths_rows}
+use Rattle.dimacs_judging.specs.Rows.{node_row}
+use Rattle.dimacs_judging.specs.Tests.{FirstAlone, Judges, Refutes, Row}
+use Rattle.dimacs_judging.specs.declared.verdict.JudgeError.{JudgeError}
+use Rattle.dimacs_judging.specs.declared.verdict.JudgeError.TheVariants.{Refused, Memory}
+use Rattle.dimacs_judging.specs.declared.verdict.Verdict.{Verdict}
+use Rattle.dimacs_judging.specs.declared.verdict.Where.TheVariants.{Arc}
 use Rattle.dimacs_decide.specs.Claims.{claimed_by_node}
 use Rattle.dimacs_decide.specs.Distances.{AreDistancesFrom, claim_rows, source_row}
 use Rattle.dimacs_solve.specs.Paths.{AreProduced, HasNoNegativeWeight, IsFirstNegative}

@@ -5,7 +5,7 @@ ghost use Rattle.dimacs_lines.specs.Limits.{most_nodes};
 ghost use Rattle.dimacs_records.specs.Ranges.{IsWhole, IsWide};
 ghost use Rattle.dimacs_claims.specs.Cuts.{IsCut};
 ghost use Rattle.dimacs_claims.specs.Potentials.{potential_of};
-ghost use Rattle.dimacs_optimality.specs.Cuts.{members};
+ghost use Rattle.dimacs_judging.specs.Cuts.{members};
 ghost use Rattle.dimacs_arrays.specs.ByNode.{AreBits, marked, number_of};
 ghost use Rattle.dimacs_arrays.specs.MinArrays.{IsWider};
 ghost use Rattle.dimacs_arrays.specs.inside.MinCertified.{AreShifted, IsLeastOf, IsShift, IsWiderBy};

@@ -8,7 +8,7 @@ use crate::error::ArrayError;
 use crate::min::MinArrays;
 use dimacs_decide::{Feasibility, decide_infeasible};
 use dimacs_instance::MinInstance;
-use dimacs_judge::Flow;
+use dimacs_judging::Flow;
 use dimacs_lines::Memory;
 use dimacs_network::Network;
 use std::alloc::Global;

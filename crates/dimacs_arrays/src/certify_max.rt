@@ -1,8 +1,8 @@
 //! Certifies over arrays that a flow is maximum.
 
 ghost use Rattle.std.specs.Prelude.{◌≡◌, length};
-ghost use Rattle.dimacs_optimality.specs.FlowTests.{feasible_max_rows};
-ghost use Rattle.dimacs_optimality.specs.Tests.{Settles};
+ghost use Rattle.dimacs_judging.specs.FlowTests.{feasible_max_rows};
+ghost use Rattle.dimacs_judging.specs.Tests.{Settles};
 ghost use Rattle.dimacs_arrays.specs.MaxArrays.{CertifiesMaxArrays, CertifiesMaxFlow};
 
 use crate::by_node::bytes_of;
@@ -11,7 +11,7 @@ use crate::lengths::{ArrayLength, lengths_hold};
 use crate::max::MaxArrays;
 use dimacs_decide::{MaxDecision, decide_max};
 use dimacs_instance::MaxInstance;
-use dimacs_judge::{Flow, JudgeError, feasible_max, value_of};
+use dimacs_judging::{Flow, JudgeError, feasible_max, value_of};
 use dimacs_network::Network;
 use std::alloc::Global;
 

@@ -1,7 +1,7 @@
 //! Certifies over arrays that a flow costs least.
 
 ghost use Rattle.std.specs.Prelude.{◌≡◌, length, IfOk};
-ghost use Rattle.dimacs_optimality.specs.Tests.{Settles};
+ghost use Rattle.dimacs_judging.specs.Tests.{Settles};
 ghost use Rattle.dimacs_arrays.specs.MinArrays.{CertifiesMinArrays, CertifiesMinFlow, min_claimed_rows};
 ghost use Rattle.dimacs_arrays.specs.inside.MinCertified.{IsLeastBy};
 
@@ -12,7 +12,7 @@ use crate::min::MinArrays;
 use dimacs_claims::Potentials;
 use dimacs_decide::{MinDecision, decide_min};
 use dimacs_instance::MinInstance;
-use dimacs_judge::{Flow, JudgeError, cost_within, feasible_min};
+use dimacs_judging::{Flow, JudgeError, cost_within, feasible_min};
 use dimacs_lines::Memory;
 use dimacs_network::Network;
 use std::alloc::Global;

@@ -11,7 +11,7 @@ use crate::predecessors::predecessors_of;
 use crate::tight_predecessors::{are_tight_predecessors, tight_predecessors};
 use dimacs_decide::{DistancesByNode, decide_distances};
 use dimacs_instance::{Graph, Queries};
-use dimacs_judge::{JudgeError, Verdict, judge_paths};
+use dimacs_judging::{JudgeError, Verdict, judge_paths};
 use dimacs_lines::Memory;
 use dimacs_network::Network;
 use std::alloc::Global;

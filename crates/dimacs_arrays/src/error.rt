@@ -1,7 +1,7 @@
 //! The errors of calls over arrays.
 
 use crate::limits::PastLimit;
-use dimacs_judge::{JudgeError, Where};
+use dimacs_judging::{JudgeError, Where};
 use dimacs_lines::Memory;
 use dimacs_records::Reason;
 use std::fmt;

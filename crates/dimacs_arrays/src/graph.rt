@@ -11,7 +11,7 @@ use crate::lengths::{ArrayLength, lengths_hold};
 use crate::lent_arcs::{ArcArrays, LentArcs};
 use crate::limits::{PastLimit, counts_hold};
 use dimacs_instance::Graph;
-use dimacs_judge::Where;
+use dimacs_judging::Where;
 use dimacs_network::ArcView;
 use dimacs_records::Reason;
 

@@ -9,7 +9,7 @@ use crate::error::{Array, ArrayError};
 use crate::lengths::{ArrayLength, lengths_hold};
 use crate::min::MinArrays;
 use dimacs_instance::MinInstance;
-use dimacs_judge::{JudgeError, Verdict, judge_infeasible};
+use dimacs_judging::{JudgeError, Verdict, judge_infeasible};
 use dimacs_network::Network;
 use std::alloc::Global;
 

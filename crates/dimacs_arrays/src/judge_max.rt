@@ -9,7 +9,7 @@ use crate::error::{Array, ArrayError};
 use crate::lengths::{ArrayLength, lengths_hold};
 use crate::max::MaxArrays;
 use dimacs_instance::MaxInstance;
-use dimacs_judge::{Flow, JudgeError, Verdict, judge_max_flow};
+use dimacs_judging::{Flow, JudgeError, Verdict, judge_max_flow};
 use dimacs_network::Network;
 use std::alloc::Global;
 

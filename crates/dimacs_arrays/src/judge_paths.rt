@@ -6,7 +6,7 @@ use crate::distances::judge_paths_by_node;
 use crate::error::{Array, ArrayError};
 use crate::graph::GraphArrays;
 use crate::lengths::{ArrayLength, lengths_hold};
-use dimacs_judge::Verdict;
+use dimacs_judging::Verdict;
 use std::alloc::Global;
 
 /// Judges by predecessors that these are the distances from the source. A node that can't be reached has the distance

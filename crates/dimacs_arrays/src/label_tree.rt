@@ -4,7 +4,7 @@ ghost use Rattle.std.specs.Prelude.{◌≡◌, ◌≤◌, Some, true, length, If
 ghost use Rattle.dimacs_lines.specs.Limits.{most_nodes, IsNode};
 ghost use Rattle.dimacs_records.specs.Ranges.{IsWide};
 ghost use Rattle.dimacs_claims.specs.declared.block.Label.{Label};
-ghost use Rattle.dimacs_nodes.specs.Tables.{value_of};
+ghost use Rattle.dimacs_network.specs.Tables.{value_of};
 ghost use Rattle.dimacs_decide.specs.Claims.{claimed_by_node};
 ghost use Rattle.dimacs_arrays.specs.Paths.{IsNext, pred_by_node};
 ghost use Rattle.dimacs_arrays.specs.inside.LabelTrees.{IsLabelTree, Places};
@@ -12,7 +12,7 @@ ghost use Rattle.dimacs_arrays.specs.inside.LabelTrees.{IsLabelTree, Places};
 use dimacs_claims::{Block, Label};
 use dimacs_decide::{DistanceClaim, DistancesByNode};
 use dimacs_lines::Memory;
-use dimacs_nodes::NodeTable;
+use dimacs_network::NodeTable;
 use std::alloc::Global;
 
 /// The distance of a node, if it has one.

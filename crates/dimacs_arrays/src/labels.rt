@@ -2,8 +2,8 @@
 
 ghost use Rattle.std.specs.Prelude.{ℕ, ◌≡◌, ◌≤◌, ◌↔◌, None, Some, length, IfErr, IfOk, IsTrue, pos};
 ghost use Rattle.dimacs_lines.specs.Limits.{most_nodes, IsNode};
-ghost use Rattle.dimacs_nodes.specs.Tables.{value_of};
-ghost use Rattle.dimacs_optimality.specs.Tests.{FirstOfRow, Settles, TestsRow, Refuses};
+ghost use Rattle.dimacs_network.specs.Tables.{value_of};
+ghost use Rattle.dimacs_judging.specs.Tests.{FirstOfRow, Settles, TestsRow, Refuses};
 ghost use Rattle.dimacs_decide.specs.Claims.{claimed_by_node};
 ghost use Rattle.dimacs_arrays.specs.Paths.{AreInOrder, AreLabelsBy, IsPred, back_row, label_rows, pred_by_node, pred_row};
 ghost use Rattle.dimacs_arrays.specs.inside.LabelTrees.{AreLabelled, IsLabelTree};
@@ -12,7 +12,7 @@ use crate::label_tree::{LabelTree, distance_of, predecessor_of};
 use crate::path_back::PathBack;
 use dimacs_claims::Labels;
 use dimacs_decide::{DistancesByNode, source_holds};
-use dimacs_judge::{JudgeError, Where};
+use dimacs_judging::{JudgeError, Where};
 use dimacs_records::Reason;
 use std::alloc::Global;
 

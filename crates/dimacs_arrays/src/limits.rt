@@ -5,9 +5,9 @@ ghost use Rattle.dimacs_lines.specs.Limits.{most_count, most_nodes};
 ghost use Rattle.dimacs_arrays.specs.Limits.{ArcFails, count_rows};
 ghost use Rattle.dimacs_arrays.specs.inside.Answers.{TestsLimits};
 ghost use Rattle.dimacs_arrays.specs.inside.Lent.{IsInRange, TestsArcs};
-ghost use Rattle.dimacs_optimality.specs.inside.Tests.{NamesReason};
+ghost use Rattle.dimacs_judging.specs.inside.Tests.{NamesReason};
 
-use dimacs_judge::Where;
+use dimacs_judging::Where;
 use dimacs_network::{ArcView, MAX_ARCS, Network};
 use dimacs_records::{MAX_NODES, Reason};
 

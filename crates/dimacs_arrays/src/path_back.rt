@@ -2,14 +2,14 @@
 
 ghost use Rattle.std.specs.Prelude.{ℕ, ◌≡◌, ◌≢◌, ◌⊎◌, ◌<◌, ◌≤◌, ◌↔◌, None, true, false, length, IfOk, IsSome, IsTrue, OnOk};
 ghost use Rattle.dimacs_lines.specs.Limits.{most_nodes};
-ghost use Rattle.dimacs_nodes.specs.Tables.{value_of};
+ghost use Rattle.dimacs_network.specs.Tables.{value_of};
 ghost use Rattle.dimacs_decide.specs.Claims.{claimed_by_node};
 ghost use Rattle.dimacs_arrays.specs.Paths.{pred_by_node};
 ghost use Rattle.dimacs_arrays.specs.inside.LabelTrees.{AreLabelledBelow, IsClimbing, IsLabelTree, Keeps, Leads};
 
 use crate::label_tree::{LabelTree, distance_of, predecessor_of};
 use dimacs_lines::Memory;
-use dimacs_nodes::NodeTable;
+use dimacs_network::NodeTable;
 use std::alloc::Global;
 
 /// The path back from a node, and for each node the start of the last path that had it.

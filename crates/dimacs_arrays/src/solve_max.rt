@@ -6,7 +6,7 @@ use crate::by_node::bytes_of;
 use crate::error::ArrayError;
 use crate::max::MaxArrays;
 use dimacs_instance::MaxInstance;
-use dimacs_judge::{Flow, JudgeError, value_of};
+use dimacs_judging::{Flow, JudgeError, value_of};
 use dimacs_network::Network;
 use dimacs_solve::{MaxFlowAnswer, solve_max_flow};
 use std::alloc::Global;

@@ -2,8 +2,8 @@
 
 ghost use Rattle.std.specs.Prelude.{◌≡◌, ℕ, IfOk, Ok};
 ghost use Rattle.dimacs_claims.specs.Potentials.{potential_of};
-ghost use Rattle.dimacs_optimality.specs.Optimum.{Least};
-ghost use Rattle.dimacs_optimality.specs.Potentials.{Slack};
+ghost use Rattle.dimacs_judging.specs.Optimum.{Least};
+ghost use Rattle.dimacs_judging.specs.Potentials.{Slack};
 ghost use Rattle.dimacs_solve.specs.Descending.{start_flow};
 ghost use Rattle.dimacs_arrays.specs.MinArrays.{SolvesMinArrays, SolvesMinFlow};
 
@@ -12,7 +12,7 @@ use crate::error::ArrayError;
 use crate::min::MinArrays;
 use dimacs_claims::Potentials;
 use dimacs_instance::MinInstance;
-use dimacs_judge::{Flow, JudgeError, cost_within};
+use dimacs_judging::{Flow, JudgeError, cost_within};
 use dimacs_lines::Memory;
 use dimacs_network::Network;
 use dimacs_solve::{MinFlowAnswer, solve_min_flow};

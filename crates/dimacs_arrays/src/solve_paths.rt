@@ -13,7 +13,7 @@ use crate::label_distances::distances_of;
 use crate::predecessors::predecessors_of;
 use dimacs_claims::Labels;
 use dimacs_instance::Graph;
-use dimacs_judge::{JudgeError, Where};
+use dimacs_judging::{JudgeError, Where};
 use dimacs_network::Network;
 use dimacs_records::Reason;
 use dimacs_solve::{SolveError, solve_paths};

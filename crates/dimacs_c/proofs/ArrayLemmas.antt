@@ -3,7 +3,7 @@ use Rattle.std.proofs.Common.{◌≡◌, ◌∙◌, ◌++◌, ℕ, List, [], ◌
 use Rattle.std.specs.Prelude.{IfOk, IfSome}
 use Rattle.dimacs_lines.specs.declared.device.DeviceFault.{DeviceFault}
 use Rattle.dimacs_lines.specs.Puts.{Accepts}
-use Rattle.dimacs_optimality.specs.declared.verdict.Verdict.{Verdict}
+use Rattle.dimacs_judging.specs.declared.verdict.Verdict.{Verdict}
 use Rattle.dimacs_arrays.specs.declared.error.ArrayError.{ArrayError}
 use Rattle.dimacs_arrays.specs.declared.error.ArrayError.TheVariants.{Memory}
 use Rattle.dimacs_c.specs.Arrays.{AnswersItems, AnswersLine, Buffers, Printed, printed, verdict_printed}

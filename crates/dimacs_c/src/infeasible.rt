@@ -11,7 +11,7 @@ use crate::lines::{hand_judged, put_error, put_feasible, put_yes};
 use dimacs_arrays::{
     ArrayError, InfeasibleCertified, MinArrays, certify_infeasible_arrays, judge_infeasible_arrays,
 };
-use dimacs_judge::Verdict;
+use dimacs_judging::Verdict;
 use dimacs_lines::{DeviceFault, MemorySink, Sink};
 use std::alloc::Global;
 

@@ -9,7 +9,7 @@ ghost use Rattle.dimacs_c.specs.inside.Arrays.{EndsLine};
 
 use crate::answer::{MISUSED, NO_MEMORY, hand_printed};
 use dimacs_arrays::ArrayError;
-use dimacs_judge::{Verdict, Where};
+use dimacs_judging::{Verdict, Where};
 use dimacs_lines::{DeviceFault, MemorySink, Sink};
 use dimacs_records::{Part, Reason, put_line};
 use dimacs_runs::{put_failure, put_gave_up, put_verdict};

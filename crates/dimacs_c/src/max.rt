@@ -12,7 +12,7 @@ use dimacs_arrays::{
     ArrayError, MaxArrays, MaxCertified, MaxSolved, certify_max_arrays, judge_max_arrays,
     solve_max_arrays,
 };
-use dimacs_judge::Verdict;
+use dimacs_judging::Verdict;
 use dimacs_lines::{DeviceFault, MemorySink, Sink};
 use dimacs_records::Reason;
 use std::alloc::Global;

@@ -12,7 +12,7 @@ use dimacs_arrays::{
     ArrayError, MinArrays, MinCertified, MinSolved, certify_min_arrays, judge_min_arrays,
     solve_min_arrays,
 };
-use dimacs_judge::Verdict;
+use dimacs_judging::Verdict;
 use dimacs_lines::{DeviceFault, MemorySink, Sink};
 use dimacs_records::Reason;
 use std::alloc::Global;

@@ -12,7 +12,7 @@ use dimacs_arrays::{
     ArrayError, GraphArrays, PathsSolved, certify_paths_arrays, judge_paths_arrays,
     solve_paths_arrays,
 };
-use dimacs_judge::Verdict;
+use dimacs_judging::Verdict;
 use dimacs_lines::{DeviceFault, MemorySink, Sink};
 use std::alloc::Global;
 

@@ -13,7 +13,7 @@ use Rattle.std.proofs.lemmas.Bool.{le-ltb, eqb-true}
 use Rattle.std.proofs.lemmas.Bool.Decides.{nat_tests}
 use Rattle.std.proofs.lemmas.Int.{ints}
 use Rattle.dimacs_lines.specs.Limits.{most_count, most_nodes, IsNode}
-use Rattle.dimacs_nodes.proofs.Nodes.{contains-insert, contains-empty}
+use Rattle.dimacs_network.proofs.Nodes.{contains-insert, contains-empty}
 use Rattle.dimacs_records.specs.declared.kinds.TextKind.TheVariants as kinds
 use Rattle.dimacs_records.specs.declared.records.Record.{Record}
 use Rattle.dimacs_records.specs.declared.records.Record.TheVariants.{CutProblem, CutNode}

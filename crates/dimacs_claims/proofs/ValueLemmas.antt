@@ -6,7 +6,7 @@ use Rattle.std.specs.FinMap.{FinMap, get, insert, remove, get-empty}
 use Rattle.std.proofs.lemmas.Bool.{eqb-true}
 use Rattle.std.proofs.lemmas.Int.{ints}
 use Rattle.dimacs_lines.specs.Limits.{most_nodes, IsNode}
-use Rattle.dimacs_nodes.proofs.Nodes.{get-insert}
+use Rattle.dimacs_network.proofs.Nodes.{get-insert}
 use Rattle.dimacs_records.specs.Ranges.{IsWide}
 use Rattle.dimacs_claims.specs.Potentials.{PotentialsValue, ArePotentials, IsPotential, potential_of, with_potential, zero_potentials}
 use Rattle.dimacs_records.specs.NodeValues.{without_zeros}

@@ -14,7 +14,7 @@ ghost use Rattle.dimacs_claims.specs.Cuts.{CutValue, IsCut, GivesCut, SpellsCut,
 ghost use Rattle.dimacs_claims.specs.CutReading.{IsCutBegunBy, after_lines, before};
 
 use dimacs_lines::{DeviceFault, Memory, Sink, Source};
-use dimacs_nodes::NodeSet;
+use dimacs_network::NodeSet;
 use dimacs_records::{
     Begun, CountedReading, Declared, Earlier, ReadError, Record, TextKind, put_text, read_counted,
 };

@@ -1,13 +1,13 @@
 //! The labels of a block, stored compactly.
 
 ghost use Rattle.std.specs.Prelude.{◌≡◌, ◌<◌, ◌++◌, ◌∷◌, [], ◌↔◌, length, slice_get, slice_index_or, IsTrue, OnOk, OnErr};
-ghost use Rattle.dimacs_nodes.specs.Lists.{items_left};
+ghost use Rattle.dimacs_network.specs.Lists.{items_left};
 ghost use Rattle.dimacs_claims.specs.Labels.{no_label};
 ghost use Rattle.dimacs_claims.specs.LabelLists.{label_of_32, label_of_64};
 
 use crate::block::Label;
 use dimacs_lines::Memory;
-use dimacs_nodes::{ListIter, ShortForm, WideningList};
+use dimacs_network::{ListIter, ShortForm, WideningList};
 use std::alloc::Global;
 use std::marker::Model;
 
@@ -93,7 +93,7 @@ impl LabelList {
 
 impl<'a> IntoIterator for &'a LabelList {
     ghost use Rattle.std.specs.Prelude.{◌≡◌};
-    ghost use Rattle.dimacs_nodes.specs.Lists.{items_left};
+    ghost use Rattle.dimacs_network.specs.Lists.{items_left};
 
     type Item = Label;
 

@@ -28,7 +28,7 @@ ghost use Rattle.dimacs_claims.specs.inside.LabelsReading.{AreLabelsBegun};
 use crate::block::{Block, Label};
 use crate::by_id::{ById, distance_by};
 use dimacs_lines::{DeviceFault, Memory, OutputBuffer, Sink, Source};
-use dimacs_nodes::{NodeSet, NodeTable};
+use dimacs_network::{NodeSet, NodeTable};
 use dimacs_records::{
     Begun, CountedReading, Declared, Earlier, ReadError, Record, TextKind, read_counted,
     write_lines, write_record,

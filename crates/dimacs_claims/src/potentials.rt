@@ -15,7 +15,7 @@ ghost use Rattle.dimacs_records.specs.NodeValues.{is_nonzero};
 ghost use Rattle.dimacs_claims.specs.PotentialsReading.{ArePotentialsBegunBy, after_lines, before};
 
 use dimacs_lines::{DeviceFault, Memory, Sink, Source};
-use dimacs_nodes::WideMap;
+use dimacs_network::WideMap;
 use dimacs_records::{
     Begun, CountedReading, Declared, Earlier, ReadError, Record, TextKind, put_text, read_counted,
 };

@@ -4,10 +4,10 @@ use Rattle.std.proofs.lemmas.Bool.{false≢true}
 use Rattle.std.proofs.lemmas.Slice.Zip.{AllZip-long}
 use Rattle.dimacs_network.specs.declared.network.ArcView.{ArcView}
 use Rattle.dimacs_records.specs.declared.reasons.Reason.{Reason}
-use Rattle.dimacs_optimality.specs.declared.verdict.Where.{Where}
-use Rattle.dimacs_optimality.specs.FlowTests.{bound_row}
-use Rattle.dimacs_optimality.specs.Tests.{Clear, FirstOfRow}
-use Rattle.dimacs_optimality.proofs.Passing.{bounds_clear, bounds_hold}
+use Rattle.dimacs_judging.specs.declared.verdict.Where.{Where}
+use Rattle.dimacs_judging.specs.FlowTests.{bound_row}
+use Rattle.dimacs_judging.specs.Tests.{Clear, FirstOfRow}
+use Rattle.dimacs_judging.proofs.Passing.{bounds_clear, bounds_hold}
 use Rattle.dimacs_decide.specs.Bounds.{KeepsBounds}
 
 no : {P : Type 0} → (¬ P) → IsTrue false ↔ P

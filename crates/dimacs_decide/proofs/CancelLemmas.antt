@@ -6,11 +6,11 @@ use Rattle.std.proofs.lemmas.List.{get_or-set_other, get_or-set_same}
 use Rattle.std.proofs.lemmas.Slice.Zip.{AllZip-long}
 use Rattle.dimacs_network.specs.declared.network.ArcView.{ArcView}
 use Rattle.dimacs_methods.specs.declared.potentials.claim.ResidualArc.{ResidualArc}
-use Rattle.dimacs_optimality.specs.Flows.{net, cost}
-use Rattle.dimacs_optimality.specs.Rows.{amount_at}
+use Rattle.dimacs_judging.specs.Flows.{net, cost}
+use Rattle.dimacs_judging.specs.Rows.{amount_at}
 use Rattle.dimacs_network.specs.Arcs.{arc_at, no_arc}
-use Rattle.dimacs_optimality.proofs.Products.{mul_add, mul_neg, mul_comm, mul_le, mul_zero}
-use Rattle.dimacs_optimality.proofs.Passing.{pair_at}
+use Rattle.dimacs_judging.proofs.Products.{mul_add, mul_neg, mul_comm, mul_le, mul_zero}
+use Rattle.dimacs_judging.proofs.Passing.{pair_at}
 use Rattle.dimacs_network.specs.declared.adjacency_lists.Side.{Side}
 use Rattle.dimacs_network.specs.declared.adjacency_lists.Side.TheVariants.{Tail, Head}
 use Rattle.dimacs_network.specs.AdjacencyLists.{end_of, other_end}

@@ -3,8 +3,8 @@ use Rattle.std.proofs.Common.{List, ℤ}
 use Rattle.dimacs_claims.specs.SolutionTexts.{SolutionValue}
 use Rattle.dimacs_instance.specs.MaxFlows.{MaxValue}
 use Rattle.dimacs_instance.specs.MinFlows.{MinValue}
-use Rattle.dimacs_optimality.specs.MaxJudge.{IsMaxClaim}
-use Rattle.dimacs_optimality.specs.MinJudge.{IsMinClaim}
+use Rattle.dimacs_judging.specs.MaxJudge.{IsMaxClaim}
+use Rattle.dimacs_judging.specs.MinJudge.{IsMinClaim}
 use Rattle.dimacs_decide.specs.declared.maximum.MaxDecision.{MaxDecision}
 use Rattle.dimacs_decide.specs.declared.maximum.MaxDecision.TheVariants as of_max
 use Rattle.dimacs_decide.specs.declared.least.MinDecision.{MinDecision}

@@ -10,17 +10,17 @@ use Rattle.dimacs_lines.specs.Limits.{IsNode}
 use Rattle.dimacs_network.specs.Arcs.{JoinsNodes, NetworkValue}
 use Rattle.dimacs_records.specs.declared.reasons.Reason.{Reason}
 use Rattle.dimacs_claims.specs.Labels.{AreLabels, BlockValue, EachAfter, IsBlock, IsNewSource, LabelsValue, label, label_in}
-use Rattle.dimacs_optimality.specs.declared.verdict.Where.{Where}
-use Rattle.dimacs_optimality.specs.declared.verdict.JudgeError.{JudgeError}
-use Rattle.dimacs_optimality.specs.declared.verdict.JudgeError.TheVariants.{Refused, Memory}
-use Rattle.dimacs_optimality.specs.Answers.{block_of}
-use Rattle.dimacs_optimality.specs.Labels.{LabelsOk}
-use Rattle.dimacs_optimality.specs.QueryTests.{HasBlock, HasFullBlock}
-use Rattle.dimacs_optimality.specs.Tests.{First}
-use Rattle.dimacs_optimality.specs.inside.Labels.{block_at}
-use Rattle.dimacs_optimality.proofs.BlockNumbers.{block_found}
-use Rattle.dimacs_optimality.proofs.Firsts.{AllOneWay, one_first}
-use Rattle.dimacs_optimality.proofs.RowLists.{all_one_way-append, first_after, first_in_front}
+use Rattle.dimacs_judging.specs.declared.verdict.Where.{Where}
+use Rattle.dimacs_judging.specs.declared.verdict.JudgeError.{JudgeError}
+use Rattle.dimacs_judging.specs.declared.verdict.JudgeError.TheVariants.{Refused, Memory}
+use Rattle.dimacs_judging.specs.Answers.{block_of}
+use Rattle.dimacs_judging.specs.Labels.{LabelsOk}
+use Rattle.dimacs_judging.specs.QueryTests.{HasBlock, HasFullBlock}
+use Rattle.dimacs_judging.specs.Tests.{First}
+use Rattle.dimacs_judging.specs.inside.Labels.{block_at}
+use Rattle.dimacs_judging.proofs.BlockNumbers.{block_found}
+use Rattle.dimacs_judging.proofs.Firsts.{AllOneWay, one_first}
+use Rattle.dimacs_judging.proofs.RowLists.{all_one_way-append, first_after, first_in_front}
 use Rattle.dimacs_decide.specs.CertifiedPaths.{AreAllDistances, AreLabelsOfAll, CertifiesPaths, block_source, distances_rows, sources_of}
 use Rattle.dimacs_decide.specs.Distances.{AreDistancesFrom, claim_rows}
 use Rattle.dimacs_decide.specs.inside.DistanceBlocks.{DecidesBlock, IsBlockFor}

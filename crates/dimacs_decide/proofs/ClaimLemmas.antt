@@ -11,20 +11,20 @@ use Rattle.dimacs_lines.specs.Limits.{IsNode}
 use Rattle.dimacs_records.specs.declared.reasons.Reason.{Reason}
 use Rattle.dimacs_records.specs.declared.reasons.Reason.TheVariants.{Escapes, NotShortest, NoTightArc}
 use Rattle.dimacs_claims.specs.Labels.{BlockValue, LabelsValue, label, label_in}
-use Rattle.dimacs_optimality.specs.declared.verdict.Where.{Where}
-use Rattle.dimacs_optimality.specs.declared.verdict.Where.TheVariants.{Arc, Node}
-use Rattle.dimacs_optimality.specs.declared.verdict.JudgeError.{JudgeError}
-use Rattle.dimacs_optimality.specs.declared.verdict.JudgeError.TheVariants.{Refused, Memory}
-use Rattle.dimacs_optimality.specs.Answers.{block_of}
-use Rattle.dimacs_optimality.specs.CertificateTests.{RelaxFails}
-use Rattle.dimacs_optimality.specs.Labels.{IsRelaxed, LabelsOk}
-use Rattle.dimacs_optimality.specs.QueryTests.{HasFullBlock}
-use Rattle.dimacs_optimality.specs.Tests.{AllClear, Clear, First, FirstOfRow, FirstAlone}
-use Rattle.dimacs_optimality.specs.Walks.{Dist, IsDistance, IsWalk, weight}
-use Rattle.dimacs_optimality.proofs.Distances.{labels_are_distances}
-use Rattle.dimacs_optimality.proofs.Firsts.{AllOneWay, arc_one_way, node_one_way, one_first, one_test_one_way}
-use Rattle.dimacs_optimality.proofs.LabelsPassing.{stays_near}
-use Rattle.dimacs_optimality.proofs.Reasons.{one_relax}
+use Rattle.dimacs_judging.specs.declared.verdict.Where.{Where}
+use Rattle.dimacs_judging.specs.declared.verdict.Where.TheVariants.{Arc, Node}
+use Rattle.dimacs_judging.specs.declared.verdict.JudgeError.{JudgeError}
+use Rattle.dimacs_judging.specs.declared.verdict.JudgeError.TheVariants.{Refused, Memory}
+use Rattle.dimacs_judging.specs.Answers.{block_of}
+use Rattle.dimacs_judging.specs.CertificateTests.{RelaxFails}
+use Rattle.dimacs_judging.specs.Labels.{IsRelaxed, LabelsOk}
+use Rattle.dimacs_judging.specs.QueryTests.{HasFullBlock}
+use Rattle.dimacs_judging.specs.Tests.{AllClear, Clear, First, FirstOfRow, FirstAlone}
+use Rattle.dimacs_judging.specs.Walks.{Dist, IsDistance, IsWalk, weight}
+use Rattle.dimacs_judging.proofs.Distances.{labels_are_distances}
+use Rattle.dimacs_judging.proofs.Firsts.{AllOneWay, arc_one_way, node_one_way, one_first, one_test_one_way}
+use Rattle.dimacs_judging.proofs.LabelsPassing.{stays_near}
+use Rattle.dimacs_judging.proofs.Reasons.{one_relax}
 use Rattle.dimacs_decide.specs.Distances.{AreDistancesFrom, AreLabelsOf, DecidesDistances, IsTight, IsTightlyReached, claim_row, claim_rows, reach_row, source_row}
 use Rattle.dimacs_decide.specs.inside.DistanceBlocks.{DecidesBlock, IsBlockOf}
 use Rattle.dimacs_decide.specs.inside.TightTrees.{IsWholeTightTree}

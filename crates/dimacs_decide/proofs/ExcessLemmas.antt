@@ -2,9 +2,9 @@
 use Rattle.std.proofs.Common.{◌≡◌, ℕ, suc, zero, ◌+◌, ◌-◌, ◌*◌, ◌^◌, ◌≤◌, List, ℤ, pos, negsuc, ◌+ℤ◌, ◌≤ℤ◌, refl, ap, arith}
 use Rattle.std.proofs.lemmas.Int.{ints}
 use Rattle.dimacs_instance.specs.MinFlows.{MinValue, positive_part}
-use Rattle.dimacs_optimality.specs.Flows.{sum_nodes}
-use Rattle.dimacs_optimality.specs.inside.Ranges.{IsOfSize}
-use Rattle.dimacs_optimality.proofs.Sums.{sum_nodes-same}
+use Rattle.dimacs_judging.specs.Flows.{sum_nodes}
+use Rattle.dimacs_judging.specs.inside.Ranges.{IsOfSize}
+use Rattle.dimacs_judging.proofs.Sums.{sum_nodes-same}
 use Rattle.dimacs_decide.specs.FeasibilityDecision.{imbalance_at, total_excess}
 use Rattle.dimacs_decide.specs.inside.Imbalances.{AreImbalances}
 

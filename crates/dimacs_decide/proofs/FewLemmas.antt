@@ -14,8 +14,8 @@ use Rattle.dimacs_records.specs.declared.reasons.Reason.{Reason}
 use Rattle.dimacs_claims.specs.Labels.{BlockValue, IsBlock, distance_in, label, no_label}
 use Rattle.dimacs_claims.proofs.BlockLemmas.{label_at_wide}
 use Rattle.dimacs_claims.proofs.ByIdLemmas.{distance_in-at, fresh_apart}
-use Rattle.dimacs_optimality.specs.CertificateTests.{RelaxFails}
-use Rattle.dimacs_optimality.specs.Tests.{Clear}
+use Rattle.dimacs_judging.specs.CertificateTests.{RelaxFails}
+use Rattle.dimacs_judging.specs.Tests.{Clear}
 use Rattle.dimacs_decide.specs.Distances.{claim_row}
 use Rattle.dimacs_decide.specs.inside.FewLabels.{AreNamed, ArcsHoldFrom, ArePlaced, IsUnreached}
 use Rattle.dimacs_decide.specs.inside.TightTrees.{ReachesAll, node_at}

@@ -7,18 +7,18 @@ use Rattle.std.proofs.lemmas.Slice.Zip.{AllZip-long}
 use Rattle.std.specs.Prelude.{unwrap_or}
 use Rattle.std.specs.Ordering.{int_eq}
 use Rattle.std.specs.FinMap.{get, insert, remove}
-use Rattle.dimacs_nodes.proofs.Nodes.{get-empty, get-insert}
+use Rattle.dimacs_network.proofs.Nodes.{get-empty, get-insert}
 use Rattle.dimacs_lines.specs.Limits.{IsNode}
 use Rattle.dimacs_claims.specs.Potentials.{PotentialsValue, potential_of, with_potential, zero_potentials}
 use Rattle.dimacs_instance.specs.MinFlows.{MinValue, IsMin}
-use Rattle.dimacs_optimality.specs.Feasible.{FeasibleMin}
-use Rattle.dimacs_optimality.specs.Flows.{cost, net}
-use Rattle.dimacs_optimality.specs.Optimum.{Least}
-use Rattle.dimacs_optimality.specs.Potentials.{IsSlackAt, Slack}
-use Rattle.dimacs_optimality.specs.Rows.{amount_at}
+use Rattle.dimacs_judging.specs.Feasible.{FeasibleMin}
+use Rattle.dimacs_judging.specs.Flows.{cost, net}
+use Rattle.dimacs_judging.specs.Optimum.{Least}
+use Rattle.dimacs_judging.specs.Potentials.{IsSlackAt, Slack}
+use Rattle.dimacs_judging.specs.Rows.{amount_at}
 use Rattle.dimacs_network.specs.Arcs.{no_arc, arc_at}
-use Rattle.dimacs_optimality.proofs.Duality.{slack_is_least}
-use Rattle.dimacs_optimality.proofs.Passing.{pair_at, pairs_from}
+use Rattle.dimacs_judging.proofs.Duality.{slack_is_least}
+use Rattle.dimacs_judging.proofs.Passing.{pair_at, pairs_from}
 use Rattle.dimacs_network.specs.declared.adjacency_lists.Side.TheVariants.{Tail, Head}
 use Rattle.dimacs_decide.specs.Bounds.{KeepsBounds}
 use Rattle.dimacs_decide.specs.declared.heights.HeightLabel.{HeightLabel}

@@ -7,11 +7,11 @@ use Rattle.dimacs_network.specs.declared.network.ArcView.{ArcView}
 use Rattle.dimacs_network.specs.Arcs.{JoinsNodes, arc_at, no_arc}
 use Rattle.dimacs_records.specs.declared.reasons.Reason.{Reason}
 use Rattle.dimacs_claims.specs.Labels.{BlockValue}
-use Rattle.dimacs_optimality.specs.CertificateTests.{RelaxFails}
-use Rattle.dimacs_optimality.specs.Labels.{HasTightArc}
-use Rattle.dimacs_optimality.specs.Tests.{Clear}
-use Rattle.dimacs_optimality.specs.Walks.{IsWalk}
-use Rattle.dimacs_optimality.specs.LightestArcs.{AreCovering, Covers, arcs_in}
+use Rattle.dimacs_judging.specs.CertificateTests.{RelaxFails}
+use Rattle.dimacs_judging.specs.Labels.{HasTightArc}
+use Rattle.dimacs_judging.specs.Tests.{Clear}
+use Rattle.dimacs_judging.specs.Walks.{IsWalk}
+use Rattle.dimacs_judging.specs.LightestArcs.{AreCovering, Covers, arcs_in}
 use Rattle.dimacs_decide.specs.Distances.{claim_row}
 use Rattle.dimacs_decide.specs.inside.FewLabels.{AreLightest}
 use Rattle.dimacs_decide.specs.inside.TightTrees.{IsTightTree}

@@ -7,10 +7,10 @@ use Rattle.std.specs.List.{AllZip}
 use Rattle.dimacs_network.specs.declared.network.ArcView.{ArcView}
 use Rattle.dimacs_instance.specs.MaxFlows.{HasCapacityAlone, IsMax, MaxValue}
 use Rattle.dimacs_instance.specs.MinFlows.{HasBounds}
-use Rattle.dimacs_optimality.specs.Cuts.{CutTight, IsTightAt}
-use Rattle.dimacs_optimality.specs.Feasible.{FeasibleMax, value}
-use Rattle.dimacs_optimality.specs.Optimum.{Maximum}
-use Rattle.dimacs_optimality.proofs.Duality.{tight_is_maximum}
+use Rattle.dimacs_judging.specs.Cuts.{CutTight, IsTightAt}
+use Rattle.dimacs_judging.specs.Feasible.{FeasibleMax, value}
+use Rattle.dimacs_judging.specs.Optimum.{Maximum}
+use Rattle.dimacs_judging.proofs.Duality.{tight_is_maximum}
 use Rattle.dimacs_decide.specs.Bounds.{KeepsBounds}
 use Rattle.dimacs_decide.specs.inside.Augmentation.{IsSent, IsShut, IsShutAt}
 use Rattle.dimacs_decide.specs.inside.Imbalances.{AreEnds}

@@ -8,9 +8,9 @@ use Rattle.dimacs_network.specs.declared.network.ArcView.{ArcView}
 use Rattle.dimacs_network.specs.Arcs.{JoinsNodes, NetworkValue}
 use Rattle.dimacs_claims.specs.Labels.{BlockValue, IsBlock, label, with_label}
 use Rattle.dimacs_records.specs.declared.reasons.Reason.{Reason}
-use Rattle.dimacs_optimality.specs.Tests.{Clear}
-use Rattle.dimacs_optimality.specs.inside.Tests.{NamesReason}
-use Rattle.dimacs_optimality.specs.Walks.{IsWalk}
+use Rattle.dimacs_judging.specs.Tests.{Clear}
+use Rattle.dimacs_judging.specs.inside.Tests.{NamesReason}
+use Rattle.dimacs_judging.specs.Walks.{IsWalk}
 use Rattle.dimacs_decide.specs.Distances.{AreDistancesFrom, IsTight, IsTightlyReached, claim_row, reach_row}
 use Rattle.dimacs_decide.specs.inside.DistanceBlocks.{IsBlockOf}
 use Rattle.dimacs_decide.specs.declared.dense_table.DenseTable.{DenseTable}

@@ -6,10 +6,10 @@ use Rattle.std.proofs.lemmas.Slice.Zip.{AllZip-long}
 use Rattle.std.specs.List.{AllZip}
 use Rattle.dimacs_network.specs.declared.network.ArcView.{ArcView}
 use Rattle.dimacs_records.specs.Ranges.{IsWhole}
-use Rattle.dimacs_optimality.specs.Flows.{sum_arcs, when, net}
-use Rattle.dimacs_optimality.specs.Rows.{amount_at}
+use Rattle.dimacs_judging.specs.Flows.{sum_arcs, when, net}
+use Rattle.dimacs_judging.specs.Rows.{amount_at}
 use Rattle.dimacs_network.specs.Arcs.{no_arc, arc_at}
-use Rattle.dimacs_optimality.proofs.Passing.{pair_at}
+use Rattle.dimacs_judging.proofs.Passing.{pair_at}
 use Rattle.dimacs_network.specs.declared.adjacency_lists.Side.{Side}
 use Rattle.dimacs_network.specs.declared.adjacency_lists.Side.TheVariants.{Tail, Head}
 use Rattle.dimacs_decide.specs.declared.search.Visit.{Visit}

@@ -6,14 +6,14 @@ use Rattle.std.proofs.lemmas.Slice.Zip.{AllZip-long}
 use borrow.Author.Tests.{ltb-true}
 use Rattle.std.specs.FinSet.{contains-empty}
 use Rattle.std.specs.Ordering.{nat_cmp}
-use Rattle.dimacs_nodes.proofs.Nodes.{contains-insert}
+use Rattle.dimacs_network.proofs.Nodes.{contains-insert}
 use Rattle.dimacs_claims.specs.Cuts.{CutValue, empty_cut, with_node}
 use Rattle.dimacs_lines.specs.Limits.{IsNode}
 use Rattle.dimacs_network.specs.declared.network.ArcView.{ArcView}
 use Rattle.dimacs_network.specs.Arcs.{JoinsNodes, no_arc, arc_at}
-use Rattle.dimacs_optimality.specs.Cuts.{members}
-use Rattle.dimacs_optimality.specs.Rows.{amount_at}
-use Rattle.dimacs_optimality.proofs.Passing.{pair_at, pairs_from}
+use Rattle.dimacs_judging.specs.Cuts.{members}
+use Rattle.dimacs_judging.specs.Rows.{amount_at}
+use Rattle.dimacs_judging.proofs.Passing.{pair_at, pairs_from}
 use Rattle.dimacs_network.specs.declared.adjacency_lists.Side.TheVariants.{Tail, Head}
 use Rattle.dimacs_decide.specs.Bounds.{KeepsBounds}
 use Rattle.dimacs_decide.specs.declared.search.Visit.{Visit}

@@ -8,10 +8,10 @@ use Rattle.dimacs_records.specs.Ranges.{IsWhole}
 use Rattle.dimacs_lines.specs.Limits.{IsNode}
 use Rattle.dimacs_network.specs.declared.network.ArcView.{ArcView}
 use Rattle.dimacs_instance.specs.MinFlows.{HasBounds}
-use Rattle.dimacs_optimality.specs.Cuts.{enters, leaves}
-use Rattle.dimacs_optimality.specs.Flows.{net, sum_arcs, sum_nodes, when}
-use Rattle.dimacs_optimality.specs.ViolatedSets.{sum_where}
-use Rattle.dimacs_optimality.proofs.Duality.{across}
+use Rattle.dimacs_judging.specs.Cuts.{enters, leaves}
+use Rattle.dimacs_judging.specs.Flows.{net, sum_arcs, sum_nodes, when}
+use Rattle.dimacs_judging.specs.ViolatedSets.{sum_where}
+use Rattle.dimacs_judging.proofs.Duality.{across}
 use Rattle.dimacs_decide.specs.Bounds.{KeepsBounds}
 
 -- ---- over nodes

@@ -3,8 +3,8 @@ use Rattle.std.proofs.Common.{List, Result, Ok, Err, refl}
 use Rattle.std.specs.Prelude.{IsTrue, is_ok}
 use Rattle.std.proofs.lemmas.Bool.{false≢true}
 use Rattle.dimacs_records.specs.declared.reasons.Reason.{Reason}
-use Rattle.dimacs_optimality.specs.declared.verdict.Where.{Where}
-use Rattle.dimacs_optimality.specs.Tests.{Row, Decides}
+use Rattle.dimacs_judging.specs.declared.verdict.Where.{Where}
+use Rattle.dimacs_judging.specs.Tests.{Row, Decides}
 
 -- if no test fails, the statement holds
 pub holds : {P : Type 0} (rows : List Row) (tested : Result Unit (Where × Reason)) → Decides P rows tested → IsTrue (is_ok tested) → P

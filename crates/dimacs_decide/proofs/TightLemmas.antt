@@ -10,9 +10,9 @@ use Rattle.dimacs_network.specs.AdjacencyLists.{IsLast}
 use Rattle.dimacs_network.specs.declared.adjacency_lists.Side.TheVariants.{Tail}
 use Rattle.dimacs_claims.specs.declared.block.Label.{Label}
 use Rattle.dimacs_claims.specs.Labels.{BlockValue, IsBlock, distance_in, label, no_label, with_label}
-use Rattle.dimacs_optimality.specs.Labels.{HasTightArc}
+use Rattle.dimacs_judging.specs.Labels.{HasTightArc}
 use Rattle.dimacs_network.specs.Arcs.{arc_at, no_arc}
-use Rattle.dimacs_optimality.specs.Walks.{IsWalk}
+use Rattle.dimacs_judging.specs.Walks.{IsWalk}
 use Rattle.dimacs_decide.specs.Distances.{IsTight, IsTightlyReached}
 use Rattle.dimacs_decide.specs.inside.TightTrees.{IsFollowed, IsTightTree, IsWholeTightTree, TreeGrows, absent, node_at}
 use Rattle.dimacs_decide.proofs.ClaimLemmas.{walk_one}

@@ -6,15 +6,15 @@ use Rattle.dimacs_instance.specs.QueryTexts.{Sources}
 use Rattle.dimacs_lines.specs.Limits.{IsNode}
 use Rattle.dimacs_records.specs.declared.reasons.Reason.TheVariants.{NoTightArc, NotShortest}
 use Rattle.dimacs_claims.specs.Labels.{LabelsValue}
-use Rattle.dimacs_optimality.specs.CertificateTests.{RelaxFails}
-use Rattle.dimacs_optimality.specs.Answers.{distance_from}
-use Rattle.dimacs_optimality.specs.PathsJudge.{PassesPaths}
-use Rattle.dimacs_optimality.specs.Rows.{arc_row, node_row, one_test}
-use Rattle.dimacs_optimality.specs.Tests.{Row, FirstAlone}
-use Rattle.dimacs_optimality.specs.Walks.{IsDistance, IsWalk}
-use Rattle.dimacs_optimality.specs.declared.verdict.Where.TheVariants.{Node}
-use Rattle.dimacs_optimality.specs.declared.verdict.JudgeError.{JudgeError}
-use Rattle.dimacs_optimality.specs.declared.verdict.JudgeError.TheVariants.{Refused, Memory}
+use Rattle.dimacs_judging.specs.CertificateTests.{RelaxFails}
+use Rattle.dimacs_judging.specs.Answers.{distance_from}
+use Rattle.dimacs_judging.specs.PathsJudge.{PassesPaths}
+use Rattle.dimacs_judging.specs.Rows.{arc_row, node_row, one_test}
+use Rattle.dimacs_judging.specs.Tests.{Row, FirstAlone}
+use Rattle.dimacs_judging.specs.Walks.{IsDistance, IsWalk}
+use Rattle.dimacs_judging.specs.declared.verdict.Where.TheVariants.{Node}
+use Rattle.dimacs_judging.specs.declared.verdict.JudgeError.{JudgeError}
+use Rattle.dimacs_judging.specs.declared.verdict.JudgeError.TheVariants.{Refused, Memory}
 
 -- the claim of each node is its distance from s; a node without a claim is unreachable
 abbrev pub AreDistancesFrom : NetworkValue → ℕ → (ℕ → Option ℤ) → Type 0

@@ -12,7 +12,7 @@ use crate::claim::DistanceClaim;
 use crate::dense_table::DenseTable;
 use dimacs_claims::Block;
 use dimacs_lines::Memory;
-use dimacs_nodes::WideMap;
+use dimacs_network::WideMap;
 use std::alloc::Global;
 
 /// Stands for no distance in a table of 32-bit distances.

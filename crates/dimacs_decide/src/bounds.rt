@@ -3,8 +3,8 @@
 ghost use Rattle.std.specs.Prelude.{◌↔◌, IsTrue};
 ghost use Rattle.dimacs_decide.specs.Bounds.{KeepsBounds};
 
+use dimacs_judging::{Flow, bounds_hold};
 use dimacs_network::Network;
-use dimacs_optimality::{Flow, bounds_hold};
 
 /// Whether a flow has exactly one amount for each arc, from its lower bound to its capacity.
 pub fn keeps_bounds<N: Network>(network: &N, flow: &Flow) -> bool

@@ -3,16 +3,16 @@
 ghost use Rattle.std.specs.Prelude.{◌≡◌};
 ghost use Rattle.dimacs_claims.specs.SolutionReading.{IsPlaced};
 ghost use Rattle.dimacs_claims.specs.SolutionTexts.{SolutionValue, claimed};
-ghost use Rattle.dimacs_optimality.specs.MaxJudge.{max_claim_rows};
-ghost use Rattle.dimacs_optimality.specs.Places.{ArePlaced};
-ghost use Rattle.dimacs_optimality.specs.Tests.{Settles};
+ghost use Rattle.dimacs_judging.specs.MaxJudge.{max_claim_rows};
+ghost use Rattle.dimacs_judging.specs.Places.{ArePlaced};
+ghost use Rattle.dimacs_judging.specs.Tests.{Settles};
 ghost use Rattle.dimacs_decide.specs.CertifiedMax.{CertifiesMax};
 
 use crate::maximum::{MaxDecision, decide_max};
 use dimacs_claims::{Placed, Solution};
 use dimacs_instance::MaxInstance;
+use dimacs_judging::{FlowPlaces, JudgeError, max_claim_tests, placed};
 use dimacs_network::Network;
-use dimacs_optimality::{FlowPlaces, JudgeError, max_claim_tests, placed};
 use std::alloc::Global;
 
 /// Decides whether the solution's flow is maximum. `Optimal` has a cut with which `judge_max` accepts the solution,

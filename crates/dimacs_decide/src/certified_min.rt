@@ -3,16 +3,16 @@
 ghost use Rattle.std.specs.Prelude.{◌≡◌};
 ghost use Rattle.dimacs_claims.specs.SolutionReading.{IsPlaced};
 ghost use Rattle.dimacs_claims.specs.SolutionTexts.{SolutionValue, claimed};
-ghost use Rattle.dimacs_optimality.specs.MinJudge.{min_claim_rows};
-ghost use Rattle.dimacs_optimality.specs.Places.{ArePlaced};
-ghost use Rattle.dimacs_optimality.specs.Tests.{Settles};
+ghost use Rattle.dimacs_judging.specs.MinJudge.{min_claim_rows};
+ghost use Rattle.dimacs_judging.specs.Places.{ArePlaced};
+ghost use Rattle.dimacs_judging.specs.Tests.{Settles};
 ghost use Rattle.dimacs_decide.specs.CertifiedMin.{CertifiesMin};
 
 use crate::least::{MinDecision, decide_min};
 use dimacs_claims::{Placed, Solution};
 use dimacs_instance::MinInstance;
+use dimacs_judging::{FlowPlaces, JudgeError, min_claim_tests, placed};
 use dimacs_network::Network;
-use dimacs_optimality::{FlowPlaces, JudgeError, min_claim_tests, placed};
 use std::alloc::Global;
 
 /// Decides whether the solution's flow costs least. `Optimal` has potentials with which `judge_min` accepts the

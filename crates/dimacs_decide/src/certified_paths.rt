@@ -17,9 +17,9 @@ use crate::few_labels::{Tables, few_block, has_few_labels};
 use crate::predecessor_tree::block_by_predecessors;
 use dimacs_claims::{Block, Distances, Labels};
 use dimacs_instance::Graph;
+use dimacs_judging::JudgeError;
 use dimacs_lines::Memory;
 use dimacs_network::{AdjacencyLists, Network, Side};
-use dimacs_optimality::JudgeError;
 use std::alloc::Global;
 
 /// Decides whether the distances in every block are right. Weights may be negative. If all are right, it returns labels

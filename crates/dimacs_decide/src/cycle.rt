@@ -3,7 +3,7 @@
 ghost use Rattle.std.specs.Prelude.{◌≡◌, ◌≤◌, ◌-◌, IsTrue, All, length, IfOk};
 ghost use Rattle.dimacs_lines.specs.Limits.{most_nodes};
 ghost use Rattle.dimacs_instance.specs.MinFlows.{HasBounds};
-ghost use Rattle.dimacs_nodes.specs.Tables.{value_of};
+ghost use Rattle.dimacs_network.specs.Tables.{value_of};
 ghost use Rattle.dimacs_decide.specs.Bounds.{KeepsBounds};
 ghost use Rattle.dimacs_decide.specs.inside.Cycles.{IsSaving, LeadsFrom, ending_of};
 ghost use Rattle.dimacs_decide.specs.inside.Heights.{AreHeights};
@@ -11,11 +11,10 @@ ghost use Rattle.dimacs_decide.specs.inside.Traces.{IsCycle};
 
 use crate::heights::{HeightLabel, gain};
 use crate::residual_capacity::residual_capacity_from;
+use dimacs_judging::Flow;
 use dimacs_lines::Memory;
 use dimacs_methods::ResidualArc;
-use dimacs_network::Network;
-use dimacs_nodes::NodeTable;
-use dimacs_optimality::Flow;
+use dimacs_network::{Network, NodeTable};
 use std::alloc::Global;
 
 /// A path of nodes, each raised from the next. Its last node is also at `first`, where the cycle begins.

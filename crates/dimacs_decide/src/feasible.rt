@@ -2,8 +2,8 @@
 
 ghost use Rattle.std.specs.Prelude.{◌≡◌, ◌≤◌, ◌+◌, ◌<ℤ◌, ℕ, pos, true, IfOk};
 ghost use Rattle.dimacs_lines.specs.Limits.{most_nodes, IsNode};
-ghost use Rattle.dimacs_optimality.specs.Cuts.{members};
-ghost use Rattle.dimacs_nodes.specs.Tables.{value_of};
+ghost use Rattle.dimacs_judging.specs.Cuts.{members};
+ghost use Rattle.dimacs_network.specs.Tables.{value_of};
 ghost use Rattle.dimacs_decide.specs.Bounds.{KeepsBounds};
 ghost use Rattle.dimacs_decide.specs.FeasibilityDecision.{DecidesFeasible};
 ghost use Rattle.dimacs_decide.specs.Incidence.{IsIncidenceOf};
@@ -15,10 +15,9 @@ use crate::search::Search;
 use crate::send::{Augmentation, send};
 use dimacs_claims::Cut;
 use dimacs_instance::MinInstance;
+use dimacs_judging::Flow;
 use dimacs_lines::Memory;
-use dimacs_network::Network;
-use dimacs_nodes::NodeTable;
-use dimacs_optimality::Flow;
+use dimacs_network::{Network, NodeTable};
 use std::alloc::Global;
 
 /// Whether a flow that keeps the bounds is feasible.

@@ -6,8 +6,8 @@ ghost use Rattle.dimacs_network.specs.AdjacencyLists.{AreAdjacencyLists};
 ghost use Rattle.dimacs_network.specs.declared.adjacency_lists.Side.TheVariants.{Tail};
 ghost use Rattle.dimacs_instance.specs.Graph.{IsGraph};
 ghost use Rattle.dimacs_claims.specs.Labels.{IsBlock, label};
-ghost use Rattle.dimacs_optimality.specs.Tests.{Clear};
-ghost use Rattle.dimacs_nodes.specs.Tables.{value_of};
+ghost use Rattle.dimacs_judging.specs.Tests.{Clear};
+ghost use Rattle.dimacs_network.specs.Tables.{value_of};
 ghost use Rattle.dimacs_decide.specs.Distances.{AreDistancesFrom, claim_row};
 ghost use Rattle.dimacs_decide.specs.inside.DistanceBlocks.{IsBlockFor};
 ghost use Rattle.dimacs_decide.specs.inside.FewLabels.{AreFree, AreLightest, ArcsHoldFrom, IsUnreached, arcs_followed};
@@ -19,10 +19,9 @@ use crate::placed_claim::PlacedClaim;
 use crate::tight_tree::{TightTree, tight_tree};
 use dimacs_claims::Block;
 use dimacs_instance::Graph;
+use dimacs_judging::lightest_arcs;
 use dimacs_lines::Memory;
-use dimacs_network::{AdjacencyLists, ArcView, Network, PlainArcs, Side};
-use dimacs_nodes::NodeTable;
-use dimacs_optimality::lightest_arcs;
+use dimacs_network::{AdjacencyLists, ArcView, Network, NodeTable, PlainArcs, Side};
 use std::alloc::Global;
 
 /// A block has few labels if there are more nodes than this for each of them.

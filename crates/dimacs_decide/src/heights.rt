@@ -7,15 +7,14 @@ ghost use Rattle.dimacs_network.specs.Arcs.{JoinsNodes};
 ghost use Rattle.dimacs_network.specs.AdjacencyLists.{end_of, other_end};
 ghost use Rattle.dimacs_instance.specs.MinFlows.{HasBounds};
 ghost use Rattle.dimacs_records.specs.Ranges.{IsWhole};
-ghost use Rattle.dimacs_nodes.specs.Tables.{value_of};
+ghost use Rattle.dimacs_network.specs.Tables.{value_of};
 ghost use Rattle.dimacs_decide.specs.Bounds.{KeepsBounds};
 ghost use Rattle.dimacs_decide.specs.inside.Heights.{AreHeights, BelowBound, IsRound, Lifts, below_of, either_of, gain_at, height_of, unraised};
 
 use crate::residual_capacity::residual_capacity_from;
+use dimacs_judging::Flow;
 use dimacs_lines::Memory;
-use dimacs_network::{ArcView, Network, Side};
-use dimacs_nodes::NodeTable;
-use dimacs_optimality::Flow;
+use dimacs_network::{ArcView, Network, NodeTable, Side};
 
 /// A node's raised potential, and the residual arc that raised it: the number of its arc, from 1, or 0 for none, and the
 /// side from which it leads.

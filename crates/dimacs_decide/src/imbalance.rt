@@ -2,16 +2,15 @@
 
 ghost use Rattle.std.specs.Prelude.{◌≢◌, ◌≤◌, ◌+◌, ◌^◌, ◌↔◌, ℕ, IsTrue, pos, IfOk};
 ghost use Rattle.dimacs_lines.specs.Limits.{most_nodes};
-ghost use Rattle.dimacs_optimality.specs.inside.Ranges.{IsOfSize};
-ghost use Rattle.dimacs_nodes.specs.Tables.{value_of};
+ghost use Rattle.dimacs_judging.specs.inside.Ranges.{IsOfSize};
+ghost use Rattle.dimacs_network.specs.Tables.{value_of};
 ghost use Rattle.dimacs_decide.specs.Bounds.{KeepsBounds};
 ghost use Rattle.dimacs_decide.specs.inside.Imbalances.{AreImbalances, Stands};
 
 use dimacs_instance::MinInstance;
+use dimacs_judging::{Balances, Flow};
 use dimacs_lines::Memory;
-use dimacs_network::Network;
-use dimacs_nodes::NodeTable;
-use dimacs_optimality::{Balances, Flow};
+use dimacs_network::{Network, NodeTable};
 use std::alloc::Global;
 
 /// The imbalance of each node: its supply minus its net outflow. Takes memory for the ends of arcs, and the nodes where

@@ -11,10 +11,10 @@ use crate::excess::total_excess;
 use crate::feasible::{FeasibilityDecision, decide_feasible};
 use dimacs_claims::Cut;
 use dimacs_instance::MinInstance;
+use dimacs_judging::Flow;
 use dimacs_lines::Memory;
 use dimacs_methods::send_excess;
 use dimacs_network::Network;
-use dimacs_optimality::Flow;
 use std::alloc::Global;
 
 /// Whether an instance has a feasible flow.

@@ -5,8 +5,8 @@ ghost use Rattle.std.specs.Prelude.{◌≡◌, ◌≤◌, ◌≤ℤ◌, ◌+◌,
 ghost use Rattle.dimacs_lines.specs.Limits.{most_nodes, IsNode};
 ghost use Rattle.dimacs_claims.specs.Potentials.{potential_of};
 ghost use Rattle.dimacs_records.specs.Ranges.{IsWide};
-ghost use Rattle.dimacs_optimality.specs.Feasible.{FeasibleMin};
-ghost use Rattle.dimacs_nodes.specs.Tables.{value_of};
+ghost use Rattle.dimacs_judging.specs.Feasible.{FeasibleMin};
+ghost use Rattle.dimacs_network.specs.Tables.{value_of};
 ghost use Rattle.dimacs_network.specs.declared.adjacency_lists.Side.TheVariants.{Tail};
 ghost use Rattle.dimacs_decide.specs.MinDecision.{DecidesMin};
 ghost use Rattle.dimacs_decide.specs.inside.Cycles.{IsSaving};
@@ -18,11 +18,10 @@ use crate::heights::{HeightLabel, round, unraised_label};
 use crate::trace::cycle_in;
 use dimacs_claims::Potentials;
 use dimacs_instance::MinInstance;
+use dimacs_judging::{Flow, slack_tests};
 use dimacs_lines::Memory;
 use dimacs_methods::{Guess, ResidualArc, guess_potentials};
-use dimacs_network::{Network, Side};
-use dimacs_nodes::NodeTable;
-use dimacs_optimality::{Flow, slack_tests};
+use dimacs_network::{Network, NodeTable, Side};
 use std::alloc::Global;
 
 /// Whether a feasible flow costs least.

@@ -4,8 +4,8 @@
 ghost use Rattle.std.specs.Prelude.{◌≢◌, ◌<◌, ◌↔◌, ℕ, List, ℤ, IfOk, IsTrue};
 ghost use Rattle.dimacs_lines.specs.Limits.{IsNode};
 ghost use Rattle.dimacs_network.specs.declared.network.ArcView.{ArcView};
-ghost use Rattle.dimacs_optimality.specs.Feasible.{FeasibleMax};
-ghost use Rattle.dimacs_nodes.specs.Tables.{value_of};
+ghost use Rattle.dimacs_judging.specs.Feasible.{FeasibleMax};
+ghost use Rattle.dimacs_network.specs.Tables.{value_of};
 ghost use Rattle.dimacs_decide.specs.MaxDecision.{DecidesMax};
 ghost use Rattle.dimacs_decide.specs.inside.Residual.{IsResidualSearch, rank_of};
 ghost use Rattle.dimacs_decide.specs.inside.Imbalances.{AreEnds};
@@ -15,11 +15,10 @@ use crate::search::{MOST, Search};
 use crate::send::{Augmentation, send};
 use dimacs_claims::Cut;
 use dimacs_instance::MaxInstance;
+use dimacs_judging::{Flow, cut_tests};
 use dimacs_lines::Memory;
 use dimacs_methods::guess_cut;
-use dimacs_network::Network;
-use dimacs_nodes::NodeTable;
-use dimacs_optimality::{Flow, cut_tests};
+use dimacs_network::{Network, NodeTable};
 use std::alloc::Global;
 
 /// Whether a feasible flow is maximum.

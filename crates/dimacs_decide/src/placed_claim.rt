@@ -4,13 +4,13 @@ ghost use Rattle.std.specs.Prelude.{◌≡◌, ℕ, IfOk};
 ghost use Rattle.std.specs.Option.{ForSome};
 ghost use Rattle.dimacs_records.specs.Ranges.{IsWide};
 ghost use Rattle.dimacs_claims.specs.Labels.{IsBlock, label};
-ghost use Rattle.dimacs_nodes.specs.Tables.{value_of};
+ghost use Rattle.dimacs_network.specs.Tables.{value_of};
 ghost use Rattle.dimacs_decide.specs.inside.FewLabels.{AreNamed, ArePlaced};
 
 use crate::claim::DistanceClaim;
 use dimacs_claims::Block;
 use dimacs_lines::Memory;
-use dimacs_nodes::NodeTable;
+use dimacs_network::NodeTable;
 
 /// A look-up takes constant time.
 #[derive(Drop)]

@@ -3,7 +3,7 @@
 ghost use Rattle.std.specs.Prelude.{◌≡◌, ◌≢◌, ◌≤◌, All, IfOk, IfSome, IsSome, IsTrue, OnOk, Some, pos, true};
 ghost use Rattle.dimacs_lines.specs.Limits.{most_nodes, IsNode};
 ghost use Rattle.dimacs_network.specs.Arcs.{JoinsNodes};
-ghost use Rattle.dimacs_optimality.specs.Tests.{Clear};
+ghost use Rattle.dimacs_judging.specs.Tests.{Clear};
 ghost use Rattle.dimacs_decide.specs.Distances.{AreDistancesFrom, claim_row};
 ghost use Rattle.dimacs_decide.specs.inside.DenseTables.{HasNode, HasNodes, SameNodes, value_at};
 ghost use Rattle.dimacs_decide.specs.inside.DistanceBlocks.{IsBlockOf};

@@ -2,11 +2,11 @@
 
 ghost use Rattle.std.specs.Prelude.{◌≡◌, ◌<◌, ◌≤ℤ◌, pos, length, set};
 ghost use Rattle.dimacs_records.specs.Ranges.{IsWhole};
-ghost use Rattle.dimacs_optimality.specs.Rows.{amount_at};
+ghost use Rattle.dimacs_judging.specs.Rows.{amount_at};
 ghost use Rattle.dimacs_decide.specs.inside.ResidualCapacities.{carried_after, residual_capacity_at};
 
+use dimacs_judging::Flow;
 use dimacs_network::{ArcView, Side};
-use dimacs_optimality::Flow;
 
 /// The residual capacity of an arc from this side.
 #[inline(always)]

@@ -7,7 +7,7 @@ ghost use Rattle.dimacs_network.specs.Arcs.{JoinsNodes, arc_at};
 ghost use Rattle.dimacs_network.specs.AdjacencyLists.{AreAdjacencyLists};
 ghost use Rattle.dimacs_network.specs.declared.adjacency_lists.Side.TheVariants.{Tail};
 ghost use Rattle.dimacs_claims.specs.Labels.{label};
-ghost use Rattle.dimacs_nodes.specs.Tables.{value_of};
+ghost use Rattle.dimacs_network.specs.Tables.{value_of};
 ghost use Rattle.dimacs_decide.specs.Distances.{IsTight};
 ghost use Rattle.dimacs_decide.specs.inside.FewLabels.{IsUnreached};
 ghost use Rattle.dimacs_decide.specs.inside.TightTrees.{IsFollowed, IsTightTree, IsWholeTightTree, TreeGrows, node_at};
@@ -15,8 +15,7 @@ ghost use Rattle.dimacs_decide.specs.inside.TightTrees.{IsFollowed, IsTightTree,
 use crate::claim::DistanceClaim;
 use dimacs_claims::{Block, Label};
 use dimacs_lines::Memory;
-use dimacs_network::{AdjacencyLists, ArcView, Network};
-use dimacs_nodes::NodeTable;
+use dimacs_network::{AdjacencyLists, ArcView, Network, NodeTable};
 use std::alloc::Global;
 
 /// The labels of the nodes that a search over tight arcs has reached, in order, with predecessors in the search.

@@ -4,7 +4,7 @@ use crate::reopen::Reopen;
 use crate::texts::TextFile;
 use dimacs_claims::read_solution_into;
 use dimacs_instance::read_plain_min;
-use dimacs_judge::{FlowPlaces, cost_within};
+use dimacs_judging::{FlowPlaces, cost_within};
 use dimacs_lines::Memory;
 use std::alloc::Global;
 

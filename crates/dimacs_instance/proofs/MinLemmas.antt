@@ -10,7 +10,7 @@ use Rattle.std.proofs.lemmas.List.Elements.{All-nil, All-push}
 use Rattle.std.proofs.lemmas.Bool.{lt-ltb, le-ltb}
 use Rattle.std.proofs.lemmas.Bool.Decides.{nat_tests}
 use Rattle.dimacs_lines.specs.Limits.{most_count, most_nodes, IsNode}
-use Rattle.dimacs_nodes.proofs.Entries.{All-empty, All-entries, All-get, All-insert}
+use Rattle.dimacs_network.proofs.Entries.{All-empty, All-entries, All-get, All-insert}
 use Rattle.dimacs_records.specs.declared.kinds.TextKind.TheVariants.{Min}
 use Rattle.dimacs_records.specs.declared.order.Earlier.{Earlier}
 use Rattle.dimacs_records.specs.declared.records.Record.{Record}

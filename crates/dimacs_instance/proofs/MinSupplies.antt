@@ -7,7 +7,7 @@ use Rattle.std.proofs.lemmas.Int.{ints}
 use Rattle.std.proofs.lemmas.List.{map-append}
 use Rattle.std.proofs.lemmas.List.Sums.{sum_by-append, sum_by-cons}
 use Rattle.dimacs_lines.specs.Limits.{most_nodes}
-use Rattle.dimacs_nodes.proofs.Entries.{entry_of, entries_below, entries_below-none, entries_below-next, entries_are, All-get}
+use Rattle.dimacs_network.proofs.Entries.{entry_of, entries_below, entries_below-none, entries_below-next, entries_are, All-get}
 use Rattle.dimacs_records.specs.declared.records.Record.TheVariants.{MinNode}
 use Rattle.dimacs_records.specs.Canonical.{AreLines, records_of_line}
 use Rattle.dimacs_records.specs.Ranges.{IsWhole}

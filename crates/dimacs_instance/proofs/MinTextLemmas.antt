@@ -9,7 +9,7 @@ use Rattle.std.proofs.lemmas.Int.{ints}
 use Rattle.std.proofs.lemmas.List.{append-nil, length-append, length-map}
 use Rattle.std.proofs.lemmas.List.Elements.{All-cons, All-head, All-tail, All-append, All-map, All-weaker}
 use Rattle.dimacs_lines.specs.Limits.{most_nodes, IsNode}
-use Rattle.dimacs_nodes.proofs.Entries.{from_entries-entries, entries_once, length-entries, All-get}
+use Rattle.dimacs_network.proofs.Entries.{from_entries-entries, entries_once, length-entries, All-get}
 use Rattle.dimacs_records.specs.declared.kinds.TextKind.TheVariants.{Min}
 use Rattle.dimacs_records.specs.declared.records.Record.{Record}
 use Rattle.dimacs_records.specs.declared.records.Record.TheVariants.{MinProblem, MinNode, MinArc}

@@ -7,7 +7,7 @@ use Rattle.std.specs.FinMap.{FinMap, empty, entries, get, insert, remove}
 use Rattle.std.proofs.lemmas.List.{length-append}
 use Rattle.std.proofs.lemmas.List.Elements.{All-nil, All-push}
 use Rattle.dimacs_lines.specs.Limits.{most_count, most_nodes, IsNode}
-use Rattle.dimacs_nodes.proofs.Entries.{All-empty, All-entries, All-get, All-insert}
+use Rattle.dimacs_network.proofs.Entries.{All-empty, All-entries, All-get, All-insert}
 use Rattle.dimacs_records.specs.NodeValues.{without_zeros}
 use Rattle.dimacs_records.specs.Ranges.{IsWhole}
 use Rattle.dimacs_records.proofs.NameLemmas.{isnt_zero}

@@ -18,8 +18,7 @@ ghost use Rattle.dimacs_records.specs.NodeValues.{is_nonzero};
 ghost use Rattle.dimacs_instance.specs.MinReading.{IsMinBegunBy, after_lines, before, count_of};
 
 use dimacs_lines::{DeviceFault, Memory, OutputBuffer, Sink, Source};
-use dimacs_network::{ArcView, ForwardStar, Network, OfCostArcs, PlainArcs, StoredArc};
-use dimacs_nodes::NodeMap;
+use dimacs_network::{ArcView, ForwardStar, Network, NodeMap, OfCostArcs, PlainArcs, StoredArc};
 use dimacs_records::{
     Begun, CountedReading, Declared, Earlier, ReadError, Record, TextKind, read_counted,
     write_lines, write_record,

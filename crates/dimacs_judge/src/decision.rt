@@ -2,13 +2,13 @@
 
 ghost use Rattle.std.specs.Prelude.{◌≡◌, IfErr, IfOk};
 ghost use Rattle.dimacs_decide.specs.MaxDecision.{DecidesMax};
-ghost use Rattle.dimacs_optimality.specs.Feasible.{FeasibleMax};
-ghost use Rattle.dimacs_optimality.specs.declared.verdict.JudgeError.TheVariants as errors;
+ghost use Rattle.dimacs_judging.specs.Feasible.{FeasibleMax};
+ghost use Rattle.dimacs_judging.specs.declared.verdict.JudgeError.TheVariants as errors;
 
 use dimacs_decide::MaxDecision;
 use dimacs_instance::MaxInstance;
+use dimacs_judging::{Flow, JudgeError};
 use dimacs_network::Network;
-use dimacs_optimality::{Flow, JudgeError};
 use std::alloc::Global;
 
 /// Decides whether a feasible flow is maximum. Returns a tight cut if it is, otherwise a feasible flow of greater

@@ -3,8 +3,7 @@
 use crate::tables::{count_of, member};
 use dimacs_instance::MinInstance;
 use dimacs_lines::Memory;
-use dimacs_network::Network;
-use dimacs_nodes::NodeMap;
+use dimacs_network::{Network, NodeMap};
 use std::alloc::Global;
 
 /// Numbers from 0 for the nodes with an arc or a supply. Tables by node number then grow with the text, not with the

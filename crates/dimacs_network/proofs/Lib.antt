@@ -1,3 +1,9 @@
+mod LayerLemmas
+mod SlotLemmas
+pub mod Entries
+pub mod MapLemmas
+pub mod Nodes
+pub mod SetLemmas
 pub mod ArcLemmas
 mod ArcOrderLemmas
 mod CountLemmas

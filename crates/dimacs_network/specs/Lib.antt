@@ -1,3 +1,9 @@
+pub mod Layers
+pub mod Lists
+pub mod Maps
+pub mod Sets
+pub mod Slots
+pub mod Tables
 pub mod ArcOrder
 pub mod Arcs
 pub mod KeptArcs

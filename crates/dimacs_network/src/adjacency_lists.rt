@@ -1,12 +1,12 @@
 //! The arcs of each tail or head, linked.
 
 ghost use Rattle.std.specs.Prelude.{◌≡◌, ◌<◌, length, slice_index, IfOk};
-ghost use Rattle.dimacs_nodes.specs.Tables.{value_of};
+ghost use Rattle.dimacs_network.specs.Tables.{value_of};
 ghost use Rattle.dimacs_network.specs.AdjacencyLists.{AreAdjacencyLists, end_of, other_end};
 
 use crate::network::{ArcView, Network};
+use crate::node_table::NodeTable;
 use dimacs_lines::Memory;
-use dimacs_nodes::NodeTable;
 use std::alloc::Global;
 
 /// One end of an arc.

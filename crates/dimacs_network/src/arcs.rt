@@ -6,7 +6,7 @@ ghost use Rattle.dimacs_network.specs.declared.arcs.ArcEnds.{ArcEnds};
 ghost use Rattle.dimacs_network.specs.KeptArcs.{capacity_arc, cost_arc, weight_arc};
 
 use crate::network::ArcView;
-use dimacs_nodes::ShortForm;
+use crate::widening_list::ShortForm;
 
 /// An arc of a kind of instance. Its ends are stored apart, since many passes read only them. Numbers that are the same
 /// for all arcs of the kind aren't stored.

@@ -6,8 +6,8 @@ ghost use Rattle.dimacs_network.specs.declared.network.ArcView.{ArcView};
 
 use crate::arcs::{ArcEnds, StoredArc};
 use crate::network::{ArcView, Network};
+use crate::widening_list::{ShortForm, WideningList};
 use dimacs_lines::Memory;
-use dimacs_nodes::{ShortForm, WideningList};
 use std::alloc::Global;
 use std::marker::Model;
 

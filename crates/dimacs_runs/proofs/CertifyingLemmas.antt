@@ -14,19 +14,19 @@ use Rattle.dimacs_records.specs.declared.faults.At.{At}
 use Rattle.dimacs_records.specs.declared.kinds.TextKind.TheVariants as kinds
 use Rattle.dimacs_records.specs.declared.reasons.Reason.{Reason}
 use Rattle.dimacs_records.specs.declared.reasons.Reason.TheVariants.{Feasible, NodesDiffer, NotLeast, NotMaximum}
-use Rattle.dimacs_optimality.specs.declared.verdict.JudgeError.{JudgeError}
-use Rattle.dimacs_optimality.specs.declared.verdict.JudgeError.TheVariants as judge_errors
-use Rattle.dimacs_optimality.specs.declared.verdict.Verdict.TheVariants as verdicts
-use Rattle.dimacs_optimality.specs.declared.verdict.Where.{Where}
-use Rattle.dimacs_optimality.specs.declared.verdict.Where.TheVariants as places
-use Rattle.dimacs_optimality.specs.InfeasibleJudge.{ShowsNoFlow}
-use Rattle.dimacs_optimality.specs.MaxJudge.{ShowsMaximum, max_claim_rows}
-use Rattle.dimacs_optimality.specs.MinJudge.{ShowsLeast, min_claim_rows}
-use Rattle.dimacs_optimality.specs.Optimum.{Least, Maximum}
-use Rattle.dimacs_optimality.specs.Tests.{AllClear, FirstAlone, Refutes, Row}
-use Rattle.dimacs_optimality.proofs.Firsts.{none_first}
-use Rattle.dimacs_optimality.proofs.MaxJudge as max
-use Rattle.dimacs_optimality.proofs.MinJudge as min
+use Rattle.dimacs_judging.specs.declared.verdict.JudgeError.{JudgeError}
+use Rattle.dimacs_judging.specs.declared.verdict.JudgeError.TheVariants as judge_errors
+use Rattle.dimacs_judging.specs.declared.verdict.Verdict.TheVariants as verdicts
+use Rattle.dimacs_judging.specs.declared.verdict.Where.{Where}
+use Rattle.dimacs_judging.specs.declared.verdict.Where.TheVariants as places
+use Rattle.dimacs_judging.specs.InfeasibleJudge.{ShowsNoFlow}
+use Rattle.dimacs_judging.specs.MaxJudge.{ShowsMaximum, max_claim_rows}
+use Rattle.dimacs_judging.specs.MinJudge.{ShowsLeast, min_claim_rows}
+use Rattle.dimacs_judging.specs.Optimum.{Least, Maximum}
+use Rattle.dimacs_judging.specs.Tests.{AllClear, FirstAlone, Refutes, Row}
+use Rattle.dimacs_judging.proofs.Firsts.{none_first}
+use Rattle.dimacs_judging.proofs.MaxJudge as max
+use Rattle.dimacs_judging.proofs.MinJudge as min
 use Rattle.dimacs_decide.specs.CertifiedMax.{CertifiesMax}
 use Rattle.dimacs_decide.specs.CertifiedMin.{CertifiesMin}
 use Rattle.dimacs_decide.specs.CertifiedPaths.{AreAllDistances, AreLabelsOfAll, CertifiesPaths}

@@ -19,16 +19,16 @@ use Rattle.dimacs_instance.specs.MaxTexts.{SpellsMax}
 use Rattle.dimacs_instance.specs.MinFlows.{IsMin, MinValue}
 use Rattle.dimacs_instance.specs.MinTexts.{SpellsMin}
 use Rattle.dimacs_instance.specs.QueryTexts.{AreIds, AreLawful, Pairs, QueriesValue, Sources, SpellsQueries}
-use Rattle.dimacs_optimality.specs.Answers.{answer_to, distance_from, radius_from, radius_in}
-use Rattle.dimacs_optimality.specs.declared.verdict.Answer.{Answer}
-use Rattle.dimacs_optimality.specs.InfeasibleJudge.{ShowsNoFlow}
-use Rattle.dimacs_optimality.specs.MaxJudge.{ShowsMaximum}
-use Rattle.dimacs_optimality.specs.MinJudge.{ShowsLeast}
-use Rattle.dimacs_optimality.specs.PathsJudge.{PassesPaths, ShowsDistances}
-use Rattle.dimacs_optimality.specs.QueryTests.{HasBlock, HasFullBlock, IsServed, ends_of, sources_asked}
-use Rattle.dimacs_optimality.specs.inside.Labels.{block_at}
-use Rattle.dimacs_optimality.proofs.BlockNumbers.{block_found}
-use Rattle.dimacs_optimality.proofs.PathsPassing.{passing_shows}
+use Rattle.dimacs_judging.specs.Answers.{answer_to, distance_from, radius_from, radius_in}
+use Rattle.dimacs_judging.specs.declared.verdict.Answer.{Answer}
+use Rattle.dimacs_judging.specs.InfeasibleJudge.{ShowsNoFlow}
+use Rattle.dimacs_judging.specs.MaxJudge.{ShowsMaximum}
+use Rattle.dimacs_judging.specs.MinJudge.{ShowsLeast}
+use Rattle.dimacs_judging.specs.PathsJudge.{PassesPaths, ShowsDistances}
+use Rattle.dimacs_judging.specs.QueryTests.{HasBlock, HasFullBlock, IsServed, ends_of, sources_asked}
+use Rattle.dimacs_judging.specs.inside.Labels.{block_at}
+use Rattle.dimacs_judging.proofs.BlockNumbers.{block_found}
+use Rattle.dimacs_judging.proofs.PathsPassing.{passing_shows}
 use Rattle.dimacs_decide.specs.CertifiedPaths.{AreLabelsOfAll, block_source, sources_of}
 use Rattle.dimacs_runs.specs.declared.jobs.CertifyKind.TheVariants as certifies
 use Rattle.dimacs_runs.specs.declared.jobs.JudgeKind.TheVariants.{Max, Min, Infeasible, Paths}

@@ -2,19 +2,19 @@
 use Rattle.std.proofs.Common.{◌≡◌, ℕ, List, [], ◌∷◌, Result, Ok, Err, refl, sym, subst, ap, ◌∙◌, inl, inr}
 use Rattle.dimacs_records.specs.declared.faults.ReadError.{ReadError}
 use Rattle.dimacs_records.specs.declared.reasons.Reason.{Reason}
-use Rattle.dimacs_optimality.specs.declared.verdict.JudgeError.{JudgeError}
-use Rattle.dimacs_optimality.specs.declared.verdict.JudgeError.TheVariants as judge_errors
-use Rattle.dimacs_optimality.specs.declared.verdict.Verdict.{Verdict}
-use Rattle.dimacs_optimality.specs.declared.verdict.Verdict.TheVariants as verdicts
-use Rattle.dimacs_optimality.specs.declared.verdict.Where.{Where}
-use Rattle.dimacs_optimality.specs.Answers.{AnswersQueries}
+use Rattle.dimacs_judging.specs.declared.verdict.JudgeError.{JudgeError}
+use Rattle.dimacs_judging.specs.declared.verdict.JudgeError.TheVariants as judge_errors
+use Rattle.dimacs_judging.specs.declared.verdict.Verdict.{Verdict}
+use Rattle.dimacs_judging.specs.declared.verdict.Verdict.TheVariants as verdicts
+use Rattle.dimacs_judging.specs.declared.verdict.Where.{Where}
+use Rattle.dimacs_judging.specs.Answers.{AnswersQueries}
 use Rattle.dimacs_claims.specs.Labels.{BlockValue}
 use Rattle.dimacs_claims.specs.SolutionReading.{AnswersAlike}
 use Rattle.dimacs_instance.specs.QueryTexts as queries
 use Rattle.dimacs_instance.specs.QueryTexts.{QueriesValue}
 use Rattle.std.specs.List.{flat_map}
 use Rattle.dimacs_runs.specs.Judged.{paths_lines}
-use Rattle.dimacs_optimality.specs.Tests.{Row, Judges}
+use Rattle.dimacs_judging.specs.Tests.{Row, Judges}
 use Rattle.dimacs_runs.specs.declared.status.Status.{Status}
 use Rattle.dimacs_runs.specs.declared.status.Status.TheVariants.{Done, Refused, GaveUp}
 use Rattle.dimacs_runs.specs.Judgings.{CountsDevices, VerdictOr}
@@ -23,7 +23,7 @@ use Rattle.dimacs_runs.specs.inside.Judgings.{ReadsIn}
 use Rattle.dimacs_runs.specs.Runs.{ReportsAlone}
 use Rattle.dimacs_runs.specs.inside.Outcomes.{MayReport, judge_outcome, outcome_of}
 use Rattle.dimacs_runs.specs.Verdicts.{answer_line, failure_line, sources_line, verdict_lines}
-use Rattle.dimacs_optimality.proofs.Firsts.{none_first}
+use Rattle.dimacs_judging.proofs.Firsts.{none_first}
 
 module _ (holds : Type 0) (rows : List Row) (says : Verdict → Type 0) (lines : List ℕ) (same : (verdict : Verdict) → says verdict → verdict_lines verdict ≡ lines) where
   abbrev possible : Status → List ℕ → Type 0

@@ -25,9 +25,9 @@ use Rattle.dimacs_claims.specs.inside.ById.{id_at}
 use Rattle.dimacs_claims.proofs.BlockLemmas.{is_some-label, label_id}
 use Rattle.dimacs_claims.proofs.ByIdLemmas.{fresh_apart}
 use Rattle.dimacs_claims.proofs.LabelLaws.{fit_read}
-use Rattle.dimacs_optimality.specs.inside.Labels.{block_at}
-use Rattle.dimacs_optimality.specs.QueryTests.{HasBlock}
-use Rattle.dimacs_optimality.proofs.BlockNumbers.{block_found}
+use Rattle.dimacs_judging.specs.inside.Labels.{block_at}
+use Rattle.dimacs_judging.specs.QueryTests.{HasBlock}
+use Rattle.dimacs_judging.proofs.BlockNumbers.{block_found}
 use Rattle.dimacs_decide.specs.CertifiedPaths.{AreLabelsOfAll, block_source}
 use Rattle.dimacs_decide.proofs.CertifiedPathsLemmas.{same_place}
 

@@ -15,15 +15,15 @@ use Rattle.dimacs_network.specs.declared.network.ArcView.{ArcView}
 use Rattle.dimacs_network.specs.Arcs.{JoinsNodes, no_arc}
 use Rattle.dimacs_instance.specs.MaxFlows.{HasCapacityAlone, IsMax, MaxValue}
 use Rattle.dimacs_instance.specs.MinFlows.{HasBounds, IsMin, MinValue}
-use Rattle.dimacs_optimality.specs.Claims.{Carries, entry_at, no_entry}
-use Rattle.dimacs_optimality.specs.Entries.{IsSolutionOf}
-use Rattle.dimacs_optimality.specs.Feasible.{value}
-use Rattle.dimacs_optimality.specs.Flows.{cost, net, sum_arcs, when}
-use Rattle.dimacs_optimality.specs.FlowTests.{cost_through}
-use Rattle.dimacs_optimality.specs.MaxJudge.{IsMaxClaim}
-use Rattle.dimacs_optimality.specs.MinJudge.{IsMinClaim}
-use Rattle.dimacs_optimality.specs.Rows.{amount_at}
-use Rattle.dimacs_optimality.proofs.SolutionLemmas.{carried}
+use Rattle.dimacs_judging.specs.Claims.{Carries, entry_at, no_entry}
+use Rattle.dimacs_judging.specs.Entries.{IsSolutionOf}
+use Rattle.dimacs_judging.specs.Feasible.{value}
+use Rattle.dimacs_judging.specs.Flows.{cost, net, sum_arcs, when}
+use Rattle.dimacs_judging.specs.FlowTests.{cost_through}
+use Rattle.dimacs_judging.specs.MaxJudge.{IsMaxClaim}
+use Rattle.dimacs_judging.specs.MinJudge.{IsMinClaim}
+use Rattle.dimacs_judging.specs.Rows.{amount_at}
+use Rattle.dimacs_judging.proofs.SolutionLemmas.{carried}
 
 -- ---- the lines of entries
 on_line : (e : Entry) (n : ℕ) → e.line ≡ n → record e { line = n } ≡ e

@@ -9,12 +9,12 @@ use Rattle.dimacs_instance.specs.MinFlows.{MinValue}
 use Rattle.dimacs_instance.specs.QueryTexts.{QueriesValue}
 use Rattle.dimacs_claims.specs.SolutionTexts.{claimed}
 use Rattle.dimacs_records.specs.declared.reasons.Reason.{Reason}
-use Rattle.dimacs_optimality.specs.declared.verdict.Where.{Where}
-use Rattle.dimacs_optimality.specs.declared.verdict.Where.TheVariants.{Arc}
+use Rattle.dimacs_judging.specs.declared.verdict.Where.{Where}
+use Rattle.dimacs_judging.specs.declared.verdict.Where.TheVariants.{Arc}
 use Rattle.dimacs_records.specs.declared.reasons.Reason.TheVariants as reasons
-use Rattle.dimacs_optimality.specs.QueryTests.{query_node_row}
-use Rattle.dimacs_optimality.proofs.Firsts.{one_of_row}
-use Rattle.dimacs_optimality.proofs.QueriesPassing.{query_node_one_way}
+use Rattle.dimacs_judging.specs.QueryTests.{query_node_row}
+use Rattle.dimacs_judging.proofs.Firsts.{one_of_row}
+use Rattle.dimacs_judging.proofs.QueriesPassing.{query_node_one_way}
 use Rattle.dimacs_solve.specs.declared.error.SolveError.{SolveError}
 use Rattle.dimacs_solve.specs.declared.error.SolveError.TheVariants as solve_errors
 use Rattle.dimacs_solve.specs.declared.maximum.MaxAnswer.{MaxAnswer}

@@ -3,13 +3,13 @@ use Rattle.std.proofs.Common.{◌≡◌, ◌∙◌, ℕ, List, Result, Ok, Err, 
 use Rattle.std.specs.Prelude.{ℤ, IfErr, IfOk}
 use Rattle.dimacs_claims.specs.SolutionTexts.{SolutionValue}
 use Rattle.dimacs_records.specs.declared.reasons.Reason.{Reason}
-use Rattle.dimacs_optimality.specs.declared.verdict.JudgeError.{JudgeError}
-use Rattle.dimacs_optimality.specs.declared.verdict.JudgeError.TheVariants as judge_errors
-use Rattle.dimacs_optimality.specs.declared.verdict.Where.{Where}
-use Rattle.dimacs_optimality.specs.Tests.{AllClear, FirstAlone, Refuses}
-use Rattle.dimacs_optimality.proofs.Firsts.{none_first}
+use Rattle.dimacs_judging.specs.declared.verdict.JudgeError.{JudgeError}
+use Rattle.dimacs_judging.specs.declared.verdict.JudgeError.TheVariants as judge_errors
+use Rattle.dimacs_judging.specs.declared.verdict.Where.{Where}
+use Rattle.dimacs_judging.specs.Tests.{AllClear, FirstAlone, Refuses}
+use Rattle.dimacs_judging.proofs.Firsts.{none_first}
 use Rattle.dimacs_network.specs.declared.network.ArcView.{ArcView}
-use Rattle.dimacs_spread.specs.Spread.{Deals, NoneCheaper, spread_rows}
+use Rattle.dimacs_solve.specs.Spread.{Deals, NoneCheaper, spread_rows}
 use Rattle.dimacs_runs.specs.declared.jobs.SpreadKind.TheVariants.{Max, Min}
 use Rattle.dimacs_runs.specs.declared.jobs.SpreadKind.{SpreadKind}
 use Rattle.dimacs_runs.specs.declared.status.Status.{Status}

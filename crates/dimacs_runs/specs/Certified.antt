@@ -16,15 +16,15 @@ use Rattle.dimacs_instance.specs.MaxFlows.{MaxValue}
 use Rattle.dimacs_instance.specs.MaxTexts.{GivesMax}
 use Rattle.dimacs_instance.specs.MinFlows.{MinValue}
 use Rattle.dimacs_instance.specs.MinTexts.{GivesMin}
-use Rattle.dimacs_optimality.specs.declared.verdict.Where.{Where}
-use Rattle.dimacs_optimality.specs.declared.verdict.Where.TheVariants.{Solution}
-use Rattle.dimacs_optimality.specs.Entries.{IsMaxSolutionOf, IsMinSolutionOf}
-use Rattle.dimacs_optimality.specs.Feasible.{FeasibleMin}
-use Rattle.dimacs_optimality.specs.FlowTests.{LeavesCostRange}
-use Rattle.dimacs_optimality.specs.InfeasibleJudge.{ShowsNoFlow}
-use Rattle.dimacs_optimality.specs.MaxJudge.{ShowsMaximum, max_claim_rows}
-use Rattle.dimacs_optimality.specs.MinJudge.{ShowsLeast, min_claim_rows}
-use Rattle.dimacs_optimality.specs.Tests.{First, Row}
+use Rattle.dimacs_judging.specs.declared.verdict.Where.{Where}
+use Rattle.dimacs_judging.specs.declared.verdict.Where.TheVariants.{Solution}
+use Rattle.dimacs_judging.specs.Entries.{IsMaxSolutionOf, IsMinSolutionOf}
+use Rattle.dimacs_judging.specs.Feasible.{FeasibleMin}
+use Rattle.dimacs_judging.specs.FlowTests.{LeavesCostRange}
+use Rattle.dimacs_judging.specs.InfeasibleJudge.{ShowsNoFlow}
+use Rattle.dimacs_judging.specs.MaxJudge.{ShowsMaximum, max_claim_rows}
+use Rattle.dimacs_judging.specs.MinJudge.{ShowsLeast, min_claim_rows}
+use Rattle.dimacs_judging.specs.Tests.{First, Row}
 use Rattle.dimacs_decide.specs.CertifiedMax.{IsMaxImproved}
 use Rattle.dimacs_decide.specs.CertifiedMin.{IsMinImproved}
 use Rattle.dimacs_decide.specs.CertifiedPaths.{AreAllDistances, AreLabelsOfAll, distances_rows}

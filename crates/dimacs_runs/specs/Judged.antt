@@ -12,11 +12,11 @@ use Rattle.dimacs_instance.specs.Graph.{GivesGraph}
 use Rattle.dimacs_instance.specs.MaxTexts.{GivesMax}
 use Rattle.dimacs_instance.specs.MinTexts.{GivesMin}
 use Rattle.dimacs_instance.specs.QueryTexts.{QueriesValue, GivesQueries, Sources, Pairs}
-use Rattle.dimacs_optimality.specs.Answers.{answer_to}
-use Rattle.dimacs_optimality.specs.InfeasibleJudge.{ShowsNoFlow, infeasible_rows}
-use Rattle.dimacs_optimality.specs.MaxJudge.{ShowsMaximum, max_rows}
-use Rattle.dimacs_optimality.specs.MinJudge.{ShowsLeast, min_rows}
-use Rattle.dimacs_optimality.specs.PathsJudge.{ShowsDistances, paths_rows}
+use Rattle.dimacs_judging.specs.Answers.{answer_to}
+use Rattle.dimacs_judging.specs.InfeasibleJudge.{ShowsNoFlow, infeasible_rows}
+use Rattle.dimacs_judging.specs.MaxJudge.{ShowsMaximum, max_rows}
+use Rattle.dimacs_judging.specs.MinJudge.{ShowsLeast, min_rows}
+use Rattle.dimacs_judging.specs.PathsJudge.{ShowsDistances, paths_rows}
 use Rattle.dimacs_runs.specs.declared.jobs.JudgeKind.{JudgeKind}
 use Rattle.dimacs_runs.specs.declared.jobs.JudgeKind.TheVariants.{Max, Min, Infeasible, Paths}
 use Rattle.dimacs_runs.specs.declared.status.Status.{Status}

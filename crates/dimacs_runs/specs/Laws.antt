@@ -7,7 +7,7 @@ use Rattle.dimacs_claims.specs.LabelTexts.{FitText, canonical_labels}
 use Rattle.dimacs_network.specs.Arcs.{NetworkValue}
 use Rattle.dimacs_instance.specs.Graph.{SpellsGraph}
 use Rattle.dimacs_instance.specs.QueryTexts.{QueriesValue, SpellsQueries}
-use Rattle.dimacs_optimality.specs.QueryTests.{nodes_asked, sources_asked}
+use Rattle.dimacs_judging.specs.QueryTests.{nodes_asked, sources_asked}
 use Rattle.dimacs_decide.specs.CertifiedPaths.{sources_of}
 use Rattle.dimacs_runs.specs.declared.jobs.CertifyKind.{CertifyKind}
 use Rattle.dimacs_runs.specs.declared.jobs.CertifyKind.TheVariants as certifies

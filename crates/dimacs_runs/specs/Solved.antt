@@ -17,11 +17,11 @@ use Rattle.dimacs_instance.specs.MaxTexts.{GivesMax}
 use Rattle.dimacs_instance.specs.MinFlows.{MinValue}
 use Rattle.dimacs_instance.specs.MinTexts.{GivesMin}
 use Rattle.dimacs_instance.specs.QueryTexts.{QueriesValue, GivesQueries}
-use Rattle.dimacs_optimality.specs.declared.verdict.Where.{Where}
-use Rattle.dimacs_optimality.specs.declared.verdict.Where.TheVariants.{Arc}
-use Rattle.dimacs_optimality.specs.InfeasibleJudge.{ShowsNoFlow}
-use Rattle.dimacs_optimality.specs.QueryTests.{query_node_row}
-use Rattle.dimacs_optimality.specs.Tests.{Clear, FirstOfRow}
+use Rattle.dimacs_judging.specs.declared.verdict.Where.{Where}
+use Rattle.dimacs_judging.specs.declared.verdict.Where.TheVariants.{Arc}
+use Rattle.dimacs_judging.specs.InfeasibleJudge.{ShowsNoFlow}
+use Rattle.dimacs_judging.specs.QueryTests.{query_node_row}
+use Rattle.dimacs_judging.specs.Tests.{Clear, FirstOfRow}
 use Rattle.dimacs_solve.specs.Climbing.{GivesUp}
 use Rattle.dimacs_solve.specs.Descending.{GivesUpMin}
 use Rattle.dimacs_solve.specs.Paths.{AreProduced, HasNoNegativeWeight, IsFirstNegative}

@@ -7,11 +7,11 @@ use Rattle.dimacs_claims.specs.declared.solution.Entry.{Entry}
 use Rattle.dimacs_claims.specs.SolutionTexts.{SolutionValue, GivesSolution, canonical_solution}
 use Rattle.dimacs_instance.specs.MaxTexts.{GivesMax}
 use Rattle.dimacs_instance.specs.MinTexts.{GivesMin}
-use Rattle.dimacs_optimality.specs.declared.verdict.Where.{Where}
-use Rattle.dimacs_optimality.specs.Entries.{IsSolutionOf}
-use Rattle.dimacs_optimality.specs.Tests.{AllClear, First}
+use Rattle.dimacs_judging.specs.declared.verdict.Where.{Where}
+use Rattle.dimacs_judging.specs.Entries.{IsSolutionOf}
+use Rattle.dimacs_judging.specs.Tests.{AllClear, First}
 use Rattle.dimacs_network.specs.declared.network.ArcView.{ArcView}
-use Rattle.dimacs_spread.specs.Spread.{Deals, NoneCheaper, spread_rows}
+use Rattle.dimacs_solve.specs.Spread.{Deals, NoneCheaper, spread_rows}
 use Rattle.dimacs_runs.specs.declared.jobs.SpreadKind.{SpreadKind}
 use Rattle.dimacs_runs.specs.declared.jobs.SpreadKind.TheVariants.{Max, Min}
 use Rattle.dimacs_runs.specs.declared.status.Status.{Status}

@@ -5,11 +5,11 @@ use Rattle.std.specs.List.{flat_map}
 use Rattle.dimacs_records.specs.declared.reasons.Reason.{Reason}
 use Rattle.dimacs_records.specs.Names.{name_of}
 use Rattle.dimacs_records.specs.Printed.{spaced_line}
-use Rattle.dimacs_optimality.specs.declared.verdict.Answer.{Answer}
-use Rattle.dimacs_optimality.specs.declared.verdict.Verdict.{Verdict}
-use Rattle.dimacs_optimality.specs.declared.verdict.Verdict.TheVariants as verdicts
-use Rattle.dimacs_optimality.specs.declared.verdict.Where.{Where}
-use Rattle.dimacs_optimality.specs.declared.verdict.Where.TheVariants as places
+use Rattle.dimacs_judging.specs.declared.verdict.Answer.{Answer}
+use Rattle.dimacs_judging.specs.declared.verdict.Verdict.{Verdict}
+use Rattle.dimacs_judging.specs.declared.verdict.Verdict.TheVariants as verdicts
+use Rattle.dimacs_judging.specs.declared.verdict.Where.{Where}
+use Rattle.dimacs_judging.specs.declared.verdict.Where.TheVariants as places
 use Rattle.dimacs_runs.specs.Refusals.{refusal_line}
 
 abbrev pub yes_line : List (List ℕ) → List ℕ

@@ -1,7 +1,7 @@
 //! Certifies that an instance has no feasible flow.
 
 ghost use Rattle.std.specs.Prelude.{◌≡◌, ◌≢◌, ◌∷◌, [], ℕ, List, Some, Err};
-ghost use Rattle.dimacs_optimality.specs.Feasible.{FeasibleMin};
+ghost use Rattle.dimacs_judging.specs.Feasible.{FeasibleMin};
 ghost use Rattle.dimacs_runs.specs.declared.jobs.CertifyKind.TheVariants as certifies;
 ghost use Rattle.dimacs_runs.specs.declared.status.RunError.TheVariants.{Device};
 ghost use Rattle.dimacs_runs.specs.Certified.{Certified, CertifiesInfeasible};
@@ -14,7 +14,7 @@ use crate::stop::Stop;
 use crate::texts_in_turn::read;
 use dimacs_decide::{Feasibility, decide_infeasible};
 use dimacs_instance::MinInstance;
-use dimacs_judge::{Flow, Verdict, min_solution};
+use dimacs_judging::{Flow, Verdict, min_solution};
 use dimacs_lines::Source;
 use dimacs_network::{ArcView, Network, PlainArcs};
 use dimacs_records::{At, Reason, TextKind};

@@ -24,7 +24,7 @@ use crate::stop::{Stop, outcome_of};
 use crate::texts_in_turn::{read, read_placed, read_three, read_two};
 use dimacs_claims::{Cut, Labels, Potentials};
 use dimacs_instance::{Graph, MaxInstance, MinInstance, Queries};
-use dimacs_judge::{
+use dimacs_judging::{
     FlowPlaces, JudgeError, Verdict, index_for, judge_infeasible, judge_max_placed,
     judge_min_placed, judge_paths,
 };

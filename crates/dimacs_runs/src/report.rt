@@ -7,7 +7,7 @@ ghost use Rattle.dimacs_runs.specs.inside.Reports.{report_lines, report_status};
 use crate::refusal::{put_refusal, text_name};
 use crate::status::Status;
 use crate::verdict::{put_distances, put_failure, put_gave_up, put_verdict};
-use dimacs_judge::{Verdict, Where};
+use dimacs_judging::{Verdict, Where};
 use dimacs_lines::{DeviceFault, Sink};
 use dimacs_records::{At, Reason, TextKind};
 

@@ -23,7 +23,7 @@ use crate::status::{RunError, Status};
 use crate::stop::{Stop, outcome_of};
 use crate::texts_in_turn::{read, read_two};
 use dimacs_instance::{Graph, MaxInstance, MinInstance, Queries};
-use dimacs_judge::{Verdict, answer_queries, index_for};
+use dimacs_judging::{Verdict, answer_queries, index_for};
 use dimacs_lines::{Sink, Source};
 use dimacs_network::{ArcView, CapacityArc, Network, PlainArcs, WeightArc};
 use dimacs_solve::{MaxAnswer, MinAnswer, SolveError, solve_max, solve_min, solve_paths};

@@ -25,10 +25,10 @@ use crate::stop::{Stop, outcome_of};
 use crate::texts_in_turn::read_two;
 use dimacs_claims::Solution;
 use dimacs_instance::{MaxInstance, MinInstance};
-use dimacs_judge::{Flow, JudgeError, entries_for};
+use dimacs_judging::{Flow, JudgeError, entries_for};
 use dimacs_lines::{Sink, Source};
 use dimacs_network::{ArcView, CapacityArc, Network, PlainArcs};
-use dimacs_spread::{spread_max, spread_min};
+use dimacs_solve::{spread_max, spread_min};
 use std::alloc::Global;
 
 /// Reads an instance and a claimed flow, in this order, and writes a solution with the claimed value and an entry for

@@ -7,7 +7,7 @@ use crate::outcome::Outcome;
 use crate::report::Report;
 use crate::status::RunError;
 use crate::texts_in_turn::Unread;
-use dimacs_judge::{JudgeError, Where};
+use dimacs_judging::{JudgeError, Where};
 use dimacs_lines::Memory;
 use dimacs_records::{ReadError, Reason};
 use dimacs_solve::SolveError;

@@ -6,7 +6,7 @@ ghost use Rattle.dimacs_lines.specs.Puts.{Puts};
 ghost use Rattle.dimacs_runs.specs.Verdicts.{answer_line, distances_line, failure_line, gave_up_line, numbered_line, verdict_lines};
 
 use crate::refusal::put_refusal;
-use dimacs_judge::{Answer, Verdict, Where};
+use dimacs_judging::{Answer, Verdict, Where};
 use dimacs_lines::{DeviceFault, OutputBuffer, Sink};
 use dimacs_records::{At, Part, Reason, put_line, write_line};
 

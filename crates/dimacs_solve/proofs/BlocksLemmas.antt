@@ -14,11 +14,11 @@ use Rattle.dimacs_network.specs.Arcs.{NetworkValue, arc_at, no_arc}
 use Rattle.dimacs_instance.specs.QueryTexts.{QueriesValue, AreIds, HaveIds, Sources, Pairs}
 use Rattle.dimacs_claims.specs.declared.block.Label.{Label}
 use Rattle.dimacs_claims.specs.Labels.{AreLabels, BlockValue, LabelsValue, IsNewSource, has_source, label}
-use Rattle.dimacs_optimality.specs.Labels.{HasWeights, HasTightArc, IsRelaxed, LabelsOk}
-use Rattle.dimacs_optimality.specs.Laws.{PassingShowsLaw}
-use Rattle.dimacs_optimality.specs.PathsJudge.{PassesPaths}
-use Rattle.dimacs_optimality.proofs.BlockNumbers.{block_found}
-use Rattle.dimacs_optimality.specs.QueryTests.{HasBlock, HasFullBlock, IsServed, ends_of, nodes_asked, sources_asked}
+use Rattle.dimacs_judging.specs.Labels.{HasWeights, HasTightArc, IsRelaxed, LabelsOk}
+use Rattle.dimacs_judging.specs.Laws.{PassingShowsLaw}
+use Rattle.dimacs_judging.specs.PathsJudge.{PassesPaths}
+use Rattle.dimacs_judging.proofs.BlockNumbers.{block_found}
+use Rattle.dimacs_judging.specs.QueryTests.{HasBlock, HasFullBlock, IsServed, ends_of, nodes_asked, sources_asked}
 use Rattle.dimacs_solve.specs.declared.adjacency.Adjacency.{Adjacency}
 use Rattle.dimacs_solve.specs.declared.adjacency.WeightedArc.{WeightedArc}
 use Rattle.dimacs_solve.specs.inside.Adjacency.{out, out_arc_to, IsOutArcOf, IsAdjacencyOf}

@@ -8,10 +8,10 @@ use Rattle.std.proofs.lemmas.List.Elements.{All-push, All-nil, All-weaker, All-h
 use Rattle.dimacs_lines.specs.Limits.{IsNode}
 use Rattle.dimacs_network.specs.declared.network.ArcView.{ArcView}
 use Rattle.dimacs_instance.specs.MinFlows.{HasBounds, IsMin, MinValue, positive_part}
-use Rattle.dimacs_optimality.specs.Feasible.{FeasibleMin}
-use Rattle.dimacs_optimality.specs.Flows.{sum_nodes}
-use Rattle.dimacs_optimality.specs.Optimum.{Least}
-use Rattle.dimacs_optimality.specs.Rows.{amount_at}
+use Rattle.dimacs_judging.specs.Feasible.{FeasibleMin}
+use Rattle.dimacs_judging.specs.Flows.{sum_nodes}
+use Rattle.dimacs_judging.specs.Optimum.{Least}
+use Rattle.dimacs_judging.specs.Rows.{amount_at}
 use Rattle.dimacs_network.specs.Arcs.{arc_at}
 use Rattle.dimacs_decide.specs.Bounds.{KeepsBounds}
 use Rattle.dimacs_decide.specs.FeasibilityDecision.{imbalance_at, total_excess}

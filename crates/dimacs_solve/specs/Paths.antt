@@ -6,9 +6,9 @@ use Rattle.dimacs_network.specs.Arcs.{NetworkValue, arc_at}
 use Rattle.dimacs_instance.specs.QueryTexts.{QueriesValue}
 use Rattle.dimacs_claims.specs.declared.block.Label.{Label}
 use Rattle.dimacs_claims.specs.Labels.{BlockValue, LabelsValue}
-use Rattle.dimacs_optimality.specs.PathsJudge.{ShowsDistances}
-use Rattle.dimacs_optimality.specs.QueryTests.{query_node_row, sources_asked}
-use Rattle.dimacs_optimality.specs.Tests.{Clear, FirstOfRow}
+use Rattle.dimacs_judging.specs.PathsJudge.{ShowsDistances}
+use Rattle.dimacs_judging.specs.QueryTests.{query_node_row, sources_asked}
+use Rattle.dimacs_judging.specs.Tests.{Clear, FirstOfRow}
 use Rattle.dimacs_solve.specs.declared.error.SolveError.{SolveError}
 use Rattle.dimacs_solve.specs.declared.error.SolveError.TheVariants.{NegativeWeight, Refused, Memory}
 

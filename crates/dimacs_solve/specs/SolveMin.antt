@@ -3,15 +3,15 @@ use Rattle.std.specs.Prelude.{ℕ, ◌≡◌, Result, Ok, Err}
 use Rattle.dimacs_claims.specs.Potentials.{PotentialsValue}
 use Rattle.dimacs_claims.specs.SolutionTexts.{SolutionValue, claimed}
 use Rattle.dimacs_instance.specs.MinFlows.{MinValue}
-use Rattle.dimacs_optimality.specs.Claims.{Carries}
-use Rattle.dimacs_optimality.specs.InfeasibleJudge.{ShowsNoFlow}
-use Rattle.dimacs_optimality.specs.MinJudge.{ShowsLeast}
+use Rattle.dimacs_judging.specs.Claims.{Carries}
+use Rattle.dimacs_judging.specs.InfeasibleJudge.{ShowsNoFlow}
+use Rattle.dimacs_judging.specs.MinJudge.{ShowsLeast}
 use Rattle.dimacs_solve.specs.declared.error.SolveError.{SolveError}
 use Rattle.dimacs_solve.specs.declared.error.SolveError.TheVariants.{NegativeWeight, Refused, Memory}
 use Rattle.dimacs_solve.specs.declared.least.MinAnswer.{MinAnswer}
 use Rattle.dimacs_solve.specs.declared.least.MinAnswer.TheVariants.{Optimal, Infeasible, GaveUp}
 use Rattle.dimacs_solve.specs.Descending.{GivesUpMin, start_flow}
-use Rattle.dimacs_optimality.specs.Entries.{IsSolutionOf}
+use Rattle.dimacs_judging.specs.Entries.{IsSolutionOf}
 
 -- an entry for every arc, and potentials that show that the flow costs least; with limit 0 it is the start flow
 abbrev pub IsLeastAnswer : MinValue → ℕ → SolutionValue → PotentialsValue → Type 0

@@ -7,7 +7,7 @@ use crate::improve::raise;
 use dimacs_claims::Cut;
 use dimacs_decide::{MaxDecision, decide_max, shows_maximum};
 use dimacs_instance::MaxInstance;
-use dimacs_judge::Flow;
+use dimacs_judging::Flow;
 use dimacs_lines::Memory;
 use dimacs_network::Network;
 use std::alloc::Global;

@@ -8,7 +8,7 @@ use crate::question::{Reply, ask_over};
 use dimacs_claims::{Cut, Potentials};
 use dimacs_decide::Incidence;
 use dimacs_instance::MinInstance;
-use dimacs_judge::Flow;
+use dimacs_judging::Flow;
 use dimacs_lines::Memory;
 use dimacs_network::{ArcView, Network};
 use std::alloc::Global;

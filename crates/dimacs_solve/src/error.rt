@@ -1,6 +1,6 @@
 //! The errors of solvers.
 
-use dimacs_judge::Where;
+use dimacs_judging::Where;
 use dimacs_lines::Memory;
 use dimacs_records::Reason;
 use thiserror::Error;

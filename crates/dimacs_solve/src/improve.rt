@@ -1,11 +1,11 @@
 //! Improving a flow by a heuristic.
 
 ghost use Rattle.std.specs.Prelude.{◌≡◌, ◌<ℤ◌, ◌≤ℤ◌, length, IfSome, IsTrue};
-ghost use Rattle.dimacs_optimality.specs.Feasible.{FeasibleMax, value};
+ghost use Rattle.dimacs_judging.specs.Feasible.{FeasibleMax, value};
 
 use dimacs_claims::Cut;
 use dimacs_instance::MaxInstance;
-use dimacs_judge::{Flow, feasible_max, value_of};
+use dimacs_judging::{Flow, feasible_max, value_of};
 use dimacs_methods::raise_value;
 use dimacs_network::Network;
 use std::alloc::Global;

@@ -9,7 +9,7 @@ use crate::question::{Reply, ask};
 use dimacs_claims::Potentials;
 use dimacs_decide::keeps_bounds;
 use dimacs_instance::MinInstance;
-use dimacs_judge::Flow;
+use dimacs_judging::Flow;
 use dimacs_lines::Memory;
 use dimacs_methods::make_least_flow;
 use dimacs_network::Network;

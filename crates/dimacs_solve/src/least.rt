@@ -2,8 +2,8 @@
 
 ghost use Rattle.std.specs.Prelude.{◌≡◌, ℕ, Ok};
 ghost use Rattle.dimacs_claims.specs.Potentials.{potential_of};
-ghost use Rattle.dimacs_optimality.specs.Optimum.{Least};
-ghost use Rattle.dimacs_optimality.specs.Potentials.{Slack};
+ghost use Rattle.dimacs_judging.specs.Optimum.{Least};
+ghost use Rattle.dimacs_judging.specs.Potentials.{Slack};
 ghost use Rattle.dimacs_solve.specs.Descending.{start_flow};
 ghost use Rattle.dimacs_solve.specs.SolveMin.{SolvesMin};
 
@@ -11,7 +11,7 @@ use crate::descend::{MinFlowAnswer, solve_min_flow};
 use crate::error::SolveError;
 use dimacs_claims::{Cut, Potentials, Solution};
 use dimacs_instance::MinInstance;
-use dimacs_judge::{Flow, min_solution};
+use dimacs_judging::{Flow, min_solution};
 use dimacs_network::Network;
 use std::alloc::Global;
 

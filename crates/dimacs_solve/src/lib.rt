@@ -1,7 +1,14 @@
-//! Solvers of flow and shortest path instances. Their answers pass the judge's tests.
+//! Solvers of flow and shortest path instances, whose answers pass the judge's tests, and dealing out a claimed flow to
+//! parallel arcs.
+//!
+//! A solution may give one sum for all arcs from one node to another, or their entries in any order. `spread_max` and
+//! `spread_min` add up these entries, and deal out each sum to the arcs: within their bounds if possible, and at the
+//! least cost.
 #![tactic(auto)]
 
 mod adjacency;
+mod arcs_by_cost;
+mod arcs_by_ends;
 mod climb;
 mod descend;
 mod distance;
@@ -14,7 +21,10 @@ mod maximum;
 mod node_states;
 mod paths;
 mod question;
+mod raise;
+mod rests;
 mod search;
+mod spread;
 
 pub use climb::{MaxFlowAnswer, solve_max_flow};
 pub use descend::{MinFlowAnswer, solve_min_flow};
@@ -23,3 +33,4 @@ pub use improve::improve_max;
 pub use least::{MinAnswer, solve_min};
 pub use maximum::{MaxAnswer, solve_max};
 pub use paths::solve_paths;
+pub use spread::{spread_max, spread_min};

@@ -6,7 +6,7 @@ use crate::climb::{MaxFlowAnswer, solve_max_flow};
 use crate::error::SolveError;
 use dimacs_claims::{Cut, Solution};
 use dimacs_instance::MaxInstance;
-use dimacs_judge::max_solution;
+use dimacs_judging::max_solution;
 use dimacs_network::Network;
 use std::alloc::Global;
 

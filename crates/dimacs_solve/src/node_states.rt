@@ -1,11 +1,11 @@
 //! What a search knows about the nodes.
 
 ghost use Rattle.std.specs.Prelude.{◌≡◌, ◌≤◌, ◌<◌, ◌+◌, ℕ, IsTrue, OnOk, ◌↔◌};
-ghost use Rattle.dimacs_nodes.specs.Tables.{value_of};
+ghost use Rattle.dimacs_network.specs.Tables.{value_of};
 
 use crate::distance::Distance;
 use dimacs_lines::Memory;
-use dimacs_nodes::NodeTable;
+use dimacs_network::NodeTable;
 use std::alloc::Global;
 
 /// A state from an earlier round counts as none.

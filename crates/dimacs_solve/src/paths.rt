@@ -4,7 +4,7 @@ ghost use Rattle.std.specs.Prelude.{◌≡◌, ◌<◌, ◌≤◌, ◌*◌, [], 
 ghost use Rattle.dimacs_lines.specs.Limits.{most_count, IsNode};
 ghost use Rattle.dimacs_instance.specs.QueryTexts.{AreLawful, asked, query_lines};
 ghost use Rattle.dimacs_claims.specs.Labels.{BlockValue, IsNewSource};
-ghost use Rattle.dimacs_optimality.specs.QueryTests.{sources_asked};
+ghost use Rattle.dimacs_judging.specs.QueryTests.{sources_asked};
 ghost use Rattle.dimacs_solve.specs.inside.Adjacency.{AreByNode};
 ghost use Rattle.dimacs_solve.specs.inside.Blocks.{AddsBlock, AreSolved};
 ghost use Rattle.dimacs_solve.specs.Paths.{HasNoNegativeWeight, IsFirstNegative, SolvesPaths};
@@ -17,10 +17,9 @@ use crate::node_states::NodeStates;
 use crate::search::search;
 use dimacs_claims::Labels;
 use dimacs_instance::{Graph, Queries};
-use dimacs_judge::{passing_shows, query_nodes_hold, source_asked};
+use dimacs_judging::{passing_shows, query_nodes_hold, source_asked};
 use dimacs_lines::Memory;
-use dimacs_network::Network;
-use dimacs_nodes::NodeSet;
+use dimacs_network::{Network, NodeSet};
 use std::alloc::Global;
 
 /// Makes labels that pass the judge's tests, by Dijkstra's algorithm: a block for each source that is asked for, in the

@@ -2,7 +2,7 @@
 //! less.
 
 ghost use Rattle.std.specs.Prelude.{IfOk};
-ghost use Rattle.dimacs_optimality.specs.Feasible.{FeasibleMin};
+ghost use Rattle.dimacs_judging.specs.Feasible.{FeasibleMin};
 ghost use Rattle.dimacs_decide.specs.Bounds.{KeepsBounds};
 ghost use Rattle.dimacs_decide.specs.FeasibilityDecision.{DecidesFeasible};
 ghost use Rattle.dimacs_decide.specs.Incidence.{IsIncidenceOf};
@@ -14,7 +14,7 @@ use dimacs_decide::{
     decide_min_from,
 };
 use dimacs_instance::MinInstance;
-use dimacs_judge::Flow;
+use dimacs_judging::Flow;
 use dimacs_lines::Memory;
 use dimacs_network::Network;
 use std::alloc::Global;

@@ -8,7 +8,7 @@ use dimacs_arrays::{
     judge_infeasible_arrays, judge_max_arrays, judge_min_arrays, judge_paths_arrays,
     solve_max_arrays, solve_min_arrays, solve_paths_arrays,
 };
-use dimacs_judge::{Verdict, Where};
+use dimacs_judging::{Verdict, Where};
 use dimacs_records::Reason;
 use std::alloc::Global;
 use std::process::Abort;

@@ -8,10 +8,9 @@ use dimacs_decide::{
     decide_distances_over, decide_infeasible, decide_max,
 };
 use dimacs_instance::{Graph, MaxInstance, MinInstance, read_graph, read_max, read_min};
-use dimacs_judge::{Flow, JudgeError, feasible_max, feasible_min, judge_infeasible};
+use dimacs_judging::{Flow, JudgeError, feasible_max, feasible_min, judge_infeasible};
 use dimacs_lines::{MemorySink, MemorySource};
-use dimacs_network::{AdjacencyLists, Network, Side};
-use dimacs_nodes::NodeMap;
+use dimacs_network::{AdjacencyLists, Network, NodeMap, Side};
 use std::alloc::Global;
 use std::process::Abort;
 use std::test::Fail;

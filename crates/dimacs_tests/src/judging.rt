@@ -10,7 +10,7 @@ use dimacs_claims::{
 use dimacs_instance::{
     MaxInstance, MinInstance, read_plain_graph, read_plain_max, read_plain_min, read_queries,
 };
-use dimacs_judge::{judge_infeasible, judge_max, judge_min, judge_paths};
+use dimacs_judging::{judge_infeasible, judge_max, judge_min, judge_paths};
 use dimacs_lines::{FlakySink, FlakySource, MemorySource};
 use dimacs_network::{ArcView, CapacityArc, PlainArcs};
 use dimacs_runs::{JudgeKind, RunError, Status, run_judge};

@@ -2,14 +2,14 @@
 
 ghost use Rattle.std.specs.Prelude.{◌≡◌, ℤ, List, Ok, true};
 ghost use Rattle.dimacs_claims.specs.SolutionTexts.{claimed};
-ghost use Rattle.dimacs_optimality.specs.MaxJudge.{IsMaxClaim};
-ghost use Rattle.dimacs_optimality.specs.Optimum.{Maximum};
+ghost use Rattle.dimacs_judging.specs.MaxJudge.{IsMaxClaim};
+ghost use Rattle.dimacs_judging.specs.Optimum.{Maximum};
 
 use crate::failure::Failure;
 use dimacs_claims::{Solution, write_cut, write_solution};
 use dimacs_decide::{MaxDecision, certify_max};
 use dimacs_instance::MaxInstance;
-use dimacs_judge::max_solution;
+use dimacs_judging::max_solution;
 use dimacs_lines::Sink;
 use dimacs_network::Network;
 use std::alloc::Global;

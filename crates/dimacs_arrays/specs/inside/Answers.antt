@@ -5,7 +5,7 @@ use Rattle.dimacs_arrays.specs.declared.error.ArrayError.TheVariants.{Length, Li
 use Rattle.dimacs_arrays.specs.declared.lengths.ArrayLength.{ArrayLength}
 use Rattle.dimacs_arrays.specs.Answers.{first_misfit}
 use Rattle.dimacs_arrays.specs.declared.limits.PastLimit.{PastLimit}
-use Rattle.dimacs_optimality.specs.Tests.{Row, AllClear, First}
+use Rattle.dimacs_judging.specs.Tests.{Row, AllClear, First}
 
 -- all lengths are right, or the first array with a wrong length
 abbrev pub TestsLengths : List ArrayLength → Result Unit ArrayError → Type 0

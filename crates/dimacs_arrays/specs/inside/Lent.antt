@@ -4,7 +4,7 @@ use Rattle.std.specs.List.{All, range_with_len}
 use Rattle.dimacs_network.specs.declared.network.ArcView.{ArcView}
 use Rattle.dimacs_network.specs.Arcs.{JoinsNodes}
 use Rattle.dimacs_instance.specs.MinFlows.{HasBounds}
-use Rattle.dimacs_optimality.specs.Tests.{FirstOfRow}
+use Rattle.dimacs_judging.specs.Tests.{FirstOfRow}
 use Rattle.dimacs_arrays.specs.Limits.{limit_row}
 use Rattle.dimacs_arrays.specs.declared.limits.PastLimit.{PastLimit}
 

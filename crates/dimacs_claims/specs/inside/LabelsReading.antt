@@ -2,8 +2,8 @@
 use Rattle.std.specs.Prelude.{ℕ, ◌≡◌, ◌≤◌, ◌+◌, List, [], ◌∷◌, ◌++◌, length, is_some, ◌==◌}
 use Rattle.std.specs.List.{All}
 use Rattle.dimacs_lines.specs.Limits.{most_count, most_nodes}
-use Rattle.dimacs_nodes.specs.declared.node_table.NodeTable.{NodeTable}
-use Rattle.dimacs_nodes.specs.Tables.{value_of}
+use Rattle.dimacs_network.specs.declared.node_table.NodeTable.{NodeTable}
+use Rattle.dimacs_network.specs.Tables.{value_of}
 use Rattle.dimacs_claims.specs.Labels.{BlockValue, EachAfter, IsBlock, IsNewSource, distance_in}
 use Rattle.dimacs_claims.specs.LabelsReading.{LabelsBegun}
 

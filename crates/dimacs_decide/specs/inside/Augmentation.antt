@@ -3,7 +3,7 @@ use Rattle.std.specs.Prelude.{ℕ, ◌≡◌, Bool, true, List, ℤ, pos, ◌+�
 use Rattle.std.specs.List.{AllZip}
 use Rattle.dimacs_claims.specs.Cuts.{CutValue}
 use Rattle.dimacs_network.specs.declared.network.ArcView.{ArcView}
-use Rattle.dimacs_optimality.specs.Cuts.{enters, leaves, members}
+use Rattle.dimacs_judging.specs.Cuts.{enters, leaves, members}
 use Rattle.dimacs_lines.specs.Limits.{IsNode}
 use Rattle.dimacs_decide.specs.Bounds.{KeepsBounds}
 use Rattle.dimacs_decide.specs.declared.send.Augmentation.{Augmentation}

@@ -5,9 +5,9 @@ use Rattle.dimacs_network.specs.Arcs.{NetworkValue, arc_at}
 use Rattle.dimacs_network.specs.AdjacencyLists.{AreAdjacencyLists}
 use Rattle.dimacs_network.specs.declared.adjacency_lists.Side.TheVariants.{Tail}
 use Rattle.dimacs_records.specs.declared.reasons.Reason.{Reason}
-use Rattle.dimacs_optimality.specs.CertificateTests.{RelaxFails}
-use Rattle.dimacs_optimality.specs.LightestArcs.{Covers}
-use Rattle.dimacs_nodes.specs.Tables.{value_of}
+use Rattle.dimacs_judging.specs.CertificateTests.{RelaxFails}
+use Rattle.dimacs_judging.specs.LightestArcs.{Covers}
+use Rattle.dimacs_network.specs.Tables.{value_of}
 use Rattle.dimacs_claims.specs.Labels.{BlockValue, distance_in, no_label}
 use Rattle.dimacs_decide.specs.declared.few_labels.Tables.{Tables}
 

@@ -2,7 +2,7 @@
 use Rattle.std.specs.Prelude.{ℕ, ◌≡◌, ◌≢◌, ◌<◌, ◌≤◌, List, ℤ, pos, ◌≤ℤ◌, ◌<ℤ◌}
 use Rattle.dimacs_instance.specs.MinFlows.{MinValue}
 use Rattle.dimacs_lines.specs.Limits.{IsNode}
-use Rattle.dimacs_nodes.specs.Tables.{value_of}
+use Rattle.dimacs_network.specs.Tables.{value_of}
 use Rattle.dimacs_decide.specs.FeasibilityDecision.{DecidesFeasible, imbalance_at}
 use Rattle.dimacs_decide.specs.declared.feasible.NodeTest.{NodeTest}
 use Rattle.dimacs_decide.specs.declared.feasible.NodeTest.TheVariants as looks

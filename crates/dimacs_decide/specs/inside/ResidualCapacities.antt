@@ -3,7 +3,7 @@ use Rattle.std.specs.Prelude.{ℕ, List, ℤ, ◌+ℤ◌, ◌-ℤ◌}
 use Rattle.dimacs_network.specs.declared.network.ArcView.{ArcView}
 use Rattle.dimacs_network.specs.declared.adjacency_lists.Side.{Side}
 use Rattle.dimacs_network.specs.declared.adjacency_lists.Side.TheVariants.{Tail, Head}
-use Rattle.dimacs_optimality.specs.Rows.{amount_at}
+use Rattle.dimacs_judging.specs.Rows.{amount_at}
 use Rattle.dimacs_network.specs.Arcs.{arc_at}
 
 -- the residual capacity of an arc from this end

@@ -3,7 +3,7 @@ use Rattle.std.specs.Prelude.{ℕ, zero, suc, ◌≡◌, ◌≤◌, ◌+◌, Boo
 use Rattle.dimacs_lines.specs.Limits.{IsNode}
 use Rattle.dimacs_network.specs.declared.network.ArcView.{ArcView}
 use Rattle.dimacs_claims.specs.Labels.{BlockValue, IsBlock, label, no_label}
-use Rattle.dimacs_optimality.specs.Labels.{HasTightArc}
+use Rattle.dimacs_judging.specs.Labels.{HasTightArc}
 use Rattle.dimacs_decide.specs.Distances.{IsTight, IsTightlyReached}
 use Rattle.dimacs_decide.specs.inside.Counting.{count_below}
 

@@ -12,8 +12,7 @@ ghost use Rattle.dimacs_instance.specs.inside.Summaries.{GivesSummary};
 use crate::min::MinInstance;
 use crate::summaries::Summary;
 use dimacs_lines::{DeviceFault, Memory, Sink, Source};
-use dimacs_network::{ArcView, PlainArcs};
-use dimacs_nodes::NodeMap;
+use dimacs_network::{ArcView, NodeMap, PlainArcs};
 use dimacs_records::{
     Begun, Declared, Earlier, Part, ReadError, Record, TextKind, put_line, read_counted,
 };

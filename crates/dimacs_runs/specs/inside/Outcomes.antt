@@ -6,12 +6,12 @@ use Rattle.dimacs_claims.specs.Labels.{AreLabels}
 use Rattle.dimacs_claims.specs.LabelTexts.{canonical_labels}
 use Rattle.dimacs_claims.specs.Potentials.{SpellsPotentials, canonical_potentials}
 use Rattle.dimacs_claims.specs.SolutionTexts.{SolutionValue, canonical_solution, claimed}
-use Rattle.dimacs_optimality.specs.declared.verdict.JudgeError.{JudgeError}
-use Rattle.dimacs_optimality.specs.declared.verdict.JudgeError.TheVariants as judge_errors
-use Rattle.dimacs_optimality.specs.declared.verdict.Verdict.{Verdict}
-use Rattle.dimacs_optimality.specs.declared.verdict.Verdict.TheVariants as verdicts
-use Rattle.dimacs_optimality.specs.declared.verdict.Where.TheVariants.{Arc}
-use Rattle.dimacs_optimality.specs.Tests.{AllClear, FirstAlone, Refuses}
+use Rattle.dimacs_judging.specs.declared.verdict.JudgeError.{JudgeError}
+use Rattle.dimacs_judging.specs.declared.verdict.JudgeError.TheVariants as judge_errors
+use Rattle.dimacs_judging.specs.declared.verdict.Verdict.{Verdict}
+use Rattle.dimacs_judging.specs.declared.verdict.Verdict.TheVariants as verdicts
+use Rattle.dimacs_judging.specs.declared.verdict.Where.TheVariants.{Arc}
+use Rattle.dimacs_judging.specs.Tests.{AllClear, FirstAlone, Refuses}
 use Rattle.dimacs_records.specs.declared.faults.ReadError.{ReadError}
 use Rattle.dimacs_records.specs.declared.faults.ReadError.TheVariants as read_errors
 use Rattle.dimacs_records.specs.declared.kinds.TextKind.{TextKind}
@@ -23,7 +23,7 @@ use Rattle.dimacs_solve.specs.declared.maximum.MaxAnswer.{MaxAnswer}
 use Rattle.dimacs_solve.specs.declared.maximum.MaxAnswer.TheVariants as max_answers
 use Rattle.dimacs_solve.specs.declared.least.MinAnswer.{MinAnswer}
 use Rattle.dimacs_solve.specs.declared.least.MinAnswer.TheVariants as min_answers
-use Rattle.dimacs_spread.specs.Spread.{Deals, spread_rows}
+use Rattle.dimacs_solve.specs.Spread.{Deals, spread_rows}
 use Rattle.dimacs_runs.specs.declared.jobs.SpreadKind.{SpreadKind}
 use Rattle.dimacs_runs.specs.declared.status.Status.{Status}
 use Rattle.dimacs_runs.specs.declared.status.RunError.{RunError}

@@ -3,7 +3,7 @@ use Rattle.std.specs.Prelude.{ℕ, ◌≡◌, List, [], All, map}
 use Rattle.std.specs.Ordering.{nat_cmp}
 use Rattle.std.specs.FinSet as set
 use Rattle.dimacs_claims.specs.Labels.{AreLabels, AreSources, BlockValue, LabelsValue, with_block}
-use Rattle.dimacs_optimality.specs.QueryTests.{HasBlock}
+use Rattle.dimacs_judging.specs.QueryTests.{HasBlock}
 use Rattle.dimacs_solve.specs.declared.adjacency.Adjacency.{Adjacency}
 use Rattle.dimacs_solve.specs.Paths.{block_source, distinct_after}
 use Rattle.dimacs_solve.specs.inside.Search.{IsPathTree}

@@ -2,9 +2,9 @@
 use Rattle.std.specs.Prelude.{◌≡◌, List, ℤ}
 use Rattle.dimacs_claims.specs.Potentials.{potential_of}
 use Rattle.dimacs_instance.specs.MinFlows.{MinValue}
-use Rattle.dimacs_optimality.specs.InfeasibleJudge.{ShowsNoFlow}
-use Rattle.dimacs_optimality.specs.Optimum.{Least}
-use Rattle.dimacs_optimality.specs.Potentials.{Slack}
+use Rattle.dimacs_judging.specs.InfeasibleJudge.{ShowsNoFlow}
+use Rattle.dimacs_judging.specs.Optimum.{Least}
+use Rattle.dimacs_judging.specs.Potentials.{Slack}
 use Rattle.dimacs_decide.specs.Bounds.{KeepsBounds}
 use Rattle.dimacs_solve.specs.declared.question.Reply.{Reply}
 use Rattle.dimacs_solve.specs.declared.question.Reply.TheVariants as replies

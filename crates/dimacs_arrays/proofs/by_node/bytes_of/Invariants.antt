@@ -1,6 +1,6 @@
 use Rattle.std.proofs.Common.{◌≡◌, map}
 use Rattle.std.specs.List.{range_with_len}
-use Rattle.dimacs_optimality.specs.Cuts.{members}
+use Rattle.dimacs_judging.specs.Cuts.{members}
 use Rattle.dimacs_arrays.proofs.ByNodeLemmas.{byte_in}
 use Rattle.dimacs_arrays.proofs.by_node.bytes_of.Given as goal
 

@@ -1,5 +1,5 @@
 use Rattle.std.proofs.Common.{ℕ, ◌≡◌}
-use Rattle.dimacs_optimality.specs.Cuts.{members}
+use Rattle.dimacs_judging.specs.Cuts.{members}
 use Rattle.dimacs_arrays.specs.ByNode.{marked}
 use Rattle.dimacs_arrays.proofs.ByNodeLemmas.{nodes_among}
 use Rattle.dimacs_arrays.proofs.by_node.cut_of.Given as goal

@@ -1,6 +1,6 @@
 use Rattle.std.proofs.Common.{[], refl, subst}
 use Rattle.dimacs_instance.specs.MinFlows.{MinValue, IsMin}
-use Rattle.dimacs_optimality.specs.Tests.{Settles}
+use Rattle.dimacs_judging.specs.Tests.{Settles}
 use Rattle.dimacs_arrays.specs.declared.certify_infeasible.InfeasibleCertified.{InfeasibleCertified}
 use Rattle.dimacs_arrays.specs.declared.min.MinArrays.{MinArrays}
 use Rattle.dimacs_arrays.specs.MinArrays.{CertifiesInfeasible, min_lengths, min_limits, min_spelled}

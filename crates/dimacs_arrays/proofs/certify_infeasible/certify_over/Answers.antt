@@ -1,4 +1,4 @@
-use Rattle.dimacs_optimality.specs.InfeasibleJudge.{ShowsNoFlow}
+use Rattle.dimacs_judging.specs.InfeasibleJudge.{ShowsNoFlow}
 use Rattle.dimacs_arrays.proofs.SolveLemmas.{infeasible_by}
 use Rattle.dimacs_arrays.proofs.certify_infeasible.certify_over.Goals as goal
 

@@ -1,8 +1,8 @@
 use Rattle.std.proofs.Common.{◌∙◌, List, [], ◌∷◌, ℤ, length, sym}
 use Rattle.std.proofs.lemmas.List.FromFn.{length-map-range_with_len}
 use Rattle.dimacs_instance.specs.MaxFlows.{MaxValue, IsMax}
-use Rattle.dimacs_optimality.specs.FlowTests.{feasible_max_rows}
-use Rattle.dimacs_optimality.specs.Tests.{Settles}
+use Rattle.dimacs_judging.specs.FlowTests.{feasible_max_rows}
+use Rattle.dimacs_judging.specs.Tests.{Settles}
 use Rattle.dimacs_arrays.specs.declared.certify_max.MaxCertified.{MaxCertified}
 use Rattle.dimacs_arrays.specs.declared.error.Array.TheVariants.{Flows}
 use Rattle.dimacs_arrays.specs.declared.lengths.ArrayLength.{ArrayLength}

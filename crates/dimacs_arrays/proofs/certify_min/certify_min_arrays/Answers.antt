@@ -1,7 +1,7 @@
 use Rattle.std.proofs.Common.{◌∙◌, List, [], ◌∷◌, ℤ, length, subst, sym}
 use Rattle.std.proofs.lemmas.List.FromFn.{length-map-range_with_len}
 use Rattle.dimacs_instance.specs.MinFlows.{MinValue, IsMin}
-use Rattle.dimacs_optimality.specs.Tests.{Settles}
+use Rattle.dimacs_judging.specs.Tests.{Settles}
 use Rattle.dimacs_arrays.specs.declared.certify_min.MinCertified.{MinCertified}
 use Rattle.dimacs_arrays.specs.declared.error.Array.TheVariants.{Flows}
 use Rattle.dimacs_arrays.specs.declared.lengths.ArrayLength.{ArrayLength}

@@ -1,9 +1,9 @@
 use Rattle.std.proofs.Common.{List, ℤ, subst, rules, SFits}
 use Rattle.std.specs.Int.{w128}
 use Rattle.std.proofs.lemmas.Int.{to_z-of_z}
-use Rattle.dimacs_optimality.specs.Feasible.{FeasibleMin}
-use Rattle.dimacs_optimality.specs.FlowTests.{feasible_min_rows}
-use Rattle.dimacs_optimality.specs.Tests.{Refutes}
+use Rattle.dimacs_judging.specs.Feasible.{FeasibleMin}
+use Rattle.dimacs_judging.specs.FlowTests.{feasible_min_rows}
+use Rattle.dimacs_judging.specs.Tests.{Refutes}
 use Rattle.dimacs_decide.specs.declared.least.MinDecision.{MinDecision}
 use Rattle.dimacs_decide.specs.declared.least.MinDecision.TheVariants.{Optimal, Better}
 use Rattle.dimacs_decide.specs.MinDecision.{DecidesMin}

@@ -1,8 +1,8 @@
 use Rattle.std.proofs.Common.{◌∙◌, IsSome, inl, inr, length, refl, sym, ap, subst, arith}
 use Rattle.std.proofs.lemmas.Bool.{cases_order}
 use Rattle.dimacs_records.specs.declared.reasons.Reason.TheVariants.{PredUnknown}
-use Rattle.dimacs_optimality.proofs.RowLemmas.{node_first}
-use Rattle.dimacs_nodes.specs.Tables.{value_of}
+use Rattle.dimacs_judging.proofs.RowLemmas.{node_first}
+use Rattle.dimacs_network.specs.Tables.{value_of}
 use Rattle.dimacs_decide.specs.Claims.{claimed_by_node}
 use Rattle.dimacs_arrays.specs.Paths.{pred_by_node}
 use Rattle.dimacs_arrays.specs.inside.LabelTrees.{IsLabelTree}

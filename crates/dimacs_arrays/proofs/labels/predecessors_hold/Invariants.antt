@@ -1,5 +1,5 @@
 use Rattle.std.proofs.Common.{length}
-use Rattle.dimacs_optimality.specs.Tests.{ClearBelow}
+use Rattle.dimacs_judging.specs.Tests.{ClearBelow}
 use Rattle.dimacs_decide.specs.Claims.{claimed_by_node}
 use Rattle.dimacs_arrays.specs.Paths.{pred_by_node, pred_row}
 use Rattle.dimacs_arrays.proofs.labels.predecessors_hold.Given as goal

@@ -1,4 +1,4 @@
-use Rattle.dimacs_optimality.specs.InfeasibleJudge.{ShowsNoFlow}
+use Rattle.dimacs_judging.specs.InfeasibleJudge.{ShowsNoFlow}
 use Rattle.dimacs_solve.specs.Descending.{Descends}
 use Rattle.dimacs_solve.specs.declared.descend.MinFlowAnswer.TheVariants.{Optimal}
 use Rattle.dimacs_arrays.proofs.SolveLemmas.{infeasible_by}

@@ -1,5 +1,5 @@
-use Rattle.dimacs_optimality.specs.MaxJudge.{max_claim_rows}
-use Rattle.dimacs_optimality.proofs.Settling.{refuted_settles}
+use Rattle.dimacs_judging.specs.MaxJudge.{max_claim_rows}
+use Rattle.dimacs_judging.proofs.Settling.{refuted_settles}
 use Rattle.dimacs_decide.proofs.CertifiedLemmas.{max_certified, max_claimed}
 use Rattle.dimacs_decide.proofs.certified_max.certify_max_placed.Goals as goal
 

@@ -1,5 +1,5 @@
-use Rattle.dimacs_optimality.specs.MinJudge.{min_claim_rows}
-use Rattle.dimacs_optimality.proofs.Settling.{refuted_settles}
+use Rattle.dimacs_judging.specs.MinJudge.{min_claim_rows}
+use Rattle.dimacs_judging.proofs.Settling.{refuted_settles}
 use Rattle.dimacs_decide.proofs.CertifiedLemmas.{min_certified, min_claimed}
 use Rattle.dimacs_decide.proofs.certified_min.certify_min_placed.Goals as goal
 

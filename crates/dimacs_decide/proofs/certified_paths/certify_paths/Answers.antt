@@ -3,7 +3,7 @@ use Rattle.std.proofs.lemmas.List.{take_all}
 use Rattle.std.proofs.lemmas.List.Elements.{All-more}
 use Rattle.std.specs.List.{AllZip}
 use Rattle.dimacs_claims.specs.Labels.{AreLabels, BlockValue, LabelsValue, label}
-use Rattle.dimacs_optimality.specs.inside.Labels.{block_at}
+use Rattle.dimacs_judging.specs.inside.Labels.{block_at}
 use Rattle.dimacs_decide.specs.CertifiedPaths.{AreAllDistances}
 use Rattle.dimacs_decide.specs.Distances.{AreDistancesFrom}
 use Rattle.dimacs_decide.specs.inside.DistanceBlocks.{IsBlockFor}

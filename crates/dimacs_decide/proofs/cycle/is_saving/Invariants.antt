@@ -1,5 +1,5 @@
 use Rattle.std.proofs.Common.{◌≡◌, ℕ, ◌<◌, true}
-use Rattle.dimacs_nodes.specs.Tables.{value_of}
+use Rattle.dimacs_network.specs.Tables.{value_of}
 use Rattle.dimacs_decide.specs.inside.Cycles.{IsWalked, ending_of, gain_after, node_after, residual_at}
 use Rattle.dimacs_decide.proofs.cycle.is_saving.Given as goal
 

@@ -1,5 +1,5 @@
 use Rattle.std.proofs.Common.{◌≡◌, ◌<◌, ◌-◌, ◌∙◌, arith, length}
-use Rattle.dimacs_nodes.specs.Tables.{value_of}
+use Rattle.dimacs_network.specs.Tables.{value_of}
 use Rattle.dimacs_decide.proofs.CycleLemmas.{saving_cycle}
 use Rattle.dimacs_decide.proofs.cycle.raised_along.Goals as goal
 

@@ -1,6 +1,6 @@
 use Rattle.std.proofs.Common.{◌≡◌, ℕ, ◌<◌, ◌-◌, length}
 use Rattle.std.specs.Prelude.{slice_index}
-use Rattle.dimacs_nodes.specs.Tables.{value_of}
+use Rattle.dimacs_network.specs.Tables.{value_of}
 use Rattle.dimacs_decide.specs.inside.Cycles.{residual_at}
 use Rattle.dimacs_decide.proofs.CycleLemmas.{residual_by}
 use Rattle.dimacs_decide.proofs.cycle.raised_along.Given as goal

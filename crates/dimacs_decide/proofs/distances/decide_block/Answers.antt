@@ -1,5 +1,5 @@
-use Rattle.dimacs_nodes.specs.Tables.{value_of}
-use Rattle.dimacs_optimality.specs.Tests.{Clear}
+use Rattle.dimacs_network.specs.Tables.{value_of}
+use Rattle.dimacs_judging.specs.Tests.{Clear}
 use Rattle.dimacs_decide.specs.Distances.{claim_row, reach_row}
 use Rattle.dimacs_decide.specs.inside.TightTrees.{IsWholeTightTree}
 use Rattle.dimacs_decide.proofs.ClaimLemmas.{arc_refuted, made_of, node_refuted, refused, source_refuted, true_claim, zero_from_clear}

@@ -1,5 +1,5 @@
 use Rattle.std.proofs.Common.{◌≡◌, ◌∙◌, true, false, is_some, ap, sym}
-use Rattle.dimacs_optimality.proofs.RowLemmas.{node_clear_more}
+use Rattle.dimacs_judging.proofs.RowLemmas.{node_clear_more}
 use Rattle.dimacs_decide.proofs.distances.nodes_hold.Goals.{else-is_some-via-then-is_some+else-not-reaches, else-is_some-via-else-is_some}
 use Rattle.dimacs_decide.proofs.distances.nodes_hold.Goals as goal
 

@@ -2,7 +2,7 @@ use Rattle.std.proofs.Common.{rules, ◌≡◌, ◌+ℤ◌, pos, arith, SFits, t
 use Rattle.std.specs.Int.{w128}
 use Rattle.std.proofs.lemmas.Int.{ints, to_z-of_z}
 use Rattle.dimacs_instance.specs.MinFlows.{positive_part}
-use Rattle.dimacs_nodes.specs.Tables.{value_of}
+use Rattle.dimacs_network.specs.Tables.{value_of}
 use Rattle.dimacs_decide.proofs.ExcessLemmas.{excess_more, excess_none}
 use Rattle.dimacs_decide.proofs.excess.sum_of_excesses.Goals as goal
 

@@ -4,7 +4,7 @@ use Rattle.std.proofs.lemmas.Option.{get_or_from_slice_get}
 use Rattle.dimacs_network.specs.Arcs.{arc_at, no_arc}
 use Rattle.dimacs_network.specs.AdjacencyLists.{IsLast}
 use Rattle.dimacs_network.specs.declared.adjacency_lists.Side.TheVariants.{Tail}
-use Rattle.dimacs_optimality.specs.CertificateTests.{RelaxFails}
+use Rattle.dimacs_judging.specs.CertificateTests.{RelaxFails}
 use Rattle.dimacs_decide.proofs.FewLemmas.{passed_on}
 use Rattle.dimacs_decide.proofs.PredecessorTreeLemmas.{no_fault}
 use Rattle.dimacs_decide.proofs.few_labels.arcs_hold_from.Goals as goal

@@ -1,5 +1,5 @@
 use Rattle.std.proofs.Common.{◌≡◌, take}
-use Rattle.dimacs_optimality.specs.LightestArcs.{arcs_in}
+use Rattle.dimacs_judging.specs.LightestArcs.{arcs_in}
 use Rattle.dimacs_decide.proofs.few_labels.lightest_network.Given as goal
 
 -- the arcs at the indices so far

@@ -1,4 +1,4 @@
-use Rattle.dimacs_nodes.specs.Tables.{value_of}
+use Rattle.dimacs_network.specs.Tables.{value_of}
 use Rattle.dimacs_decide.proofs.FewLemmas.{AreReachedFirst}
 use Rattle.dimacs_decide.proofs.few_labels.reaches_all.Given as goal
 

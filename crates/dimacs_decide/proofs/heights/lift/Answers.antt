@@ -6,10 +6,10 @@ use Rattle.std.proofs.lemmas.Slice.Zip.{AllZip-long}
 use Rattle.dimacs_network.specs.declared.network.ArcView.{ArcView}
 use Rattle.dimacs_instance.specs.MinFlows.{HasBounds}
 use Rattle.dimacs_network.specs.AdjacencyLists.{end_of, other_end}
-use Rattle.dimacs_optimality.specs.Rows.{amount_at}
+use Rattle.dimacs_judging.specs.Rows.{amount_at}
 use Rattle.dimacs_network.specs.Arcs.{arc_at, no_arc}
-use Rattle.dimacs_optimality.proofs.Passing.{pair_at}
-use Rattle.dimacs_nodes.specs.Tables.{value_of}
+use Rattle.dimacs_judging.proofs.Passing.{pair_at}
+use Rattle.dimacs_network.specs.Tables.{value_of}
 use Rattle.dimacs_decide.specs.declared.heights.HeightLabel.{HeightLabel}
 use Rattle.dimacs_decide.specs.inside.Heights.{gain_at, height_of}
 use Rattle.dimacs_decide.specs.inside.ResidualCapacities.{residual_capacity_at}

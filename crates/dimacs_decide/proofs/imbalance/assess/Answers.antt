@@ -1,6 +1,6 @@
 use Rattle.std.proofs.Common.{◌≡◌, pos, ◌<ℤ◌, arith}
 use Rattle.std.proofs.lemmas.Int.{ints}
-use Rattle.dimacs_nodes.specs.Tables.{value_of}
+use Rattle.dimacs_network.specs.Tables.{value_of}
 use Rattle.dimacs_decide.proofs.FeasibleLemmas.{stands_even, stands_none, stands_short}
 use Rattle.dimacs_decide.proofs.imbalance.assess.Goals.{then-amount-lt0, else-amount-lt0}
 use Rattle.dimacs_decide.proofs.imbalance.assess.Goals as goal

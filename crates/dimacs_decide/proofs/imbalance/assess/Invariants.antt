@@ -1,4 +1,4 @@
-use Rattle.dimacs_nodes.specs.Tables.{value_of}
+use Rattle.dimacs_network.specs.Tables.{value_of}
 use Rattle.dimacs_decide.proofs.FeasibleLemmas.{StandsLow}
 use Rattle.dimacs_decide.proofs.imbalance.assess.Given as goal
 

@@ -3,10 +3,10 @@ use Rattle.std.specs.Int.{w128}
 use Rattle.std.proofs.lemmas.Bool.{cases_eq}
 use Rattle.std.proofs.lemmas.Int.{ints, to_z-of_z}
 use Rattle.std.proofs.lemmas.Slice.Zip.{AllZip-long}
-use Rattle.dimacs_optimality.specs.Flows.{net}
-use Rattle.dimacs_optimality.specs.inside.Ranges.{IsOfSize}
-use Rattle.dimacs_optimality.proofs.Passing.{same_number}
-use Rattle.dimacs_nodes.specs.Tables.{value_of}
+use Rattle.dimacs_judging.specs.Flows.{net}
+use Rattle.dimacs_judging.specs.inside.Ranges.{IsOfSize}
+use Rattle.dimacs_judging.proofs.Passing.{same_number}
+use Rattle.dimacs_network.specs.Tables.{value_of}
 use Rattle.dimacs_decide.specs.FeasibilityDecision.{imbalance_at}
 use Rattle.dimacs_decide.proofs.FeasibleLemmas.{imbalances_all, imbalances_more, imbalances_none, imbalances_skip}
 use Rattle.dimacs_decide.proofs.SumLemmas.{net_size}

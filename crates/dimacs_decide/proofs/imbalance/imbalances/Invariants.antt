@@ -1,6 +1,6 @@
 use Rattle.std.proofs.Common.{ℕ, ◌^◌}
-use Rattle.dimacs_optimality.specs.inside.Ranges.{IsOfSize}
-use Rattle.dimacs_nodes.specs.Tables.{value_of}
+use Rattle.dimacs_judging.specs.inside.Ranges.{IsOfSize}
+use Rattle.dimacs_network.specs.Tables.{value_of}
 use Rattle.dimacs_decide.proofs.FeasibleLemmas.{AreImbalancesBelow}
 use Rattle.dimacs_decide.proofs.imbalance.imbalances.Given as goal
 

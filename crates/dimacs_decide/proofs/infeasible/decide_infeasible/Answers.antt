@@ -1,5 +1,5 @@
 use Rattle.std.proofs.Common.{◌<ℤ◌}
-use Rattle.dimacs_optimality.specs.Feasible.{FeasibleMin}
+use Rattle.dimacs_judging.specs.Feasible.{FeasibleMin}
 use Rattle.dimacs_decide.specs.Bounds.{KeepsBounds}
 use Rattle.dimacs_decide.specs.FeasibilityDecision.{total_excess}
 use Rattle.dimacs_decide.proofs.InfeasibleLemmas.{falls}

@@ -1,7 +1,7 @@
 use Rattle.std.proofs.Common.{◌≡◌, ◌+◌, ◌∙◌, ap, arith, ℕ, cond}
 use Rattle.dimacs_lines.specs.Limits.{IsNode}
 use Rattle.dimacs_claims.specs.Potentials.{potential_of}
-use Rattle.dimacs_nodes.specs.Tables.{value_of}
+use Rattle.dimacs_network.specs.Tables.{value_of}
 use Rattle.dimacs_decide.specs.inside.Heights.{BelowBound, bound, height_of}
 use Rattle.dimacs_decide.proofs.HeightLemmas.{heights_begun, begun_low, rise_left_less}
 use Rattle.dimacs_decide.proofs.LeastLemmas.{settled_tells}

@@ -1,8 +1,8 @@
 use Rattle.std.proofs.Common.{◌≡◌, ◌∙◌, [], ◌∷◌, arith, sym}
 use Rattle.std.proofs.lemmas.Slice.Zip.{AllZip-long}
 use Rattle.dimacs_claims.specs.Potentials.{potential_of}
-use Rattle.dimacs_optimality.specs.CertificateTests.{slack_row}
-use Rattle.dimacs_optimality.proofs.Duality.{slack_is_least}
+use Rattle.dimacs_judging.specs.CertificateTests.{slack_row}
+use Rattle.dimacs_judging.proofs.Duality.{slack_is_least}
 use Rattle.dimacs_decide.proofs.TestLemmas.{holds}
 use Rattle.dimacs_decide.proofs.least.shows_least.Goals as goal
 

@@ -1,5 +1,5 @@
 use Rattle.std.proofs.Common.{◌≡◌}
-use Rattle.dimacs_nodes.specs.Tables.{value_of}
+use Rattle.dimacs_network.specs.Tables.{value_of}
 use Rattle.dimacs_decide.specs.inside.Heights.{AreStartHeights, bound, height_of}
 use Rattle.dimacs_decide.proofs.least.start_labels.Given as goal
 

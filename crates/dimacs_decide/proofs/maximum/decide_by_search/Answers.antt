@@ -1,6 +1,6 @@
 use Rattle.std.proofs.Common.{◌<◌}
-use Rattle.dimacs_optimality.specs.Cuts.{members}
-use Rattle.dimacs_nodes.specs.Tables.{value_of}
+use Rattle.dimacs_judging.specs.Cuts.{members}
+use Rattle.dimacs_network.specs.Tables.{value_of}
 use Rattle.dimacs_decide.specs.inside.Residual.{rank_of}
 use Rattle.dimacs_decide.specs.inside.Augmentation.{IsSent, IsStuck}
 use Rattle.dimacs_decide.specs.inside.Imbalances.{AreEnds}

@@ -1,5 +1,5 @@
 use Rattle.std.proofs.Common.{◌≡◌, ℕ, ℤ, ap, sym, subst}
-use Rattle.dimacs_nodes.specs.Tables.{value_of}
+use Rattle.dimacs_network.specs.Tables.{value_of}
 use Rattle.dimacs_decide.specs.inside.Residual.{IsResidualSearch}
 use Rattle.dimacs_decide.proofs.maximum.source_search.Goals as goal
 

@@ -1,5 +1,5 @@
 use Rattle.std.proofs.Common.{◌∙◌}
-use Rattle.dimacs_optimality.specs.Tests.{Clear}
+use Rattle.dimacs_judging.specs.Tests.{Clear}
 use Rattle.dimacs_decide.specs.Distances.{claim_row}
 use Rattle.dimacs_decide.specs.inside.PredecessorTrees.{IsPredecessorTree, is_reached}
 use Rattle.dimacs_decide.specs.inside.TightTrees.{ReachesAll}

@@ -2,8 +2,8 @@ use Rattle.std.proofs.Common.{◌≡◌, ◌∙◌, ◌<◌, Contains, length, N
 use Rattle.std.proofs.lemmas.List.Elements.{All-get_or, Contains-get_or}
 use Rattle.std.proofs.lemmas.Option.{get_or_from_slice_get, slice_get_within}
 use Rattle.dimacs_network.specs.Arcs.{JoinsNodes, arc_at, no_arc}
-use Rattle.dimacs_optimality.proofs.RowLemmas.{arc_clear_end, arc_clear_more}
-use Rattle.dimacs_optimality.specs.CertificateTests.{RelaxFails}
+use Rattle.dimacs_judging.proofs.RowLemmas.{arc_clear_end, arc_clear_more}
+use Rattle.dimacs_judging.specs.CertificateTests.{RelaxFails}
 use Rattle.dimacs_decide.specs.inside.DenseTables.{value_at}
 use Rattle.dimacs_decide.proofs.PredecessorTreeLemmas.{no_fault, tails_more}
 use Rattle.dimacs_decide.proofs.predecessor_tree.tight_tails.Goals as goal

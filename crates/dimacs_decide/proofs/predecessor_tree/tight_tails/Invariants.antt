@@ -1,4 +1,4 @@
-use Rattle.dimacs_optimality.specs.Tests.{ClearBelow}
+use Rattle.dimacs_judging.specs.Tests.{ClearBelow}
 use Rattle.dimacs_decide.specs.Distances.{claim_row}
 use Rattle.dimacs_decide.specs.inside.DenseTables.{HasNodes, value_at}
 use Rattle.dimacs_decide.specs.inside.PredecessorTrees.{AreTightTails}

@@ -1,4 +1,4 @@
-use Rattle.dimacs_optimality.specs.InfeasibleJudge.{ShowsNoFlow}
+use Rattle.dimacs_judging.specs.InfeasibleJudge.{ShowsNoFlow}
 use Rattle.dimacs_runs.proofs.CertifyingLemmas.{set_certifies}
 use Rattle.dimacs_runs.proofs.certify_infeasible.answer_infeasible.Goals as goal
 

@@ -1,7 +1,7 @@
 use Rattle.std.proofs.Common.{refl, inl, inr}
 use Rattle.dimacs_claims.specs.SolutionTexts.{claimed}
-use Rattle.dimacs_optimality.specs.Entries.{IsMinSolutionOf}
-use Rattle.dimacs_optimality.specs.FlowTests.{LeavesCostRange}
+use Rattle.dimacs_judging.specs.Entries.{IsMinSolutionOf}
+use Rattle.dimacs_judging.specs.FlowTests.{LeavesCostRange}
 use Rattle.dimacs_runs.proofs.CertifyingLemmas.{feasible_certifies, no_solution_feasible}
 use Rattle.dimacs_runs.proofs.certify_infeasible.refuse_infeasible.Goals as goal
 use Rattle.dimacs_runs.proofs.certify_infeasible.refuse_infeasible.Goals.{in-Some, in-None}

@@ -2,7 +2,7 @@ use Rattle.std.proofs.Common.{ap}
 use Rattle.dimacs_records.specs.declared.kinds.TextKind.TheVariants as kinds
 use Rattle.dimacs_claims.specs.Cuts.{GivesCut}
 use Rattle.dimacs_instance.specs.MinTexts.{GivesMin}
-use Rattle.dimacs_optimality.specs.InfeasibleJudge.{ShowsNoFlow, infeasible_rows}
+use Rattle.dimacs_judging.specs.InfeasibleJudge.{ShowsNoFlow, infeasible_rows}
 use Rattle.dimacs_runs.specs.Judgings.{VerdictOr}
 use Rattle.dimacs_runs.specs.Runs.{text_of}
 use Rattle.dimacs_runs.specs.Verdicts.{infeasible_line, verdict_lines}

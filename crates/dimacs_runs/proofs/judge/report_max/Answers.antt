@@ -3,7 +3,7 @@ use Rattle.dimacs_records.specs.declared.kinds.TextKind.TheVariants as kinds
 use Rattle.dimacs_claims.specs.Cuts.{GivesCut}
 use Rattle.dimacs_claims.specs.SolutionTexts.{GivesSolution}
 use Rattle.dimacs_instance.specs.MaxTexts.{GivesMax}
-use Rattle.dimacs_optimality.specs.MaxJudge.{ShowsMaximum, max_rows}
+use Rattle.dimacs_judging.specs.MaxJudge.{ShowsMaximum, max_rows}
 use Rattle.dimacs_runs.specs.Judgings.{VerdictOr}
 use Rattle.dimacs_runs.specs.Runs.{text_of}
 use Rattle.dimacs_runs.specs.Verdicts.{max_line, verdict_lines}

@@ -3,7 +3,7 @@ use Rattle.dimacs_records.specs.declared.kinds.TextKind.TheVariants as kinds
 use Rattle.dimacs_claims.specs.Potentials.{GivesPotentials}
 use Rattle.dimacs_claims.specs.SolutionTexts.{GivesSolution}
 use Rattle.dimacs_instance.specs.MinTexts.{GivesMin}
-use Rattle.dimacs_optimality.specs.MinJudge.{ShowsLeast, min_rows}
+use Rattle.dimacs_judging.specs.MinJudge.{ShowsLeast, min_rows}
 use Rattle.dimacs_runs.specs.Judgings.{VerdictOr}
 use Rattle.dimacs_runs.specs.Runs.{text_of}
 use Rattle.dimacs_runs.specs.Verdicts.{min_line, verdict_lines}

@@ -2,7 +2,7 @@ use Rattle.dimacs_records.specs.declared.kinds.TextKind.TheVariants as kinds
 use Rattle.dimacs_claims.specs.LabelTexts.{GivesLabels}
 use Rattle.dimacs_instance.specs.Graph.{GivesGraph}
 use Rattle.dimacs_instance.specs.QueryTexts.{GivesQueries, asked}
-use Rattle.dimacs_optimality.specs.PathsJudge.{ShowsDistances, paths_rows}
+use Rattle.dimacs_judging.specs.PathsJudge.{ShowsDistances, paths_rows}
 use Rattle.dimacs_runs.specs.Judged.{paths_lines}
 use Rattle.dimacs_runs.specs.Judgings.{VerdictOr}
 use Rattle.dimacs_runs.specs.Runs.{text_of}

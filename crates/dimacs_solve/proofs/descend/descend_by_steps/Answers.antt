@@ -1,6 +1,6 @@
 use Rattle.std.proofs.Common.{arith}
 use Rattle.dimacs_decide.specs.Bounds.{KeepsBounds}
-use Rattle.dimacs_optimality.specs.Optimum.{Least}
+use Rattle.dimacs_judging.specs.Optimum.{Least}
 use Rattle.dimacs_solve.specs.Descending.{IsBetter}
 use Rattle.dimacs_solve.proofs.DescendingLemmas.{first_step, next_step, out_of_steps}
 use Rattle.dimacs_solve.proofs.descend.descend_by_steps.Goals as goal

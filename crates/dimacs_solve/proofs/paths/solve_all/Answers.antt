@@ -8,7 +8,7 @@ use Rattle.std.specs.Ordering.{nat_cmp}
 use Rattle.dimacs_lines.specs.Limits.{IsNode}
 use Rattle.dimacs_instance.specs.QueryTexts.{asked}
 use Rattle.dimacs_claims.specs.Labels.{LabelsValue, has_source}
-use Rattle.dimacs_optimality.specs.QueryTests.{sources_asked}
+use Rattle.dimacs_judging.specs.QueryTests.{sources_asked}
 use Rattle.dimacs_solve.proofs.BlocksLemmas.{new_source, solved_again, solved_more, solved_none}
 use Rattle.dimacs_solve.proofs.paths.solve_all.Goals.{then-not-contains+in_ok-solve_one+in_ok-insert, else-not-contains}
 use Rattle.dimacs_solve.proofs.paths.solve_all.Goals as goal

@@ -1,7 +1,7 @@
 use Rattle.std.proofs.Common.{◌≡◌, ◌≤◌, [], length, take}
 use Rattle.dimacs_instance.specs.QueryTexts.{asked}
 use Rattle.dimacs_claims.specs.Labels.{AreSources}
-use Rattle.dimacs_optimality.specs.QueryTests.{sources_asked}
+use Rattle.dimacs_judging.specs.QueryTests.{sources_asked}
 use Rattle.dimacs_solve.specs.inside.Blocks.{AreSolved}
 use Rattle.dimacs_solve.proofs.paths.solve_all.Given as goal
 

@@ -1,7 +1,7 @@
 use Rattle.std.proofs.Common.{◌≤◌, All}
 use Rattle.dimacs_instance.specs.QueryTexts.{asked}
-use Rattle.dimacs_optimality.specs.QueryTests.{nodes_asked, query_node_row, sources_asked}
-use Rattle.dimacs_optimality.specs.Tests.{Clear}
+use Rattle.dimacs_judging.specs.QueryTests.{nodes_asked, query_node_row, sources_asked}
+use Rattle.dimacs_judging.specs.Tests.{Clear}
 use Rattle.dimacs_solve.specs.inside.Adjacency.{IsAdjacencyOf}
 use Rattle.dimacs_solve.specs.inside.Blocks.{AreSolved}
 use Rattle.dimacs_solve.specs.Paths.{HasNoNegativeWeight}

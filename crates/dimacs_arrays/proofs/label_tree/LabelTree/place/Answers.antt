@@ -4,7 +4,7 @@ use Rattle.std.proofs.lemmas.Int.{to_z-of_z}
 use Rattle.dimacs_lines.specs.Limits.{IsNode}
 use Rattle.dimacs_claims.specs.Labels.{IsBlock, IsLabel, IsWithinRadius, with_label}
 use Rattle.dimacs_decide.specs.Claims.{claimed_by_node}
-use Rattle.dimacs_nodes.specs.Tables.{value_of}
+use Rattle.dimacs_network.specs.Tables.{value_of}
 use Rattle.dimacs_arrays.specs.Paths.{pred_by_node}
 use Rattle.dimacs_arrays.proofs.DistanceLemmas.{distance_within}
 use Rattle.dimacs_arrays.proofs.TreeLemmas.{few, grown, pred_labelled}

@@ -3,7 +3,7 @@ use Rattle.std.specs.FinMap.{get, insert}
 use Rattle.std.specs.Int.{w128}
 use Rattle.std.proofs.lemmas.Int.{to_z-of_z}
 use Rattle.dimacs_claims.specs.Labels.{label}
-use Rattle.dimacs_nodes.proofs.Nodes.{get-empty, get-insert_same, get-insert_other}
+use Rattle.dimacs_network.proofs.Nodes.{get-empty, get-insert_same, get-insert_other}
 use Rattle.dimacs_decide.proofs.BlockClaimLemmas.{AreFrom, from_end, from_one_more, labels_wide, with_source}
 use Rattle.dimacs_decide.proofs.block_claim.BlockClaim.new.Goals as goal
 

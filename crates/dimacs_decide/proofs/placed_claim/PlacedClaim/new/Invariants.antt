@@ -1,4 +1,4 @@
-use Rattle.dimacs_nodes.specs.Tables.{value_of}
+use Rattle.dimacs_network.specs.Tables.{value_of}
 use Rattle.dimacs_decide.proofs.FewLemmas.{ArePlacedFirst}
 use Rattle.dimacs_decide.proofs.placed_claim.PlacedClaim.new.Given as goal
 

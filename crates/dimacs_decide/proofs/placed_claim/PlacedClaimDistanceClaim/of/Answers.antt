@@ -1,7 +1,7 @@
 use Rattle.std.proofs.Common.{◌≡◌, ◌≢◌, ◌∙◌, ◌<◌, ◌≤◌, Some, SFits, length, get_or, ap, sym, arith, rules}
 use Rattle.std.specs.Int.{w128}
 use Rattle.std.proofs.lemmas.Int.{to_z-of_z}
-use Rattle.dimacs_nodes.specs.Tables.{value_of}
+use Rattle.dimacs_network.specs.Tables.{value_of}
 use Rattle.dimacs_records.specs.Ranges.{IsWide}
 use Rattle.dimacs_claims.specs.declared.block.Label.{Label}
 use Rattle.dimacs_claims.specs.Labels.{label, no_label}

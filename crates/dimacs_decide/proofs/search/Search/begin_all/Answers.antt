@@ -1,7 +1,7 @@
 use Rattle.std.proofs.Common.{◌≡◌, ℕ, ◌<◌, ◌∙◌, ap, arith, inl, inr, ℤ, sym, subst}
 use Rattle.std.proofs.lemmas.Int.{ints}
 use Rattle.std.proofs.lemmas.Bool.{cases_order}
-use Rattle.dimacs_nodes.specs.Tables.{value_of}
+use Rattle.dimacs_network.specs.Tables.{value_of}
 use Rattle.dimacs_decide.specs.inside.Residual.{IsResidualSearch, rank_of}
 use Rattle.dimacs_decide.proofs.search.Search.begin_all.Goals.{then-get-gt0+in_ok-begin, else-get-gt0}
 use Rattle.dimacs_decide.proofs.search.Search.begin_all.Goals as goal

@@ -1,4 +1,4 @@
-use Rattle.dimacs_nodes.specs.Tables.{value_of}
+use Rattle.dimacs_network.specs.Tables.{value_of}
 use Rattle.dimacs_decide.proofs.FewLemmas.{AreLeft}
 use Rattle.dimacs_decide.proofs.tight_tree.TightTree.into_parts.Given as goal
 

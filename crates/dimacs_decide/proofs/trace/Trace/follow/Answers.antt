@@ -1,6 +1,6 @@
 use Rattle.std.proofs.Common.{◌≡◌, ◌+◌, ◌<◌, ◌≤◌, ◌∙◌, ap, sym, subst, arith, length, ◌++◌, ◌∷◌, []}
 use Rattle.std.proofs.lemmas.List.{length-append}
-use Rattle.dimacs_nodes.specs.Tables.{value_of}
+use Rattle.dimacs_network.specs.Tables.{value_of}
 use Rattle.dimacs_decide.specs.inside.Heights.{below_of}
 use Rattle.dimacs_decide.specs.inside.Traces.{IsFollowing}
 use Rattle.dimacs_decide.proofs.CountLemmas.{one_zero_fewer}

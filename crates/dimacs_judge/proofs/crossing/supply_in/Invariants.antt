@@ -1,8 +1,0 @@
-use Rattle.dimacs_judge.proofs.CrossLemmas.{IsSupplyOf}
-use Rattle.dimacs_optimality.specs.Cuts.{members}
-use Rattle.dimacs_instance.specs.MinFlows.{supply_of}
-use Rattle.dimacs_judge.proofs.crossing.supply_in.Given as goal
-
--- the supply of the nodes so far
-abbrev pub invariant-loop-v : goal.invariant-loop-v
-invariant-loop-v g l = IsSupplyOf (supply_of l.instance) (members l.set) l.v l.sum

@@ -1,7 +1,0 @@
-use Rattle.dimacs_optimality.specs.inside.Labels.{block_at}
-use Rattle.dimacs_optimality.specs.CertificateTests.{support_row}
-use Rattle.dimacs_optimality.specs.Tests.{ClearBelow}
-use Rattle.dimacs_judge.proofs.labels.labels_supported.Given as goal
-
-abbrev pub invariant-loop-i : goal.invariant-loop-i
-invariant-loop-i g l = ClearBelow (support_row (g.N.Network.list l.network) (block_at l.labels.blocks l.block)) l.i

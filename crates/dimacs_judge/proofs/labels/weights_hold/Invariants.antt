@@ -1,6 +1,0 @@
-use Rattle.dimacs_optimality.specs.CertificateTests.{negative_row}
-use Rattle.dimacs_optimality.specs.Tests.{ClearBelow}
-use Rattle.dimacs_judge.proofs.labels.weights_hold.Given as goal
-
-abbrev pub invariant-loop-i : goal.invariant-loop-i
-invariant-loop-i g l = ClearBelow (negative_row (g.N.Network.list l.network)) l.i

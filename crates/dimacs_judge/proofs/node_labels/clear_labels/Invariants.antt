@@ -1,9 +1,0 @@
-use Rattle.dimacs_judge.specs.inside.NodeLabels.{DefaultsToNone, entries}
-use Rattle.dimacs_judge.proofs.NodeLabelLemmas.{AreUnlabelledBut}
-use Rattle.dimacs_judge.proofs.node_labels.clear_labels.Given as goal
-
-abbrev pub invariant-loop-i : goal.invariant-loop-i
-invariant-loop-i g l = record {
-  defaults : DefaultsToNone g.D.Distance.value l.node_labels;
-  others : AreUnlabelledBut l.block l.i (entries g.D.Distance.value l.node_labels);
-}

@@ -1,6 +1,0 @@
-use Rattle.std.proofs.Common.{◌∙◌}
-use Rattle.dimacs_optimality.proofs.BlockNumbers.{numbered_tells}
-use Rattle.dimacs_judge.proofs.queries.has_block.Goals as goal
-
-pub returns : goal.returns
-returns c = numbered_tells c.args.labels.now.blocks c.args.source c.get.result c.is_some.result c.is_some.ensures (c.get.ensures ∙ c.requires c.args.source)

@@ -1,6 +1,0 @@
-use Rattle.std.proofs.Common.{◌≡◌, map, take}
-use Rattle.dimacs_optimality.specs.Answers.{answer_to}
-use Rattle.dimacs_judge.proofs.queries.pair_answers.Given as goal
-
-abbrev pub invariant-loop-pair : goal.invariant-loop-pair
-invariant-loop-pair l = l.answers.items ≡ map (answer_to l.labels.blocks) (take l.pair-index l.pairs)

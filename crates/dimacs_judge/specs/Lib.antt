@@ -1,2 +1,0 @@
-pub mod FlowJudges
-pub mod inside

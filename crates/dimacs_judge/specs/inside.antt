@@ -1,4 +1,0 @@
-pub mod CertificateTests
-pub mod Distances
-pub mod Leaving
-pub mod NodeLabels

@@ -1,0 +1,14 @@
+use Rattle.dimacs_judging.specs.CertificateTests.{label_rows}
+use Rattle.dimacs_judging.proofs.LabelsPassing.{labels_hold, labels_clear, told_distances}
+use Rattle.dimacs_judging.proofs.Settling.{decided}
+use Rattle.dimacs_judging.proofs.labels.label_tests.Goals as goal
+
+pub returns-clause-decides : goal.returns-clause-decides
+returns-clause-decides g c =
+    let arcs = c.args.graph.now.arcs in
+    let blocks = c.args.labels.now.blocks in
+    decided _ (label_rows arcs blocks) (labels_hold arcs blocks) (labels_clear arcs blocks) c.blocks_hold.result (rw c.network.ensures.arcs at c.blocks_hold.ensures.tests)
+
+pub returns-clause-distances : goal.returns-clause-distances
+returns-clause-distances g c =
+    told_distances c.args.graph.now.arcs c.args.labels.now c.blocks_hold.ensures.lawful c.blocks_hold.result (rw c.network.ensures.arcs at c.blocks_hold.ensures.tests)

@@ -1,0 +1,13 @@
+use Rattle.std.proofs.Common.{[], ◌∷◌}
+use Rattle.dimacs_claims.specs.Potentials.{potential_of}
+use Rattle.dimacs_judging.specs.CertificateTests.{slack_row}
+use Rattle.dimacs_judging.proofs.Passing.{potentials_slack, slack_clear}
+use Rattle.dimacs_judging.proofs.Settling.{decided, last_row}
+use Rattle.dimacs_judging.proofs.potentials.slack_tests.Goals as goal
+
+pub returns : goal.returns
+returns g c =
+    let arcs = c.args.instance.now.arcs in
+    let p = potential_of c.args.potentials.now in
+    let x = c.args.flow.now in
+    decided _ (slack_row arcs p x ∷ []) (λ clear. potentials_slack arcs p x c.requires clear.0) (λ slack. (slack_clear arcs p x slack, tt)) c.arcs_hold.result (last_row _ _ (rw c.network.ensures.arcs at c.arcs_hold.ensures))

@@ -1,0 +1,12 @@
+pub mod ArcChains
+pub mod Labels
+pub mod LightestArcs
+pub mod OnePass
+pub mod Places
+pub mod QueryTests
+pub mod Ranges
+pub mod Tests
+pub mod CertificateTests
+pub mod Distances
+pub mod Leaving
+pub mod NodeLabels

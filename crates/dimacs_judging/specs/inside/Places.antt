@@ -1,0 +1,34 @@
+-- Inside: a flow while entries are put on their arcs, entry by entry.
+use Rattle.std.specs.Prelude.{List, ℤ, Result, Ok, Err, ◌++◌, ◌∷◌, [], ◌≡◌, ◌<◌, ◌≤◌, ◌^◌, Bool, true, false, length, Option, None, Some}
+use Rattle.dimacs_network.specs.declared.network.ArcView.{ArcView}
+use Rattle.dimacs_claims.specs.declared.solution.Entry.{Entry}
+use Rattle.dimacs_records.specs.declared.reasons.Reason.{Reason}
+use Rattle.dimacs_judging.specs.declared.verdict.Where.{Where}
+use Rattle.dimacs_judging.specs.Claims.{Carries, EntryFails, entry_row}
+use Rattle.dimacs_judging.specs.Tests.{Clear, FirstOfRow}
+use Rattle.dimacs_judging.specs.Places.{PlacesValue, HavePlaced}
+use Rattle.dimacs_network.specs.declared.arc_index.ArcIndex.{ArcIndex}
+use Rattle.dimacs_network.specs.ArcOrder.{HasRoom, Indexes}
+
+-- an amount and a count for each arc
+pub record HaveRoom (p : PlacesValue) : Type 0 where
+  pub flow : length p.flow ≡ length p.arcs
+  pub counts : length p.counts ≡ length p.arcs
+  pub in_order : p.in_order ≤ length p.arcs
+  pub arc_limit : length p.arcs < 2 ^ 32
+
+-- an index of these arcs, if there is one: filled, or with room for them
+abbrev pub IsIndexFor : List ArcView → Bool → Option ArcIndex → Type 0
+IsIndexFor arcs filled None = Unit {0}
+IsIndexFor arcs true (Some index) = Indexes arcs index
+IsIndexFor arcs false (Some index) = HasRoom arcs index
+
+-- one more entry: it passes and its flow is put, or the reason why it fails
+abbrev pub PutsEntry : List ArcView → List Entry → Entry → Result Unit Reason → PlacesValue → Type 0
+PutsEntry arcs before e (Ok done) p = HavePlaced p (before ++ e ∷ [])
+PutsEntry arcs before e (Err reason) p = Clear (entry_row arcs before) × EntryFails arcs before e reason
+
+-- the flow of the entries, or the first that fails
+abbrev pub FindsFlow : List ArcView → List Entry → Result (List ℤ) (Where × Reason) → Type 0
+FindsFlow arcs entries (Ok x) = Carries arcs entries x
+FindsFlow arcs entries (Err refusal) = FirstOfRow (entry_row arcs entries) refusal.0 refusal.1

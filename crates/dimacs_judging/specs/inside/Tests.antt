@@ -1,0 +1,23 @@
+-- Inside: rows of tests, in order, and the first test that fails.
+use Rattle.std.specs.Prelude.{List, Option, None, Some, Result, Ok, Err}
+use Rattle.dimacs_records.specs.declared.reasons.Reason.{Reason}
+use Rattle.dimacs_judging.specs.declared.verdict.Where.{Where}
+use Rattle.dimacs_judging.specs.declared.verdict.JudgeError.{JudgeError}
+use Rattle.dimacs_judging.specs.declared.verdict.JudgeError.TheVariants.{Refused, Memory}
+use Rattle.dimacs_judging.specs.Tests.{Row, AllClear, First}
+
+-- the result of rows of tests: all pass, or the first that fails
+abbrev pub TestsRows : List Row → Result Unit (Where × Reason) → Type 0
+TestsRows rows (Ok done) = AllClear rows
+TestsRows rows (Err refusal) = First rows refusal.0 refusal.1
+
+-- the same for tests that allocate; out of memory leaves them open
+abbrev pub TestsAll : List Row → Result Unit JudgeError → Type 0
+TestsAll rows (Ok done) = AllClear rows
+TestsAll rows (Err (Refused place reason)) = First rows place reason
+TestsAll rows (Err Memory) = Unit
+
+-- the reason why a single test fails, if it does
+abbrev pub NamesReason : (Reason → Type 0) → Option Reason → Type 0
+NamesReason fails None = (reason : Reason) → ¬ fails reason
+NamesReason fails (Some reason) = fails reason

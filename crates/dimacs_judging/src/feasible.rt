@@ -1,0 +1,148 @@
+//! Whether a flow is feasible: its bounds, and the balances of the nodes.
+
+ghost use Rattle.std.specs.Prelude.{◌≡◌, ◌≤◌, ℕ, ℤ, List, Option, length};
+ghost use Rattle.dimacs_lines.specs.Limits.{most_count, most_nodes};
+ghost use Rattle.dimacs_judging.specs.Feasible.{FeasibleMax, FeasibleMin};
+ghost use Rattle.dimacs_judging.specs.Flows.{net};
+ghost use Rattle.dimacs_judging.specs.FlowTests.{BoundFails, BalanceFails, bound_row, balance_row, feasible_max_rows, feasible_min_rows, max_demand, min_demand, TestsFeasible};
+ghost use Rattle.dimacs_judging.specs.Tests.{Settles, TestsRow};
+ghost use Rattle.dimacs_judging.specs.inside.Tests.{NamesReason};
+
+use crate::arc_test::{ArcTest, arcs_hold};
+use crate::balances::{Balances, NodeBalances};
+use crate::flow::Flow;
+use crate::verdict::{JudgeError, Where};
+use dimacs_instance::{MaxInstance, MinInstance};
+use dimacs_network::{ArcView, Network};
+use dimacs_records::Reason;
+use std::alloc::Global;
+
+/// Tests whether a flow is feasible. Allocates a table of the nodes that have arcs.
+///
+/// The tests in order: for each arc `BelowLow` if it carries less than 0, `AboveCap` if more than its capacity; for
+/// each node but source and sink `Balance` if its balance isn't 0.
+pub fn feasible_max<N: Network>(
+    alloc: Global,
+    instance: &MaxInstance<N>,
+    flow: &Flow,
+) -> Result<(), JudgeError>
+    requires { length flow.now ≡ length instance.now.arcs }
+    ensures { Settles (λ done. FeasibleMax instance.now flow.now) (feasible_max_rows instance.now flow.now) result }
+{
+    balances_if_feasible(alloc, instance.network(), flow, instance)?;
+    Ok(())
+}
+
+/// Tests whether a flow is feasible. Allocates a table of the nodes that have arcs.
+///
+/// The tests in order: for each arc `BelowLow` or `AboveCap`; for each node `Balance` if its balance isn't its supply.
+pub fn feasible_min<N: Network>(
+    alloc: Global,
+    instance: &MinInstance<N>,
+    flow: &Flow,
+) -> Result<(), JudgeError>
+    requires { length flow.now ≡ length instance.now.arcs }
+    ensures { Settles (λ done. FeasibleMin instance.now flow.now) (feasible_min_rows instance.now flow.now) result }
+{
+    balances_if_feasible(alloc, instance.network(), flow, instance)?;
+    Ok(())
+}
+
+/// Tests the bounds, then the balances, and returns these.
+pub fn balances_if_feasible<N: Network, D: Demands>(
+    alloc: Global,
+    network: &N,
+    flow: &Flow,
+    demands: &D,
+) -> Result<Balances, JudgeError>
+    requires node_limit { N.node_count network.now ≤ most_nodes }
+    requires arc_limit { length (N.list network.now) ≤ most_count }
+    requires one_each { length flow.now ≡ length (N.list network.now) }
+    ensures { TestsFeasible (N.node_count network.now) (N.list network.now) (D.demand demands.now) flow.now result }
+{
+    bounds_hold(network, flow)?;
+    let balances = Balances::new(alloc, network, flow)?;
+    balances_hold(network, &balances, demands)?;
+    Ok(balances)
+}
+
+/// Tests the bounds: `BelowLow` or `AboveCap` at the first arc that violates one.
+pub fn bounds_hold<N: Network>(network: &N, flow: &Flow) -> Result<(), (Where, Reason)>
+    requires one_each { length flow.now ≡ length (N.list network.now) }
+    ensures { TestsRow (bound_row (N.list network.now) flow.now) result }
+{
+    arcs_hold(network, flow, &Bounds)
+}
+
+pub(crate) struct Bounds;
+
+impl ArcTest for Bounds {
+    ghost fails = { λ bounds. BoundFails };
+
+    #[inline(always)]
+    fn fault(&self, arc: ArcView, amount: i64) -> Option<Reason> {
+        if amount < arc.low {
+            Some(Reason::BelowLow)
+        } else if amount > arc.cap {
+            Some(Reason::AboveCap)
+        } else {
+            None
+        }
+    }
+}
+
+/// The balances that an instance demands.
+pub trait Demands {
+    ghost demand: { Self → ℕ → Option ℤ };
+
+    /// The balance that the node must have; none if any will do.
+    fn demand_at(&self, node: u32) -> Option<i64>
+        ensures { result ≡ demand self.now node };
+}
+
+impl<N: Network> Demands for MaxInstance<N> {
+    ghost demand = { max_demand };
+
+    fn demand_at(&self, node: u32) -> Option<i64> {
+        if node == self.source() || node == self.sink() {
+            None
+        } else {
+            Some(0)
+        }
+    }
+}
+
+impl<N: Network> Demands for MinInstance<N> {
+    ghost demand = { min_demand };
+
+    fn demand_at(&self, node: u32) -> Option<i64> {
+        Some(self.supply(node))
+    }
+}
+
+/// Tests the balances, by node ID.
+pub(crate) fn balances_hold<N: Network, B: NodeBalances, D: Demands>(
+    network: &N,
+    balances: &B,
+    demands: &D,
+) -> Result<(), (Where, Reason)>
+    requires { N.node_count network.now ≤ most_nodes }
+    ensures { (x : List ℤ) → ((v : ℕ) → B.balance balances.now v ≡ net (N.list network.now) x v)
+        → TestsRow (balance_row (N.node_count network.now) (N.list network.now) (D.demand demands.now) x) result }
+{
+    for v in 1..network.nodes() + 1 {
+        if let Some(reason) = balance_fault(demands.demand_at(v), balances.balance_of(v)) {
+            return Err((Where::Node(v), reason));
+        }
+    }
+    Ok(())
+}
+
+fn balance_fault(demand: Option<i64>, balance: i128) -> Option<Reason>
+    ensures { NamesReason (BalanceFails demand balance) result }
+{
+    match demand {
+        Some(amount) if i128::from(amount) != balance => Some(Reason::Balance),
+        _ => None,
+    }
+}

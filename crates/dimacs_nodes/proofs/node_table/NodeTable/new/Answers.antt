@@ -1,5 +1,0 @@
-use Rattle.dimacs_nodes.proofs.SlotLemmas.{slot_value-none}
-use Rattle.dimacs_nodes.proofs.node_table.NodeTable.new.Goals as goal
-
-pub returns-clause-values : goal.returns-clause-values
-returns-clause-values g c = rw (c.new.ensures.items, c.new-2.ensures.items) (slot_value-none c.args.blank)

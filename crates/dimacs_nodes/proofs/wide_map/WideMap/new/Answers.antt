@@ -1,5 +1,0 @@
-use Rattle.dimacs_nodes.proofs.LayerLemmas.{overlaid-empty}
-use Rattle.dimacs_nodes.proofs.wide_map.WideMap.new.Goals as goal
-
-pub returns : goal.returns
-returns c = rw (c.new.ensures, c.new-2.ensures) overlaid-empty

@@ -1,5 +1,0 @@
-use Rattle.dimacs_optimality.proofs.Distances as theory
-use Rattle.dimacs_optimality.proofs.laws.labels_give_distances.Goals as goal
-
-pub returns : goal.returns
-returns c = theory.labels_are_distances

@@ -1,5 +1,0 @@
-use Rattle.dimacs_optimality.proofs.Duality as theory
-use Rattle.dimacs_optimality.proofs.laws.tight_cut_is_maximum.Goals as goal
-
-pub returns : goal.returns
-returns c = theory.tight_is_maximum

@@ -1,5 +1,0 @@
-use Rattle.dimacs_optimality.proofs.OnePass.{HavePotentials}
-use Rattle.dimacs_optimality.proofs.one_pass.Sums.new.Given as goal
-
-abbrev pub invariant-loop-v : goal.invariant-loop-v
-invariant-loop-v g l = HavePotentials (g.P.HasPotentials.potential l.potentials) l.v l.states

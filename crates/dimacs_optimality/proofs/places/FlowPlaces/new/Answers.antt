@@ -1,6 +1,0 @@
-use Rattle.std.proofs.Common.{rules}
-use Rattle.dimacs_optimality.proofs.PlaceLemmas.{none_placed}
-use Rattle.dimacs_optimality.proofs.places.FlowPlaces.new.Goals as goal
-
-pub returns-clause-empty : goal.returns-clause-empty
-returns-clause-empty g c = none_placed _ c.arcs-arcs.result _ _ c.arcs-arcs.ensures c.in_ok-zero.ensures (search rules)

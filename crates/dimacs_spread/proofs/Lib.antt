@@ -1,8 +1,0 @@
-pub mod EndLemmas
-pub mod SumLemmas
-mod RestLemmas
-mod RaisedLemmas
-mod DealtLemmas
-mod RefusalLemmas
-mod OrderLemmas
-mod Cheapest

@@ -1,3 +1,0 @@
-pub mod ArcsByCost
-pub mod Raised
-pub mod Rests
