@@ -13,10 +13,13 @@ use std::alloc::Global;
 /// How many arcs ahead the arc of an entry is looked for.
 pub(crate) const GAP: u32 = 1000;
 
+/// How many arcs there are for each chain.
+const ARCS_A_CHAIN: u32 = 4;
+
 /// How many arcs of its chain an arc is compared with at most.
 const MOST_COMPARED: u32 = 16;
 
-/// The first arcs of a network, in chains. Parallel arcs are in one chain, mostly without others.
+/// The first arcs of a network, in chains. Parallel arcs are in one chain, with few others.
 #[derive(Drop)]
 pub(crate) struct ArcChains {
     /// For each chain 1 + the index of its last arc; 0 for none.
@@ -28,15 +31,15 @@ pub(crate) struct ArcChains {
 }
 
 impl ArcChains {
-    /// No arcs, and memory for those of a network: 8 to 12 bytes for each.
+    /// No arcs, and memory for those of a network: 5 to 6 bytes for each.
     pub(crate) fn room<N: Network>(alloc: Global, network: &N) -> Result<ArcChains, Memory>
         ensures { IfOk result (AreChained (N.list network.now)) }
     {
         let arcs = network.arcs();
-        let chains = (arcs.max(1) as usize).next_power_of_two();
+        let chains = (arcs / ARCS_A_CHAIN).max(1);
         Ok(ArcChains {
-            step: (arcs / network.nodes().max(1)).max(1),
-            last: vec![in alloc; 0u32; chains]?,
+            step: (chains / network.nodes().max(1)).max(1),
+            last: vec![in alloc; 0u32; (chains as usize).next_power_of_two()]?,
             before: Vec::with_capacity(alloc, arcs as usize)?,
         })
     }
