@@ -1,7 +1,7 @@
 use Rattle.std.proofs.Common.{◌≤◌, w64, SFits, rules, arith}
 use Rattle.std.proofs.lemmas.Int.{ints}
 use Rattle.dimacs_instance.proofs.SummaryLemmas.{counted_more}
-use Rattle.dimacs_instance.proofs.summaries.graph.CountedGraphBegun.keep.Goals as goal
+use Rattle.dimacs_instance.proofs.summaries.graph.CountedGraphBuilder.keep.Goals as goal
 
 pub returns-clause-added : goal.returns-clause-added
 returns-clause-added c = λ rs counted.

@@ -1,7 +1,7 @@
 use Rattle.std.proofs.Common.{◌≤◌, w64, SFits, rules, arith}
 use Rattle.std.proofs.lemmas.Int.{ints}
 use Rattle.dimacs_instance.proofs.MaxCountLemmas.{one_more_arc, one_more_node}
-use Rattle.dimacs_instance.proofs.summaries.max.CountedMaxBegun.keep.Goals as goal
+use Rattle.dimacs_instance.proofs.summaries.max.CountedMaxBuilder.keep.Goals as goal
 
 pub returns-in-MaxArc-clause-added : goal.returns-in-MaxArc-clause-added
 returns-in-MaxArc-clause-added c = λ rs counted.

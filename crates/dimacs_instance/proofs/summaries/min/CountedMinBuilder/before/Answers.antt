@@ -1,7 +1,7 @@
 use Rattle.std.proofs.Common.{refl}
 use Rattle.dimacs_records.specs.declared.records.Record.TheVariants.{MinNode}
 use Rattle.dimacs_instance.proofs.MinCountLemmas.{counted_noted}
-use Rattle.dimacs_instance.proofs.summaries.min.CountedMinBegun.before.Goals as goal
+use Rattle.dimacs_instance.proofs.summaries.min.CountedMinBuilder.before.Goals as goal
 
 pub returns-in-MinNode-clause-of_records : goal.returns-in-MinNode-clause-of_records
 returns-in-MinNode-clause-of_records c = λ rs counted.

@@ -3,7 +3,7 @@ use Rattle.std.proofs.lemmas.Int.{to_z-of_z, ints}
 use Rattle.dimacs_network.specs.declared.network.ArcView.{ArcView}
 use Rattle.dimacs_instance.proofs.MinLemmas.{law_after_set}
 use Rattle.dimacs_instance.proofs.MinCountLemmas.{counted_node, one_more_arc, one_more_node}
-use Rattle.dimacs_instance.proofs.summaries.min.CountedMinBegun.keep.Goals as goal
+use Rattle.dimacs_instance.proofs.summaries.min.CountedMinBuilder.keep.Goals as goal
 
 pub invariant_of-self-in-Continue-1 : goal.invariant_of-self-in-Continue-1
 invariant_of-self-in-Continue-1 c =

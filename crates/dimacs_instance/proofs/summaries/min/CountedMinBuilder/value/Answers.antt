@@ -3,7 +3,7 @@ use Rattle.std.specs.Int.{w128}
 use Rattle.std.proofs.lemmas.Int.{to_z-of_z}
 use Rattle.dimacs_instance.specs.MinReading.{MinCount}
 use Rattle.dimacs_instance.proofs.MinCountLemmas.{gives_min_summary, supplies_law}
-use Rattle.dimacs_instance.proofs.summaries.min.CountedMinBegun.value.Goals as goal
+use Rattle.dimacs_instance.proofs.summaries.min.CountedMinBuilder.value.Goals as goal
 
 pub invariant_of-supplied : goal.invariant_of-supplied
 invariant_of-supplied c =
