@@ -2,8 +2,6 @@
 use Rattle.std.specs.Prelude.{ℕ, ◌==◌, if◌then◌else◌, Option, None, Some}
 use Rattle.dimacs_records.specs.declared.kinds.TextKind.{TextKind}
 use Rattle.dimacs_records.specs.declared.kinds.TextKind.TheVariants as texts
-use Rattle.dimacs_runs.specs.declared.jobs.CertifyKind.{CertifyKind}
-use Rattle.dimacs_runs.specs.declared.jobs.CertifyKind.TheVariants as claims
 use Rattle.dimacs_runs.specs.declared.jobs.JudgeKind.{JudgeKind}
 use Rattle.dimacs_runs.specs.declared.jobs.JudgeKind.TheVariants as judges
 use Rattle.dimacs_runs.specs.declared.jobs.SolveJob.{SolveJob}
@@ -17,14 +15,6 @@ judge_kind number =
     else if number == 1 then Some judges.Min
     else if number == 2 then Some judges.Infeasible
     else if number == 3 then Some judges.Paths
-    else None
-
-abbrev pub certify_kind : ℕ → Option CertifyKind
-certify_kind number =
-    if number == 0 then Some claims.Max
-    else if number == 1 then Some claims.Min
-    else if number == 2 then Some claims.Infeasible
-    else if number == 3 then Some claims.Paths
     else None
 
 abbrev pub spread_kind : ℕ → Option SpreadKind

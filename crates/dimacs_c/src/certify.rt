@@ -2,14 +2,14 @@
 
 ghost use Rattle.std.specs.Prelude.{◌∷◌, []};
 ghost use Rattle.dimacs_c.specs.Calls.{AnswersTexts, AnswersTextsKind, handed};
-ghost use Rattle.dimacs_c.specs.Kinds.{certify_kind};
+ghost use Rattle.dimacs_c.specs.Kinds.{judge_kind};
 ghost use Rattle.dimacs_runs.specs.Certified.{Certified};
 ghost use Rattle.dimacs_runs.specs.Outputs.{WritesAlike};
 
 use crate::answer::{end, misuse};
-use crate::kinds::certify_of;
+use crate::kinds::judge_of;
 use dimacs_lines::{MemorySink, MemorySource};
-use dimacs_runs::{CertifyKind, run_certify};
+use dimacs_runs::{JudgeKind, run_certify};
 use std::alloc::Global;
 
 /// Certifies a claim, as `dimacs certify-max` and so on. `certificate` gets the certificate, or a better or a feasible
@@ -25,10 +25,10 @@ pub extern "C" fn dimacs_certify(
     certificate: &mut [u8],
     certificate_needed: &mut usize,
 ) -> u32
-    ensures { AnswersTextsKind (certify_kind kind) (λ k. WritesAlike (Certified k instance.now claim.now)) result
+    ensures { AnswersTextsKind (judge_kind kind) (λ k. WritesAlike (Certified k instance.now claim.now)) result
         (handed certificate.old certificate.new certificate_needed.new ∷ handed out.old out.new needed.new ∷ []) }
 {
-    match certify_of(kind) {
+    match judge_of(kind) {
         Some(kind) => certify(
             alloc,
             kind,
@@ -48,7 +48,7 @@ pub extern "C" fn dimacs_certify(
 
 fn certify(
     alloc: Global,
-    kind: CertifyKind,
+    kind: JudgeKind,
     instance: &[u8],
     claim: &[u8],
     out: &mut [u8],

@@ -1,10 +1,10 @@
 //! The numbers of the kinds, as `dimacs.h` defines them.
 
 ghost use Rattle.std.specs.Prelude.{◌≡◌};
-ghost use Rattle.dimacs_c.specs.Kinds.{certify_kind, judge_kind, solve_job, spread_kind, text_kind};
+ghost use Rattle.dimacs_c.specs.Kinds.{judge_kind, solve_job, spread_kind, text_kind};
 
 use dimacs_records::TextKind;
-use dimacs_runs::{CertifyKind, JudgeKind, SolveJob, SpreadKind};
+use dimacs_runs::{JudgeKind, SolveJob, SpreadKind};
 
 pub(crate) fn judge_of(number: u32) -> Option<JudgeKind>
     ensures { result ≡ judge_kind number }
@@ -14,18 +14,6 @@ pub(crate) fn judge_of(number: u32) -> Option<JudgeKind>
         1 => Some(JudgeKind::Min),
         2 => Some(JudgeKind::Infeasible),
         3 => Some(JudgeKind::Paths),
-        _ => None,
-    }
-}
-
-pub(crate) fn certify_of(number: u32) -> Option<CertifyKind>
-    ensures { result ≡ certify_kind number }
-{
-    match number {
-        0 => Some(CertifyKind::Max),
-        1 => Some(CertifyKind::Min),
-        2 => Some(CertifyKind::Infeasible),
-        3 => Some(CertifyKind::Paths),
         _ => None,
     }
 }

@@ -3,7 +3,7 @@
 use crate::reopen::Reopen;
 use dimacs_lines::{Lines, MAX_LINES, Memory, Source};
 use dimacs_records::{Record, TextKind, record};
-use dimacs_runs::{CertifyKind, Job, JudgeKind, SolveJob, SpreadKind};
+use dimacs_runs::{Job, JudgeKind, SolveJob, SpreadKind};
 use std::alloc::Global;
 
 /// A text of a run: its kind and its file.
@@ -104,12 +104,12 @@ fn judge_texts(kind: JudgeKind, files: &[String]) -> Texts<'_> {
     }
 }
 
-fn certify_texts(kind: CertifyKind, files: &[String]) -> Texts<'_> {
+fn certify_texts(kind: JudgeKind, files: &[String]) -> Texts<'_> {
     match kind {
-        CertifyKind::Max => claim_texts(TextKind::Max, TextKind::Solution, files),
-        CertifyKind::Min => claim_texts(TextKind::Min, TextKind::Solution, files),
-        CertifyKind::Infeasible => instance_texts(TextKind::Min, files),
-        CertifyKind::Paths => claim_texts(TextKind::Graph, TextKind::Distances, files),
+        JudgeKind::Max => claim_texts(TextKind::Max, TextKind::Solution, files),
+        JudgeKind::Min => claim_texts(TextKind::Min, TextKind::Solution, files),
+        JudgeKind::Infeasible => instance_texts(TextKind::Min, files),
+        JudgeKind::Paths => claim_texts(TextKind::Graph, TextKind::Distances, files),
     }
 }
 

@@ -4,11 +4,10 @@ use Rattle.std.specs.Option.{option_map}
 use Rattle.std.specs.Prelude.{codes}
 use Rattle.std.proofs.lemmas.List.{length-map}
 use Rattle.std.specs.String.{string_bytes}
-use Rattle.dimacs_runs.specs.declared.jobs.CertifyKind.{CertifyKind}
-use Rattle.dimacs_runs.specs.declared.jobs.CertifyKind.TheVariants as certifies
+use Rattle.dimacs_runs.specs.declared.jobs.JudgeKind.{JudgeKind}
+use Rattle.dimacs_runs.specs.declared.jobs.JudgeKind.TheVariants as judges
 use Rattle.dimacs_runs.specs.declared.jobs.Job.{Job}
 use Rattle.dimacs_runs.specs.declared.jobs.Job.TheVariants.{Convert, Show, Judge, Certify, Spread, Solve}
-use Rattle.dimacs_runs.specs.declared.jobs.JudgeKind.{JudgeKind}
 use Rattle.dimacs_runs.specs.declared.jobs.SolveJob.{SolveJob}
 use Rattle.dimacs_runs.specs.declared.jobs.SpreadKind.{SpreadKind}
 use Rattle.dimacs_runs.specs.declared.jobs.SolveJob.TheVariants.{Max, Min, Paths}
@@ -47,8 +46,8 @@ three_arguments f (p ∷ q ∷ r ∷ []) a b c x y z least most first second thi
 three_arguments f arguments a b c x y z least most first second third is_x is_y is_z = absurd (omega (arith, least, most))
 
 -- a claim is read after the instance, except for `Infeasible`
-pub reads_two : (kind : CertifyKind) → kind ≢ certifies.Infeasible → certify_reads kind ≡ 2
-reads_two certifies.Infeasible other = absurd (other refl)
+pub reads_two : (kind : JudgeKind) → kind ≢ judges.Infeasible → certify_reads kind ≡ 2
+reads_two judges.Infeasible other = absurd (other refl)
 reads_two kind other = refl
 
 -- ---- the arguments after the files of a solver
@@ -85,7 +84,7 @@ no_solver f verb arguments options least is none job files asks = absurd (omega 
 module _ {A : Type 0} (f : A → List ℕ) (arguments : List A) (first : A) (rest : List A) (verb : List ℕ) (is : arguments ≡ first ∷ rest) (is_verb : verb ≡ f first) where
   -- an argument names no run, and those after it suit no judge, no certifier, no spreading and no solver
   pub nothing_asked : (answer : Option Job) → verb ≢ codes "convert" → verb ≢ codes "show" → IfNone answer ((kind : JudgeKind) → verb ≡ judge_verb kind → length rest ≢ file_count kind)
-      → IfNone answer ((kind : CertifyKind) → verb ≡ certify_verb kind → ¬ AreCertifyFiles kind (length rest))
+      → IfNone answer ((kind : JudgeKind) → verb ≡ certify_verb kind → ¬ AreCertifyFiles kind (length rest))
       → IfNone answer ((kind : SpreadKind) → verb ≡ spread_verb kind → length rest ≢ 3)
       → IfNone answer ((job : SolveJob) (files : List (List ℕ)) → ¬ AsksSolver (verb ∷ map f rest) job files) → IfNone answer ((wanted : Job) → ¬ Asks (map f arguments) wanted)
   nothing_asked (Some job) convert show judge certifier spreading solver = tt

@@ -30,7 +30,7 @@ use Rattle.dimacs_judging.specs.inside.Labels.{block_at}
 use Rattle.dimacs_judging.proofs.BlockNumbers.{block_found}
 use Rattle.dimacs_judging.proofs.PathsPassing.{passing_shows}
 use Rattle.dimacs_decide.specs.CertifiedPaths.{AreLabelsOfAll, block_source, sources_of}
-use Rattle.dimacs_runs.specs.declared.jobs.CertifyKind.TheVariants as certifies
+use Rattle.dimacs_runs.specs.declared.jobs.JudgeKind.TheVariants as judges
 use Rattle.dimacs_runs.specs.declared.jobs.JudgeKind.TheVariants.{Max, Min, Infeasible, Paths}
 use Rattle.dimacs_runs.specs.declared.jobs.SolveJob.TheVariants as solves
 use Rattle.dimacs_runs.specs.declared.status.Status.TheVariants.{Done}
@@ -148,18 +148,18 @@ module _ (g : NetworkValue) (d l : LabelsValue) (bare : AreBare d) (of : AreLabe
       subst (λ line. Judged Paths graph queries certificate Done line) (sym (same_report q spells_q.given.1 ask)) (paths_yes graph queries certificate g q l spells_g spells_q spells_l (passing_shows g q l spells_l.given.1 (passes q ask)))
 
 pub certified_yes : CertifiedLaw
-certified_yes certifies.Max instance claim out (inl (l, f, r, fault, is, line)) = absurd cc
-certified_yes certifies.Max instance claim out (inr (i, spells_i, inl (l, f, r, fault, is, line))) = absurd cc
-certified_yes certifies.Max instance claim out (inr (i, spells_i, inr (s, spells_s, (text, (c, shown, canonical, spelled), is)))) =
+certified_yes judges.Max instance claim out (inl (l, f, r, fault, is, line)) = absurd cc
+certified_yes judges.Max instance claim out (inr (i, spells_i, inl (l, f, r, fault, is, line))) = absurd cc
+certified_yes judges.Max instance claim out (inr (i, spells_i, inr (s, spells_s, (text, (c, shown, canonical, spelled), is)))) =
     (text, max_line s.value, is, max_yes instance claim text i s c spells_i spells_s spelled shown)
-certified_yes certifies.Min instance claim out (inl (l, f, r, fault, is, line)) = absurd cc
-certified_yes certifies.Min instance claim out (inr (i, spells_i, inl (l, f, r, fault, is, line))) = absurd cc
-certified_yes certifies.Min instance claim out (inr (i, spells_i, inr (s, spells_s, (text, (p, shown, canonical, spelled), is)))) =
+certified_yes judges.Min instance claim out (inl (l, f, r, fault, is, line)) = absurd cc
+certified_yes judges.Min instance claim out (inr (i, spells_i, inl (l, f, r, fault, is, line))) = absurd cc
+certified_yes judges.Min instance claim out (inr (i, spells_i, inr (s, spells_s, (text, (p, shown, canonical, spelled), is)))) =
     (text, min_line s.value, is, min_yes instance claim text i s p spells_i spells_s spelled shown)
-certified_yes certifies.Infeasible instance claim out (inl (l, f, r, fault, is, line)) = absurd cc
-certified_yes certifies.Infeasible instance claim out (inr (i, spells_i, (text, (c, shown, canonical, spelled), is))) =
+certified_yes judges.Infeasible instance claim out (inl (l, f, r, fault, is, line)) = absurd cc
+certified_yes judges.Infeasible instance claim out (inr (i, spells_i, (text, (c, shown, canonical, spelled), is))) =
     (text, infeasible_line, is, set_yes instance claim text i c spells_i spelled shown)
-certified_yes certifies.Paths graph claim out (inl (l, f, r, fault, is, line)) = absurd cc
-certified_yes certifies.Paths graph claim out (inr (g, spells_g, inl (l, f, r, fault, is, line))) = absurd cc
-certified_yes certifies.Paths graph claim out (inr (g, spells_g, inr (d, spells_d, (same, (text, (right, (l, of, canonical, spelled)), is))))) =
+certified_yes judges.Paths graph claim out (inl (l, f, r, fault, is, line)) = absurd cc
+certified_yes judges.Paths graph claim out (inr (g, spells_g, inl (l, f, r, fault, is, line))) = absurd cc
+certified_yes judges.Paths graph claim out (inr (g, spells_g, inr (d, spells_d, (same, (text, (right, (l, of, canonical, spelled)), is))))) =
     (text, distances_line (length d.blocks), is, (g, d, spells_g, spells_d, λ queries q spells_q ask. queries_yes g d l spells_d.given.2 of graph queries text q spells_g spells_q spelled ask))

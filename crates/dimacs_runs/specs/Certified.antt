@@ -28,8 +28,8 @@ use Rattle.dimacs_judging.specs.Tests.{First, Row}
 use Rattle.dimacs_decide.specs.CertifiedMax.{IsMaxImproved}
 use Rattle.dimacs_decide.specs.CertifiedMin.{IsMinImproved}
 use Rattle.dimacs_decide.specs.CertifiedPaths.{AreAllDistances, AreLabelsOfAll, distances_rows}
-use Rattle.dimacs_runs.specs.declared.jobs.CertifyKind.{CertifyKind}
-use Rattle.dimacs_runs.specs.declared.jobs.CertifyKind.TheVariants.{Max, Min, Infeasible, Paths}
+use Rattle.dimacs_runs.specs.declared.jobs.JudgeKind.{JudgeKind}
+use Rattle.dimacs_runs.specs.declared.jobs.JudgeKind.TheVariants.{Max, Min, Infeasible, Paths}
 use Rattle.dimacs_runs.specs.declared.status.Status.{Status}
 use Rattle.dimacs_runs.specs.declared.status.Status.TheVariants.{Done, Refused, GaveUp}
 use Rattle.dimacs_runs.specs.Solved.{FaultAloneOr}
@@ -107,7 +107,7 @@ CertifiesDistances g d Refused out =
 CertifiesDistances g d GaveUp out = ⊥
 
 -- what is written for an instance and a claim
-abbrev pub Certified : CertifyKind → List ℕ → List ℕ → Status → List (List ℕ) → Type 0
+abbrev pub Certified : JudgeKind → List ℕ → List ℕ → Status → List (List ℕ) → Type 0
 Certified Max instance claim =
     FaultAloneOr uncertified (text_of kinds.Max GivesMax instance) (λ i.
     FaultAloneOr uncertified (text_of kinds.Solution GivesSolution claim) (λ s.
@@ -124,16 +124,16 @@ Certified Paths instance claim =
     FaultAloneOr uncertified (text_of kinds.Distances GivesDistances claim) (λ d.
     CertifiesDistances g d))
 
-abbrev pub certified_kind : CertifyKind → TextKind
+abbrev pub certified_kind : JudgeKind → TextKind
 certified_kind Max = kinds.Max
 certified_kind Paths = kinds.Graph
 certified_kind kind = kinds.Min
 
-abbrev pub claimed_kind : CertifyKind → Option TextKind
+abbrev pub claimed_kind : JudgeKind → Option TextKind
 claimed_kind Infeasible = None
 claimed_kind Paths = Some kinds.Distances
 claimed_kind kind = Some kinds.Solution
 
 -- the bytes of the claim, if there is one
-abbrev pub IsClaimed : CertifyKind → Option (List ℕ) → List ℕ → Type 0
+abbrev pub IsClaimed : JudgeKind → Option (List ℕ) → List ℕ → Type 0
 IsClaimed kind coming bytes = IsSome (claimed_kind kind) → coming ≡ Some bytes

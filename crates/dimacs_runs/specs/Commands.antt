@@ -8,10 +8,9 @@ use Rattle.dimacs_runs.specs.declared.failure.CommandError.TheVariants.{Device, 
 use Rattle.dimacs_runs.specs.declared.failure.Failure.TheVariants.{File, Output}
 use Rattle.dimacs_runs.specs.declared.failure.FileCall.{FileCall}
 use Rattle.dimacs_runs.specs.declared.failure.FileCall.TheVariants as calls
-use Rattle.dimacs_runs.specs.declared.jobs.CertifyKind.{CertifyKind}
+use Rattle.dimacs_runs.specs.declared.jobs.JudgeKind.{JudgeKind}
 use Rattle.dimacs_runs.specs.declared.jobs.Job.{Job}
 use Rattle.dimacs_runs.specs.declared.jobs.Job.TheVariants.{Convert, Show, Judge, Certify, Spread, Solve}
-use Rattle.dimacs_runs.specs.declared.jobs.JudgeKind.{JudgeKind}
 use Rattle.dimacs_runs.specs.declared.jobs.JudgeKind.TheVariants as judges
 use Rattle.dimacs_runs.specs.declared.jobs.SolveJob.{SolveJob}
 use Rattle.dimacs_runs.specs.declared.jobs.SolveJob.TheVariants as solves
@@ -107,7 +106,7 @@ abbrev pub Making : Type 1
 Making = List (List ℕ) → Status → List (List ℕ) → Type 0
 
 -- a run that reads one file has no claim
-abbrev pub MakesCertificate : CertifyKind → Making
+abbrev pub MakesCertificate : JudgeKind → Making
 MakesCertificate kind (instance ∷ []) = WritesAlike (Certified kind instance [])
 MakesCertificate kind (instance ∷ claim ∷ []) = WritesAlike (Certified kind instance claim)
 MakesCertificate kind other = λ status out. ⊥

@@ -4,12 +4,10 @@ use Rattle.std.specs.String.{string_bytes}
 use Rattle.dimacs_lines.specs.Number.{Spells}
 use Rattle.dimacs_records.specs.declared.kinds.TextKind.{TextKind}
 use Rattle.dimacs_records.specs.declared.kinds.TextKind.TheVariants.{Max, Min, Graph, Queries, Solution, Cut, Potentials, Labels, Distances}
-use Rattle.dimacs_runs.specs.declared.jobs.CertifyKind.{CertifyKind}
-use Rattle.dimacs_runs.specs.declared.jobs.CertifyKind.TheVariants as certifies
-use Rattle.dimacs_runs.specs.declared.jobs.Job.{Job}
-use Rattle.dimacs_runs.specs.declared.jobs.Job.TheVariants.{Convert, Show, Judge, Certify, Spread, Solve}
 use Rattle.dimacs_runs.specs.declared.jobs.JudgeKind.{JudgeKind}
 use Rattle.dimacs_runs.specs.declared.jobs.JudgeKind.TheVariants as judges
+use Rattle.dimacs_runs.specs.declared.jobs.Job.{Job}
+use Rattle.dimacs_runs.specs.declared.jobs.Job.TheVariants.{Convert, Show, Judge, Certify, Spread, Solve}
 use Rattle.dimacs_runs.specs.declared.jobs.Request.{Request}
 use Rattle.dimacs_runs.specs.declared.jobs.Request.TheVariants.{Help, HelpOn, Version, Run, Explain}
 use Rattle.dimacs_runs.specs.declared.jobs.SolveJob.{SolveJob}
@@ -39,19 +37,19 @@ abbrev pub file_count : JudgeKind → ℕ
 file_count judges.Infeasible = 2
 file_count kind = 3
 
-abbrev pub certify_verb : CertifyKind → List ℕ
-certify_verb certifies.Max = codes "certify-max"
-certify_verb certifies.Min = codes "certify-min"
-certify_verb certifies.Infeasible = codes "certify-infeasible"
-certify_verb certifies.Paths = codes "certify-paths"
+abbrev pub certify_verb : JudgeKind → List ℕ
+certify_verb judges.Max = codes "certify-max"
+certify_verb judges.Min = codes "certify-min"
+certify_verb judges.Infeasible = codes "certify-infeasible"
+certify_verb judges.Paths = codes "certify-paths"
 
 -- an instance and a claim; `Infeasible` has no claim
-abbrev pub certify_reads : CertifyKind → ℕ
-certify_reads certifies.Infeasible = 1
+abbrev pub certify_reads : JudgeKind → ℕ
+certify_reads judges.Infeasible = 1
 certify_reads kind = 2
 
 -- the files to read, and perhaps one more for the certificate
-abbrev pub AreCertifyFiles : CertifyKind → ℕ → Type 0
+abbrev pub AreCertifyFiles : JudgeKind → ℕ → Type 0
 AreCertifyFiles kind count = (certify_reads kind ≤ count) × (count ≤ certify_reads kind + 1)
 
 abbrev pub spread_verb : SpreadKind → List ℕ

@@ -9,8 +9,8 @@ use Rattle.dimacs_instance.specs.Graph.{SpellsGraph}
 use Rattle.dimacs_instance.specs.QueryTexts.{QueriesValue, SpellsQueries}
 use Rattle.dimacs_judging.specs.QueryTests.{nodes_asked, sources_asked}
 use Rattle.dimacs_decide.specs.CertifiedPaths.{sources_of}
-use Rattle.dimacs_runs.specs.declared.jobs.CertifyKind.{CertifyKind}
-use Rattle.dimacs_runs.specs.declared.jobs.CertifyKind.TheVariants as certifies
+use Rattle.dimacs_runs.specs.declared.jobs.JudgeKind.{JudgeKind}
+use Rattle.dimacs_runs.specs.declared.jobs.JudgeKind.TheVariants as judges
 use Rattle.dimacs_runs.specs.declared.jobs.JudgeKind.TheVariants.{Max, Min, Infeasible, Paths}
 use Rattle.dimacs_runs.specs.declared.jobs.SolveJob.{SolveJob}
 use Rattle.dimacs_runs.specs.declared.jobs.SolveJob.TheVariants as solves
@@ -33,16 +33,16 @@ PathsJudgedYes graph claim certificate =
     → Judged Paths graph queries certificate Done (paths_lines d.blocks q))
 
 -- the judge's run over the instance, the claim and the certificate answers yes, and prints the same report
-abbrev pub CertifiedYes : CertifyKind → List ℕ → List ℕ → List ℕ → List ℕ → Type 0
-CertifiedYes certifies.Max instance claim certificate report = Judged Max instance claim certificate Done report
-CertifiedYes certifies.Min instance claim certificate report = Judged Min instance claim certificate Done report
-CertifiedYes certifies.Infeasible instance claim certificate report = Judged Infeasible instance claim certificate Done report
-CertifiedYes certifies.Paths graph claim certificate report = PathsJudgedYes graph claim certificate
+abbrev pub CertifiedYes : JudgeKind → List ℕ → List ℕ → List ℕ → List ℕ → Type 0
+CertifiedYes judges.Max instance claim certificate report = Judged Max instance claim certificate Done report
+CertifiedYes judges.Min instance claim certificate report = Judged Min instance claim certificate Done report
+CertifiedYes judges.Infeasible instance claim certificate report = Judged Infeasible instance claim certificate Done report
+CertifiedYes judges.Paths graph claim certificate report = PathsJudgedYes graph claim certificate
 
 -- with `Done`, `run_certify` writes a certificate by which the judge's run answers yes
 abbrev pub CertifiedLaw : Type 0
 CertifiedLaw =
-    (kind : CertifyKind) (instance claim : List ℕ) (out : List (List ℕ)) → Certified kind instance claim Done out
+    (kind : JudgeKind) (instance claim : List ℕ) (out : List (List ℕ)) → Certified kind instance claim Done out
     → (certificate : List ℕ) × (report : List ℕ) × (out ≡ certificate ∷ report ∷ []) × CertifiedYes kind instance claim certificate report
 
 -- the judge's run over the instance and what was written answers yes, and prints the same report; labels must have no

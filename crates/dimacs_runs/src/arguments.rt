@@ -2,16 +2,15 @@
 
 ghost use Rattle.std.specs.Prelude.{◌≡◌, ◌≢◌, ◌↔◌, ◌∷◌, [], ℕ, Contains, List, IfSome, IfNone, IsTrue, codes, length, map};
 ghost use Rattle.dimacs_records.specs.declared.kinds.TextKind.{TextKind};
-ghost use Rattle.dimacs_runs.specs.declared.jobs.CertifyKind.{CertifyKind};
-ghost use Rattle.dimacs_runs.specs.declared.jobs.Job.{Job};
 ghost use Rattle.dimacs_runs.specs.declared.jobs.JudgeKind.{JudgeKind};
+ghost use Rattle.dimacs_runs.specs.declared.jobs.Job.{Job};
 ghost use Rattle.dimacs_runs.specs.declared.jobs.Request.{Request};
 ghost use Rattle.dimacs_runs.specs.declared.jobs.SolveJob.{SolveJob};
 ghost use Rattle.dimacs_runs.specs.declared.jobs.SpreadKind.{SpreadKind};
 ghost use Rattle.std.specs.String.{string_bytes};
 ghost use Rattle.dimacs_runs.specs.Jobs.{AreCertifyFiles, AreOptions, Asks, AsksSolver, IsLimit, GiveLimit, Requests, certify_verb, command_words, file_count, judge_verb, kind_argument, solve_verb, spread_verb};
 
-use crate::jobs::{CertifyKind, Job, JudgeKind, Request, SolveJob, SpreadKind};
+use crate::jobs::{Job, JudgeKind, Request, SolveJob, SpreadKind};
 use dimacs_lines::number;
 use dimacs_records::TextKind;
 
@@ -135,7 +134,7 @@ fn text_arguments(arguments: &[String]) -> Option<(TextKind, &str)>
 fn files_job<'a>(verb: &str, arguments: &'a [String]) -> Option<Job<'a>>
     ensures asked { IfSome result (Asks (verb.now ∷ map string_bytes arguments.now)) }
     ensures no_judge { IfNone result ((kind : JudgeKind) → verb.now ≡ judge_verb kind → length arguments.now ≢ file_count kind) }
-    ensures no_certifier { IfNone result ((kind : CertifyKind) → verb.now ≡ certify_verb kind → ¬ AreCertifyFiles kind (length arguments.now)) }
+    ensures no_certifier { IfNone result ((kind : JudgeKind) → verb.now ≡ certify_verb kind → ¬ AreCertifyFiles kind (length arguments.now)) }
     ensures no_spreading { IfNone result ((kind : SpreadKind) → verb.now ≡ spread_verb kind → length arguments.now ≢ 3) }
     ensures no_solver { IfNone result ((job : SolveJob) (files : List (List ℕ)) → ¬ AsksSolver (verb.now ∷ map string_bytes arguments.now) job files) }
 {
@@ -167,15 +166,15 @@ fn judge_kind(verb: &str, files: usize) -> Option<JudgeKind>
 }
 
 /// The claim that a verb with this many files certifies.
-fn certify_kind(verb: &str, files: usize) -> Option<CertifyKind>
+fn certify_kind(verb: &str, files: usize) -> Option<JudgeKind>
     ensures named { IfSome result (λ kind. (verb.now ≡ certify_verb kind) × AreCertifyFiles kind files) }
-    ensures not_named { IfNone result ((kind : CertifyKind) → verb.now ≡ certify_verb kind → ¬ AreCertifyFiles kind files) }
+    ensures not_named { IfNone result ((kind : JudgeKind) → verb.now ≡ certify_verb kind → ¬ AreCertifyFiles kind files) }
 {
     match (verb, files) {
-        ("certify-max", 2 | 3) => Some(CertifyKind::Max),
-        ("certify-min", 2 | 3) => Some(CertifyKind::Min),
-        ("certify-infeasible", 1 | 2) => Some(CertifyKind::Infeasible),
-        ("certify-paths", 2 | 3) => Some(CertifyKind::Paths),
+        ("certify-max", 2 | 3) => Some(JudgeKind::Max),
+        ("certify-min", 2 | 3) => Some(JudgeKind::Min),
+        ("certify-infeasible", 1 | 2) => Some(JudgeKind::Infeasible),
+        ("certify-paths", 2 | 3) => Some(JudgeKind::Paths),
         _ => None,
     }
 }

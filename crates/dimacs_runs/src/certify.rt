@@ -13,7 +13,7 @@ ghost use Rattle.dimacs_judging.specs.Places.{ArePlaced};
 ghost use Rattle.dimacs_decide.specs.CertifiedMax.{IsMaxImproved};
 ghost use Rattle.dimacs_decide.specs.CertifiedMin.{IsMinImproved};
 ghost use Rattle.dimacs_runs.specs.declared.status.RunError.TheVariants.{Device, Memory};
-ghost use Rattle.dimacs_runs.specs.declared.jobs.CertifyKind.TheVariants as certifies;
+ghost use Rattle.dimacs_runs.specs.declared.jobs.JudgeKind.TheVariants as judges;
 ghost use Rattle.dimacs_runs.specs.Certified.{Certified, CertifiesLeast, CertifiesMaximum, IsClaimed, certified_kind};
 ghost use Rattle.dimacs_runs.specs.Judgings.{CountsDevices};
 ghost use Rattle.dimacs_runs.specs.Outputs.{ReportsAll, WritesAlike};
@@ -24,7 +24,7 @@ use crate::certify_distances::certify_distances;
 use crate::certify_infeasible::certify_infeasible;
 use crate::discard::Discard;
 use crate::early_end::{EarlyEnd, outcome_of};
-use crate::jobs::CertifyKind;
+use crate::jobs::JudgeKind;
 use crate::outcome::{Outcome, OutputText, write_outcome};
 use crate::report::Report;
 use crate::status::{RunError, Status};
@@ -50,7 +50,7 @@ use std::alloc::Global;
 /// certificate, the first that fails. The claim isn't read after an instance with a fault. `Infeasible` has no claim.
 pub fn run_certify<P: Source, Q: Source, C: Sink, K: Sink>(
     alloc: Global,
-    kind: CertifyKind,
+    kind: JudgeKind,
     instance: &mut P,
     claim: &mut Q,
     certificate_out: &mut C,
@@ -68,7 +68,7 @@ pub fn run_certify<P: Source, Q: Source, C: Sink, K: Sink>(
     ensures memory { result ≡ Err Memory → (C.seen certificate_out.new ≡ C.seen certificate_out.old) × (K.seen report.new ≡ K.seen report.old) }
     ensures stops_at_instance { (a : List ℕ) (l f : ℕ) (r : Reason) → P.coming instance.old ≡ Some a → Fault (certified_kind kind) (lines a) l f r
         → claim.new ≡ claim.old }
-    ensures unclaimed { kind ≡ certifies.Infeasible → claim.new ≡ claim.old }
+    ensures unclaimed { kind ≡ judges.Infeasible → claim.new ≡ claim.old }
 {
     let outcome = certify_claim(alloc, kind, instance, claim);
     write_outcome(outcome, &mut Discard, certificate_out, report)
@@ -77,7 +77,7 @@ pub fn run_certify<P: Source, Q: Source, C: Sink, K: Sink>(
 /// Certifies a claim, and returns what `run_certify` writes.
 pub(crate) fn certify_claim<P: Source, Q: Source>(
     alloc: Global,
-    kind: CertifyKind,
+    kind: JudgeKind,
     instance: &mut P,
     claim: &mut Q,
 ) -> Result<Outcome, RunError>
@@ -85,13 +85,13 @@ pub(crate) fn certify_claim<P: Source, Q: Source>(
         → MayCertify (Certified kind a b) result }
     ensures faults { CountsDevices result (P.faults instance.old ∷ Q.faults claim.old ∷ []) (P.faults instance.new ∷ Q.faults claim.new ∷ []) }
     ensures stops_at_instance { HasFault (certified_kind kind) (P.coming instance.old) → claim.new ≡ claim.old }
-    ensures unclaimed { kind ≡ certifies.Infeasible → claim.new ≡ claim.old }
+    ensures unclaimed { kind ≡ judges.Infeasible → claim.new ≡ claim.old }
 {
     outcome_of(match kind {
-        CertifyKind::Max => certify_maximum(alloc, instance, claim),
-        CertifyKind::Min => certify_least(alloc, instance, claim),
-        CertifyKind::Infeasible => certify_infeasible(alloc, instance),
-        CertifyKind::Paths => certify_distances(alloc, instance, claim),
+        JudgeKind::Max => certify_maximum(alloc, instance, claim),
+        JudgeKind::Min => certify_least(alloc, instance, claim),
+        JudgeKind::Infeasible => certify_infeasible(alloc, instance),
+        JudgeKind::Paths => certify_distances(alloc, instance, claim),
     })
 }
 
@@ -102,7 +102,7 @@ fn certify_maximum<P: Source, Q: Source>(
     solution: &mut Q,
 ) -> Result<Outcome, EarlyEnd>
     ensures certifies { (a b : List ℕ) → P.coming instance.old ≡ Some a → Q.coming solution.old ≡ Some b →
-        MayCertify (Certified certifies.Max a b) (outcome_of result) }
+        MayCertify (Certified judges.Max a b) (outcome_of result) }
     ensures faults { CountsDevices (outcome_of result) (P.faults instance.old ∷ Q.faults solution.old ∷ [])
         (P.faults instance.new ∷ Q.faults solution.new ∷ []) }
     ensures stops_at_instance { HasFault kinds.Max (P.coming instance.old) → solution.new ≡ solution.old }
@@ -120,7 +120,7 @@ fn certify_least<P: Source, Q: Source>(
     solution: &mut Q,
 ) -> Result<Outcome, EarlyEnd>
     ensures certifies { (a b : List ℕ) → P.coming instance.old ≡ Some a → Q.coming solution.old ≡ Some b →
-        MayCertify (Certified certifies.Min a b) (outcome_of result) }
+        MayCertify (Certified judges.Min a b) (outcome_of result) }
     ensures faults { CountsDevices (outcome_of result) (P.faults instance.old ∷ Q.faults solution.old ∷ [])
         (P.faults instance.new ∷ Q.faults solution.new ∷ []) }
     ensures stops_at_instance { HasFault kinds.Min (P.coming instance.old) → solution.new ≡ solution.old }

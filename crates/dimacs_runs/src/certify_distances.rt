@@ -3,7 +3,7 @@
 ghost use Rattle.std.specs.Prelude.{◌≡◌, ◌≢◌, ◌∷◌, [], ℕ, List, Some, Err};
 ghost use Rattle.dimacs_records.specs.declared.kinds.TextKind.TheVariants as kinds;
 ghost use Rattle.dimacs_claims.specs.LabelTexts.{FitText};
-ghost use Rattle.dimacs_runs.specs.declared.jobs.CertifyKind.TheVariants as certifies;
+ghost use Rattle.dimacs_runs.specs.declared.jobs.JudgeKind.TheVariants as judges;
 ghost use Rattle.dimacs_runs.specs.declared.status.RunError.TheVariants.{Device};
 ghost use Rattle.dimacs_runs.specs.Certified.{Certified, CertifiesDistances};
 ghost use Rattle.dimacs_runs.specs.Judgings.{CountsDevices};
@@ -29,7 +29,7 @@ pub(crate) fn certify_distances<P: Source, Q: Source>(
     distances: &mut Q,
 ) -> Result<Outcome, EarlyEnd>
     ensures certifies { (a b : List ℕ) → P.coming graph.old ≡ Some a → Q.coming distances.old ≡ Some b →
-        MayCertify (Certified certifies.Paths a b) (outcome_of result) }
+        MayCertify (Certified judges.Paths a b) (outcome_of result) }
     ensures faults { CountsDevices (outcome_of result) (P.faults graph.old ∷ Q.faults distances.old ∷ [])
         (P.faults graph.new ∷ Q.faults distances.new ∷ []) }
     ensures stops_at_graph { HasFault kinds.Graph (P.coming graph.old) → distances.new ≡ distances.old }

@@ -2,7 +2,7 @@
 
 ghost use Rattle.std.specs.Prelude.{◌≡◌, ◌≢◌, ◌∷◌, [], ℕ, List, Some, Err};
 ghost use Rattle.dimacs_judging.specs.Feasible.{FeasibleMin};
-ghost use Rattle.dimacs_runs.specs.declared.jobs.CertifyKind.TheVariants as certifies;
+ghost use Rattle.dimacs_runs.specs.declared.jobs.JudgeKind.TheVariants as judges;
 ghost use Rattle.dimacs_runs.specs.declared.status.RunError.TheVariants.{Device};
 ghost use Rattle.dimacs_runs.specs.Certified.{Certified, CertifiesInfeasible};
 ghost use Rattle.dimacs_runs.specs.Judgings.{CountsDevices};
@@ -25,7 +25,7 @@ pub(crate) fn certify_infeasible<P: Source>(
     alloc: Global,
     instance: &mut P,
 ) -> Result<Outcome, EarlyEnd>
-    ensures certifies { (a : List ℕ) → P.coming instance.old ≡ Some a → MayCertify (Certified certifies.Infeasible a []) (outcome_of result) }
+    ensures certifies { (a : List ℕ) → P.coming instance.old ≡ Some a → MayCertify (Certified judges.Infeasible a []) (outcome_of result) }
     ensures faults { CountsDevices (outcome_of result) (P.faults instance.old ∷ []) (P.faults instance.new ∷ []) }
 {
     let instance: MinInstance<PlainArcs<ArcView>> = read(alloc, instance)?;

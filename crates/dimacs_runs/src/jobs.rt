@@ -7,29 +7,16 @@ ghost use Rattle.dimacs_runs.specs.Commands.{WritesTwice};
 
 use dimacs_records::TextKind;
 
-/// A claim that comes with a certificate.
+/// A claim, which is judged by a certificate, or certified without one.
 #[derive(Clone, Copy, Debug, PartialEq, Eq)]
 pub enum JudgeKind {
-    /// A flow is maximum, by a cut.
+    /// A flow is maximum; a cut shows it.
     Max,
-    /// A flow costs least, by potentials.
+    /// A flow costs least; potentials show it.
     Min,
-    /// No flow is feasible, by a set of nodes.
+    /// No flow is feasible; a set of nodes shows it.
     Infeasible,
-    /// Labels are right, and answer queries.
-    Paths,
-}
-
-/// A claim that comes without a certificate.
-#[derive(Clone, Copy, Debug, PartialEq, Eq)]
-pub enum CertifyKind {
-    /// A flow is maximum.
-    Max,
-    /// A flow costs least.
-    Min,
-    /// No flow is feasible.
-    Infeasible,
-    /// Distances are right.
+    /// Distances are right; labels show it, and answer queries.
     Paths,
 }
 
@@ -64,7 +51,7 @@ pub enum Job<'a> {
     Judge(JudgeKind, &'a [String]),
     /// Certifies a claim. Reads an instance and a claim, and writes a certificate or a better solution to one more
     /// file if it is named. `Infeasible` has no file for the claim.
-    Certify(CertifyKind, &'a [String]),
+    Certify(JudgeKind, &'a [String]),
     /// Deals a claimed flow out to parallel arcs. Reads an instance and a claim, and writes a solution.
     Spread(SpreadKind, &'a [String]),
     /// Solves an instance. `Max` and `Min` read an instance, and write a claim and its certificate. `Paths` reads a

@@ -40,7 +40,7 @@ pub use certify::run_certify;
 pub use command::{command_status, run_command};
 pub use failure::{CommandError, Failure, FileCall};
 pub use files::Files;
-pub use jobs::{CertifyKind, Job, JudgeKind, Request, SolveJob, SpreadKind};
+pub use jobs::{Job, JudgeKind, Request, SolveJob, SpreadKind};
 pub use judge::run_judge;
 pub use laws::{certified_is_judged_yes, solved_is_judged_yes};
 pub use solve::run_solve;

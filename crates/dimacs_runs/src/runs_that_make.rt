@@ -2,7 +2,7 @@
 
 ghost use Rattle.std.specs.Prelude.{◌≡◌, ◌≤◌, ◌∷◌, [], ℕ, List, Some, length, map};
 ghost use Rattle.std.specs.String.{string_bytes};
-ghost use Rattle.dimacs_runs.specs.declared.jobs.CertifyKind.TheVariants as certifies;
+ghost use Rattle.dimacs_runs.specs.declared.jobs.JudgeKind.TheVariants as judges;
 ghost use Rattle.dimacs_runs.specs.Commands.{MakesCertificate, MakesOfFiles, reads_first, seen_by};
 ghost use Rattle.dimacs_runs.specs.Jobs.{AreCertifyFiles, certify_reads};
 ghost use Rattle.dimacs_runs.specs.Judgings.{CountsDevices};
@@ -14,7 +14,7 @@ use crate::certify_infeasible::certify_infeasible;
 use crate::early_end::outcome_of;
 use crate::failure::{CommandError, name_failure};
 use crate::files::Files;
-use crate::jobs::{CertifyKind, SpreadKind, name_at};
+use crate::jobs::{JudgeKind, SpreadKind, name_at};
 use crate::open_files::{close_read, open};
 use crate::outcome::Outcome;
 use crate::outcome_file::write_outcome_file;
@@ -27,7 +27,7 @@ use std::alloc::Global;
 #[derive(Clone, Copy)]
 pub(crate) enum ClaimJob {
     /// A certificate, or a better solution.
-    Certify(CertifyKind),
+    Certify(JudgeKind),
     /// The flow, dealt out to parallel arcs.
     Spread(SpreadKind),
 }
@@ -35,7 +35,7 @@ pub(crate) enum ClaimJob {
 /// Certifies a claim in the files with these names.
 pub(crate) fn certify_files<'a, F: Files, K: Sink>(
     alloc: Global,
-    kind: CertifyKind,
+    kind: JudgeKind,
     names: &'a [String],
     files: &mut F,
     output: &mut K,
@@ -46,7 +46,7 @@ pub(crate) fn certify_files<'a, F: Files, K: Sink>(
         (seen_by (F.seen files.new) (K.seen output.new)) }
 {
     match kind {
-        CertifyKind::Infeasible => certify_instance(alloc, names, files, output),
+        JudgeKind::Infeasible => certify_instance(alloc, names, files, output),
         kind => make_of_claim(alloc, ClaimJob::Certify(kind), names, files, output),
     }
 }
@@ -82,7 +82,7 @@ fn certify_instance<'a, F: Files, K: Sink>(
 ) -> Result<Status, CommandError<'a>>
     requires at_least { 1 ≤ length names.now }
     requires at_most { length names.now ≤ 2 }
-    ensures runs { MakesOfFiles (reads_first 1 (map string_bytes names.now)) (F.holds files.old) F.empty (MakesCertificate certifies.Infeasible) result
+    ensures runs { MakesOfFiles (reads_first 1 (map string_bytes names.now)) (F.holds files.old) F.empty (MakesCertificate judges.Infeasible) result
         (seen_by (F.seen files.old) (K.seen output.old))
         (seen_by (F.seen files.new) (K.seen output.new)) }
 {
@@ -133,7 +133,7 @@ fn answer_instance<'a, F: Files>(
     instance: &'a str,
     files: &mut F,
 ) -> Result<Outcome, CommandError<'a>>
-    ensures answers { AnswersFiles (instance.now ∷ []) (F.holds files.old) (MakesCertificate certifies.Infeasible) result
+    ensures answers { AnswersFiles (instance.now ∷ []) (F.holds files.old) (MakesCertificate judges.Infeasible) result
         (F.seen files.old) (F.seen files.new) }
 {
     let mut instance = open(files, instance)?;

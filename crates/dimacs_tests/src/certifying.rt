@@ -6,7 +6,7 @@ use crate::judging::judge;
 use crate::solving::{Outputs, new_outputs};
 use crate::tables::{case, cell, rows};
 use dimacs_lines::{FlakySink, FlakySource};
-use dimacs_runs::{CertifyKind, JudgeKind, RunError, Status, run_certify};
+use dimacs_runs::{JudgeKind, RunError, Status, run_certify};
 use std::alloc::Global;
 use std::process::Abort;
 use std::test::Fail;
@@ -14,7 +14,7 @@ use std::test::Fail;
 /// A claim about an instance.
 #[derive(Clone, Copy)]
 pub struct Claimed<'a> {
-    pub kind: CertifyKind,
+    pub kind: JudgeKind,
     pub instance: &'a str,
     pub solution: &'a str,
 }
@@ -22,7 +22,7 @@ pub struct Claimed<'a> {
 /// Certifies what sources give. Writes no claim.
 pub fn certify_from(
     alloc: Global,
-    kind: CertifyKind,
+    kind: JudgeKind,
     instance: &mut FlakySource<'_>,
     solution: &mut FlakySource<'_>,
     outputs: &mut Outputs<'_>,
@@ -55,7 +55,7 @@ fn certify(
 
 /// Tests that the judge prints this verdict on a claim with this certificate.
 fn judged(rt: &impl Abort, alloc: Global, claimed: Claimed<'_>, certificate: &[u8], report: &str) {
-    let kind = if claimed.kind == CertifyKind::Max {
+    let kind = if claimed.kind == JudgeKind::Max {
         JudgeKind::Max
     } else {
         JudgeKind::Min
@@ -74,8 +74,8 @@ fn judged(rt: &impl Abort, alloc: Global, claimed: Claimed<'_>, certificate: &[u
 }
 
 /// The line that refuses a claim with its value in the first line.
-fn better(kind: CertifyKind) -> &'static [u8] {
-    if kind == CertifyKind::Max {
+fn better(kind: JudgeKind) -> &'static [u8] {
+    if kind == JudgeKind::Max {
         b"x solution 1 2 NotMaximum\n"
     } else {
         b"x solution 1 2 NotLeast\n"
@@ -194,12 +194,12 @@ values | max | p max 134217728 1;n 1 s;n 134217728 t;a 1 134217728 7; | s 7;f 1 
 costs | min | p min 134217728 1;n 1 1;n 134217728 -1;a 1 134217728 0 1 5; | s 5;f 1 134217728 1; | v min 5; | v min 5;";
 
 /// The kind of this name.
-fn certified(rt: &impl Abort, word: &str) -> CertifyKind {
+fn certified(rt: &impl Abort, word: &str) -> JudgeKind {
     if word == "max" {
-        return CertifyKind::Max;
+        return JudgeKind::Max;
     }
     same(rt, "a kind", word, "min");
-    CertifyKind::Min
+    JudgeKind::Min
 }
 
 /// Tests a row of `CLAIMS`, in pieces of these sizes.
@@ -271,9 +271,9 @@ fn shows(rt: &impl Abort, alloc: Global, line: &str, sizes: &[usize]) -> Result<
     let (ended, rest) = cell(rt, rest);
     let (certificate, report) = cell(rt, rest);
     let kind = if word == "paths" {
-        CertifyKind::Paths
+        JudgeKind::Paths
     } else {
-        CertifyKind::Infeasible
+        JudgeKind::Infeasible
     };
     let claimed = Claimed {
         kind,

@@ -5,7 +5,7 @@ use crate::checks::{holds, holds_at, same_at};
 use crate::judging::{Texts, judge};
 use crate::solving::{CYCLE, MAX, MIN, Outputs, SOURCE, SolveInput, solve_from};
 use dimacs_lines::{FlakySink, FlakySource};
-use dimacs_runs::{CertifyKind, JudgeKind, RunError, SolveJob, Status};
+use dimacs_runs::{JudgeKind, RunError, SolveJob, Status};
 use std::alloc::Global;
 use std::process::Abort;
 use std::test::Fail;
@@ -297,42 +297,42 @@ fn each_call_of_a_producer_that_fails_is_told(rt: HostRuntime) -> Result<(), Fai
 
 static CERTIFIED: [Claimed<'static>; 8] = [
     Claimed {
-        kind: CertifyKind::Max,
+        kind: JudgeKind::Max,
         instance: MAX,
         solution: "s 6\nf 1 2 4\nf 1 3 2\nf 2 3 1\nf 2 4 3\nf 3 4 3\n",
     },
     Claimed {
-        kind: CertifyKind::Max,
+        kind: JudgeKind::Max,
         instance: MAX,
         solution: "s 0\n",
     },
     Claimed {
-        kind: CertifyKind::Max,
+        kind: JudgeKind::Max,
         instance: MAX,
         solution: "s 1\n",
     },
     Claimed {
-        kind: CertifyKind::Min,
+        kind: JudgeKind::Min,
         instance: MIN,
         solution: "s 14\nf 1 2 2\nf 1 3 2\nf 2 3 2\nf 3 4 4\n",
     },
     Claimed {
-        kind: CertifyKind::Min,
+        kind: JudgeKind::Min,
         instance: MIN,
         solution: "s 16\nf 1 2 2\nf 1 3 2\nf 2 4 2\nf 3 4 2\n",
     },
     Claimed {
-        kind: CertifyKind::Infeasible,
+        kind: JudgeKind::Infeasible,
         instance: "p min 2 1\nn 1 1\na 1 2 0 5 1\n",
         solution: "",
     },
     Claimed {
-        kind: CertifyKind::Infeasible,
+        kind: JudgeKind::Infeasible,
         instance: "p min 2 1\nn 1 1\nn 2 -1\na 1 2 0 1 3\n",
         solution: "",
     },
     Claimed {
-        kind: CertifyKind::Paths,
+        kind: JudgeKind::Paths,
         instance: CYCLE,
         solution: "p distances 4 1\nt 1 1\nd 2 5\n",
     },

@@ -1,5 +1,5 @@
 use Rattle.std.proofs.Common.{ℕ, ◌∙◌, List, [], ◌∷◌, refl}
-use Rattle.dimacs_runs.specs.declared.jobs.CertifyKind.TheVariants as certifies
+use Rattle.dimacs_runs.specs.declared.jobs.JudgeKind.TheVariants as judges
 use Rattle.dimacs_runs.specs.Commands.{MakesCertificate}
 use Rattle.dimacs_runs.specs.Files.{Read, ReadFile}
 use Rattle.dimacs_runs.specs.inside.Outcomes.{IfEnds, outcome_of, unclaimed_texts}
@@ -22,5 +22,5 @@ returns g c =
           c.in_ok-instance.ensures.opened c.close_read-failure.ensures.seen (rw c.outcome_of-answer.ensures at c.name_failure.ensures)
           (one_first c.close_read-failure.result (Read instance) c.close_read-failure.ensures.failure)
           (rw c.in_ok-instance.ensures.faultless at c.certify_infeasible.ensures.faults)
-          (each_text (_ ∷ []) (λ (texts : List (List ℕ)). IfEnds unclaimed_texts (MakesCertificate certifies.Infeasible texts) answer) (λ a first. c.certify_infeasible.ensures.certifies a (c.in_ok-instance.ensures.coming ∙ first)));
+          (each_text (_ ∷ []) (λ (texts : List (List ℕ)). IfEnds unclaimed_texts (MakesCertificate judges.Infeasible texts) answer) (λ a first. c.certify_infeasible.ensures.certifies a (c.in_ok-instance.ensures.coming ∙ first)));
     }
