@@ -47,8 +47,8 @@ def note_other_logic():
 def crates():
     """Each crate of crates.txt, in its order, and the libraries that its line names."""
     with open(f"{TOP}/crates.txt", encoding="utf-8") as it:
-        lines = [line.partition("#")[0].partition(":") for line in it if ":" in line]
-    return {name.split()[0]: named.split() for name, _, named in lines}
+        lines = [line.partition("#")[0].partition(":") for line in it]
+    return {name.split()[0]: named.split() for name, colon, named in lines if colon}
 
 
 def below(listed, name):

@@ -676,6 +676,16 @@ inline bool is_not_optimal(const Refused &it) noexcept { return it.reason == "No
 // The version of the library that was linked or loaded, as DIMACS_VERSION_NUMBER is that of the header.
 inline std::uint32_t version() noexcept { return dimacs_version(); }
 
+// Whether that library is proved: the kit that built it had proved that each function meets its contract.
+inline bool proved() noexcept { return dimacs_proved() != 0; }
+
+// The version with what proved the library, as `dimacs --version` prints it, or that it isn't proved.
+inline std::string version_text() {
+    detail::TextRoom text;
+    detail::call_for_texts([](auto... room) { return dimacs_version_text(room...); }, text);
+    return text.take();
+}
+
 // ---- Texts in memory ----
 
 namespace detail {

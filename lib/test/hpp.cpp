@@ -346,6 +346,10 @@ static void takes_what_has_items() {
         dimacs::solve_max(arc).variant());
     check_that("visited", sum == 7);
     check_that("the version", dimacs::version() == DIMACS_VERSION_NUMBER);
+    const std::string text = dimacs::version_text();
+    check_that("its text begins with the header's", text.rfind(DIMACS_VERSION " (", 0) == 0 && text.back() == ')');
+    check_that("and says whether it is proved", dimacs::proved() == (text.find("(proved by ") != std::string::npos));
+    check_that("or not", dimacs::proved() != (text.find("(not proved)") != std::string::npos));
 }
 
 int main() {

@@ -1,4 +1,7 @@
 //! The command `dimacs`: runs a command over the operating system's files.
+//!
+//! For a person at a terminal. What it runs, and what that writes, is `dimacs_runs`; here are the system's arguments
+//! and files, the words of help and complaints, and the status.
 #![tactic(auto)]
 
 mod files;

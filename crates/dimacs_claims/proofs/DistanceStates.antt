@@ -19,7 +19,7 @@ use Rattle.dimacs_claims.specs.Labels.{BlockValue, IsBlock, LabelsValue, with_bl
 use Rattle.dimacs_claims.specs.LabelTexts.{GivesLabels}
 use Rattle.dimacs_claims.specs.LabelsReading.{LabelsBegun, before, before_bare, before_end, labels_begun_records}
 use Rattle.dimacs_claims.specs.inside.LabelsReading.{AreLabelsBegun}
-use Rattle.dimacs_claims.proofs.BegunLemmas.{end_noted, in_last, lines_noted, before_noted}
+use Rattle.dimacs_claims.proofs.BuilderLemmas.{end_noted, in_last, lines_noted, before_noted}
 use Rattle.dimacs_claims.proofs.DistanceLaws.{bare_counted_in, bare_full, bare_labelled, bare_misplaced, bare_named, bare_problem_in, bare_short}
 use Rattle.dimacs_claims.proofs.LabelRecords.{HasLast, last_after, last_cases, say_taken}
 

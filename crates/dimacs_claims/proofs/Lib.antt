@@ -1,4 +1,4 @@
-pub mod BegunLemmas
+pub mod BuilderLemmas
 pub mod BlockLemmas
 pub mod ByIdLemmas
 pub mod CutLemmas

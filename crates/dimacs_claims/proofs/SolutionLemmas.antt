@@ -68,12 +68,12 @@ entry_allowed : (earlier : List Record) (e : Entry) → IsAllowed earlier (entry
 entry_allowed earlier e = is_allowed earlier (entry_record e) refl
 
 -- a record of a solution is an entry, or a value after entries
-data Place (before : List Record) (r : Record) : Type 0 where
-  of_entry : (e : Entry) → r ≡ entry_record e → Place before r
-  of_value : (value : ℤ) → r ≡ value_record value → list_any is_value before ≡ false → Place before r
+data EntryOrValue (before : List Record) (r : Record) : Type 0 where
+  of_entry : (e : Entry) → r ≡ entry_record e → EntryOrValue before r
+  of_value : (value : ℤ) → r ≡ value_record value → list_any is_value before ≡ false → EntryOrValue before r
 
 place_of : (es : List Entry) (before after : List LineRecord) (line : ℕ) (value : ℤ) (earlier more : List Record) (r : Record) → map entry_line es ≡ before ++ after
-    → records_of (before ++ on_line line (value_record value) ∷ after) ≡ earlier ++ r ∷ more → Place earlier r
+    → records_of (before ++ on_line line (value_record value) ∷ after) ≡ earlier ++ r ∷ more → EntryOrValue earlier r
 place_of es [] after line value [] more r e h = of_value value (cc) refl
 place_of es [] after line value (b ∷ earlier) more r e h =
     let behind : records_of after ≡ earlier ++ r ∷ more = cc in
@@ -93,7 +93,7 @@ place_of (x ∷ es) (b ∷ before) after line value (c ∷ earlier) more r e h =
     ]
 place_of [] (b ∷ before) after line value earlier more r e h = absurd (cc)
 
-allowed_at : (before : List Record) (r : Record) → Place before r → IsAllowed before r
+allowed_at : (before : List Record) (r : Record) → EntryOrValue before r → IsAllowed before r
 allowed_at before r (of_entry e r_is) = rw r_is (entry_allowed before e)
 allowed_at before r (of_value value r_is none) = rw r_is (is_allowed before (value_record value) (rw none refl))
 

@@ -16,7 +16,7 @@ ghost use Rattle.dimacs_claims.specs.CutReading.{IsCutBegunBy, after_lines, befo
 use dimacs_lines::{DeviceFault, Memory, Sink, Source};
 use dimacs_network::NodeSet;
 use dimacs_records::{
-    Begun, CountedReading, Declared, Earlier, ReadError, Record, TextKind, put_text, read_counted,
+    Builder, CountedReading, Declared, Earlier, ReadError, Record, TextKind, put_text, read_counted,
 };
 use std::alloc::Global;
 use std::marker::Model;
@@ -97,16 +97,16 @@ impl Cut {
 }
 
 /// Reads the records of a set of nodes.
-pub type CutReading = CountedReading<BegunCut>;
+pub type CutReading = CountedReading<CutBuilder>;
 
 /// A set of nodes while its text is read: the nodes after the problem line.
 #[derive(Drop)]
-pub struct BegunCut {
+pub struct CutBuilder {
     declared: u32,
     cut: Cut,
 }
 
-impl Model for BegunCut {
+impl Model for CutBuilder {
     ghost use Rattle.dimacs_claims.specs.CutReading.{CutBegun, begun_code};
 
     ghost Value = { CutBegun };
@@ -116,12 +116,12 @@ impl Model for BegunCut {
     ghost view = { λ b. record { declared = b.declared; cut = b.cut } };
 }
 
-impl Begun for BegunCut {
+impl Builder for CutBuilder {
     type Value = Cut;
 
     ghost kind = { kinds.Cut };
 
-    ghost begun_by = { λ begun rs. IsCutBegunBy begun rs };
+    ghost built_from = { λ begun rs. IsCutBegunBy begun rs };
 
     ghost noted = { λ begun r. before begun r };
 
@@ -134,11 +134,11 @@ impl Begun for BegunCut {
     }
 
     #[tactic(auto, using(crate::proofs::CutLemmas::begins))]
-    fn begin(alloc: Global, problem: Record) -> BegunCut {
+    fn begin(alloc: Global, problem: Record) -> CutBuilder {
         let Record::CutProblem { nodes, count } = problem else {
             unreachable!()
         };
-        BegunCut {
+        CutBuilder {
             declared: count,
             cut: Cut::new(alloc, nodes),
         }
@@ -183,7 +183,7 @@ pub fn read_cut<S: Source>(alloc: Global, source: &mut S) -> Result<Cut, ReadErr
     ensures reads { (text : List ℕ) → S.coming source.old ≡ Some text → Reads (SpellsCut text) (Fault kinds.Cut (lines text)) result }
     ensures faults { CountsRead result (S.faults source.old) (S.faults source.new) }
 {
-    read_counted::<BegunCut, S>(alloc, source)
+    read_counted::<CutBuilder, S>(alloc, source)
 }
 
 /// Writes the canonical text of a set of nodes.

@@ -16,9 +16,9 @@ ghost use Rattle.dimacs_claims.specs.LabelTexts.{FitText};
 ghost use Rattle.dimacs_claims.specs.LabelsReading.{before_bare, before_end, labels_begun_records};
 
 use crate::block::{Block, Label};
-use crate::labels::{BegunLabels, Labels, write_in_kind};
+use crate::labels::{Labels, LabelsBuilder, write_in_kind};
 use dimacs_lines::{DeviceFault, Memory, Sink, Source};
-use dimacs_records::{Begun, CountedReading, Earlier, ReadError, Record, TextKind, read_counted};
+use dimacs_records::{Builder, CountedReading, Earlier, ReadError, Record, TextKind, read_counted};
 use std::alloc::Global;
 use std::marker::Model;
 
@@ -103,15 +103,15 @@ impl Distances {
 }
 
 /// Reads the records of distances.
-pub type DistancesReading = CountedReading<BegunDistances>;
+pub type DistancesReading = CountedReading<DistancesBuilder>;
 
 /// Distances while their text is read: the blocks after the problem line.
 #[derive(Drop)]
-pub struct BegunDistances {
-    labels: BegunLabels,
+pub struct DistancesBuilder {
+    labels: LabelsBuilder,
 }
 
-impl Model for BegunDistances {
+impl Model for DistancesBuilder {
     ghost use Rattle.std.specs.List.{All};
     ghost use Rattle.dimacs_claims.specs.DistanceTexts.{IsBare};
     ghost use Rattle.dimacs_claims.specs.LabelsReading.{LabelsBegun};
@@ -123,12 +123,12 @@ impl Model for BegunDistances {
     ghost invariant = { λ b. All IsBare b.labels.blocks };
 }
 
-impl Begun for BegunDistances {
+impl Builder for DistancesBuilder {
     type Value = Distances;
 
     ghost kind = { kinds.Distances };
 
-    ghost begun_by = { λ begun rs. rs ≡ map bare (labels_begun_records begun) };
+    ghost built_from = { λ begun rs. rs ≡ map bare (labels_begun_records begun) };
 
     ghost noted = { λ begun r. before_bare begun r };
 
@@ -141,12 +141,12 @@ impl Begun for BegunDistances {
         TextKind::Distances
     }
 
-    fn begin(alloc: Global, problem: Record) -> BegunDistances {
+    fn begin(alloc: Global, problem: Record) -> DistancesBuilder {
         let Record::DistancesProblem { nodes, blocks } = problem else {
             unreachable!()
         };
-        BegunDistances {
-            labels: BegunLabels::new(alloc, nodes, blocks),
+        DistancesBuilder {
+            labels: LabelsBuilder::new(alloc, nodes, blocks),
         }
     }
 
@@ -196,7 +196,7 @@ pub fn read_distances<S: Source>(alloc: Global, source: &mut S) -> Result<Distan
     ensures fits { (text : List ℕ) → S.coming source.old ≡ Some text → IfOk result (λ distances. FitText distances) }
     ensures faults { CountsRead result (S.faults source.old) (S.faults source.new) }
 {
-    read_counted::<BegunDistances, S>(alloc, source)
+    read_counted::<DistancesBuilder, S>(alloc, source)
 }
 
 /// Writes the canonical text of distances.

@@ -30,7 +30,7 @@ use crate::by_id::{ById, distance_by};
 use dimacs_lines::{DeviceFault, Memory, OutputBuffer, Sink, Source};
 use dimacs_network::{NodeSet, NodeTable};
 use dimacs_records::{
-    Begun, CountedReading, Declared, Earlier, ReadError, Record, TextKind, read_counted,
+    Builder, CountedReading, Declared, Earlier, ReadError, Record, TextKind, read_counted,
     write_lines, write_record,
 };
 use std::alloc::Global;
@@ -137,11 +137,11 @@ fn index_others(blocks: &[Block], indices: &mut Vec<ById>) -> Result<(), Memory>
 }
 
 /// Reads the records of labels, without an index of them.
-pub type LabelsReading = CountedReading<BegunLabels>;
+pub type LabelsReading = CountedReading<LabelsBuilder>;
 
 /// Labels while their text is read: the blocks after the problem line.
 #[derive(Drop)]
-pub struct BegunLabels {
+pub struct LabelsBuilder {
     nodes: u32,
     declared: u32,
     /// How many labels the last block still lacks.
@@ -152,7 +152,7 @@ pub struct BegunLabels {
     blocks: Vec<Block>,
 }
 
-impl Model for BegunLabels {
+impl Model for LabelsBuilder {
     ghost use Rattle.dimacs_claims.specs.Labels.{AreSources};
     ghost use Rattle.dimacs_claims.specs.LabelsReading.{LabelsBegun};
     ghost use Rattle.dimacs_claims.specs.inside.LabelsReading.{AreLabelsBegun, AreLabelled};
@@ -166,14 +166,14 @@ impl Model for BegunLabels {
         × AreSources b.sources b.blocks.items × AreLabelled b.labelled b.blocks.items };
 }
 
-impl BegunLabels {
+impl LabelsBuilder {
     /// The state after the problem line.
-    pub(crate) fn new(alloc: Global, nodes: u32, declared: u32) -> BegunLabels
+    pub(crate) fn new(alloc: Global, nodes: u32, declared: u32) -> LabelsBuilder
         requires nodes { nodes ≤ most_nodes }
         requires declared { declared ≤ most_count }
         ensures { result ≡ record { nodes = nodes; declared = declared; missing = 0; blocks = [] } }
     {
-        BegunLabels {
+        LabelsBuilder {
             nodes,
             declared,
             missing: 0,
@@ -184,7 +184,7 @@ impl BegunLabels {
     }
 
     /// The labels, after the end of the text has passed its tests.
-    #[tactic(auto, using(crate::proofs::BegunLemmas::gives_labels))]
+    #[tactic(auto, using(crate::proofs::BuilderLemmas::gives_labels))]
     pub(crate) fn labels(self, alloc: Global) -> Labels
         requires { PassesEnd kinds.Labels (before_end self) }
         ensures labels { result ≡ record { nodes = self.nodes; blocks = self.blocks } }
@@ -325,12 +325,12 @@ fn add_to_last(blocks: &mut Vec<Block>, label: Label) -> Result<(), Memory>
     blocks[last].add(label)
 }
 
-impl Begun for BegunLabels {
+impl Builder for LabelsBuilder {
     type Value = Labels;
 
     ghost kind = { kinds.Labels };
 
-    ghost begun_by = { λ begun rs. rs ≡ labels_begun_records begun };
+    ghost built_from = { λ begun rs. rs ≡ labels_begun_records begun };
 
     ghost noted = { λ begun r. before begun r };
 
@@ -343,11 +343,11 @@ impl Begun for BegunLabels {
         TextKind::Labels
     }
 
-    fn begin(alloc: Global, problem: Record) -> BegunLabels {
+    fn begin(alloc: Global, problem: Record) -> LabelsBuilder {
         let Record::LabelsProblem { nodes, blocks } = problem else {
             unreachable!()
         };
-        BegunLabels::new(alloc, nodes, blocks)
+        LabelsBuilder::new(alloc, nodes, blocks)
     }
 
     #[inline(always)]
@@ -405,7 +405,7 @@ pub fn read_plain_labels<S: Source>(alloc: Global, source: &mut S) -> Result<Lab
     ensures fits { (text : List ℕ) → S.coming source.old ≡ Some text → IfOk result (λ labels. FitText labels) }
     ensures faults { CountsRead result (S.faults source.old) (S.faults source.new) }
 {
-    read_counted::<BegunLabels, S>(alloc, source)
+    read_counted::<LabelsBuilder, S>(alloc, source)
 }
 
 /// Writes the canonical text of labels.

@@ -1,4 +1,9 @@
 //! Claims and certificates: solutions, cuts, potentials, labels and distances, read and written.
+//!
+//! For judges, which test them, and for certifiers and solvers, which make them. Reading answers with the value that
+//! the text spells, or its first fault; writing gives its canonical text. The entries of a solution can go to a `Place`
+//! as they are read, so that nothing keeps them. A contract has a claim as a list or a function of the ID, each entry
+//! with its line.
 #![tactic(auto)]
 
 mod block;

@@ -17,7 +17,7 @@ ghost use Rattle.dimacs_claims.specs.PotentialsReading.{ArePotentialsBegunBy, af
 use dimacs_lines::{DeviceFault, Memory, Sink, Source};
 use dimacs_network::WideMap;
 use dimacs_records::{
-    Begun, CountedReading, Declared, Earlier, ReadError, Record, TextKind, put_text, read_counted,
+    Builder, CountedReading, Declared, Earlier, ReadError, Record, TextKind, put_text, read_counted,
 };
 use std::alloc::Global;
 use std::marker::Model;
@@ -99,11 +99,11 @@ impl Potentials {
 }
 
 /// Reads the records of potentials.
-pub type PotentialsReading = CountedReading<BegunPotentials>;
+pub type PotentialsReading = CountedReading<PotentialsBuilder>;
 
 /// Potentials while their text is read: the lines after the problem line.
 #[derive(Drop)]
-pub struct BegunPotentials {
+pub struct PotentialsBuilder {
     nodes: u32,
     declared: u32,
     /// The number of lines after the problem line.
@@ -112,7 +112,7 @@ pub struct BegunPotentials {
     values: WideMap,
 }
 
-impl Model for BegunPotentials {
+impl Model for PotentialsBuilder {
     ghost use Rattle.dimacs_claims.specs.Potentials.{ArePotentials};
     ghost use Rattle.dimacs_claims.specs.PotentialsReading.{PotentialsBegun, begun_code};
     ghost use Rattle.dimacs_claims.specs.inside.PotentialsReading.{potentials_begun};
@@ -126,12 +126,12 @@ impl Model for BegunPotentials {
     ghost invariant = { λ b. ArePotentials (potentials_begun (record { nodes = b.nodes; declared = b.declared; taken = b.taken; values = b.values })) };
 }
 
-impl Begun for BegunPotentials {
+impl Builder for PotentialsBuilder {
     type Value = Potentials;
 
     ghost kind = { kinds.Potentials };
 
-    ghost begun_by = { λ begun rs. ArePotentialsBegunBy begun rs };
+    ghost built_from = { λ begun rs. ArePotentialsBegunBy begun rs };
 
     ghost noted = { λ begun r. before begun r };
 
@@ -143,11 +143,11 @@ impl Begun for BegunPotentials {
         TextKind::Potentials
     }
 
-    fn begin(alloc: Global, problem: Record) -> BegunPotentials {
+    fn begin(alloc: Global, problem: Record) -> PotentialsBuilder {
         let Record::PotentialsProblem { nodes, count } = problem else {
             unreachable!()
         };
-        BegunPotentials {
+        PotentialsBuilder {
             nodes,
             declared: count,
             taken: 0,
@@ -204,7 +204,7 @@ pub fn read_potentials<S: Source>(alloc: Global, source: &mut S) -> Result<Poten
     ensures reads { (text : List ℕ) → S.coming source.old ≡ Some text → Reads (SpellsPotentials text) (Fault kinds.Potentials (lines text)) result }
     ensures faults { CountsRead result (S.faults source.old) (S.faults source.new) }
 {
-    read_counted::<BegunPotentials, S>(alloc, source)
+    read_counted::<PotentialsBuilder, S>(alloc, source)
 }
 
 /// Writes the canonical text of potentials.

@@ -46,7 +46,7 @@ pub fn decide_feasible<N: Network>(
         NodeTest::Decided(decision) => Ok(decision),
         NodeTest::Excess(imbalance) => {
             let incidence = Incidence::new(alloc, instance.network())?;
-            nearer_or_stuck(alloc, instance, &incidence, flow, imbalance)
+            decide_with_excess(alloc, instance, &incidence, flow, imbalance)
         }
     }
 }
@@ -64,7 +64,9 @@ pub fn decide_feasible_over<N: Network>(
 {
     match first_look(alloc, instance, flow)? {
         NodeTest::Decided(decision) => Ok(decision),
-        NodeTest::Excess(imbalance) => nearer_or_stuck(alloc, instance, incidence, flow, imbalance),
+        NodeTest::Excess(imbalance) => decide_with_excess(
+            alloc, instance, incidence, flow, imbalance,
+        ),
     }
 }
 
@@ -98,7 +100,7 @@ fn first_look<N: Network>(
 }
 
 /// Decides the question if some node has excess.
-fn nearer_or_stuck<N: Network>(
+fn decide_with_excess<N: Network>(
     alloc: Global,
     instance: &MinInstance<N>,
     incidence: &Incidence,

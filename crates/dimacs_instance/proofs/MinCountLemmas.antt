@@ -26,7 +26,7 @@ pub counted_none : (nodes declared : ℕ) → nodes ≤ most_nodes → declared 
 counted_none nodes declared nodes_few arcs_few = record {
   begun = record { nodes = nodes; declared = declared; supplies = empty; arcs = [] };
   is_begun = new_law nodes declared nodes_few arcs_few;
-  begun_by = begins nodes declared;
+  built_from = begins nodes declared;
   counts = refl;
 }
 
@@ -37,21 +37,21 @@ arc_records nodes declared named arcs a =
 
 module _ (c : MinCount) (rs : List Record) (counted : IsMinCountedBy c rs) where
   pub counted_noted : (r : Record) → kind_of r ≡ Min → before c r ≡ noted_before rs r
-  counted_noted r of_kind = rw counted.counts (before_noted counted.begun r of_kind rs counted.begun_by)
+  counted_noted r of_kind = rw counted.counts (before_noted counted.begun r of_kind rs counted.built_from)
 
   pub counted_lines_noted : after_lines c ≡ after_records rs
-  counted_lines_noted = rw counted.counts (lines_noted counted.begun rs counted.begun_by)
+  counted_lines_noted = rw counted.counts (lines_noted counted.begun rs counted.built_from)
 
   pub one_more_arc : (a : ArcView) → Passes (after_lines c) (min_arc a) → 1 ≤ a.tail → 1 ≤ a.head → IsWhole a.cap → IsWhole a.cost
       → IsMinCountedBy (record { nodes = c.nodes; declared = c.declared; supplies = c.supplies; arcs = c.arcs + 1 }) (rs ++ min_arc a ∷ [])
   one_more_arc a passes tail head cap cost =
       let b = counted.begun in
-      let by = counted.begun_by in
+      let by = counted.built_from in
       let its : Passes (after_lines (count_of b)) (min_arc a) = rw counted.counts at passes in
       record {
         begun = with_arc b a;
         is_begun = law_with_arc b a counted.is_begun (arc_joins b a its tail head) (arc_bounds b a its cap cost) (arc_room b a its);
-        begun_by = record {
+        built_from = record {
           named = by.named;
           name_nodes = by.name_nodes;
           supplies = by.supplies;
@@ -68,7 +68,7 @@ module _ (c : MinCount) (rs : List Record) (counted : IsMinCountedBy c rs) where
       record {
         begun = record b { supplies = insert b.supplies id s };
         is_begun = law_with_supply b id s counted.is_begun (node b id s least its) whole;
-        begun_by = names_one b id s least its rs counted.begun_by;
+        built_from = names_one b id s least its rs counted.built_from;
         counts = rw counted.counts refl;
       }
 
@@ -87,6 +87,6 @@ pub gives_min_summary : (c : MinCount) → PassesEnd Min (after_lines c) → (rs
 gives_min_summary c p rs counted supplied demanded supplied_is demanded_is =
     let b = counted.begun in (
       record { nodes = b.nodes; supplies = without_zeros b.supplies; arcs = b.arcs },
-      gives_min b counted.is_begun (rw counted.counts at p) rs counted.begun_by,
+      gives_min b counted.is_begun (rw counted.counts at p) rs counted.built_from,
       rw (supplied_is, demanded_is, counted.counts) refl,
     )

@@ -18,7 +18,7 @@ use dimacs_network::{
     ArcView, ForwardStar, Network, OfWeightArcs, PlainArcs, StoredArc, WeightArc,
 };
 use dimacs_records::{
-    Begun, CountedReading, Declared, Earlier, ReadError, Record, TextKind, put_text, read_counted,
+    Builder, CountedReading, Declared, Earlier, ReadError, Record, TextKind, put_text, read_counted,
 };
 use std::alloc::Global;
 use std::marker::{Model, PhantomData};
@@ -106,20 +106,20 @@ impl<A: StoredArc> Graph<ForwardStar<A>> {
 }
 
 /// Reads the records of a graph.
-pub type GraphReading = CountedReading<BegunGraph<ForwardStar<WeightArc>>>;
+pub type GraphReading = CountedReading<GraphBuilder<ForwardStar<WeightArc>>>;
 
 /// The same, without an index of its arcs.
-pub type PlainGraphReading = CountedReading<BegunGraph<PlainArcs<WeightArc>>>;
+pub type PlainGraphReading = CountedReading<GraphBuilder<PlainArcs<WeightArc>>>;
 
 /// A graph while its text is read: the arcs after the problem line.
 #[derive(Drop)]
-pub struct BegunGraph<N: OfWeightArcs> {
+pub struct GraphBuilder<N: OfWeightArcs> {
     declared: u32,
     arcs: PlainArcs<WeightArc>,
     of: PhantomData<N>,
 }
 
-impl<N: OfWeightArcs> Model for BegunGraph<N> {
+impl<N: OfWeightArcs> Model for GraphBuilder<N> {
     ghost use Rattle.dimacs_instance.specs.GraphReading.{GraphBegun};
     ghost use Rattle.dimacs_instance.specs.inside.GraphReading.{IsGraphBegun};
 
@@ -130,12 +130,12 @@ impl<N: OfWeightArcs> Model for BegunGraph<N> {
     ghost invariant = { λ b. IsGraphBegun (record { nodes = b.arcs.nodes; declared = b.declared; arcs = b.arcs.arcs }) };
 }
 
-impl<N: OfWeightArcs> Begun for BegunGraph<N> {
+impl<N: OfWeightArcs> Builder for GraphBuilder<N> {
     type Value = Graph<N>;
 
     ghost kind = { kinds.Graph };
 
-    ghost begun_by = { λ begun rs. rs ≡ graph_begun_records begun };
+    ghost built_from = { λ begun rs. rs ≡ graph_begun_records begun };
 
     ghost noted = { λ begun r. after_lines begun };
 
@@ -148,11 +148,11 @@ impl<N: OfWeightArcs> Begun for BegunGraph<N> {
         TextKind::Graph
     }
 
-    fn begin(alloc: Global, problem: Record) -> BegunGraph<N> {
+    fn begin(alloc: Global, problem: Record) -> GraphBuilder<N> {
         let Record::GraphProblem { nodes, arcs } = problem else {
             unreachable!()
         };
-        BegunGraph {
+        GraphBuilder {
             declared: arcs,
             arcs: PlainArcs::new(alloc, nodes),
             of: PhantomData,
@@ -198,7 +198,7 @@ pub fn read_graph<S: Source>(
     ensures reads { (text : List ℕ) → S.coming source.old ≡ Some text → Reads (SpellsGraph text) (Fault kinds.Graph (lines text)) result }
     ensures faults { CountsRead result (S.faults source.old) (S.faults source.new) }
 {
-    read_counted::<BegunGraph<ForwardStar<WeightArc>>, S>(alloc, source)
+    read_counted::<GraphBuilder<ForwardStar<WeightArc>>, S>(alloc, source)
 }
 
 /// The same, without an index of its arcs.
@@ -209,7 +209,7 @@ pub fn read_plain_graph<S: Source>(
     ensures reads { (text : List ℕ) → S.coming source.old ≡ Some text → Reads (SpellsGraph text) (Fault kinds.Graph (lines text)) result }
     ensures faults { CountsRead result (S.faults source.old) (S.faults source.new) }
 {
-    read_counted::<BegunGraph<PlainArcs<WeightArc>>, S>(alloc, source)
+    read_counted::<GraphBuilder<PlainArcs<WeightArc>>, S>(alloc, source)
 }
 
 /// Writes the canonical text of a graph.

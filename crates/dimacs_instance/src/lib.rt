@@ -1,4 +1,8 @@
 //! Instances and queries: reading, writing, showing and building them.
+//!
+//! For whoever has a text, or a network to make one of. Reading answers with the value that the text spells, or its
+//! first fault; writing gives the one canonical text of a value. A contract has an instance as a record of its nodes,
+//! its arcs in the order of the text and its numbers by node, without a word on how it is stored.
 #![tactic(auto)]
 
 mod graph;

@@ -23,7 +23,7 @@ use dimacs_network::{
     ArcView, CapacityArc, ForwardStar, Network, OfCapacityArcs, PlainArcs, StoredArc,
 };
 use dimacs_records::{
-    Begun, CountedReading, Earlier, End, ReadError, Record, TextKind, put_text, read_counted,
+    Builder, CountedReading, Earlier, End, ReadError, Record, TextKind, put_text, read_counted,
 };
 use std::alloc::Global;
 use std::marker::{Model, PhantomData};
@@ -145,10 +145,10 @@ impl<A: StoredArc> MaxInstance<ForwardStar<A>> {
 }
 
 /// Reads the records of a maximum flow instance.
-pub type MaxReading = CountedReading<BegunMax<ForwardStar<CapacityArc>>>;
+pub type MaxReading = CountedReading<MaxBuilder<ForwardStar<CapacityArc>>>;
 
 /// The same, without an index of its arcs.
-pub type PlainMaxReading = CountedReading<BegunMax<PlainArcs<CapacityArc>>>;
+pub type PlainMaxReading = CountedReading<MaxBuilder<PlainArcs<CapacityArc>>>;
 
 /// A node line: it names the source or the sink.
 #[derive(Clone, Copy)]
@@ -229,14 +229,14 @@ impl EndLines {
 
 /// A maximum flow instance while its text is read: at most two node lines after the problem line, then arcs.
 #[derive(Drop)]
-pub struct BegunMax<N: OfCapacityArcs> {
+pub struct MaxBuilder<N: OfCapacityArcs> {
     declared: u32,
     ends: EndLines,
     arcs: PlainArcs<CapacityArc>,
     of: PhantomData<N>,
 }
 
-impl<N: OfCapacityArcs> Model for BegunMax<N> {
+impl<N: OfCapacityArcs> Model for MaxBuilder<N> {
     ghost use Rattle.dimacs_instance.specs.MaxReading.{MaxBegun};
     ghost use Rattle.dimacs_instance.specs.inside.MaxReading.{IsMaxBegun};
 
@@ -247,7 +247,7 @@ impl<N: OfCapacityArcs> Model for BegunMax<N> {
     ghost invariant = { λ b. IsMaxBegun (record { nodes = b.arcs.nodes; declared = b.declared; ends = b.ends; arcs = b.arcs.arcs }) };
 }
 
-impl<N: OfCapacityArcs> BegunMax<N> {
+impl<N: OfCapacityArcs> MaxBuilder<N> {
     #[inline(always)]
     fn counted(&self) -> CountedMax
         ensures { result ≡ count_of self.now }
@@ -261,12 +261,12 @@ impl<N: OfCapacityArcs> BegunMax<N> {
     }
 }
 
-impl<N: OfCapacityArcs> Begun for BegunMax<N> {
+impl<N: OfCapacityArcs> Builder for MaxBuilder<N> {
     type Value = MaxInstance<N>;
 
     ghost kind = { kinds.Max };
 
-    ghost begun_by = { λ begun rs. rs ≡ max_begun_records begun };
+    ghost built_from = { λ begun rs. rs ≡ max_begun_records begun };
 
     ghost noted = { λ begun r. before (count_of begun) r };
 
@@ -279,11 +279,11 @@ impl<N: OfCapacityArcs> Begun for BegunMax<N> {
         TextKind::Max
     }
 
-    fn begin(alloc: Global, problem: Record) -> BegunMax<N> {
+    fn begin(alloc: Global, problem: Record) -> MaxBuilder<N> {
         let Record::MaxProblem { nodes, arcs } = problem else {
             unreachable!()
         };
-        BegunMax {
+        MaxBuilder {
             declared: arcs,
             ends: EndLines::Neither,
             arcs: PlainArcs::new(alloc, nodes),
@@ -338,7 +338,7 @@ pub fn read_max<S: Source>(
     ensures reads { (text : List ℕ) → S.coming source.old ≡ Some text → Reads (SpellsMax text) (Fault kinds.Max (lines text)) result }
     ensures faults { CountsRead result (S.faults source.old) (S.faults source.new) }
 {
-    read_counted::<BegunMax<ForwardStar<CapacityArc>>, S>(alloc, source)
+    read_counted::<MaxBuilder<ForwardStar<CapacityArc>>, S>(alloc, source)
 }
 
 /// The same, without an index of its arcs.
@@ -349,7 +349,7 @@ pub fn read_plain_max<S: Source>(
     ensures reads { (text : List ℕ) → S.coming source.old ≡ Some text → Reads (SpellsMax text) (Fault kinds.Max (lines text)) result }
     ensures faults { CountsRead result (S.faults source.old) (S.faults source.new) }
 {
-    read_counted::<BegunMax<PlainArcs<CapacityArc>>, S>(alloc, source)
+    read_counted::<MaxBuilder<PlainArcs<CapacityArc>>, S>(alloc, source)
 }
 
 /// Writes the canonical text of a maximum flow instance.

@@ -20,7 +20,7 @@ ghost use Rattle.dimacs_instance.specs.MinReading.{IsMinBegunBy, after_lines, be
 use dimacs_lines::{DeviceFault, Memory, OutputBuffer, Sink, Source};
 use dimacs_network::{ArcView, ForwardStar, Network, NodeMap, OfCostArcs, PlainArcs, StoredArc};
 use dimacs_records::{
-    Begun, CountedReading, Declared, Earlier, ReadError, Record, TextKind, read_counted,
+    Builder, CountedReading, Declared, Earlier, ReadError, Record, TextKind, read_counted,
     write_lines, write_record,
 };
 use std::alloc::Global;
@@ -187,14 +187,14 @@ impl<A: StoredArc> MinInstance<ForwardStar<A>> {
 }
 
 /// Reads the records of a minimum cost flow instance.
-pub type MinReading = CountedReading<BegunMin<ForwardStar<ArcView>>>;
+pub type MinReading = CountedReading<MinBuilder<ForwardStar<ArcView>>>;
 
 /// The same, without an index of its arcs.
-pub type PlainMinReading = CountedReading<BegunMin<PlainArcs<ArcView>>>;
+pub type PlainMinReading = CountedReading<MinBuilder<PlainArcs<ArcView>>>;
 
 /// A minimum cost flow instance while its text is read: node lines after the problem line, then arcs.
 #[derive(Drop)]
-pub struct BegunMin<N: OfCostArcs> {
+pub struct MinBuilder<N: OfCostArcs> {
     declared: u32,
     /// The supplies of the named nodes, some perhaps 0.
     supplies: NodeMap<i64>,
@@ -202,7 +202,7 @@ pub struct BegunMin<N: OfCostArcs> {
     of: PhantomData<N>,
 }
 
-impl<N: OfCostArcs> Model for BegunMin<N> {
+impl<N: OfCostArcs> Model for MinBuilder<N> {
     ghost use Rattle.dimacs_instance.specs.MinReading.{MinBegun};
     ghost use Rattle.dimacs_instance.specs.inside.MinReading.{IsMinBegun};
     ghost use Rattle.dimacs_instance.specs.MinCodes.{begun_code};
@@ -216,12 +216,12 @@ impl<N: OfCostArcs> Model for BegunMin<N> {
     ghost invariant = { λ b. IsMinBegun (record { nodes = b.arcs.nodes; declared = b.declared; supplies = b.supplies; arcs = b.arcs.arcs }) };
 }
 
-impl<N: OfCostArcs> Begun for BegunMin<N> {
+impl<N: OfCostArcs> Builder for MinBuilder<N> {
     type Value = MinInstance<N>;
 
     ghost kind = { kinds.Min };
 
-    ghost begun_by = { λ begun rs. IsMinBegunBy begun rs };
+    ghost built_from = { λ begun rs. IsMinBegunBy begun rs };
 
     ghost noted = { λ begun r. before (count_of begun) r };
 
@@ -233,11 +233,11 @@ impl<N: OfCostArcs> Begun for BegunMin<N> {
         TextKind::Min
     }
 
-    fn begin(alloc: Global, problem: Record) -> BegunMin<N> {
+    fn begin(alloc: Global, problem: Record) -> MinBuilder<N> {
         let Record::MinProblem { nodes, arcs } = problem else {
             unreachable!()
         };
-        BegunMin {
+        MinBuilder {
             declared: arcs,
             supplies: NodeMap::new(alloc),
             arcs: PlainArcs::new(alloc, nodes),
@@ -311,7 +311,7 @@ pub fn read_min<S: Source>(
     ensures reads { (text : List ℕ) → S.coming source.old ≡ Some text → Reads (SpellsMin text) (Fault kinds.Min (lines text)) result }
     ensures faults { CountsRead result (S.faults source.old) (S.faults source.new) }
 {
-    read_counted::<BegunMin<ForwardStar<ArcView>>, S>(alloc, source)
+    read_counted::<MinBuilder<ForwardStar<ArcView>>, S>(alloc, source)
 }
 
 /// The same, without an index of its arcs.
@@ -322,7 +322,7 @@ pub fn read_plain_min<S: Source>(
     ensures reads { (text : List ℕ) → S.coming source.old ≡ Some text → Reads (SpellsMin text) (Fault kinds.Min (lines text)) result }
     ensures faults { CountsRead result (S.faults source.old) (S.faults source.new) }
 {
-    read_counted::<BegunMin<PlainArcs<ArcView>>, S>(alloc, source)
+    read_counted::<MinBuilder<PlainArcs<ArcView>>, S>(alloc, source)
 }
 
 /// Writes the canonical text of a minimum cost flow instance.

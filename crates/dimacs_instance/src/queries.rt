@@ -16,7 +16,7 @@ ghost use Rattle.dimacs_instance.specs.QueriesReading.{queries_begun_records, af
 
 use dimacs_lines::{DeviceFault, Memory, OutputBuffer, Sink, Source};
 use dimacs_records::{
-    Begun, CountedReading, Declared, Earlier, Part, QueryKind, ReadError, Record, TextKind,
+    Builder, CountedReading, Declared, Earlier, Part, QueryKind, ReadError, Record, TextKind,
     read_counted, write_line, write_lines,
 };
 use std::alloc::Global;
@@ -106,16 +106,16 @@ impl LawfulQueries {
 }
 
 /// Reads the records of queries.
-pub type QueriesReading = CountedReading<BegunQueries>;
+pub type QueriesReading = CountedReading<QueriesBuilder>;
 
 /// Queries while their text is read: those after the problem line.
 #[derive(Drop)]
-pub struct BegunQueries {
+pub struct QueriesBuilder {
     declared: u32,
     queries: Queries,
 }
 
-impl Model for BegunQueries {
+impl Model for QueriesBuilder {
     ghost use Rattle.dimacs_instance.specs.QueryTexts.{asked};
     ghost use Rattle.dimacs_instance.specs.QueriesReading.{QueriesBegun};
     ghost use Rattle.dimacs_instance.specs.inside.QueriesReading.{AreQueriesBegun};
@@ -127,12 +127,12 @@ impl Model for BegunQueries {
     ghost invariant = { λ b. AreQueriesBegun (record { declared = b.declared; queries = asked b.queries }) };
 }
 
-impl Begun for BegunQueries {
+impl Builder for QueriesBuilder {
     type Value = LawfulQueries;
 
     ghost kind = { kinds.Queries };
 
-    ghost begun_by = { λ begun rs. rs ≡ queries_begun_records begun };
+    ghost built_from = { λ begun rs. rs ≡ queries_begun_records begun };
 
     ghost noted = { λ begun r. before begun r };
 
@@ -145,7 +145,7 @@ impl Begun for BegunQueries {
         TextKind::Queries
     }
 
-    fn begin(alloc: Global, problem: Record) -> BegunQueries {
+    fn begin(alloc: Global, problem: Record) -> QueriesBuilder {
         let Record::QueriesProblem { asks, count } = problem else {
             unreachable!()
         };
@@ -153,7 +153,7 @@ impl Begun for BegunQueries {
             QueryKind::Sources => Queries::Sources(Vec::new(alloc)),
             QueryKind::Pairs => Queries::Pairs(Vec::new(alloc)),
         };
-        BegunQueries {
+        QueriesBuilder {
             declared: count,
             queries,
         }
@@ -214,7 +214,7 @@ pub fn read_queries<S: Source>(alloc: Global, source: &mut S) -> Result<Queries,
     ensures lawful { IfOk result (λ queries. AreLawful (asked queries)) }
     ensures faults { CountsRead result (S.faults source.old) (S.faults source.new) }
 {
-    match read_counted::<BegunQueries, S>(alloc, source) {
+    match read_counted::<QueriesBuilder, S>(alloc, source) {
         Ok(lawful) => Ok(lawful.into_queries()),
         Err(error) => Err(error),
     }

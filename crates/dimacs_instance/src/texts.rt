@@ -13,9 +13,9 @@ ghost use Rattle.dimacs_instance.specs.MinFlows.{MinValue};
 ghost use Rattle.dimacs_instance.specs.MinTexts.{SpellsMin, canonical_min, shown_min};
 ghost use Rattle.dimacs_instance.specs.QueryTexts.{AreLawful, QueriesValue, SpellsQueries, asked, canonical_queries, shown_queries};
 
-use crate::graph::{BegunGraph, Graph, write_graph};
-use crate::max::{BegunMax, MaxInstance, write_max};
-use crate::min::{BegunMin, MinInstance, write_min};
+use crate::graph::{Graph, GraphBuilder, write_graph};
+use crate::max::{MaxBuilder, MaxInstance, write_max};
+use crate::min::{MinBuilder, MinInstance, write_min};
 use crate::queries::{Queries, read_queries, write_queries};
 use crate::summaries::{GraphSummary, MaxSummary, MinSummary, Summary};
 use dimacs_lines::{DeviceFault, Sink, Source};
@@ -43,7 +43,7 @@ impl<N: OfCapacityArcs + Drop> Text for MaxInstance<N> {
     }
 
     fn read<S: Source>(alloc: Global, source: &mut S) -> Result<Self, ReadError> {
-        read_counted::<BegunMax<N>, S>(alloc, source)
+        read_counted::<MaxBuilder<N>, S>(alloc, source)
     }
 
     fn write<K: Sink>(&self, sink: &mut K) -> Result<(), DeviceFault> {
@@ -82,7 +82,7 @@ impl<N: OfCostArcs + Drop> Text for MinInstance<N> {
     }
 
     fn read<S: Source>(alloc: Global, source: &mut S) -> Result<Self, ReadError> {
-        read_counted::<BegunMin<N>, S>(alloc, source)
+        read_counted::<MinBuilder<N>, S>(alloc, source)
     }
 
     fn write<K: Sink>(&self, sink: &mut K) -> Result<(), DeviceFault> {
@@ -122,7 +122,7 @@ impl<N: OfWeightArcs + Drop> Text for Graph<N> {
     }
 
     fn read<S: Source>(alloc: Global, source: &mut S) -> Result<Self, ReadError> {
-        read_counted::<BegunGraph<N>, S>(alloc, source)
+        read_counted::<GraphBuilder<N>, S>(alloc, source)
     }
 
     fn write<K: Sink>(&self, sink: &mut K) -> Result<(), DeviceFault> {

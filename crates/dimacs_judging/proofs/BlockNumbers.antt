@@ -16,7 +16,7 @@ use Rattle.dimacs_claims.specs.Labels.{BlockValue, EachAfter, IsNewSource, label
 use Rattle.dimacs_judging.specs.Answers.{block_of, distance_from, radius_from, radius_in}
 use Rattle.dimacs_judging.specs.QueryTests.{HasBlock, HasFullBlock}
 use Rattle.dimacs_judging.specs.inside.QueryTests.{AreNumbers}
-use Rattle.dimacs_claims.proofs.BegunLemmas.{unlabelled}
+use Rattle.dimacs_claims.proofs.BuilderLemmas.{unlabelled}
 
 -- ---- the first place that passes a test
 module _ {X : Type 0} (p : X → Bool) where

@@ -17,7 +17,7 @@ use Rattle.dimacs_records.specs.Ranges.{IsWide}
 use Rattle.dimacs_network.specs.declared.network.ArcView.{ArcView}
 use Rattle.dimacs_claims.specs.declared.block.Label.{Label}
 use Rattle.dimacs_claims.specs.Labels.{BlockValue, IsBlock, IsFresh, distance_in, label, no_label}
-use Rattle.dimacs_claims.proofs.BegunLemmas.{unlabelled}
+use Rattle.dimacs_claims.proofs.BuilderLemmas.{unlabelled}
 use Rattle.dimacs_claims.proofs.BlockLemmas.{fresh_has_none, has_pred, label-with_label, label_at_wide}
 use Rattle.dimacs_claims.proofs.ByIdLemmas.{distance_in-at, fresh_apart, label_elsewhere}
 use Rattle.dimacs_judging.specs.declared.node_label.NodeLabel.{NodeLabel}

@@ -2,8 +2,10 @@
 //! passing them shows, over any `Network`.
 //!
 //! `judge_max`, `judge_min`, `judge_infeasible` and `judge_paths` make all tests of a claim, the other functions some
-//! of them. The theorems are in `laws`: a tight cut shows that a flow is maximum, slack potentials that it costs least,
-//! a violated set that no flow is feasible; labels that pass are distances.
+//! of them. A contract lists the tests in order, as rows of a place, a condition and a reason: the judge says yes
+//! exactly if all pass, else it names the first that fails. The theorems are in `laws`: a tight cut shows that a flow
+//! is maximum, slack potentials that it costs least, a violated set that no flow is feasible; labels that pass are
+//! distances.
 #![tactic(auto)]
 
 mod agreement;

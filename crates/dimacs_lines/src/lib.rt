@@ -1,7 +1,8 @@
 //! Input and output: sources and sinks that may fail, lines, their fields, the numbers in fields, and buffered output.
 //!
 //! All other crates of `dimacs` read and write texts through this one. Lines come in order, with their numbers, however
-//! the source cuts the text into pieces.
+//! the source cuts the text into pieces. A contract has a source as the bytes to come and a sink as the bytes that it
+//! accepted, each with a count of its faults.
 #![tactic(auto)]
 
 mod decimals;

@@ -23,7 +23,7 @@ const SCANS_FROM_ONE: i128 = 1;
 
 /// A node that was reached: its distance, and the place of its parent arc.
 #[derive(Clone, Copy, Default)]
-struct Label {
+struct ReachedNode {
     distance: i64,
     parent_arc: u32,
     /// The last searches that reached it and settled it.
@@ -41,7 +41,7 @@ struct QueueEntry {
 #[derive(Drop)]
 pub(crate) struct Augmenting {
     pub residual: Residual<i64>,
-    labels: Vec<Label>,
+    labels: Vec<ReachedNode>,
     queue: BinaryHeap<Reverse<QueueEntry>>,
     settled: Vec<u32>,
     /// The number of the current search.
@@ -68,7 +68,7 @@ impl Augmenting {
         };
         Ok(Augmenting {
             residual: Residual::new(alloc, problem, 0)?,
-            labels: vec![in alloc; Label::default(); problem.excess.len()]?,
+            labels: vec![in alloc; ReachedNode::default(); problem.excess.len()]?,
             queue: BinaryHeap::new(alloc),
             settled: Vec::new(alloc),
             search: 0,
@@ -168,7 +168,7 @@ impl Augmenting {
         if label.reached_in == self.search && label.distance <= distance {
             return Ok(());
         }
-        let label = Label {
+        let label = ReachedNode {
             distance,
             parent_arc,
             reached_in: self.search,
@@ -180,13 +180,13 @@ impl Augmenting {
     }
 
     #[inline(always)]
-    fn label(&self, node: u32) -> Label {
-        member(&self.labels, node, Label::default())
+    fn label(&self, node: u32) -> ReachedNode {
+        member(&self.labels, node, ReachedNode::default())
     }
 
     fn lower_settled(&mut self, distance: i64) {
         for node in &self.settled {
-            let own = member(&self.labels, *node, Label::default()).distance;
+            let own = member(&self.labels, *node, ReachedNode::default()).distance;
             self.residual.lower(*node, distance.wrapping_sub(own));
         }
     }

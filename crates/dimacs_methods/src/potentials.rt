@@ -33,7 +33,7 @@ use crate::potentials::join::joints;
 use crate::potentials::links::{Link, all_links, joined_links};
 use crate::potentials::listing::Listing;
 use crate::potentials::rounds::rounds_suffice;
-use crate::potentials::search::{End, lower_all};
+use crate::potentials::search::{SearchEnd, lower_all};
 use crate::potentials::tree::Tree;
 use crate::tables::member;
 pub use claim::ResidualArc;
@@ -131,12 +131,12 @@ fn correct_labels<N: Network, V: Number>(
     let end = lower_all(alloc, &listing, &mut tree, size * BUDGET)?;
     drop(listing);
     match end {
-        End::Optimal => {
+        SearchEnd::Optimal => {
             let potentials = potentials(alloc, claim, places, &tree.distances)?;
             Ok(Guess::Optimal(potentials))
         }
-        End::Cycle(groups) => cycle_over(alloc, claim, places, &groups),
-        End::TooLong => {
+        SearchEnd::Cycle(groups) => cycle_over(alloc, claim, places, &groups),
+        SearchEnd::TooLong => {
             let potentials = potentials(alloc, claim, places, &tree.distances)?;
             Ok(Guess::GaveUp(potentials))
         }

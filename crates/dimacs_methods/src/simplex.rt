@@ -17,7 +17,7 @@ mod tree;
 use crate::number::Number;
 use crate::problem::Problem;
 use crate::simplex::arcs::{AT_CAP, AT_LOW, Arcs, IN_TREE};
-use crate::simplex::cycle::{Cycle, Leaving};
+use crate::simplex::cycle::{BasisCycle, Leaving};
 use crate::simplex::tree::{ARTIFICIAL, Hook, Tree};
 use crate::tables::{member, set_member};
 use dimacs_lines::Memory;
@@ -126,9 +126,9 @@ impl<V: Number> Simplex<V> {
         let state = self.arcs.state(entering);
         let residual_capacity = V::of(self.arcs.residual_capacity(entering));
         let cycle = if state == AT_LOW {
-            Cycle::find(&self.tree, price.tail, price.head, residual_capacity)
+            BasisCycle::find(&self.tree, price.tail, price.head, residual_capacity)
         } else {
-            Cycle::find(&self.tree, price.head, price.tail, residual_capacity)
+            BasisCycle::find(&self.tree, price.head, price.tail, residual_capacity)
         };
         self.work = self.work.wrapping_add(cycle.steps);
         self.tree.augment(&cycle);
@@ -141,7 +141,7 @@ impl<V: Number> Simplex<V> {
                     up: residual_capacity.minus(cycle.amount),
                     down: cycle.amount,
                 };
-                self.exchange(out, cycle.first, hook);
+                self.swap_tree_arc(out, cycle.first, hook);
             }
             Leaving::OnSecond(out) => {
                 let hook = Hook {
@@ -150,13 +150,13 @@ impl<V: Number> Simplex<V> {
                     up: cycle.amount,
                     down: residual_capacity.minus(cycle.amount),
                 };
-                self.exchange(out, cycle.second, hook);
+                self.swap_tree_arc(out, cycle.second, hook);
             }
         }
     }
 
     /// Removes the arc between `out` and its parent, and joins what that cuts off by the hook at `top`.
-    fn exchange(&mut self, out: u32, top: u32, hook: Hook<V>) {
+    fn swap_tree_arc(&mut self, out: u32, top: u32, hook: Hook<V>) {
         let price = self.arcs.price(hook.arc);
         let reduced = price.reduced(&self.tree.potentials);
         let raise = if top == price.tail {

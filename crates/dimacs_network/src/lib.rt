@@ -2,7 +2,8 @@
 //!
 //! Values are kept in pages of 64 IDs. Memory is allocated only for pages in use, and for a directory up to the
 //! greatest of them: never for a count that a text merely declares. A network is a list of arcs in the order of the
-//! text. Judges use only the trait `Network`, whose implementations may store arcs as they like.
+//! text. Judges use only the trait `Network`, whose implementations may store arcs as they like. A contract has a table
+//! as a function of the ID, and a network as its list.
 #![tactic(auto)]
 
 mod adjacency_lists;

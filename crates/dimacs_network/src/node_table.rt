@@ -65,7 +65,7 @@ impl<T: Copy> NodeTable<T> {
         ensures { MatchOption result ((value_of self.now id ≡ blank_of self.now) × (¬ HasSlot self.now id))
             (λ slot. (slot.value ≡ value_of self.now id) × IsSlot self.now id slot.place) }
     {
-        let place = place(&self.directory, id);
+        let place = slot_index(&self.directory, id);
         let value = *self.slots.get(place)?;
         Some(Slot { value, place })
     }
@@ -80,7 +80,7 @@ impl<T: Copy> NodeTable<T> {
         ensures memory { AllocatesOnlyItsPage self.old self.new id }
         ensures replaces { HasSlot self.old id → IsOk result }
     {
-        match self.slots.get_mut(place(&self.directory, id)) {
+        match self.slots.get_mut(slot_index(&self.directory, id)) {
             Some(slot) => *slot = value,
             None => {
                 let place = self.allocate_page(id)?;
@@ -99,7 +99,7 @@ impl<T: Copy> NodeTable<T> {
         ensures memory { AllocatesOnlyItsPage self.old self.new id }
         ensures repeats { HasSlot self.old id → IsOk result }
     {
-        let place = place(&self.directory, id);
+        let place = slot_index(&self.directory, id);
         if place < self.slots.len() {
             return Ok(place);
         }
@@ -133,7 +133,7 @@ impl<T: Copy> NodeTable<T> {
         ensures from { id ≤ result }
         ensures blank_between { (other : ℕ) → id ≤ other → other < result → value_of self.now other ≡ blank_of self.now }
     {
-        if place(&self.directory, id) < self.slots.len() {
+        if slot_index(&self.directory, id) < self.slots.len() {
             id as usize
         } else {
             (id as usize / PAGE + 1) * PAGE
@@ -157,13 +157,13 @@ impl<T: Copy> NodeTable<T> {
         extend_directory(&mut self.directory, id)?;
         self.slots.resize((number + 1) * PAGE, self.blank)?;
         self.directory[id as usize / PAGE] = number as u32;
-        Ok(place(&self.directory, id))
+        Ok(slot_index(&self.directory, id))
     }
 }
 
 /// The index of an ID's slot; past all slots if its page isn't allocated.
 #[inline]
-fn place(directory: &[u32], id: u32) -> usize
+fn slot_index(directory: &[u32], id: u32) -> usize
     ensures { result ≡ place_of directory.now id }
 {
     let number = match directory.get(id as usize / PAGE) {

@@ -12,7 +12,7 @@ use Rattle.dimacs_records.specs.Forms.{FieldType, forms}
 use Rattle.dimacs_records.specs.Spelling.{SpellsRecord, texts_in, is_skip}
 use Rattle.dimacs_records.specs.Shapes.{fields_condition, types_in, letter_condition, shape_condition}
 use Rattle.dimacs_records.specs.Conditions.{limit_condition, condition}
-use Rattle.dimacs_records.specs.Order.{Place, at, limit_places, shape_places, record_places, places, FirstOf}
+use Rattle.dimacs_records.specs.Order.{FaultPlace, at, limit_places, shape_places, record_places, places, FirstOf}
 use Rattle.dimacs_records.specs.Readings.{IsAllowed}
 use Rattle.dimacs_records.specs.Faults.{Condition, of_limit, of_shape, of_record, Spell, records_in, IsClean}
 use Rattle.dimacs_records.proofs.FirstLemmas.{none_is}
@@ -27,7 +27,7 @@ use Rattle.dimacs_records.proofs.FaultLaws.{spell_same}
 abbrev pub NoneHolds : (ℕ → Reason → Bool) → Type 0
 NoneHolds test = (f : ℕ) (reason : Reason) → ¬ IsTrue (test f reason)
 
-abbrev pub Holds : (ℕ → Reason → Bool) → Place → Type 0
+abbrev pub Holds : (ℕ → Reason → Bool) → FaultPlace → Type 0
 Holds test p = IsTrue (test_at test p)
 
 pub records_in-append : (by_line more : List (Option Record)) → records_in (by_line ++ more) ≡ records_in by_line ++ records_in more
@@ -47,10 +47,10 @@ clean_nothing kind = record { spell = tt; none = λ before after line earlier p 
 -- clean lines and one more without a condition
 clean_push : (kind : TextKind) (before : List (List ℕ)) (by_line : List (Option Record)) (line : List ℕ) (x : Option Record)
     → IsClean kind before by_line → Spell kind (line ∷ []) (x ∷ [])
-    → ((p : Place) → ¬ Condition kind (records_in by_line) (length before + 1) line p) → IsClean kind (before ++ line ∷ []) (by_line ++ x ∷ [])
+    → ((p : FaultPlace) → ¬ Condition kind (records_in by_line) (length before + 1) line p) → IsClean kind (before ++ line ∷ []) (by_line ++ x ∷ [])
 clean_push kind before by_line line x clean spells none_here = record { spell = spell_append kind before (line ∷ []) by_line (x ∷ []) clean.spell spells; none = none_at }
   where
-    none_at : (fore after : List (List ℕ)) (other : List ℕ) (earlier : List (Option Record)) (p : Place) → before ++ line ∷ [] ≡ fore ++ other ∷ after → Spell kind fore earlier
+    none_at : (fore after : List (List ℕ)) (other : List ℕ) (earlier : List (Option Record)) (p : FaultPlace) → before ++ line ∷ [] ≡ fore ++ other ∷ after → Spell kind fore earlier
         → ¬ Condition kind (records_in earlier) (length fore + 1) other p
     none_at fore after other earlier p e spell h = elim (two_places before fore [] after line other e) [
       | same fore_is line_is ↦

@@ -9,13 +9,13 @@ use Rattle.dimacs_records.specs.declared.records.QueryKind.TheVariants.{Sources,
 use Rattle.dimacs_records.specs.declared.records.Record.{Record}
 use Rattle.dimacs_records.specs.declared.records.Record.TheVariants.{MaxProblem, MaxNode, MaxArc, MinProblem, MinNode, MinArc, GraphProblem, GraphArc, QueriesProblem, SourceQuery, PairQuery, SolutionValue, SolutionEntry, CutProblem, CutNode, PotentialsProblem, PotentialsNode, LabelsProblem, LabelsBlock, LabelsNode}
 use Rattle.dimacs_records.specs.declared.reasons.Reason.TheVariants.{UnknownLine, FieldCount, NumberRange, BadWord, ProblemMissing, RecordOrder, NodeRange, NodeTwice, EndTwice, EndMissing, BoundOrder, TooMany, TooFew, SolutionMissing, SolutionTwice, PredUnknown, PastRadius}
-use Rattle.dimacs_records.specs.Order.{Place, at, shape_places}
+use Rattle.dimacs_records.specs.Order.{FaultPlace, at, shape_places}
 use Rattle.dimacs_records.specs.Shapes.{shape_condition}
 use Rattle.dimacs_records.proofs.FirstLemmas.{first_by}
 use Rattle.dimacs_records.proofs.ConditionLemmas.{first_place, first_reason_at_end}
 
-abbrev first_shape : TextKind → List (List ℕ) → Option Place
-first_shape kind texts = first_by (λ (p : Place). shape_condition kind texts p.field p.reason) shape_places
+abbrev first_shape : TextKind → List (List ℕ) → Option FaultPlace
+first_shape kind texts = first_by (λ (p : FaultPlace). shape_condition kind texts p.field p.reason) shape_places
 
 -- the shape of a line
 missing_count : first_shape Queries (codes "p" ∷ codes "aux" ∷ codes "sp" ∷ codes "ss" ∷ []) ≡ Some (at 0 FieldCount)

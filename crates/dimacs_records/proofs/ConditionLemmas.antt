@@ -9,14 +9,14 @@ use Rattle.dimacs_records.specs.declared.reasons.Reason.{Reason}
 use Rattle.dimacs_records.specs.declared.reasons.Reason.TheVariants.{ProblemMissing, EndMissing, TooFew, SolutionMissing}
 use Rattle.dimacs_records.specs.declared.faults.LineFault.{LineFault}
 use Rattle.dimacs_records.specs.Conditions.{condition, end_condition}
-use Rattle.dimacs_records.specs.Order.{Place, at, record_places, end_reasons}
+use Rattle.dimacs_records.specs.Order.{FaultPlace, at, record_places, end_reasons}
 use Rattle.dimacs_records.specs.Faults.{FirstAtEnd}
 use Rattle.dimacs_records.specs.Readings.{IsAllowed, IsFirstCondition, IsComplete}
 use Rattle.dimacs_records.proofs.FirstLemmas.{first_by, is_first, none_is}
 
 -- the place of the first condition
-abbrev pub first_place : List Record → Record → Option Place
-first_place earlier r = first_by (λ (p : Place). condition earlier r p.field p.reason) record_places
+abbrev pub first_place : List Record → Record → Option FaultPlace
+first_place earlier r = first_by (λ (p : FaultPlace). condition earlier r p.field p.reason) record_places
 
 abbrev pub first_reason_at_end : TextKind → List Record → Option Reason
 first_reason_at_end kind all = first_by (end_condition kind all) end_reasons
@@ -30,11 +30,11 @@ listed_at_end kind all SolutionMissing h = (3, omega arith, refl)
 listed_at_end kind all reason h = absurd (cc)
 
 pub is_first_condition : (earlier : List Record) (r : Record) (fault : LineFault) → first_place earlier r ≡ Some (at fault.field fault.reason) → IsFirstCondition earlier r fault
-is_first_condition earlier r fault = is_first (λ (p : Place). condition earlier r p.field p.reason) record_places (at fault.field fault.reason)
+is_first_condition earlier r fault = is_first (λ (p : FaultPlace). condition earlier r p.field p.reason) record_places (at fault.field fault.reason)
 
 pub is_allowed : (earlier : List Record) (r : Record) → first_place earlier r ≡ None → IsAllowed earlier r
 is_allowed earlier r e p h =
-    let test : Place → Bool = λ p. condition earlier r p.field p.reason in
+    let test : FaultPlace → Bool = λ p. condition earlier r p.field p.reason in
     All-contains (λ p. ¬ IsTrue (test p)) record_places p (none_is test record_places e) h.0 h.1
 
 pub is_first_at_end : (kind : TextKind) (all : List Record) (reason : Reason) → first_reason_at_end kind all ≡ Some reason → FirstAtEnd kind all reason

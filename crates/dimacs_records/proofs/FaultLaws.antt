@@ -7,7 +7,7 @@ use Rattle.dimacs_records.specs.declared.records.Record.{Record}
 use Rattle.dimacs_records.specs.declared.reasons.Reason.{Reason}
 use Rattle.dimacs_records.specs.Spelling.{texts_in}
 use Rattle.dimacs_records.specs.Conditions.{end_condition}
-use Rattle.dimacs_records.specs.Order.{Place, at, places, end_reasons, FirstOf}
+use Rattle.dimacs_records.specs.Order.{FaultPlace, at, places, end_reasons, FirstOf}
 use Rattle.dimacs_records.specs.Faults.{Condition, Spell, records_in, IsClean, FaultyLine, FirstAtEnd}
 use Rattle.dimacs_records.specs.FaultLaws.{OneFaultLaw, NoFaultLaw}
 use Rattle.dimacs_records.proofs.FirstLemmas.{first_unique}
@@ -40,7 +40,7 @@ one_line kind lines l f l' f' r r' g h before_is line_is =
     let by_line = spell_same kind h.before g.by_line h.by_line (rw before_is at g.clean.spell) h.clean.spell in
     let first : FirstOf (Condition kind (records_in h.by_line) l' h.line) places (at f r) = rw (by_line, number, line_is) at g.first in
     let place = first_unique (Condition kind (records_in h.by_line) l' h.line) places (at f r) (at f' r') first h.first in
-    (number, ap (λ (p : Place). p.field) place, ap (λ (p : Place). p.reason) place)
+    (number, ap (λ (p : FaultPlace). p.field) place, ap (λ (p : FaultPlace). p.reason) place)
 
 pub one_fault : OneFaultLaw
 one_fault kind lines l f l' f' r r' (inl g) (inl h) =

@@ -11,7 +11,7 @@ use Rattle.dimacs_records.specs.declared.faults.LineFault.{LineFault}
 use Rattle.dimacs_records.specs.Forms.{FieldType, Form, forms}
 use Rattle.dimacs_records.specs.Spelling.{is_skip}
 use Rattle.dimacs_records.specs.Shapes.{types_in, letter_condition, shape_condition}
-use Rattle.dimacs_records.specs.Order.{Place, at, shape_places, FirstOf}
+use Rattle.dimacs_records.specs.Order.{FaultPlace, at, shape_places, FirstOf}
 use Rattle.dimacs_records.specs.inside.FieldReader.{form_fault, ReadsForm, ReadsLetter, ReadsTypes}
 use Rattle.dimacs_records.specs.LineReader.{ReadsLine}
 use Rattle.dimacs_records.proofs.FirstLemmas.{first_by, is_first}
@@ -70,7 +70,7 @@ short_types kind letter types f =
     rw (← f.types_are, ← c.2) (leb-true _ 5 (all c.0 f.form c.1))
 
 to_place : (kind : TextKind) (letter : List ℕ) (types : List FieldType) (after : List (List ℕ)) (fault : LineFault) → types_in (forms kind) letter (length after) ≡ Some types → form_fault types after ≡ Some fault
-    → FirstOf (λ (p : Place). IsTrue (shape_condition kind (letter ∷ after) p.field p.reason)) shape_places (place_of fault)
+    → FirstOf (λ (p : FaultPlace). IsTrue (shape_condition kind (letter ∷ after) p.field p.reason)) shape_places (place_of fault)
 to_place kind letter types after fault known h =
     let short = short_types kind letter types (form_of (forms kind) letter (length after) types known) in
     let found : first_by (test_at (letter_condition (Some types) after)) shape_places ≡ Some (place_of fault) = first_of_shape types after short ∙ ap place_in h in
@@ -88,7 +88,7 @@ form_line kind letter types after (Err fault) solid known h = (solid, to_place k
 types_line : (kind : TextKind) (letter : List ℕ) (found : Option (List FieldType)) (after : List (List ℕ)) (result : Result (Option Record) LineFault) → is_skip (letter ∷ after) ≡ false
     → types_in (forms kind) letter (length after) ≡ found → ReadsTypes kind letter found after result → ReadsLine kind (letter ∷ after) result
 types_line kind letter None after result solid unknown h =
-    let first : FirstOf (λ (p : Place). IsTrue (shape_condition kind (letter ∷ after) p.field p.reason)) shape_places (at 1 UnknownLine) = is_first (test_at (shape_condition kind (letter ∷ after))) shape_places (at 1 UnknownLine) (rw unknown refl) in
+    let first : FirstOf (λ (p : FaultPlace). IsTrue (shape_condition kind (letter ∷ after) p.field p.reason)) shape_places (at 1 UnknownLine) = is_first (test_at (shape_condition kind (letter ∷ after))) shape_places (at 1 UnknownLine) (rw unknown refl) in
     subst (ReadsLine kind (letter ∷ after)) (sym h) (solid, first)
 types_line kind letter (Some types) after result solid known h = form_line kind letter types after result solid known h
 

@@ -12,7 +12,7 @@ use Rattle.dimacs_records.specs.declared.faults.TakeError.TheVariants.{Refused}
 use Rattle.dimacs_records.specs.Conditions.{needs_problem}
 use Rattle.dimacs_records.specs.Earlier.{is_problem}
 use Rattle.dimacs_records.specs.Faults.{FirstAtEnd}
-use Rattle.dimacs_records.specs.Order.{Place}
+use Rattle.dimacs_records.specs.Order.{FaultPlace}
 use Rattle.dimacs_records.specs.Readings.{IsAllowed, IsComplete, IsFirstCondition, RefusesEnd, RefusesRecord}
 use Rattle.dimacs_records.specs.Spelling.{kind_of}
 use Rattle.dimacs_records.specs.Tests.{Passes, PassesEnd, answer_at, answer_at_end, place_by, reason_by, noted_at_end, noted_before}
@@ -24,7 +24,7 @@ noted e earlier (LabelsNode id dist pred) so = rw so refl
 noted e earlier (DistancesNode id dist) so = rw so refl
 noted e earlier r so = rw so refl
 
-refused_at : (earlier : List Record) (r : Record) (place : Option Place) (error : TakeError) → first_place earlier r ≡ place → Err error ≡ answer_at place → RefusesRecord earlier r error
+refused_at : (earlier : List Record) (r : Record) (place : Option FaultPlace) (error : TakeError) → first_place earlier r ≡ place → Err error ≡ answer_at place → RefusesRecord earlier r error
 refused_at earlier r None error is answer = absurd (cc)
 refused_at earlier r (Some p) error is answer =
     let same : error ≡ Refused (record { field = p.field; reason = p.reason }) = cc in

@@ -10,23 +10,23 @@ use Rattle.dimacs_records.specs.declared.faults.LineFault.{LineFault}
 use Rattle.dimacs_records.specs.Earlier.{or_else}
 use Rattle.dimacs_records.specs.Forms.{FieldType, Word, Either, Number}
 use Rattle.dimacs_records.specs.Shapes.{field_condition, fields_condition, letter_condition}
-use Rattle.dimacs_records.specs.Order.{Place, at, field_places, shape_places}
+use Rattle.dimacs_records.specs.Order.{FaultPlace, at, field_places, shape_places}
 use Rattle.dimacs_records.specs.inside.FieldReader.{fault_at, fault_in, fields_fault, form_fault}
 use Rattle.dimacs_records.proofs.FirstLemmas.{first_by}
 
-abbrev pub place_of : LineFault → Place
+abbrev pub place_of : LineFault → FaultPlace
 place_of fault = at fault.field fault.reason
 
-abbrev pub place_in : Option LineFault → Option Place
+abbrev pub place_in : Option LineFault → Option FaultPlace
 place_in None = None
 place_in (Some fault) = Some (place_of fault)
 
 -- the places of k fields, from field n on
-abbrev places_from : ℕ → ℕ → List Place
+abbrev places_from : ℕ → ℕ → List FaultPlace
 places_from n zero = []
 places_from n (suc k) = field_places n ++ places_from (suc n) k
 
-abbrev IsFrom : ℕ → Place → Type 0
+abbrev IsFrom : ℕ → FaultPlace → Type 0
 IsFrom n p = n ≤ p.field
 
 places_start : (n k : ℕ) → All (IsFrom n) (places_from n k)
@@ -37,12 +37,12 @@ places_start n (suc k) =
     let ranges = All-cons (IsFrom n) (at n NumberRange) (at n BadWord ∷ places_from (suc n) k) (omega arith) words in
     All-cons (IsFrom n) (at n BadNumber) (at n NumberRange ∷ at n BadWord ∷ places_from (suc n) k) (omega arith) ranges
   where
-    later : (n : ℕ) (ps : List Place) → All (IsFrom (suc n)) ps → All (IsFrom n) ps
+    later : (n : ℕ) (ps : List FaultPlace) → All (IsFrom (suc n)) ps → All (IsFrom n) ps
     later n [] h = All-nil (IsFrom n)
     later n (p ∷ ps) h = All-cons (IsFrom n) p ps (omega (arith, All-head (IsFrom (suc n)) p ps h)) (later n ps (All-tail (IsFrom (suc n)) p ps h))
 
 -- at a place where the condition is tested
-abbrev pub test_at : (ℕ → Reason → Bool) → Place → Bool
+abbrev pub test_at : (ℕ → Reason → Bool) → FaultPlace → Bool
 test_at condition p = condition p.field p.reason
 
 same_first : {X : Type 0} (f g : X → Bool) (xs : List X) → All (λ x. f x ≡ g x) xs → first_by f xs ≡ first_by g xs
@@ -54,7 +54,7 @@ none_first [] = refl
 none_first (x ∷ xs) = none_first xs
 
 -- the places after a field are those of the later fields
-past_first : (n : ℕ) (type : FieldType) (types : List FieldType) (text : List ℕ) (texts : List (List ℕ)) (ps : List Place) → All (IsFrom (suc n)) ps
+past_first : (n : ℕ) (type : FieldType) (types : List FieldType) (text : List ℕ) (texts : List (List ℕ)) (ps : List FaultPlace) → All (IsFrom (suc n)) ps
     → All (λ p. test_at (fields_condition n (type ∷ types) (text ∷ texts)) p ≡ test_at (fields_condition (suc n) types texts) p) ps
 past_first n type types text texts [] h = All-nil _
 past_first n type types text texts (p ∷ ps) h =

@@ -10,7 +10,7 @@ use Rattle.dimacs_records.specs.declared.faults.ReadError.{ReadError}
 use Rattle.dimacs_records.specs.declared.faults.ReadError.TheVariants as read_errors
 use Rattle.dimacs_records.specs.Spelling.{texts_in}
 use Rattle.dimacs_records.specs.Conditions.{limit_condition}
-use Rattle.dimacs_records.specs.Order.{Place, at}
+use Rattle.dimacs_records.specs.Order.{FaultPlace, at}
 use Rattle.dimacs_records.specs.Faults.{Condition, of_limit, of_shape, of_record, Spell, records_in, IsClean, IsFaultless, Fault}
 use Rattle.dimacs_records.specs.Readings.{LineRecord, records_of, numbered, IsAllowed, ReadsLines}
 use Rattle.dimacs_records.specs.Texts.{AreSpelled, SpellsValue, Reads, AreFaultless}
@@ -67,7 +67,7 @@ spelled_of_faultless kind all by_line h = record {
 }
 
 -- a line within the limits whose record is allowed has no condition
-no_condition : (kind : TextKind) (earlier : List Record) (number : ℕ) (line : List ℕ) (x : Option Record) (p : Place) → Spell kind (line ∷ []) (x ∷ [])
+no_condition : (kind : TextKind) (earlier : List Record) (number : ℕ) (line : List ℕ) (x : Option Record) (p : FaultPlace) → Spell kind (line ∷ []) (x ∷ [])
     → NoneHolds (limit_condition number line) → ((r : Record) → x ≡ Some r → IsAllowed earlier r) → ¬ Condition kind earlier number line p
 no_condition kind earlier number line None p spells within_limits allowed c = elim c [
   | of_limit h ↦ within_limits p.field p.reason h
@@ -89,7 +89,7 @@ records_at kind before line by_line earlier s r same here = ap records_in s.said
 pub faultless_of_spelled : (kind : TextKind) (all : List (List ℕ)) (by_line : List (Option Record)) → AreSpelled kind all by_line → AreFaultless kind (records_in by_line) → IsFaultless kind all by_line
 faultless_of_spelled kind all by_line spelled faultless = record { clean = record { spell = spelled.spell; none = none_at }; none_at_end = faultless.complete }
   where
-    none_at : (before after : List (List ℕ)) (line : List ℕ) (earlier : List (Option Record)) (p : Place) → all ≡ before ++ line ∷ after → Spell kind before earlier
+    none_at : (before after : List (List ℕ)) (line : List ℕ) (earlier : List (Option Record)) (p : FaultPlace) → all ≡ before ++ line ∷ after → Spell kind before earlier
         → ¬ Condition kind (records_in earlier) (length before + 1) line p
     none_at before after line earlier p e spell =
         let s = spelled_at kind before after line by_line (rw e at spelled.spell) in

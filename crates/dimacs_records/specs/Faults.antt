@@ -6,10 +6,10 @@ use Rattle.dimacs_records.specs.declared.reasons.Reason.{Reason}
 use Rattle.dimacs_records.specs.Spelling.{SpellsRecord, texts_in, is_skip}
 use Rattle.dimacs_records.specs.Shapes.{shape_condition}
 use Rattle.dimacs_records.specs.Conditions.{limit_condition, end_condition}
-use Rattle.dimacs_records.specs.Order.{IsRefusedAt, Place, at, places, end_reasons, FirstOf}
+use Rattle.dimacs_records.specs.Order.{IsRefusedAt, FaultPlace, at, places, end_reasons, FirstOf}
 
 -- the condition of the reason at place p holds for this line after the earlier records
-pub data Condition (kind : TextKind) (earlier : List Record) (number : ℕ) (line : List ℕ) (p : Place) : Type 0 where
+pub data Condition (kind : TextKind) (earlier : List Record) (number : ℕ) (line : List ℕ) (p : FaultPlace) : Type 0 where
   of_limit : IsTrue (limit_condition number line p.field p.reason) → Condition kind earlier number line p
   of_shape : is_skip (texts_in line) ≡ false → IsTrue (shape_condition kind (texts_in line) p.field p.reason) → Condition kind earlier number line p
   of_record : (r : Record) → is_skip (texts_in line) ≡ false → SpellsRecord kind (texts_in line) r
@@ -31,7 +31,7 @@ records_in (Some r ∷ more) = r ∷ records_in more
 -- the lines spell these records, and no condition holds at any line
 pub record IsClean (kind : TextKind) (lines : List (List ℕ)) (by_line : List (Option Record)) : Type 0 where
   pub spell : Spell kind lines by_line
-  pub none : (before after : List (List ℕ)) (line : List ℕ) (earlier : List (Option Record)) (p : Place)
+  pub none : (before after : List (List ℕ)) (line : List ℕ) (earlier : List (Option Record)) (p : FaultPlace)
       → lines ≡ before ++ line ∷ after → Spell kind before earlier → ¬ Condition kind (records_in earlier) (length before + 1) line p
 
 -- clean lines, then one at which this condition is the first

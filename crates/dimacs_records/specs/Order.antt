@@ -7,25 +7,25 @@ use Rattle.dimacs_records.specs.Conditions.{condition}
 use Rattle.dimacs_records.specs.declared.reasons.Reason.TheVariants.{LineTooLong, UnknownLine, FieldCount, BadNumber, NumberRange, BadWord, ProblemMissing, ProblemTwice, RecordOrder, NodeRange, NodeTwice, EndTwice, EndMissing, BoundOrder, TooMany, TooFew, SolutionMissing, SolutionTwice, PredUnknown, LineLimit, PastRadius}
 
 -- a field, 0 for the whole line, and a reason
-pub record Place : Type 0 where
+pub record FaultPlace : Type 0 where
   pub field : ℕ
   pub reason : Reason
 
-abbrev pub at : ℕ → Reason → Place
+abbrev pub at : ℕ → Reason → FaultPlace
 at field reason = record { field = field; reason = reason }
 
-abbrev pub limit_places : List Place
+abbrev pub limit_places : List FaultPlace
 limit_places = at 0 LineLimit ∷ at 0 LineTooLong ∷ []
 
-abbrev pub field_places : ℕ → List Place
+abbrev pub field_places : ℕ → List FaultPlace
 field_places f = at f BadNumber ∷ at f NumberRange ∷ at f BadWord ∷ []
 
 -- first the letter, then the number of fields, then the fields from left to right
-abbrev pub shape_places : List Place
+abbrev pub shape_places : List FaultPlace
 shape_places = at 1 UnknownLine ∷ at 0 FieldCount ∷ (field_places 2 ++ (field_places 3 ++ (field_places 4 ++ (field_places 5 ++ (field_places 6 ++ [])))))
 
 -- the conditions after earlier records; if one holds at several fields, the leftmost comes first
-abbrev pub record_places : List Place
+abbrev pub record_places : List FaultPlace
 record_places = at 0 ProblemMissing ∷ at 0 ProblemTwice ∷ at 0 RecordOrder
     ∷ at 2 NodeRange ∷ at 3 NodeRange ∷ at 4 NodeRange
     ∷ at 2 NodeTwice ∷ at 3 EndTwice ∷ at 0 EndMissing
@@ -33,11 +33,11 @@ record_places = at 0 ProblemMissing ∷ at 0 ProblemTwice ∷ at 0 RecordOrder
     ∷ at 0 TooMany ∷ at 0 TooFew ∷ at 0 SolutionTwice ∷ at 0 PredUnknown ∷ at 3 PastRadius ∷ []
 
 -- record r is refused after the earlier ones at this place of the order
-abbrev pub IsRefusedAt : List Record → Record → Place → Type 0
+abbrev pub IsRefusedAt : List Record → Record → FaultPlace → Type 0
 IsRefusedAt earlier r p = Contains record_places p × IsTrue (condition earlier r p.field p.reason)
 
 -- the order of all conditions at a line
-abbrev pub places : List Place
+abbrev pub places : List FaultPlace
 places = limit_places ++ (shape_places ++ record_places)
 
 -- the order at the end of a text

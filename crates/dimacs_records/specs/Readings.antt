@@ -13,7 +13,7 @@ use Rattle.dimacs_records.specs.declared.faults.ReadError.{ReadError}
 use Rattle.dimacs_records.specs.declared.faults.ReadError.TheVariants as read_errors
 use Rattle.dimacs_records.specs.Spelling.{SpellsRecord}
 use Rattle.dimacs_records.specs.Conditions.{condition, end_condition}
-use Rattle.dimacs_records.specs.Order.{IsRefusedAt, Place, at, record_places, FirstOf}
+use Rattle.dimacs_records.specs.Order.{IsRefusedAt, FaultPlace, at, record_places, FirstOf}
 use Rattle.dimacs_records.specs.Faults.{IsFaultless, FirstAtEnd, Fault}
 
 -- a record and the number of its line
@@ -54,10 +54,10 @@ IsGivenByLines kind gives v = (rs : List LineRecord) × gives rs v × AreSpelled
 
 -- after the earlier records no condition holds for this one
 abbrev pub IsAllowed : List Record → Record → Type 0
-IsAllowed earlier r = (p : Place) → ¬ IsRefusedAt earlier r p
+IsAllowed earlier r = (p : FaultPlace) → ¬ IsRefusedAt earlier r p
 
 abbrev pub IsFirstCondition : List Record → Record → LineFault → Type 0
-IsFirstCondition earlier r fault = FirstOf (λ (p : Place). IsTrue (condition earlier r p.field p.reason)) record_places (at fault.field fault.reason)
+IsFirstCondition earlier r fault = FirstOf (λ (p : FaultPlace). IsTrue (condition earlier r p.field p.reason)) record_places (at fault.field fault.reason)
 
 -- the record's first condition after the earlier ones, or out of memory
 abbrev pub RefusesRecord : List Record → Record → TakeError → Type 0

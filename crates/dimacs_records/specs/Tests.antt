@@ -14,7 +14,7 @@ use Rattle.dimacs_records.specs.declared.records.Record.TheVariants.{LabelsNode,
 use Rattle.dimacs_records.specs.Blocks.{block_in, is_full_block, is_short_block}
 use Rattle.dimacs_records.specs.Conditions.{bounded_ids, is_above_at, is_bound_wrong, is_refused_for, lacks_end, needs_problem}
 use Rattle.dimacs_records.specs.Earlier.{counted_in, is_counted, is_full, is_problem, is_short, is_value, problem_in}
-use Rattle.dimacs_records.specs.Order.{Place, end_reasons, record_places}
+use Rattle.dimacs_records.specs.Order.{FaultPlace, end_reasons, record_places}
 use Rattle.dimacs_records.specs.Spelling.{kind_of}
 
 -- after this problem line and so many lines that it counts
@@ -78,7 +78,7 @@ first_failing (x ∷ xs) (wrong ∷ more) = if wrong then Some x else first_fail
 first_failing xs tests = None
 
 -- the place of the first test of record r that fails
-abbrev pub place_by : Earlier → Record → Option Place
+abbrev pub place_by : Earlier → Record → Option FaultPlace
 place_by e r =
     first_failing record_places (
     ((needs_problem (kind_of r) && not (is_problem r)) && is_none e.problem) ∷ (is_problem r && is_some e.problem) ∷ e.misplaced
@@ -100,7 +100,7 @@ reason_by kind e =
     )
 
 -- a refusal at this place, if there is one
-abbrev pub answer_at : Option Place → Result Unit TakeError
+abbrev pub answer_at : Option FaultPlace → Result Unit TakeError
 answer_at None = Ok tt
 answer_at (Some p) = Err (Refused (record { field = p.field; reason = p.reason }))
 

@@ -26,14 +26,14 @@ use std::alloc::Global;
 
 /// The state of a text after its problem line, and after each further record. `CountedReading` reads the kinds of text
 /// that implement this.
-pub trait Begun: Drop {
+pub trait Builder: Drop {
     /// What the text is read into.
     type Value;
 
     ghost kind: { TextKind };
 
     /// Which records may lead to this state.
-    ghost begun_by: { Self → List Record → Type 0 };
+    ghost built_from: { Self → List Record → Type 0 };
 
     /// What the tests of one more record need.
     ghost noted: { Self → Record → Earlier };
@@ -54,30 +54,30 @@ pub trait Begun: Drop {
     fn begin(alloc: Global, problem: Record) -> Self
         requires of_kind { IsOfKind kind problem }
         requires problem_line { is_problem problem ≡ true }
-        ensures { begun_by result (problem ∷ []) };
+        ensures { built_from result (problem ∷ []) };
 
     /// What the tests of one more record need.
     fn before(&self, rec: Record) -> Earlier
         requires { IsOfKind kind rec }
         ensures noted { result ≡ noted self.now rec }
-        ensures of_records { (rs : List Record) → begun_by self.now rs → result ≡ noted_before rs rec };
+        ensures of_records { (rs : List Record) → built_from self.now rs → result ≡ noted_before rs rec };
 
     /// Adds a record that passed all tests.
     fn keep(&mut self, rec: Record) -> Result<(), Memory>
         requires of_kind { IsOfKind kind rec }
         requires passes { Passes (noted self.old rec) rec }
-        ensures added { OnOk result ((rs : List Record) → begun_by self.old rs → begun_by self.new (rs ++ rec ∷ [])) }
+        ensures added { OnOk result ((rs : List Record) → built_from self.old rs → built_from self.new (rs ++ rec ∷ [])) }
         ensures unchanged { OnErr result (self.new ≡ self.old) };
 
     /// What the tests at the end need.
     fn before_end(&self) -> Earlier
         ensures noted { result ≡ noted_end self.now }
-        ensures of_records { (rs : List Record) → begun_by self.now rs → result ≡ noted_at_end kind rs };
+        ensures of_records { (rs : List Record) → built_from self.now rs → result ≡ noted_at_end kind rs };
 
     /// The value of all records, after the tests at the end.
     fn value(self, alloc: Global) -> Result<Self::Value, Memory>
         requires { PassesEnd kind (noted_end self) }
-        ensures { IfOk result (λ value. (rs : List LineRecord) → begun_by self (records_of rs) → gives rs value) };
+        ensures { IfOk result (λ value. (rs : List LineRecord) → built_from self (records_of rs) → gives rs value) };
 
     /// This kind of text begins with a problem line.
     ghost has_problem: { needs_problem kind ≡ true };
@@ -85,39 +85,42 @@ pub trait Begun: Drop {
 
 /// Reads a text that begins with a problem line. It makes all tests in their order; `B` keeps the state.
 #[derive(Drop)]
-pub struct CountedReading<B: Begun> {
+pub struct CountedReading<B: Builder> {
     alloc: Global,
-    begun: Option<B>,
+    builder: Option<B>,
 }
 
-impl<B: Begun> CountedReading<B> {
+impl<B: Builder> CountedReading<B> {
     /// A reading before the first record.
     pub fn new(alloc: Global) -> CountedReading<B>
-        ensures { result.begun ≡ None }
+        ensures { result.builder ≡ None }
     {
-        CountedReading { alloc, begun: None }
+        CountedReading {
+            alloc,
+            builder: None,
+        }
     }
 }
 
-impl<B: Begun> Reading for CountedReading<B> {
+impl<B: Builder> Reading for CountedReading<B> {
     type Value = B::Value;
 
     ghost kind = { λ reading. B.kind };
 
-    ghost stands_for = { λ reading rs. StandsFor B.begun_by reading.begun (records_of rs) };
+    ghost stands_for = { λ reading rs. StandsFor B.built_from reading.builder (records_of rs) };
 
     ghost gives = { λ rs value. B.gives rs value };
 
     #[inline(always)]
     fn take(&mut self, _line: u64, rec: Record) -> Result<(), TakeError> {
-        match &mut self.begun {
-            Some(begun) => {
-                test_record(begun.before(rec), rec)?;
-                begun.keep(rec)?;
+        match &mut self.builder {
+            Some(builder) => {
+                test_record(builder.before(rec), rec)?;
+                builder.keep(rec)?;
             }
             None => {
                 test_first(rec)?;
-                self.begun = Some(B::begin(self.alloc, rec));
+                self.builder = Some(B::begin(self.alloc, rec));
             }
         }
         Ok(())
@@ -125,16 +128,16 @@ impl<B: Begun> Reading for CountedReading<B> {
 
     fn finish(self) -> Result<B::Value, TakeError> {
         let alloc = self.alloc;
-        let Some(begun) = self.begun else {
+        let Some(builder) = self.builder else {
             return Err(TakeError::refused(0, Reason::ProblemMissing));
         };
-        test_end(B::kind(), begun.before_end())?;
-        Ok(begun.value(alloc)?)
+        test_end(B::kind(), builder.before_end())?;
+        Ok(builder.value(alloc)?)
     }
 }
 
 /// Reads a text that begins with a problem line: its value or its first fault.
-pub fn read_counted<B: Begun, S: Source>(
+pub fn read_counted<B: Builder, S: Source>(
     alloc: Global,
     source: &mut S,
 ) -> Result<B::Value, ReadError>

@@ -1,7 +1,8 @@
 //! The records that lines spell, and the driver that reads a whole text into a value.
 //!
 //! Two tables define a kind of text: the forms of its lines, and the reasons to refuse it. `record` reads a line by the
-//! first. A `Reading` takes the records, and refuses by the second. `read_text` reads a text with any `Reading`.
+//! first. A `Reading` takes the records, and refuses by the second. `read_text` reads a text with any `Reading`. A
+//! contract has a text as its lines, and says which value they spell, or which fault is the first.
 #![tactic(auto)]
 
 mod canonical;
@@ -21,7 +22,7 @@ mod records;
 mod text;
 
 pub use canonical::{put_record, put_text, write_lines, write_record};
-pub use counted::{Begun, CountedReading, read_counted};
+pub use counted::{Builder, CountedReading, read_counted};
 pub use driver::read_text;
 pub use faults::{At, LineFault, ReadError, TakeError};
 pub use field_reader::{MAX_COUNT, MAX_NODES};

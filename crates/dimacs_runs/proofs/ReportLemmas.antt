@@ -3,8 +3,8 @@ use Rattle.std.proofs.Common.{◌≡◌, ℕ, List, Result, Ok, refl, ap, ◌∙
 use Rattle.dimacs_runs.specs.declared.outcome.Outcome.{Outcome}
 use Rattle.dimacs_runs.specs.declared.status.Status.{Status}
 use Rattle.dimacs_runs.specs.declared.status.Status.TheVariants.{Done, Refused, GaveUp}
-use Rattle.dimacs_runs.specs.declared.stop.Stop.{Stop}
-use Rattle.dimacs_runs.specs.declared.texts_in_turn.Unread.{Unread}
+use Rattle.dimacs_runs.specs.declared.early_end.EarlyEnd.{EarlyEnd}
+use Rattle.dimacs_runs.specs.declared.texts_in_turn.ReadFailure.{ReadFailure}
 use Rattle.dimacs_runs.specs.Runs.{PrintsText, ReportsAlone, TextSpells}
 use Rattle.dimacs_runs.specs.inside.Judgings.{ReadsIn, StopsAt}
 use Rattle.dimacs_runs.specs.inside.Outcomes.{MayReport, outcome_of}
@@ -29,5 +29,5 @@ module _ {V : Type 0} (text : TextSpells V) (printed : V → List ℕ) where
   fault_or_value GaveUp out h = absurd h
 
   -- no value was read
-  pub unread_printed : (unread : Unread) (result : Result Outcome Stop) → Stopped unread result → StopsAt text unread → MayReport prints (outcome_of result)
+  pub unread_printed : (unread : ReadFailure) (result : Result Outcome EarlyEnd) → Stopped unread result → StopsAt text unread → MayReport prints (outcome_of result)
   unread_printed unread result stopped stop = unread_ends reporting_way text prints (λ l f r fault. (l, f, r, fault, refl)) fault_or_value unread result stopped stop

@@ -12,15 +12,15 @@ use Rattle.dimacs_runs.specs.declared.status.RunError.{RunError}
 use Rattle.dimacs_runs.specs.declared.outcome.Outcome.{Outcome}
 use Rattle.dimacs_runs.specs.declared.report.Report.{Report}
 use Rattle.dimacs_runs.specs.declared.report.Report.TheVariants.{Fault}
-use Rattle.dimacs_runs.specs.declared.stop.Stop.{Stop}
-use Rattle.dimacs_runs.specs.declared.texts_in_turn.Unread.{Unread}
+use Rattle.dimacs_runs.specs.declared.early_end.EarlyEnd.{EarlyEnd}
+use Rattle.dimacs_runs.specs.declared.texts_in_turn.ReadFailure.{ReadFailure}
 use Rattle.dimacs_runs.specs.Certified.{uncertified}
 use Rattle.dimacs_runs.specs.Outputs.{MayWrite, WritesAlike, report_of}
 use Rattle.dimacs_runs.specs.Refusals.{refusal_line}
 use Rattle.dimacs_runs.specs.Runs.{ReportsAlone, TextSpells, text_word}
 use Rattle.dimacs_runs.specs.Solved.{report_alone}
 use Rattle.dimacs_runs.specs.inside.Judgings.{ReadsIn, StopsAt}
-use Rattle.dimacs_runs.specs.inside.Outcomes.{IfEnds, outcome_texts, reporting, outcome_of, unclaimed_texts, unread_stop}
+use Rattle.dimacs_runs.specs.inside.Outcomes.{IfEnds, outcome_texts, reporting, outcome_of, unclaimed_texts, unread_end}
 use Rattle.dimacs_runs.specs.inside.Reports.{report_lines, report_status}
 
 -- a form of report: it depends only on the possible outcomes, and can report a refusal that is the only one
@@ -63,8 +63,8 @@ solving = record {
 }
 
 -- a run ends early at a text that could not be read
-abbrev pub Stopped : Unread → Result Outcome Stop → Type 0
-Stopped unread result = IsErrAnd result (λ stop. stop ≡ unread_stop unread.kind unread.error)
+abbrev pub Stopped : ReadFailure → Result Outcome EarlyEnd → Type 0
+Stopped unread result = IsErrAnd result (λ stop. stop ≡ unread_end unread.kind unread.error)
 
 module _ {O : Type 0} (way : Way O) where
   abbrev pub Ends : (Status → O → Type 0) → Result Outcome RunError → Type 0
@@ -77,7 +77,7 @@ module _ {O : Type 0} (way : Way O) where
 
     -- a text that could not be read is reported by its fault, if that is the only possible outcome
     unread_reported : (a : Status → O → Type 0) → ((l f : ℕ) (r : Reason) → text.fault l f r → a Refused (way.alone (refusal_line text.name l f r))) → ((s : Status) (o : O) → a s o → FaultLine s o ⊎ ((v : V) × text.spells v))
-        → (kind : TextKind) (error : ReadError) → text_word kind ≡ text.name → ReadsIn text (Err error) → Ends a (outcome_of (Err (unread_stop kind error)))
+        → (kind : TextKind) (error : ReadError) → text_word kind ≡ text.name → ReadsIn text (Err error) → Ends a (outcome_of (Err (unread_end kind error)))
     unread_reported a to from kind (read_errors.Refused place reason) is read =
         rw (way.lines (Fault kind place reason), is) (way.refused a (way.alone (refusal_line text.name place.line place.field reason)) (to place.line place.field reason read.0) only)
       where
@@ -90,7 +90,7 @@ module _ {O : Type 0} (way : Way O) where
     unread_reported a to from kind read_errors.Memory is read = tt
 
     pub unread_ends : (a : Status → O → Type 0) → ((l f : ℕ) (r : Reason) → text.fault l f r → a Refused (way.alone (refusal_line text.name l f r))) → ((s : Status) (o : O) → a s o → FaultLine s o ⊎ ((v : V) × text.spells v))
-        → (unread : Unread) (result : Result Outcome Stop) → Stopped unread result → StopsAt text unread → Ends a (outcome_of result)
+        → (unread : ReadFailure) (result : Result Outcome EarlyEnd) → Stopped unread result → StopsAt text unread → Ends a (outcome_of result)
     unread_ends a to from unread result stopped stop =
         let (it, is, same) = err_from_is_err_and result stopped in
         rw (is, same) (unread_reported a to from unread.kind unread.error stop.0 stop.1)
@@ -109,7 +109,7 @@ module _ {O : Type 0} (way : Way O) where
       value_ends v (Err error) read follows = tt
 
       -- the text could not be read
-      pub stop_ends : (unread : Unread) (result : Result Outcome Stop) → Stopped unread result → StopsAt text unread → Ends FaultThen (outcome_of result)
+      pub stop_ends : (unread : ReadFailure) (result : Result Outcome EarlyEnd) → Stopped unread result → StopsAt text unread → Ends FaultThen (outcome_of result)
       stop_ends unread result stopped stop = unread_ends FaultThen (λ l f r fault. inl (l, f, r, fault, refl, refl)) (λ s o h. elim h [ inl it ↦ inl it | inr it ↦ inr (it.0, it.1) ]) unread result stopped stop
 
   module _ {V W : Type 0} (x : TextSpells V) (y : TextSpells W) (next : V → W → Status → O → Type 0) where
@@ -121,7 +121,7 @@ module _ {O : Type 0} (way : Way O) where
     two_end v w outcome read also follows = value_ends x after_first v outcome read (value_ends y (next v) w outcome also follows)
 
     -- one of two texts could not be read
-    pub two_stop : (unread : Unread) (result : Result Outcome Stop) → Stopped unread result → StopsAt x unread ⊎ ((v : V) × ReadsIn x (Ok v) × StopsAt y unread) → Ends (FaultThen x after_first) (outcome_of result)
+    pub two_stop : (unread : ReadFailure) (result : Result Outcome EarlyEnd) → Stopped unread result → StopsAt x unread ⊎ ((v : V) × ReadsIn x (Ok v) × StopsAt y unread) → Ends (FaultThen x after_first) (outcome_of result)
     two_stop unread result stopped (inl first) = stop_ends x after_first unread result stopped first
     two_stop unread result stopped (inr (v, read, second)) = value_ends x after_first v (outcome_of result) read (stop_ends y (next v) unread result stopped second)
 
@@ -137,7 +137,7 @@ module _ {O : Type 0} (way : Way O) where
     three_end v w u outcome first second third follows = two_end x y after_second v w outcome first second (value_ends z (next v w) u outcome third follows)
 
     -- one of three texts could not be read
-    pub three_stop : (unread : Unread) (result : Result Outcome Stop) → Stopped unread result → StopsAt x unread ⊎ ((v : V) × ReadsIn x (Ok v) × (StopsAt y unread ⊎ ((w : W) × ReadsIn y (Ok w) × StopsAt z unread))) → Ends three (outcome_of result)
+    pub three_stop : (unread : ReadFailure) (result : Result Outcome EarlyEnd) → Stopped unread result → StopsAt x unread ⊎ ((v : V) × ReadsIn x (Ok v) × (StopsAt y unread ⊎ ((w : W) × ReadsIn y (Ok w) × StopsAt z unread))) → Ends three (outcome_of result)
     three_stop unread result stopped (inl first) = stop_ends x (λ v. FaultThen y (after_second v)) unread result stopped first
     three_stop unread result stopped (inr (v, read, inl second)) = two_stop x y after_second unread result stopped (inr (v, read, second))
     three_stop unread result stopped (inr (v, read, inr (w, also, third))) = two_end x y after_second v w (outcome_of result) read also (stop_ends z (next v w) unread result stopped third)

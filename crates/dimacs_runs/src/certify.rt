@@ -23,11 +23,11 @@ ghost use Rattle.dimacs_runs.specs.inside.Outcomes.{MayCertify, outcome_of};
 use crate::certify_distances::certify_distances;
 use crate::certify_infeasible::certify_infeasible;
 use crate::discard::Discard;
+use crate::early_end::{EarlyEnd, outcome_of};
 use crate::jobs::CertifyKind;
 use crate::outcome::{Outcome, OutputText, write_outcome};
 use crate::report::Report;
 use crate::status::{RunError, Status};
-use crate::stop::{Stop, outcome_of};
 use crate::texts_in_turn::{place_solution, read};
 use dimacs_claims::Placed;
 use dimacs_decide::{MaxDecision, MinDecision, certify_max_placed, certify_min_placed};
@@ -100,7 +100,7 @@ fn certify_maximum<P: Source, Q: Source>(
     alloc: Global,
     instance: &mut P,
     solution: &mut Q,
-) -> Result<Outcome, Stop>
+) -> Result<Outcome, EarlyEnd>
     ensures certifies { (a b : List ℕ) → P.coming instance.old ≡ Some a → Q.coming solution.old ≡ Some b →
         MayCertify (Certified certifies.Max a b) (outcome_of result) }
     ensures faults { CountsDevices (outcome_of result) (P.faults instance.old ∷ Q.faults solution.old ∷ [])
@@ -118,7 +118,7 @@ fn certify_least<P: Source, Q: Source>(
     alloc: Global,
     instance: &mut P,
     solution: &mut Q,
-) -> Result<Outcome, Stop>
+) -> Result<Outcome, EarlyEnd>
     ensures certifies { (a b : List ℕ) → P.coming instance.old ≡ Some a → Q.coming solution.old ≡ Some b →
         MayCertify (Certified certifies.Min a b) (outcome_of result) }
     ensures faults { CountsDevices (outcome_of result) (P.faults instance.old ∷ Q.faults solution.old ∷ [])
@@ -136,7 +136,7 @@ fn answer_maximum<N: Network>(
     alloc: Global,
     instance: &MaxInstance<N>,
     placed: &Placed<FlowPlaces<'_, N>>,
-) -> Result<Outcome, Stop>
+) -> Result<Outcome, EarlyEnd>
     requires lawful { IsMax instance.now }
     requires network { placed.now.place.arcs ≡ instance.now.arcs }
     requires placed { IsPlacedLawful placed.now.value placed.now.value_line (ArePlaced placed.now.place) }
@@ -158,7 +158,7 @@ fn answer_least<N: Network>(
     alloc: Global,
     instance: &MinInstance<N>,
     placed: &Placed<FlowPlaces<'_, N>>,
-) -> Result<Outcome, Stop>
+) -> Result<Outcome, EarlyEnd>
     requires network { placed.now.place.arcs ≡ instance.now.arcs }
     requires placed { IsPlacedLawful placed.now.value placed.now.value_line (ArePlaced placed.now.place) }
     ensures certifies { (s : SolutionValue) → IsPlaced placed.now.value placed.now.value_line (ArePlaced placed.now.place) s
@@ -181,7 +181,7 @@ fn refuse_maximum<N: Network>(
     instance: &MaxInstance<N>,
     flow: Flow,
     value_line: u64,
-) -> Result<Outcome, Stop>
+) -> Result<Outcome, EarlyEnd>
     requires lawful { IsMax instance.now }
     requires feasible { FeasibleMax instance.now flow }
     ensures certifies { (s : SolutionValue) (x : List ℤ) → IsMaxImproved instance.now s x flow → value_line ≡ s.value_line
@@ -200,7 +200,7 @@ fn refuse_least<N: Network>(
     instance: &MinInstance<N>,
     flow: &Flow,
     value_line: u64,
-) -> Result<Outcome, Stop>
+) -> Result<Outcome, EarlyEnd>
     requires { FeasibleMin instance.now flow.now }
     ensures certifies { (s : SolutionValue) (x : List ℤ) → IsMinImproved instance.now s x flow.now → value_line ≡ s.value_line
         → MayCertify (CertifiesLeast instance.now s) (outcome_of result) }

@@ -10,9 +10,9 @@ ghost use Rattle.dimacs_runs.specs.Judgings.{CountsDevices};
 ghost use Rattle.dimacs_runs.specs.inside.Judgings.{HasFault};
 ghost use Rattle.dimacs_runs.specs.inside.Outcomes.{MayCertify, outcome_of};
 
+use crate::early_end::EarlyEnd;
 use crate::outcome::{Outcome, OutputText};
 use crate::report::Report;
-use crate::stop::Stop;
 use crate::texts_in_turn::read_two;
 use dimacs_claims::Distances;
 use dimacs_decide::certify_paths;
@@ -27,7 +27,7 @@ pub(crate) fn certify_distances<P: Source, Q: Source>(
     alloc: Global,
     graph: &mut P,
     distances: &mut Q,
-) -> Result<Outcome, Stop>
+) -> Result<Outcome, EarlyEnd>
     ensures certifies { (a b : List ℕ) → P.coming graph.old ≡ Some a → Q.coming distances.old ≡ Some b →
         MayCertify (Certified certifies.Paths a b) (outcome_of result) }
     ensures faults { CountsDevices (outcome_of result) (P.faults graph.old ∷ Q.faults distances.old ∷ [])
@@ -43,14 +43,14 @@ fn answer_distances<N: Network>(
     alloc: Global,
     graph: &Graph<N>,
     distances: &Distances,
-) -> Result<Outcome, Stop>
+) -> Result<Outcome, EarlyEnd>
     ensures certifies { FitText distances.now → MayCertify (CertifiesDistances graph.now distances.now) (outcome_of result) }
     ensures no_device { outcome_of result ≢ Err Device }
 {
     if distances.nodes() != graph.network().nodes() {
         let at = At { line: 0, field: 0 };
         let report = Report::Fault(TextKind::Distances, at, Reason::NodesDiffer);
-        return Err(Stop::Report(report));
+        return Err(EarlyEnd::Report(report));
     }
     answer_blocks(alloc, graph, distances)
 }
@@ -60,7 +60,7 @@ fn answer_blocks<N: Network>(
     alloc: Global,
     graph: &Graph<N>,
     distances: &Distances,
-) -> Result<Outcome, Stop>
+) -> Result<Outcome, EarlyEnd>
     requires { distances.now.nodes ≡ graph.now.nodes }
     ensures certifies { FitText distances.now → MayCertify (CertifiesDistances graph.now distances.now) (outcome_of result) }
     ensures no_device { outcome_of result ≢ Err Device }

@@ -8,9 +8,9 @@ ghost use Rattle.dimacs_runs.specs.Certified.{Certified, CertifiesInfeasible};
 ghost use Rattle.dimacs_runs.specs.Judgings.{CountsDevices};
 ghost use Rattle.dimacs_runs.specs.inside.Outcomes.{MayCertify, outcome_of};
 
+use crate::early_end::EarlyEnd;
 use crate::outcome::{Outcome, OutputText};
 use crate::report::Report;
-use crate::stop::Stop;
 use crate::texts_in_turn::read;
 use dimacs_decide::{Feasibility, decide_infeasible};
 use dimacs_instance::MinInstance;
@@ -24,7 +24,7 @@ use std::alloc::Global;
 pub(crate) fn certify_infeasible<P: Source>(
     alloc: Global,
     instance: &mut P,
-) -> Result<Outcome, Stop>
+) -> Result<Outcome, EarlyEnd>
     ensures certifies { (a : List ℕ) → P.coming instance.old ≡ Some a → MayCertify (Certified certifies.Infeasible a []) (outcome_of result) }
     ensures faults { CountsDevices (outcome_of result) (P.faults instance.old ∷ []) (P.faults instance.new ∷ []) }
 {
@@ -33,7 +33,10 @@ pub(crate) fn certify_infeasible<P: Source>(
 }
 
 /// Decides whether a flow is feasible.
-fn answer_infeasible<N: Network>(alloc: Global, instance: &MinInstance<N>) -> Result<Outcome, Stop>
+fn answer_infeasible<N: Network>(
+    alloc: Global,
+    instance: &MinInstance<N>,
+) -> Result<Outcome, EarlyEnd>
     ensures certifies { MayCertify (CertifiesInfeasible instance.now) (outcome_of result) }
     ensures no_device { outcome_of result ≢ Err Device }
 {
@@ -51,7 +54,7 @@ fn refuse_infeasible<N: Network>(
     alloc: Global,
     instance: &MinInstance<N>,
     flow: &Flow,
-) -> Result<Outcome, Stop>
+) -> Result<Outcome, EarlyEnd>
     requires { FeasibleMin instance.now flow.now }
     ensures certifies { MayCertify (CertifiesInfeasible instance.now) (outcome_of result) }
     ensures no_device { outcome_of result ≢ Err Device }

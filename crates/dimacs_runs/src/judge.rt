@@ -16,11 +16,11 @@ ghost use Rattle.dimacs_runs.specs.inside.Outcomes.{MayReport, outcome_of};
 ghost use Rattle.dimacs_runs.specs.inside.Outcomes as outcomes;
 
 use crate::discard::Discard;
+use crate::early_end::{EarlyEnd, outcome_of};
 use crate::jobs::JudgeKind;
 use crate::outcome::{Outcome, write_outcome};
 use crate::report::Report;
 use crate::status::{RunError, Status};
-use crate::stop::{Stop, outcome_of};
 use crate::texts_in_turn::{read, read_placed, read_three, read_two};
 use dimacs_claims::{Cut, Labels, Potentials};
 use dimacs_instance::{Graph, MaxInstance, MinInstance, Queries};
@@ -70,7 +70,7 @@ pub fn run_judge<P: Source, Q: Source, R: Source, K: Sink>(
 }
 
 /// The outcome of a judge's answer.
-fn judge_outcome(answer: Result<Verdict, JudgeError>) -> Result<Outcome, Stop>
+fn judge_outcome(answer: Result<Verdict, JudgeError>) -> Result<Outcome, EarlyEnd>
     ensures { result ≡ outcomes.judge_outcome answer }
 {
     Ok(Outcome::reporting(Report::Yes(answer?)))
@@ -81,7 +81,7 @@ fn report_max<P: Source, Q: Source, R: Source>(
     instance: &mut P,
     claim: &mut Q,
     certificate: &mut R,
-) -> Result<Outcome, Stop>
+) -> Result<Outcome, EarlyEnd>
     ensures reports { (a b c : List ℕ) → P.coming instance.old ≡ Some a → Q.coming claim.old ≡ Some b
         → R.coming certificate.old ≡ Some c → MayReport (Judged judges.Max a b c) (outcome_of result) }
     ensures faults { CountsDevices (outcome_of result) (P.faults instance.old ∷ Q.faults claim.old ∷ R.faults certificate.old ∷ [])
@@ -100,7 +100,7 @@ fn report_min<P: Source, Q: Source, R: Source>(
     instance: &mut P,
     claim: &mut Q,
     certificate: &mut R,
-) -> Result<Outcome, Stop>
+) -> Result<Outcome, EarlyEnd>
     ensures reports { (a b c : List ℕ) → P.coming instance.old ≡ Some a → Q.coming claim.old ≡ Some b
         → R.coming certificate.old ≡ Some c → MayReport (Judged judges.Min a b c) (outcome_of result) }
     ensures faults { CountsDevices (outcome_of result) (P.faults instance.old ∷ Q.faults claim.old ∷ R.faults certificate.old ∷ [])
@@ -118,7 +118,7 @@ fn report_infeasible<P: Source, R: Source>(
     alloc: Global,
     instance: &mut P,
     certificate: &mut R,
-) -> Result<Outcome, Stop>
+) -> Result<Outcome, EarlyEnd>
     ensures reports { (a c : List ℕ) → P.coming instance.old ≡ Some a → R.coming certificate.old ≡ Some c →
         MayReport (Judged judges.Infeasible a [] c) (outcome_of result) }
     ensures faults { CountsDevices (outcome_of result) (P.faults instance.old ∷ R.faults certificate.old ∷ [])
@@ -138,7 +138,7 @@ fn report_paths<P: Source, Q: Source, R: Source>(
     graph: &mut P,
     queries: &mut Q,
     labels: &mut R,
-) -> Result<Outcome, Stop>
+) -> Result<Outcome, EarlyEnd>
     ensures reports { (a b c : List ℕ) → P.coming graph.old ≡ Some a → Q.coming queries.old ≡ Some b
         → R.coming labels.old ≡ Some c → MayReport (Judged judges.Paths a b c) (outcome_of result) }
     ensures faults { CountsDevices (outcome_of result) (P.faults graph.old ∷ Q.faults queries.old ∷ R.faults labels.old ∷ [])

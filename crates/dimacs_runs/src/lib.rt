@@ -1,4 +1,9 @@
 //! The runs of the command `dimacs`, over any sources and sinks, and the meaning of its arguments.
+//!
+//! For the command, the calls from C and programs that run a whole command. A run reads its texts in turn, has them
+//! judged, certified or solved, and writes a claim, a certificate and a report. A contract states, for the bytes of the
+//! texts, which bytes these are and which status comes with them; after a fault or without memory, that a beginning of
+//! them was written.
 #![tactic(auto)]
 
 mod arguments;
@@ -8,6 +13,7 @@ mod certify_distances;
 mod certify_infeasible;
 mod command;
 mod discard;
+mod early_end;
 mod failure;
 mod files;
 mod jobs;
@@ -24,7 +30,6 @@ mod runs_that_write;
 mod solve;
 mod spread;
 mod status;
-mod stop;
 mod text;
 mod texts_in_turn;
 mod verdict;

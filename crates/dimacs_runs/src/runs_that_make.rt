@@ -11,6 +11,7 @@ ghost use Rattle.dimacs_runs.specs.inside.Outcomes.{IfEnds, unclaimed_texts};
 
 use crate::certify::certify_claim;
 use crate::certify_infeasible::certify_infeasible;
+use crate::early_end::outcome_of;
 use crate::failure::{CommandError, name_failure};
 use crate::files::Files;
 use crate::jobs::{CertifyKind, SpreadKind, name_at};
@@ -19,7 +20,6 @@ use crate::outcome::Outcome;
 use crate::outcome_file::write_outcome_file;
 use crate::spread::spread_claim;
 use crate::status::{RunError, Status};
-use crate::stop::outcome_of;
 use dimacs_lines::{Sink, Source};
 use std::alloc::Global;
 

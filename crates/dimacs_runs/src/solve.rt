@@ -16,11 +16,11 @@ ghost use Rattle.dimacs_runs.specs.inside.Outcomes.{IsReadable, MaySolve, outcom
 ghost use Rattle.dimacs_runs.specs.inside.Outcomes as outcomes;
 ghost use Rattle.dimacs_runs.specs.Solved.{AreQueries, FindsPaths, Solved, solved_kind};
 
+use crate::early_end::{EarlyEnd, outcome_of};
 use crate::jobs::SolveJob;
 use crate::outcome::{Outcome, OutputText, write_outcome};
 use crate::report::Report;
 use crate::status::{RunError, Status};
-use crate::stop::{Stop, outcome_of};
 use crate::texts_in_turn::{read, read_two};
 use dimacs_instance::{Graph, MaxInstance, MinInstance, Queries};
 use dimacs_judging::{Verdict, answer_queries, index_for};
@@ -71,7 +71,11 @@ pub fn run_solve<P: Source, Q: Source, C: Sink, D: Sink, K: Sink>(
     write_outcome(outcome_of(answer), claim_out, certificate_out, report)
 }
 
-fn solve_maximum<P: Source>(alloc: Global, limit: u64, instance: &mut P) -> Result<Outcome, Stop>
+fn solve_maximum<P: Source>(
+    alloc: Global,
+    limit: u64,
+    instance: &mut P,
+) -> Result<Outcome, EarlyEnd>
     ensures solves { (a : List ℕ) → P.coming instance.old ≡ Some a → MaySolve (Solved (jobs.Max limit) a []) (outcome_of result) }
     ensures faults { CountsDevices (outcome_of result) (P.faults instance.old ∷ []) (P.faults instance.new ∷ []) }
 {
@@ -79,7 +83,7 @@ fn solve_maximum<P: Source>(alloc: Global, limit: u64, instance: &mut P) -> Resu
     maximum_outcome(solve_max(alloc, &instance, limit))
 }
 
-fn solve_least<P: Source>(alloc: Global, limit: u64, instance: &mut P) -> Result<Outcome, Stop>
+fn solve_least<P: Source>(alloc: Global, limit: u64, instance: &mut P) -> Result<Outcome, EarlyEnd>
     ensures solves { (a : List ℕ) → P.coming instance.old ≡ Some a → MaySolve (Solved (jobs.Min limit) a []) (outcome_of result) }
     ensures faults { CountsDevices (outcome_of result) (P.faults instance.old ∷ []) (P.faults instance.new ∷ []) }
 {
@@ -91,7 +95,7 @@ fn solve_labels<P: Source, Q: Source>(
     alloc: Global,
     graph: &mut P,
     queries: &mut Q,
-) -> Result<Outcome, Stop>
+) -> Result<Outcome, EarlyEnd>
     ensures solves { (a b : List ℕ) → P.coming graph.old ≡ Some a → Q.coming queries.old ≡ Some b
         → MaySolve (Solved jobs.Paths a b) (outcome_of result) }
     ensures faults { CountsDevices (outcome_of result) (P.faults graph.old ∷ Q.faults queries.old ∷ [])
@@ -104,7 +108,11 @@ fn solve_labels<P: Source, Q: Source>(
 }
 
 /// Finds labels that answer the queries, or refuses.
-fn label<N: Network>(alloc: Global, graph: &Graph<N>, queries: &Queries) -> Result<Outcome, Stop>
+fn label<N: Network>(
+    alloc: Global,
+    graph: &Graph<N>,
+    queries: &Queries,
+) -> Result<Outcome, EarlyEnd>
     requires lawful { AreLawful (asked queries.now) }
     ensures solves { MaySolve (FindsPaths graph.now (asked queries.now)) (outcome_of result) }
     ensures no_device { outcome_of result ≢ Err Device }
@@ -118,7 +126,7 @@ fn label<N: Network>(alloc: Global, graph: &Graph<N>, queries: &Queries) -> Resu
 }
 
 /// The outcome of a solver's answer.
-fn maximum_outcome(answer: Result<MaxAnswer, SolveError>) -> Result<Outcome, Stop>
+fn maximum_outcome(answer: Result<MaxAnswer, SolveError>) -> Result<Outcome, EarlyEnd>
     ensures outcome { result ≡ outcomes.maximum_outcome answer }
     ensures readable { IfOk result (λ outcome. IsReadable outcome.certificate) }
 {
@@ -133,7 +141,7 @@ fn maximum_outcome(answer: Result<MaxAnswer, SolveError>) -> Result<Outcome, Sto
 }
 
 /// The outcome of a solver's answer.
-fn least_outcome(answer: Result<MinAnswer, SolveError>) -> Result<Outcome, Stop>
+fn least_outcome(answer: Result<MinAnswer, SolveError>) -> Result<Outcome, EarlyEnd>
     ensures outcome { result ≡ outcomes.least_outcome answer }
     ensures readable { IfOk result (λ outcome. IsReadable outcome.certificate) }
 {

@@ -17,11 +17,11 @@ ghost use Rattle.dimacs_runs.specs.inside.Judgings.{HasFault};
 ghost use Rattle.dimacs_runs.specs.inside.Outcomes.{DealsOut, MayCertify, outcome_of};
 
 use crate::discard::Discard;
+use crate::early_end::{EarlyEnd, outcome_of};
 use crate::jobs::SpreadKind;
 use crate::outcome::{Outcome, OutputText, write_outcome};
 use crate::report::Report;
 use crate::status::{RunError, Status};
-use crate::stop::{Stop, outcome_of};
 use crate::texts_in_turn::read_two;
 use dimacs_claims::Solution;
 use dimacs_instance::{MaxInstance, MinInstance};
@@ -85,7 +85,7 @@ fn spread_maximum<P: Source, Q: Source>(
     alloc: Global,
     instance: &mut P,
     claim: &mut Q,
-) -> Result<Outcome, Stop>
+) -> Result<Outcome, EarlyEnd>
     ensures spreads { (a b : List ℕ) → P.coming instance.old ≡ Some a → Q.coming claim.old ≡ Some b →
         MayCertify (Spreads spreads.Max a b) (outcome_of result) }
     ensures faults { CountsDevices (outcome_of result) (P.faults instance.old ∷ Q.faults claim.old ∷ [])
@@ -103,7 +103,7 @@ fn spread_least<P: Source, Q: Source>(
     alloc: Global,
     instance: &mut P,
     claim: &mut Q,
-) -> Result<Outcome, Stop>
+) -> Result<Outcome, EarlyEnd>
     ensures spreads { (a b : List ℕ) → P.coming instance.old ≡ Some a → Q.coming claim.old ≡ Some b →
         MayCertify (Spreads spreads.Min a b) (outcome_of result) }
     ensures faults { CountsDevices (outcome_of result) (P.faults instance.old ∷ Q.faults claim.old ∷ [])
@@ -121,7 +121,7 @@ fn answer_spread<N: Network>(
     network: &N,
     value: i128,
     flow: Result<Flow, JudgeError>,
-) -> Result<Outcome, Stop>
+) -> Result<Outcome, EarlyEnd>
     requires few_arcs { length (N.list network.now) ≤ most_count }
     requires one_each { IfOk flow (λ x. length x ≡ length (N.list network.now)) }
     ensures spreads { (kind : SpreadKind) (s : SolutionValue) → value ≡ s.value → DealsOut kind (N.list network.now) s flow

@@ -9,9 +9,9 @@ ghost use Rattle.dimacs_runs.specs.Runs.{Reports, PrintsText, Prints, in_form};
 ghost use Rattle.dimacs_runs.specs.inside.Judgings.{text_spells};
 
 use crate::discard::Discard;
+use crate::early_end::{EarlyEnd, outcome_of};
 use crate::outcome::write_outcome;
 use crate::status::{RunError, Status};
-use crate::stop::{Stop, outcome_of};
 use crate::texts_in_turn::{read, read_summary};
 use dimacs_claims::{Cut, Distances, Labels, Potentials, Solution};
 use dimacs_instance::{
@@ -116,7 +116,7 @@ fn print<T: Text, S: Source, K: Sink>(
             Ok(Status::Done)
         }
         Err(unread) => {
-            let answer = outcome_of(Err(Stop::from(unread)));
+            let answer = outcome_of(Err(EarlyEnd::from(unread)));
             write_outcome(answer, &mut Discard, &mut Discard, sink)
         }
     }
@@ -153,7 +153,7 @@ fn sum_up<T: Summary, S: Source, K: Sink>(
             Ok(Status::Done)
         }
         Err(unread) => {
-            let answer = outcome_of(Err(Stop::from(unread)));
+            let answer = outcome_of(Err(EarlyEnd::from(unread)));
             write_outcome(answer, &mut Discard, &mut Discard, sink)
         }
     }

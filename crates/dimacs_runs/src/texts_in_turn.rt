@@ -15,13 +15,13 @@ use std::alloc::Global;
 
 /// Why a text of this kind could not be read.
 #[derive(Clone, Copy)]
-pub(crate) struct Unread {
+pub(crate) struct ReadFailure {
     pub(crate) kind: TextKind,
     pub(crate) error: ReadError,
 }
 
 /// Reads one text.
-pub(crate) fn read<V: Text, P: Source>(alloc: Global, source: &mut P) -> Result<V, Unread>
+pub(crate) fn read<V: Text, P: Source>(alloc: Global, source: &mut P) -> Result<V, ReadFailure>
     ensures reads { (a : List ℕ) → P.coming source.old ≡ Some a → ReadsOne V.content (text_spells V.kind V.spells a) result }
     ensures faults { CountsUnread result (P.faults source.old ∷ []) (P.faults source.new ∷ []) }
     ensures faultless { IfOk result (λ value. ¬ HasFault V.kind (P.coming source.old)) }
@@ -29,7 +29,7 @@ pub(crate) fn read<V: Text, P: Source>(alloc: Global, source: &mut P) -> Result<
 {
     match V::read(alloc, source) {
         Ok(value) => Ok(value),
-        Err(error) => Err(Unread {
+        Err(error) => Err(ReadFailure {
             kind: V::kind(),
             error,
         }),
@@ -40,7 +40,7 @@ pub(crate) fn read<V: Text, P: Source>(alloc: Global, source: &mut P) -> Result<
 pub(crate) fn read_summary<V: Summary, P: Source>(
     alloc: Global,
     source: &mut P,
-) -> Result<V, Unread>
+) -> Result<V, ReadFailure>
     ensures reads { (a : List ℕ) → P.coming source.old ≡ Some a
         → PlacesOne (λ value summary. V.sums_up summary value) (text_spells V.kind V.spells a) result }
     ensures enough { IfOk result (λ summary. (value : V.Content) → V.sums_up summary value → V.line summary ≡ V.shown value) }
@@ -49,7 +49,7 @@ pub(crate) fn read_summary<V: Summary, P: Source>(
     let kind = V::kind();
     match V::read(alloc, source) {
         Ok(summary) => Ok(summary),
-        Err(error) => Err(Unread { kind, error }),
+        Err(error) => Err(ReadFailure { kind, error }),
     }
 }
 
@@ -58,7 +58,7 @@ pub(crate) fn read_two<V: Text, W: Text, P: Source, Q: Source>(
     alloc: Global,
     first: &mut P,
     second: &mut Q,
-) -> Result<(V, W), Unread>
+) -> Result<(V, W), ReadFailure>
     ensures reads { (a b : List ℕ) → P.coming first.old ≡ Some a → Q.coming second.old ≡ Some b
         → ReadsTwo V.content W.content (text_spells V.kind V.spells a) (text_spells W.kind W.spells b) result }
     ensures faults { CountsUnread result (P.faults first.old ∷ Q.faults second.old ∷ []) (P.faults first.new ∷ Q.faults second.new ∷ []) }
@@ -76,7 +76,7 @@ pub(crate) fn read_three<V: Text, W: Text, X: Text, P: Source, Q: Source, R: Sou
     first: &mut P,
     second: &mut Q,
     third: &mut R,
-) -> Result<(V, W, X), Unread>
+) -> Result<(V, W, X), ReadFailure>
     ensures reads { (a b c : List ℕ) → P.coming first.old ≡ Some a → Q.coming second.old ≡ Some b
         → R.coming third.old ≡ Some c
         → ReadsThree V.content W.content X.content (text_spells V.kind V.spells a) (text_spells W.kind W.spells b)
@@ -99,7 +99,7 @@ pub(crate) fn read_placed<E: Place, W: Text, P: Source, Q: Source>(
     place: E,
     first: &mut P,
     second: &mut Q,
-) -> Result<(Placed<E>, W), Unread>
+) -> Result<(Placed<E>, W), ReadFailure>
     requires empty { E.stands_for place [] }
     ensures reads { (a b : List ℕ) → P.coming first.old ≡ Some a → Q.coming second.old ≡ Some b
         → ReadsPlaced (λ solution placed. IsPlaced placed.value placed.value_line (E.stands_for placed.place) solution)
@@ -119,7 +119,7 @@ pub(crate) fn place_solution<E: Place, P: Source>(
     alloc: Global,
     place: E,
     source: &mut P,
-) -> Result<Placed<E>, Unread>
+) -> Result<Placed<E>, ReadFailure>
     requires empty { E.stands_for place [] }
     ensures reads { (a : List ℕ) → P.coming source.old ≡ Some a
         → PlacesOne (λ solution placed. IsPlaced placed.value placed.value_line (E.stands_for placed.place) solution)
@@ -130,7 +130,7 @@ pub(crate) fn place_solution<E: Place, P: Source>(
 {
     match read_solution_into(alloc, place, source) {
         Ok(placed) => Ok(placed),
-        Err(error) => Err(Unread {
+        Err(error) => Err(ReadFailure {
             kind: TextKind::Solution,
             error,
         }),

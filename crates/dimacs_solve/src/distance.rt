@@ -4,7 +4,7 @@ ghost use Rattle.std.specs.Prelude.{◌≡◌, ◌<◌, ◌+◌, ◌^◌, ℕ, p
 ghost use Rattle.std.specs.Ordering.{nat_cmp};
 
 /// An unsigned number for the distances of a search: of 64 bits if all of them fit, otherwise of 128.
-pub(crate) trait Distance: Copy + Ord {
+pub(crate) trait SearchDistance: Copy + Ord {
     ghost value: { Self → ℕ };
 
     /// Sums of distances and weights have to stay below it.
@@ -24,7 +24,7 @@ pub(crate) trait Distance: Copy + Ord {
     ghost in_order: { (a b : Self) → Self.Ord.cmp a b ≡ nat_cmp (value a) (value b) };
 }
 
-impl Distance for u64 {
+impl SearchDistance for u64 {
     ghost use Rattle.std.specs.Prelude.{◌^◌, refl};
 
     ghost value = { λ n. n };
@@ -49,7 +49,7 @@ impl Distance for u64 {
     }
 }
 
-impl Distance for u128 {
+impl SearchDistance for u128 {
     ghost use Rattle.std.specs.Prelude.{◌^◌, refl};
 
     ghost value = { λ n. n };

@@ -3,7 +3,7 @@
 ghost use Rattle.std.specs.Prelude.{◌≡◌, ◌∷◌, [], OnOk, MatchOption, IsPermutation};
 ghost use Rattle.dimacs_solve.specs.inside.Frontiers.{walk_of, IsNearest};
 
-use crate::distance::Distance;
+use crate::distance::SearchDistance;
 use dimacs_lines::Memory;
 use std::alloc::Global;
 use std::cmp::Reverse;
@@ -20,11 +20,11 @@ pub(crate) struct Walk<D> {
 
 /// A node may be in it more than once.
 #[derive(Drop)]
-pub(crate) struct Frontier<D: Distance> {
+pub(crate) struct Frontier<D: SearchDistance> {
     heap: BinaryHeap<Reverse<Walk<D>>>,
 }
 
-impl<D: Distance> Model for Frontier<D> {
+impl<D: SearchDistance> Model for Frontier<D> {
     ghost use Rattle.std.specs.Prelude.{List, map, ℕ};
     ghost use Rattle.std.specs.BinaryHeap.{heap_items, IsHeap};
     ghost use Rattle.dimacs_solve.specs.declared.frontier.Walk.{Walk};
@@ -37,7 +37,7 @@ impl<D: Distance> Model for Frontier<D> {
     ghost invariant = { λ f. IsHeap (λ x y. walk_cmp D.Ord.cmp y.0 x.0) (heap_items f.heap) };
 }
 
-impl<D: Distance> Frontier<D> {
+impl<D: SearchDistance> Frontier<D> {
     pub(crate) fn new(alloc: Global) -> Frontier<D>
         ensures { result ≡ [] }
     {

@@ -3,7 +3,7 @@
 ghost use Rattle.std.specs.Prelude.{◌≡◌, ◌≤◌, ◌<◌, ◌+◌, ℕ, IsTrue, OnOk, ◌↔◌};
 ghost use Rattle.dimacs_network.specs.Tables.{value_of};
 
-use crate::distance::Distance;
+use crate::distance::SearchDistance;
 use dimacs_lines::Memory;
 use dimacs_network::NodeTable;
 use std::alloc::Global;
@@ -24,7 +24,7 @@ pub(crate) struct NodeStates<D> {
     ghost no_later: { (v : ℕ) → (value_of node_states v).round ≤ round },
 }
 
-impl<D: Distance> NodeStates<D> {
+impl<D: SearchDistance> NodeStates<D> {
     ghost use Rattle.dimacs_solve.specs.inside.NodeStates.{AreUnknown, IsSettled, IsReachedWithin, Sets, known, reached, settled};
 
     /// Allocates nothing.

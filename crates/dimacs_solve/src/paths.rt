@@ -10,7 +10,7 @@ ghost use Rattle.dimacs_solve.specs.inside.Blocks.{AddsBlock, AreSolved};
 ghost use Rattle.dimacs_solve.specs.Paths.{HasNoNegativeWeight, IsFirstNegative, SolvesPaths};
 
 use crate::adjacency::{Adjacency, by_tail};
-use crate::distance::Distance;
+use crate::distance::SearchDistance;
 use crate::error::SolveError;
 use crate::frontier::Frontier;
 use crate::node_states::NodeStates;
@@ -64,7 +64,7 @@ fn first_negative<N: Network>(network: &N) -> Option<u32>
     None
 }
 
-fn solve_all<D: Distance>(
+fn solve_all<D: SearchDistance>(
     alloc: Global,
     adjacency: &Adjacency,
     queries: &Queries,
@@ -97,7 +97,7 @@ fn solve_all<D: Distance>(
     Ok(labels)
 }
 
-fn solve_one<D: Distance>(
+fn solve_one<D: SearchDistance>(
     alloc: Global,
     adjacency: &Adjacency,
     source: u32,

@@ -8,7 +8,7 @@ ghost use Rattle.dimacs_solve.specs.inside.NodeStates.{known};
 ghost use Rattle.dimacs_solve.specs.inside.Search.{IsPopped, IsReady, IsPathSearch, IsPathTree, Offers, Relaxes, work};
 
 use crate::adjacency::Adjacency;
-use crate::distance::Distance;
+use crate::distance::SearchDistance;
 use crate::frontier::{Frontier, Walk};
 use crate::node_states::NodeStates;
 use dimacs_claims::{Block, Label};
@@ -17,7 +17,7 @@ use std::alloc::Global;
 
 /// Labels all nodes that can be reached from a source, in the order in which they are settled. Takes time and memory
 /// for what it reaches.
-pub(crate) fn search<D: Distance>(
+pub(crate) fn search<D: SearchDistance>(
     alloc: Global,
     adjacency: &Adjacency,
     source: u32,
@@ -44,7 +44,7 @@ pub(crate) fn search<D: Distance>(
 }
 
 /// Settles the node of the nearest walk, unless it is settled already, and relaxes its arcs.
-fn visit<D: Distance>(
+fn visit<D: SearchDistance>(
     adjacency: &Adjacency,
     walk: Walk<D>,
     node_states: &mut NodeStates<D>,
@@ -72,7 +72,7 @@ fn visit<D: Distance>(
     Ok(())
 }
 
-fn relax<D: Distance>(
+fn relax<D: SearchDistance>(
     adjacency: &Adjacency,
     node: u32,
     dist: D,
@@ -99,7 +99,7 @@ fn relax<D: Distance>(
 
 /// Queues a walk that is shorter than those found to its node before.
 #[inline(always)]
-fn offer<D: Distance>(
+fn offer<D: SearchDistance>(
     walk: Walk<D>,
     node_states: &mut NodeStates<D>,
     frontier: &mut Frontier<D>,

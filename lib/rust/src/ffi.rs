@@ -50,6 +50,8 @@ pub const GAVE_UP: u32 = 5;
 
 extern "C" {
     pub fn dimacs_version() -> u32;
+    pub fn dimacs_proved() -> u32;
+    pub fn dimacs_version_text(out: *mut u8, room: usize, needed: *mut usize) -> u32;
 
     pub fn dimacs_judge(
         kind: u32,

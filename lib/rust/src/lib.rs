@@ -42,3 +42,20 @@ pub fn version() -> u32 {
     // It takes nothing and reads nothing that changes.
     unsafe { ffi::dimacs_version() }
 }
+
+/// Whether that library is proved: the kit that built it had proved that each function meets its contract.
+pub fn proved() -> bool {
+    // As for the version.
+    unsafe { ffi::dimacs_proved() != 0 }
+}
+
+/// The version with what proved the library, as `dimacs --version` prints it, or that it isn't proved.
+///
+/// ```
+/// let text = dimacs::version_text().unwrap();
+/// assert!(text.starts_with("0."));
+/// assert_eq!(dimacs::proved(), !text.ends_with(" (not proved)"));
+/// ```
+pub fn version_text() -> Result<String, texts::Error> {
+    texts::version_text()
+}

@@ -104,6 +104,18 @@ fn lines_of(status: u32, lines: Room<u8>) -> Result<String, Error> {
     }
 }
 
+/// The text of the library's version.
+pub(crate) fn version_text() -> Result<String, Error> {
+    let mut text = Room::new(LINE)?;
+    loop {
+        // What is written is borrowed alone.
+        let status = unsafe { ffi::dimacs_version_text(text.at(), text.room(), text.needed()) };
+        if grow([&mut text])? {
+            return lines_of(status, text);
+        }
+    }
+}
+
 fn grow<const N: usize>(mut rooms: [&mut Room<u8>; N]) -> Result<bool, NoAnswer> {
     let is_enough = rooms.iter().all(|it| it.fits());
     for room in &mut rooms {

@@ -30,5 +30,5 @@ without_arcs counted = record { nodes = counted.nodes; declared = counted.declar
 pub record IsMinCountedBy (counted : MinCount) (rs : List Record) : Type 0 where
   pub begun : MinBegun
   pub is_begun : IsMinBegun begun
-  pub begun_by : IsMinBegunBy begun rs
+  pub built_from : IsMinBegunBy begun rs
   pub counts : counted ≡ count_of begun

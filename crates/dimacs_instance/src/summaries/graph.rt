@@ -10,7 +10,7 @@ ghost use Rattle.dimacs_instance.specs.inside.Summaries.{GivesSummary, IsGraphCo
 use crate::summaries::Summary;
 use dimacs_lines::{DeviceFault, Memory, Sink, Source};
 use dimacs_records::{
-    Begun, Declared, Earlier, Part, ReadError, Record, TextKind, put_line, read_counted,
+    Builder, Declared, Earlier, Part, ReadError, Record, TextKind, put_line, read_counted,
 };
 use std::alloc::Global;
 
@@ -63,12 +63,12 @@ pub struct CountedGraph {
     arcs: u32,
 }
 
-impl Begun for CountedGraph {
+impl Builder for CountedGraph {
     type Value = GraphSummary;
 
     ghost kind = { kinds.Graph };
 
-    ghost begun_by = { λ counted rs. IsGraphCountedBy counted rs };
+    ghost built_from = { λ counted rs. IsGraphCountedBy counted rs };
 
     ghost noted = { λ counted r. counted_lines counted };
 

@@ -13,7 +13,7 @@ use crate::max::{EndLine, EndLines};
 use crate::summaries::Summary;
 use dimacs_lines::{DeviceFault, Memory, Sink, Source};
 use dimacs_records::{
-    Begun, Declared, Earlier, Part, ReadError, Record, TextKind, put_line, read_counted,
+    Builder, Declared, Earlier, Part, ReadError, Record, TextKind, put_line, read_counted,
 };
 use std::alloc::Global;
 use std::marker::Model;
@@ -95,12 +95,12 @@ impl CountedMax {
     }
 }
 
-impl Begun for CountedMax {
+impl Builder for CountedMax {
     type Value = MaxSummary;
 
     ghost kind = { kinds.Max };
 
-    ghost begun_by = { λ counted rs. IsMaxCountedBy counted rs };
+    ghost built_from = { λ counted rs. IsMaxCountedBy counted rs };
 
     ghost noted = { λ counted r. before counted r };
 

@@ -14,7 +14,7 @@ use crate::summaries::Summary;
 use dimacs_lines::{DeviceFault, Memory, Sink, Source};
 use dimacs_network::{ArcView, NodeMap, PlainArcs};
 use dimacs_records::{
-    Begun, Declared, Earlier, Part, ReadError, Record, TextKind, put_line, read_counted,
+    Builder, Declared, Earlier, Part, ReadError, Record, TextKind, put_line, read_counted,
 };
 use std::alloc::Global;
 use std::marker::Model;
@@ -88,12 +88,12 @@ impl Model for CountedMin {
     ghost invariant = { λ c. IsMinBegun (without_arcs (record { nodes = c.nodes; declared = c.declared; supplies = c.supplies; arcs = c.arcs })) };
 }
 
-impl Begun for CountedMin {
+impl Builder for CountedMin {
     type Value = MinSummary;
 
     ghost kind = { kinds.Min };
 
-    ghost begun_by = { λ counted rs. IsMinCountedBy counted rs };
+    ghost built_from = { λ counted rs. IsMinCountedBy counted rs };
 
     ghost noted = { λ counted r. before counted r };
 

@@ -9,7 +9,7 @@ use std::alloc::Global;
 
 /// How a search ends.
 #[derive(Drop)]
-pub(crate) enum End {
+pub(crate) enum SearchEnd {
     Optimal,
     /// The groups of a cycle of negative cost, in the order of its links.
     Cycle(Vec<u32>),
@@ -23,20 +23,20 @@ pub(crate) fn lower_all<V: Number>(
     links: &Listing<Link<V>>,
     tree: &mut Tree<V>,
     budget: u64,
-) -> Result<End, Memory> {
+) -> Result<SearchEnd, Memory> {
     for _ in 0..u64::MAX {
         let Some(group) = tree.queue.pop() else {
-            return Ok(End::Optimal);
+            return Ok(SearchEnd::Optimal);
         };
         if tree.work() > budget {
             break;
         }
         if let Some(first) = tree.relax_links(links, group) {
             let cycle = tree_path(alloc, tree, first, group)?;
-            return Ok(End::Cycle(cycle));
+            return Ok(SearchEnd::Cycle(cycle));
         }
     }
-    Ok(End::TooLong)
+    Ok(SearchEnd::TooLong)
 }
 
 /// From `first` down to `last`.

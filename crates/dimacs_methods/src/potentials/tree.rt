@@ -10,7 +10,7 @@ use std::alloc::Global;
 
 /// A group in the tree. The groups of the tree form a ring in preorder: each comes right before its subtree.
 #[derive(Clone, Copy)]
-struct Node {
+struct GroupNode {
     parent: u32,
     before: u32,
     after: u32,
@@ -22,7 +22,7 @@ const OUT: u32 = u32::MAX;
 
 /// A part of the ring: a group and its subtree.
 #[derive(Clone, Copy)]
-struct Part {
+struct Segment {
     last: u32,
     /// The group after the last one.
     after: u32,
@@ -45,18 +45,18 @@ const WALKS: u64 = 2;
 #[derive(Drop)]
 pub(crate) struct Tree<V> {
     pub distances: Vec<V>,
-    nodes: Vec<Node>,
+    nodes: Vec<GroupNode>,
     pub queue: GroupQueue,
     scanned_links: u64,
     walked_groups: u64,
 }
 
 /// The groups in the order of their numbers, then a root, the parent of all.
-fn ring(alloc: Global, groups: u32) -> Result<Vec<Node>, Memory> {
+fn ring(alloc: Global, groups: u32) -> Result<Vec<GroupNode>, Memory> {
     let mut nodes = Vec::with_capacity(alloc, groups as usize + 1)?;
     let mut before = groups;
     for group in 0..groups {
-        nodes.push(Node {
+        nodes.push(GroupNode {
             parent: groups,
             before,
             after: group + 1,
@@ -64,7 +64,7 @@ fn ring(alloc: Global, groups: u32) -> Result<Vec<Node>, Memory> {
         })?;
         before = group;
     }
-    nodes.push(Node {
+    nodes.push(GroupNode {
         parent: groups,
         before,
         after: 0,
@@ -160,7 +160,7 @@ impl<V: Number> Tree<V> {
 
     /// Lowers a group's subtree, or marks it `OUT`. None if `other` is in it.
     #[inline(always)]
-    fn walk(&mut self, group: u32, other: u32, subtree: &Subtree<V>) -> Option<Part> {
+    fn walk(&mut self, group: u32, other: u32, subtree: &Subtree<V>) -> Option<Segment> {
         let mut last = group;
         let mut at = group;
         let mut open: u32 = 1;
@@ -181,7 +181,7 @@ impl<V: Number> Tree<V> {
                 break;
             }
         }
-        Some(Part { last, after: at })
+        Some(Segment { last, after: at })
     }
 
     /// Changes the distance of a group, and queues it.
@@ -194,7 +194,7 @@ impl<V: Number> Tree<V> {
 
     /// Removes this part, which begins with the node's group, from the ring.
     #[inline(always)]
-    fn cut(&mut self, node: Node, part: Part) {
+    fn cut(&mut self, node: GroupNode, part: Segment) {
         self.neighbour(node.before, part.after);
         let children = self.node(node.parent).children;
         self.set_children(node.parent, children.wrapping_sub(1));
@@ -231,8 +231,8 @@ impl<V: Number> Tree<V> {
     }
 
     #[inline(always)]
-    fn node(&self, group: u32) -> Node {
-        let past = Node {
+    fn node(&self, group: u32) -> GroupNode {
+        let past = GroupNode {
             parent: group,
             before: group,
             after: group,

@@ -1,7 +1,7 @@
 //! Potentials for the unscaled costs.
 
 use crate::number::Number;
-use crate::residual::{Node, Residual};
+use crate::residual::{Residual, ResidualNode};
 use crate::tables::set_member;
 use dimacs_lines::Memory;
 use std::alloc::Global;
@@ -33,7 +33,7 @@ impl<V: Number> Residual<V> {
         Ok(i128::try_from(free.unwrap_or(0)).unwrap_or(0))
     }
 
-    fn take_residues(&self, node: &Node<V>, taken: &mut [bool]) {
+    fn take_residues(&self, node: &ResidualNode<V>, taken: &mut [bool]) {
         for half in self.between(node.start, node.end) {
             if half.residual_capacity > 0 && self.reduced(node.price, half).is_negative() {
                 let price = self.price(half.to);

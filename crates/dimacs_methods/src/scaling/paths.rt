@@ -1,13 +1,13 @@
 //! Short paths of arcs with negative reduced cost.
 
 use crate::number::Number;
-use crate::residual::Node;
+use crate::residual::ResidualNode;
 use crate::scaling::{PATH_LENGTH, Scaling};
 use dimacs_lines::Memory;
 
 /// What a scan of a node's half-arcs finds, from its cursor on.
 #[derive(Drop)]
-enum Scan<V> {
+enum ScanResult<V> {
     /// The place of the first with negative reduced cost.
     Negative(u32),
     /// None has a negative reduced cost; this is the least.
@@ -28,7 +28,7 @@ impl<V: Number> Scaling<V> {
                 break;
             }
             match self.scan(&node) {
-                Scan::Negative(place) => {
+                ScanResult::Negative(place) => {
                     self.set_cursor(tip, place);
                     let closes_cycle = self.path.contains(&place);
                     self.path.push(place)?;
@@ -37,7 +37,7 @@ impl<V: Number> Scaling<V> {
                     }
                     tip = self.residual.half(place).to;
                 }
-                Scan::Least(reduced) => {
+                ScanResult::Least(reduced) => {
                     self.relabel(tip, reduced);
                     if let Some(place) = self.path.pop() {
                         tip = self.residual.at(place);
@@ -49,20 +49,20 @@ impl<V: Number> Scaling<V> {
     }
 
     #[inline(always)]
-    fn scan(&self, node: &Node<V>) -> Scan<V> {
+    fn scan(&self, node: &ResidualNode<V>) -> ScanResult<V> {
         let mut least = V::greatest();
         let mut place = node.cursor;
         for half in self.residual.between(node.cursor, node.end) {
             if half.residual_capacity > 0 {
                 let reduced = self.residual.reduced(node.price, half);
                 if reduced.is_negative() {
-                    return Scan::Negative(place);
+                    return ScanResult::Negative(place);
                 }
                 least = least.lesser(reduced);
             }
             place = place.wrapping_add(1);
         }
-        Scan::Least(least)
+        ScanResult::Least(least)
     }
 
     /// Lowers a node's price, to make the least reduced cost of its arcs negative. `least` is that from the cursor on.
@@ -82,7 +82,7 @@ impl<V: Number> Scaling<V> {
 
     /// The least reduced cost of a residual arc before the cursor; the greatest number if there is none.
     #[inline(always)]
-    fn least_before(&self, node: &Node<V>) -> V {
+    fn least_before(&self, node: &ResidualNode<V>) -> V {
         let mut least = V::greatest();
         for half in self.residual.between(node.start, node.cursor) {
             if half.residual_capacity > 0 {

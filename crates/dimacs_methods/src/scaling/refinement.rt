@@ -5,7 +5,7 @@
 //! an end, a phase is saved; otherwise the phase mostly has less to do.
 
 use crate::number::Number;
-use crate::residual::{Half, Node};
+use crate::residual::{Half, ResidualNode};
 use crate::scaling::Scaling;
 use crate::tables::count_of;
 use dimacs_lines::Memory;
@@ -27,7 +27,7 @@ const UNREACHED: u32 = 2;
 
 /// How a search goes on from a node.
 #[derive(Drop)]
-enum Step {
+enum NextStep {
     /// Along the half-arc at this place.
     On(u32),
     Back,
@@ -75,13 +75,13 @@ impl<V: Number> Scaling<V> {
         self.set_rank(tip, ON_PATH);
         for _ in 0..u64::MAX {
             match self.step(tip) {
-                Step::On(place) => {
+                NextStep::On(place) => {
                     self.set_cursor(tip, place);
                     self.path.push(place)?;
                     tip = self.residual.half(place).to;
                     self.set_rank(tip, ON_PATH);
                 }
-                Step::Back => {
+                NextStep::Back => {
                     self.set_rank(tip, FINISHED);
                     postorder.push(tip)?;
                     let Some(place) = self.path.pop() else {
@@ -89,19 +89,19 @@ impl<V: Number> Scaling<V> {
                     };
                     tip = self.residual.at(place);
                 }
-                Step::Cycle => return Ok(false),
+                NextStep::Cycle => return Ok(false),
             }
         }
         Ok(true)
     }
 
     #[inline(always)]
-    fn is_admissible(&self, node: &Node<V>, half: &Half<V>) -> bool {
+    fn is_admissible(&self, node: &ResidualNode<V>, half: &Half<V>) -> bool {
         half.residual_capacity > 0 && self.residual.reduced(node.price, half).is_negative()
     }
 
     /// Looks for the first half-arc that leads on, from a node's cursor.
-    fn step(&self, number: u32) -> Step {
+    fn step(&self, number: u32) -> NextStep {
         let node = self.residual.node(number);
         let mut place = node.cursor;
         for half in self.residual.between(node.cursor, node.end) {
@@ -111,14 +111,14 @@ impl<V: Number> Scaling<V> {
                 FINISHED
             };
             if rank == ON_PATH {
-                return Step::Cycle;
+                return NextStep::Cycle;
             }
             if rank == UNREACHED {
-                return Step::On(place);
+                return NextStep::On(place);
             }
             place = place.wrapping_add(1);
         }
-        Step::Back
+        NextStep::Back
     }
 
     /// Ranks nodes by how many tolerances their prices have to fall because of arcs with negative reduced cost.
@@ -158,7 +158,7 @@ impl<V: Number> Scaling<V> {
 
     /// By how many tolerances more than a node's price that of a half-arc's other end has to fall; negative if fewer.
     #[inline(always)]
-    fn fall(&self, node: &Node<V>, half: &Half<V>) -> i64 {
+    fn fall(&self, node: &ResidualNode<V>, half: &Half<V>) -> i64 {
         if half.residual_capacity == 0 {
             return i64::MIN;
         }

@@ -2,7 +2,7 @@
 
 use crate::levels::Levels;
 use crate::number::Number;
-use crate::residual::{Half, Node};
+use crate::residual::{Half, ResidualNode};
 use crate::scaling::Scaling;
 
 /// Halved so often, each number is 0 or -1.
@@ -56,7 +56,7 @@ impl<V: Number> Scaling<V> {
 
     /// Lowers the rank of the other end, if an arc from it makes it nearer.
     #[inline(always)]
-    fn reach(&mut self, node: &Node<V>, half: &Half<V>, level: u32) {
+    fn reach(&mut self, node: &ResidualNode<V>, half: &Half<V>, level: u32) {
         let other = self.residual.node(half.to);
         if other.rank <= node.rank {
             return;
@@ -97,7 +97,7 @@ impl<V: Number> Scaling<V> {
 }
 
 /// Gives rank 0 to the nodes with a deficit, and none to others. Returns the sum of the excesses.
-fn rank_deficits<V: Number>(nodes: &mut [Node<V>], ranks: &mut Levels) -> V {
+fn rank_deficits<V: Number>(nodes: &mut [ResidualNode<V>], ranks: &mut Levels) -> V {
     ranks.clear();
     let none = ranks.count();
     let mut sum = V::of(0);
@@ -116,7 +116,7 @@ fn rank_deficits<V: Number>(nodes: &mut [Node<V>], ranks: &mut Levels) -> V {
 }
 
 /// Lowers prices by ranks, up to `most`, and resets cursors.
-fn lower<V: Number>(nodes: &mut [Node<V>], level: u32, most: u32) {
+fn lower<V: Number>(nodes: &mut [ResidualNode<V>], level: u32, most: u32) {
     for node in nodes.iter_mut() {
         let rank = node.rank.min(most);
         if rank > 0 {

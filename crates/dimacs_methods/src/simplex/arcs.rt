@@ -2,7 +2,7 @@
 
 use crate::number::Number;
 use crate::problem::Problem;
-use crate::simplex::tree::Node;
+use crate::simplex::tree::TreeNode;
 use crate::tables::{member, set_member};
 use dimacs_lines::Memory;
 use dimacs_network::Network;
@@ -93,7 +93,7 @@ impl<V: Number> Arcs<V> {
 
     /// The amount minus the lower bound of the arc between a node and its parent.
     #[inline(always)]
-    pub(crate) fn flow(&self, number: u32, node: &Node<V>) -> V {
+    pub(crate) fn flow(&self, number: u32, node: &TreeNode<V>) -> V {
         if self.price(node.arc).tail == number {
             node.down
         } else {

@@ -5,7 +5,7 @@ use crate::simplex::tree::Tree;
 
 /// Flow moves from `join` down to `first`, along the arc to `second`, and up to `join`.
 #[derive(Drop)]
-pub(crate) struct Cycle<V> {
+pub(crate) struct BasisCycle<V> {
     pub first: u32,
     pub second: u32,
     pub join: u32,
@@ -33,14 +33,19 @@ struct Climb<V> {
     narrow: Option<u32>,
 }
 
-impl<V: Number> Cycle<V> {
+impl<V: Number> BasisCycle<V> {
     /// The cycle of an arc from `first` to `second` with this residual capacity.
     ///
     /// If several arcs come to a bound, the last one on the cycle leaves, from the join on in the direction of the
     /// flow: the first one on the path up from `first`, the last one on the path up from `second`. This keeps the tree
     /// strongly feasible: everywhere in it there is residual capacity towards the root. Then pivots without flow don't
     /// cycle for ever.
-    pub(crate) fn find(tree: &Tree<V>, first: u32, second: u32, residual_capacity: V) -> Cycle<V> {
+    pub(crate) fn find(
+        tree: &Tree<V>,
+        first: u32,
+        second: u32,
+        residual_capacity: V,
+    ) -> BasisCycle<V> {
         let mut down = Climb::start(tree, first, residual_capacity);
         let mut up = Climb::start(tree, second, residual_capacity);
         let mut steps: u64 = 0;
@@ -56,7 +61,7 @@ impl<V: Number> Cycle<V> {
             }
         }
         let leaving = narrowest(&down, &up);
-        Cycle {
+        BasisCycle {
             first,
             second,
             join: down.at,

@@ -1,7 +1,7 @@
 //! The spanning tree.
 
 use crate::number::Number;
-use crate::simplex::cycle::Cycle;
+use crate::simplex::cycle::BasisCycle;
 use crate::tables::{count_of, member};
 use dimacs_lines::Memory;
 use std::alloc::Global;
@@ -11,7 +11,7 @@ pub(crate) const ARTIFICIAL: u32 = u32::MAX;
 
 /// A node of the tree, with its parent arc.
 #[derive(Clone, Copy)]
-pub(crate) struct Node<V> {
+pub(crate) struct TreeNode<V> {
     /// The residual capacities to the parent and from it.
     pub up: V,
     pub down: V,
@@ -42,7 +42,7 @@ pub(crate) struct Hook<V> {
 /// A tree over all nodes and a root, which has the last number, depth 0 and potential 0, and is its own parent.
 #[derive(Drop)]
 pub(crate) struct Tree<V: Number> {
-    pub nodes: Vec<Node<V>>,
+    pub nodes: Vec<TreeNode<V>>,
     pub threads: Vec<Thread>,
     pub potentials: Vec<V>,
     /// The first number of each node.
@@ -64,7 +64,7 @@ impl<V: Number> Tree<V> {
         for amount in excess {
             tree.add_leaf(V::of_wide(*amount), price)?;
         }
-        tree.nodes.push(Node {
+        tree.nodes.push(TreeNode {
             up: V::of(0),
             down: V::of(0),
             parent: root,
@@ -86,7 +86,7 @@ impl<V: Number> Tree<V> {
             excess
         };
         let residual_capacity = V::greatest().minus(flow);
-        self.nodes.push(Node {
+        self.nodes.push(TreeNode {
             up: if has_deficit { flow } else { residual_capacity },
             down: if has_deficit { residual_capacity } else { flow },
             parent: root,
@@ -107,8 +107,8 @@ impl<V: Number> Tree<V> {
     }
 
     #[inline(always)]
-    pub(crate) fn node(&self, node: u32) -> Node<V> {
-        let past = Node {
+    pub(crate) fn node(&self, node: u32) -> TreeNode<V> {
+        let past = TreeNode {
             up: V::of(0),
             down: V::of(0),
             parent: ARTIFICIAL,
@@ -124,7 +124,7 @@ impl<V: Number> Tree<V> {
     }
 
     /// Moves flow along the tree arcs of a cycle.
-    pub(crate) fn augment(&mut self, cycle: &Cycle<V>) {
+    pub(crate) fn augment(&mut self, cycle: &BasisCycle<V>) {
         if cycle.amount.is_zero() {
             return;
         }
@@ -189,7 +189,7 @@ impl<V: Number> Tree<V> {
     }
 
     /// Moves the rest of the subtree of `top` after the node `to` in preorder.
-    fn move_part(&mut self, top: u32, to: u32, depth: u32, raise: V) -> Part {
+    fn move_part(&mut self, top: u32, to: u32, depth: u32, raise: V) -> Segment {
         let old = self.thread(top).depth;
         let part = self.shift_part(top, old, depth.wrapping_sub(old), raise);
         self.link(self.node(top).before, part.after);
@@ -200,8 +200,8 @@ impl<V: Number> Tree<V> {
     }
 
     /// Raises the potentials and depths of the nodes from `top` on, until one comes that isn't deeper than `top` was.
-    fn shift_part(&mut self, top: u32, old: u32, deeper: u32, raise: V) -> Part {
-        let mut part = Part {
+    fn shift_part(&mut self, top: u32, old: u32, deeper: u32, raise: V) -> Segment {
+        let mut part = Segment {
             last: top,
             after: top,
             count: 0,
@@ -238,7 +238,7 @@ impl<V: Number> Tree<V> {
 
 /// Nodes that follow each other in preorder.
 #[derive(Clone, Copy)]
-struct Part {
+struct Segment {
     last: u32,
     /// The node after the last one.
     after: u32,

@@ -7,7 +7,7 @@ use Rattle.dimacs_records.specs.declared.kinds.TextKind.{TextKind}
 use Rattle.dimacs_records.specs.declared.reasons.Reason.{Reason}
 use Rattle.dimacs_records.specs.Faults.{Fault}
 use Rattle.dimacs_records.specs.Texts.{Reads}
-use Rattle.dimacs_runs.specs.declared.texts_in_turn.Unread.{Unread}
+use Rattle.dimacs_runs.specs.declared.texts_in_turn.ReadFailure.{ReadFailure}
 use Rattle.dimacs_runs.specs.Judgings.{OneMore}
 use Rattle.dimacs_runs.specs.Runs.{TextSpells, text_word}
 
@@ -19,29 +19,29 @@ abbrev pub ReadsIn : {V : Type 0} → TextSpells V → Result V ReadError → Ty
 ReadsIn text answer = Reads text.spells text.fault answer
 
 -- reading stopped at this text
-abbrev pub StopsAt : {V : Type 0} → TextSpells V → Unread → Type 0
+abbrev pub StopsAt : {V : Type 0} → TextSpells V → ReadFailure → Type 0
 StopsAt text unread = (text_word unread.kind ≡ text.name) × ReadsIn text (Err unread.error)
 
-abbrev pub ReadsOne : {T V : Type 0} → (T → V) → TextSpells V → Result T Unread → Type 0
+abbrev pub ReadsOne : {T V : Type 0} → (T → V) → TextSpells V → Result T ReadFailure → Type 0
 ReadsOne content text (Ok value) = ReadsIn text (Ok (content value))
 ReadsOne content text (Err unread) = StopsAt text unread
 
 -- the texts are read one after another, up to the first that can't be read
-abbrev pub ReadsTwo : {T U V W : Type 0} → (T → V) → (U → W) → TextSpells V → TextSpells W → Result (T × U) Unread → Type 0
+abbrev pub ReadsTwo : {T U V W : Type 0} → (T → V) → (U → W) → TextSpells V → TextSpells W → Result (T × U) ReadFailure → Type 0
 ReadsTwo f g x y (Ok values) = ReadsIn x (Ok (f values.0)) × ReadsIn y (Ok (g values.1))
 ReadsTwo f g x y (Err unread) = StopsAt x unread ⊎ ((v : _) × ReadsIn x (Ok v) × StopsAt y unread)
 
-abbrev pub ReadsThree : {T U S V W X : Type 0} → (T → V) → (U → W) → (S → X) → TextSpells V → TextSpells W → TextSpells X → Result (T × U × S) Unread → Type 0
+abbrev pub ReadsThree : {T U S V W X : Type 0} → (T → V) → (U → W) → (S → X) → TextSpells V → TextSpells W → TextSpells X → Result (T × U × S) ReadFailure → Type 0
 ReadsThree f g h x y z (Ok values) = ReadsIn x (Ok (f values.0)) × ReadsIn y (Ok (g values.1)) × ReadsIn z (Ok (h values.2))
 ReadsThree f g h x y z (Err unread) = StopsAt x unread ⊎ ((v : _) × ReadsIn x (Ok v) × (StopsAt y unread ⊎ ((w : _) × ReadsIn y (Ok w) × StopsAt z unread)))
 
 -- the text of a solution is read into a place, whose values stand for the solution
-abbrev pub PlacesOne : {T V : Type 0} → (V → T → Type 0) → TextSpells V → Result T Unread → Type 0
+abbrev pub PlacesOne : {T V : Type 0} → (V → T → Type 0) → TextSpells V → Result T ReadFailure → Type 0
 PlacesOne stands text (Ok placed) = (v : _) × stands v placed × ReadsIn text (Ok v)
 PlacesOne stands text (Err unread) = StopsAt text unread
 
 -- the same, and another text after it
-abbrev pub ReadsPlaced : {T U V W : Type 0} → (V → T → Type 0) → (U → W) → TextSpells V → TextSpells W → Result (T × U) Unread → Type 0
+abbrev pub ReadsPlaced : {T U V W : Type 0} → (V → T → Type 0) → (U → W) → TextSpells V → TextSpells W → Result (T × U) ReadFailure → Type 0
 ReadsPlaced stands g x y (Ok values) = (v : _) × stands v values.0 × ReadsIn x (Ok v) × ReadsIn y (Ok (g values.1))
 ReadsPlaced stands g x y (Err unread) = StopsAt x unread ⊎ ((v : _) × ReadsIn x (Ok v) × StopsAt y unread)
 
@@ -49,7 +49,7 @@ abbrev pub CountsError : ReadError → List ℕ → List ℕ → Type 0
 CountsError read_errors.Device old new = OneMore old new
 CountsError other old new = new ≡ old
 
-abbrev pub CountsUnread : {X : Type 0} → Result X Unread → List ℕ → List ℕ → Type 0
+abbrev pub CountsUnread : {X : Type 0} → Result X ReadFailure → List ℕ → List ℕ → Type 0
 CountsUnread (Ok x) old new = new ≡ old
 CountsUnread (Err unread) old new = CountsError unread.error old new
 

@@ -33,9 +33,9 @@ use Rattle.dimacs_runs.specs.declared.outcome.OutputText.TheVariants.{Nothing, S
 use Rattle.dimacs_runs.specs.declared.outcome.Outcome.{Outcome}
 use Rattle.dimacs_runs.specs.declared.report.Report.{Report}
 use Rattle.dimacs_runs.specs.declared.report.Report.TheVariants as reports
-use Rattle.dimacs_runs.specs.declared.stop.Stop.{Stop}
-use Rattle.dimacs_runs.specs.declared.stop.Stop.TheVariants.{Error}
-use Rattle.dimacs_runs.specs.declared.stop.Stop.TheVariants as stops
+use Rattle.dimacs_runs.specs.declared.early_end.EarlyEnd.{EarlyEnd}
+use Rattle.dimacs_runs.specs.declared.early_end.EarlyEnd.TheVariants.{Error}
+use Rattle.dimacs_runs.specs.declared.early_end.EarlyEnd.TheVariants as stops
 use Rattle.dimacs_runs.specs.Judgings.{OneMore}
 use Rattle.dimacs_runs.specs.Outputs.{AcceptAll, AcceptInTurn, MayWrite, WritesAlike}
 use Rattle.dimacs_runs.specs.Runs.{ReportsAlone}
@@ -92,38 +92,38 @@ EndsWriting (Ok o) (Err error) old new =
 EndsWriting (Err error) result old new = (result ≡ Err error) × (new ≡ old)
 
 -- why a run stops: a text of this kind can't be read, or a judge or a solver has an error
-abbrev pub unread_stop : TextKind → ReadError → Stop
-unread_stop kind (read_errors.Refused place reason) = stops.Report (reports.Fault kind place reason)
-unread_stop kind read_errors.Device = Error Device
-unread_stop kind read_errors.Memory = Error Memory
+abbrev pub unread_end : TextKind → ReadError → EarlyEnd
+unread_end kind (read_errors.Refused place reason) = stops.Report (reports.Fault kind place reason)
+unread_end kind read_errors.Device = Error Device
+unread_end kind read_errors.Memory = Error Memory
 
-abbrev pub judge_stop : JudgeError → Stop
+abbrev pub judge_stop : JudgeError → EarlyEnd
 judge_stop (judge_errors.Refused place reason) = stops.Report (reports.No place reason)
 judge_stop judge_errors.Memory = Error Memory
 
-abbrev pub solve_stop : SolveError → Stop
+abbrev pub solve_stop : SolveError → EarlyEnd
 solve_stop (solve_errors.NegativeWeight arc) = stops.Report (reports.No (Arc arc) reasons.NegativeWeight)
 solve_stop (solve_errors.Refused place reason) = stops.Report (reports.No place reason)
 solve_stop solve_errors.Memory = Error Memory
 
 -- a report that ended a run early is its outcome
-abbrev pub outcome_of : Result Outcome Stop → Result Outcome RunError
+abbrev pub outcome_of : Result Outcome EarlyEnd → Result Outcome RunError
 outcome_of (Ok outcome) = Ok outcome
 outcome_of (Err (stops.Report report)) = Ok (reporting report)
 outcome_of (Err (Error error)) = Err error
 
 -- the outcomes of a judge's answer, and of the answers of the solvers of flows
-abbrev pub judge_outcome : Result Verdict JudgeError → Result Outcome Stop
+abbrev pub judge_outcome : Result Verdict JudgeError → Result Outcome EarlyEnd
 judge_outcome (Ok verdict) = Ok (reporting (reports.Yes verdict))
 judge_outcome (Err error) = Err (judge_stop error)
 
-abbrev pub maximum_outcome : Result MaxAnswer SolveError → Result Outcome Stop
+abbrev pub maximum_outcome : Result MaxAnswer SolveError → Result Outcome EarlyEnd
 maximum_outcome (Ok (max_answers.Optimal solution cut)) =
     Ok (record { claim = Solution solution; certificate = Cut cut; report = reports.Yes (verdicts.Max solution.value) })
 maximum_outcome (Ok max_answers.GaveUp) = Ok (reporting reports.GaveUp)
 maximum_outcome (Err error) = Err (solve_stop error)
 
-abbrev pub least_outcome : Result MinAnswer SolveError → Result Outcome Stop
+abbrev pub least_outcome : Result MinAnswer SolveError → Result Outcome EarlyEnd
 least_outcome (Ok (min_answers.Optimal solution potentials)) =
     Ok (record { claim = Solution solution; certificate = Potentials potentials; report = reports.Yes (verdicts.Min solution.value) })
 least_outcome (Ok (min_answers.Infeasible set)) = Ok (with_text (Cut set) (reports.Yes verdicts.Infeasible))

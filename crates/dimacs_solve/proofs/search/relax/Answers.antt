@@ -10,18 +10,18 @@ none = record { weight = 0; head = 0 }
 pub plus-requires : goal.plus-requires
 plus-requires g c =
     let a = c.args.adjacency.now in
-    let value = g.D.Distance.value in
+    let value = g.D.SearchDistance.value in
     let lawful = out_arc_at a c.args.node c.leaving-out_arcs.result.now c.loop-out_arc.out_arc-index none c.requires.ready.waits.adjacent c.leaving-out_arcs.ensures c.loop-out_arc-test.true in
-    out_arc_within a c.args.node (value c.args.dist) g.D.Distance.limit (known value c.args.node_states.now) c.args.frontier.now _ c.requires.ready c.requires.bounded lawful
+    out_arc_within a c.args.node (value c.args.dist) g.D.SearchDistance.limit (known value c.args.node_states.now) c.args.frontier.now _ c.requires.ready c.requires.bounded lawful
 
 pub loop-out_arc-init : goal.loop-out_arc-init
 loop-out_arc-init g c =
-    let value = g.D.Distance.value in
+    let value = g.D.SearchDistance.value in
     record { relaxing = relaxing_none c.args.adjacency.now c.args.node (value c.args.dist) (known value c.args.node_states.now) c.args.frontier.now c.leaving-out_arcs.result.now c.requires.ready; round = refl }
 
 pub loop-out_arc-preserved : goal.loop-out_arc-preserved
 loop-out_arc-preserved g c =
-    let value = g.D.Distance.value in
+    let value = g.D.SearchDistance.value in
     let offers = rw c.plus.ensures at c.in_ok-offer.ensures.offers in
     record {
       relaxing = relaxing_more c.args.adjacency.now (value c.args.dist) c.args.node (known value c.args.node_states.now) c.args.frontier.now c.leaving-out_arcs.result.now c.loop-out_arc.out_arc-index none (known value c.loop-out_arc.node_states) c.loop-out_arc.frontier (known value c.offer.new.node_states) c.offer.new.frontier
@@ -31,6 +31,6 @@ loop-out_arc-preserved g c =
 
 pub returns-clause-relaxes : goal.returns-clause-relaxes
 returns-clause-relaxes g c =
-    let value = g.D.Distance.value in
+    let value = g.D.SearchDistance.value in
     let all : length c.leaving-out_arcs.result.now ≡ c.loop-out_arc.out_arc-index = omega (arith, c.loop-out_arc-test.false, c.loop-out_arc.auto.out_arc-index-end) in
     relaxing_all c.args.adjacency.now (value c.args.dist) c.args.node (known value c.args.node_states.now) c.args.frontier.now c.leaving-out_arcs.result.now c.loop-out_arc.out_arc-index (known value c.loop-out_arc.node_states) c.loop-out_arc.frontier c.leaving-out_arcs.ensures all c.loop-out_arc.invariant.relaxing

@@ -8,7 +8,7 @@ use Rattle.dimacs_solve.proofs.search.search.Goals as goal
 
 pub relax-requires-clause-ready : goal.relax-requires-clause-ready
 relax-requires-clause-ready g c =
-    let value = g.D.Distance.value in
+    let value = g.D.SearchDistance.value in
     let node_states = known value c.next_round.new.self in
     let started = known value c.settle.new.self in
     let sets : Sets node_states c.args.source (settled 0) started = rw c.zero.ensures at c.in_ok-settle.ensures.settled in
@@ -16,7 +16,7 @@ relax-requires-clause-ready g c =
 
 pub loop-walk-init : goal.loop-walk-init
 loop-walk-init g c =
-    let value = g.D.Distance.value in
+    let value = g.D.SearchDistance.value in
     let a = c.args.adjacency.now in
     let source = c.args.source in
     let node_states = known value c.next_round.new.self in
@@ -47,6 +47,6 @@ loop-walk-smaller g c =
 
 pub returns-clause-tree : goal.returns-clause-tree
 returns-clause-tree g c =
-    let node_states = known g.D.Distance.value c.loop-walk.node_states in
+    let node_states = known g.D.SearchDistance.value c.loop-walk.node_states in
     let is : IsPathSearch c.args.adjacency.now c.loop-walk.block node_states [] = rw c.in_default.ensures.0 at c.loop-walk.invariant.search in
     over_tree c.args.adjacency.now c.loop-walk.block node_states is c.args.source c.loop-walk.invariant.from

@@ -10,7 +10,7 @@ use Rattle.dimacs_solve.proofs.search.visit.Goals as goal
 
 pub returns-then-is_settled-clause-search : goal.returns-then-is_settled-clause-search
 returns-then-is_settled-clause-search g c =
-    let value = g.D.Distance.value in
+    let value = g.D.SearchDistance.value in
     let a = c.args.adjacency.now in
     let b = c.args.block.now in
     let node_states = known value c.args.node_states.now in
@@ -20,7 +20,7 @@ returns-then-is_settled-clause-search g c =
 
 pub to_i128-requires : goal.to_i128-requires
 to_i128-requires g c =
-    let value = g.D.Distance.value in
+    let value = g.D.SearchDistance.value in
     let a = c.args.adjacency.now in
     let b = c.args.block.now in
     let node_states = known value c.args.node_states.now in
@@ -31,7 +31,7 @@ to_i128-requires g c =
 
 pub add-requires : goal.add-requires
 add-requires g c =
-    let value = g.D.Distance.value in
+    let value = g.D.SearchDistance.value in
     let a = c.args.adjacency.now in
     let b = c.args.block.now in
     let node_states = known value c.args.node_states.now in
@@ -42,7 +42,7 @@ add-requires g c =
 
 pub relax-requires-clause-ready : goal.relax-requires-clause-ready
 relax-requires-clause-ready g c =
-    let value = g.D.Distance.value in
+    let value = g.D.SearchDistance.value in
     let a = c.args.adjacency.now in
     let b = c.args.block.now in
     let node_states = known value c.args.node_states.now in
@@ -55,7 +55,7 @@ relax-requires-clause-ready g c =
 
 pub returns-clause-search : goal.returns-clause-search
 returns-clause-search g c =
-    let value = g.D.Distance.value in
+    let value = g.D.SearchDistance.value in
     let a = c.args.adjacency.now in
     let b = c.args.block.now in
     let node_states = known value c.args.node_states.now in
@@ -75,7 +75,7 @@ returns-clause-search g c =
 
 pub returns-clause-less : goal.returns-clause-less
 returns-clause-less g c =
-    let value = g.D.Distance.value in
+    let value = g.D.SearchDistance.value in
     let a = c.args.adjacency.now in
     let b = c.args.block.now in
     let node_states = known value c.args.node_states.now in

@@ -48,4 +48,4 @@ returns-clause-place g c =
     let longer : length c.resize.new.self.items ≡ length values + 64 = omega (arith, longer_by, number, is.whole) in
     let free : length values ≤ place_of new c.args.id = omega (arith, place_of-same old new same c.args.id, c.requires) in
     let room : length values / 64 < NO_PAGE = omega (arith, number, c.if-number.false) in
-    (rw c.deref.ensures.value at c.place.ensures, rw (number, longer) (page_place new (length values) c.args.id is free room c.in_ok-extend_directory.ensures.reached))
+    (rw c.deref.ensures.value at c.slot_index.ensures, rw (number, longer) (page_place new (length values) c.args.id is free room c.in_ok-extend_directory.ensures.reached))

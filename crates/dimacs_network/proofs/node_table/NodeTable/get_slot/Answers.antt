@@ -14,9 +14,9 @@ module _ {T : Type 0} (table : NodeTable T) (id : ℕ) where
   some_there value is = (is.3.1 table.blank ∙ slot_value-found table.blank table.directory.items table.slots.items id, is.3.0)
 
 pub returns-in_err-value : goal.returns-in_err-value
-returns-in_err-value g c = rw c.from_residual.ensures (none_there c.args.self.now c.args.id (rw (c.place-place.ensures, c.deref.ensures.value, c.deref-2.ensures.value, c.in_err-value.was) at c.get.ensures.lookup))
+returns-in_err-value g c = rw c.from_residual.ensures (none_there c.args.self.now c.args.id (rw (c.slot_index-place.ensures, c.deref.ensures.value, c.deref-2.ensures.value, c.in_err-value.was) at c.get.ensures.lookup))
 
 pub returns : goal.returns
 returns g c =
-    let there = some_there c.args.self.now c.args.id c.in_ok-value.field-0 (rw (c.place-place.ensures, c.deref.ensures.value, c.deref-2.ensures.value, c.in_ok-value.was) at c.get.ensures.lookup) in
-    (there.0, (rw c.deref.ensures.value at c.place-place.ensures, there.1))
+    let there = some_there c.args.self.now c.args.id c.in_ok-value.field-0 (rw (c.slot_index-place.ensures, c.deref.ensures.value, c.deref-2.ensures.value, c.in_ok-value.was) at c.get.ensures.lookup) in
+    (there.0, (rw c.deref.ensures.value at c.slot_index-place.ensures, there.1))

@@ -7,11 +7,11 @@ use Rattle.dimacs_records.proofs.counted.CountedReadingReading.finish.Goals as g
 pub returns-in_default-clause-refused : goal.returns-in_default-clause-refused
 returns-in_default-clause-refused g c = λ rs h.
     let none : records_of rs ≡ [] = rw c.in_default.is at h in
-    rw c.refused.ensures (refl, rw none (none_at_end g.B.Begun.kind g.met.B.Begun.has_problem))
+    rw c.refused.ensures (refl, rw none (none_at_end g.B.Builder.kind g.met.B.Builder.has_problem))
 
 pub returns-in_err-test_end-clause-refused : goal.returns-in_err-test_end-clause-refused
 returns-in_err-test_end-clause-refused g c =
     let p = err_from_is_err_and c.from_residual.result c.from_residual.ensures.1 in
     let noted = rw c.kind.ensures.kind at c.in_err-test_end.ensures.first_fault in
     let so = rw c.in-Some.is at c.before_end.ensures.of_records in
-    rw (p.1, p.2) (λ rs h. end_refused_noted g.B.Begun.kind c.before_end.result (records_of rs) _ noted (so (records_of rs) (rw c.in-Some.is at h)))
+    rw (p.1, p.2) (λ rs h. end_refused_noted g.B.Builder.kind c.before_end.result (records_of rs) _ noted (so (records_of rs) (rw c.in-Some.is at h)))

@@ -15,17 +15,17 @@ one_more rs line said = map-append (λ (r : LineRecord). r.spells) rs (on_line l
 pub returns-in_ok-keep-in-Some-clause-taken : goal.returns-in_ok-keep-in-Some-clause-taken
 returns-in_ok-keep-in-Some-clause-taken g c = λ rs h before.
     let kept = c.in_ok-keep-in-Some.ensures.added (records_of rs) (rw c.in-Some.is at h) in
-    subst (g.B.Begun.begun_by c.keep.new.self) (sym (one_more rs c.args._line c.args.rec)) kept
+    subst (g.B.Builder.built_from c.keep.new.self) (sym (one_more rs c.args._line c.args.rec)) kept
 
 pub returns-in_ok-test_first-in-None-clause-taken : goal.returns-in_ok-test_first-in-None-clause-taken
 returns-in_ok-test_first-in-None-clause-taken g c = λ rs h before.
     let none : records_of rs ≡ [] = rw c.in-None.is at h in
-    subst (g.B.Begun.begun_by c.begin.result) (sym (one_more rs c.args._line c.args.rec ∙ ap (λ xs. xs ++ c.args.rec ∷ []) none)) c.begin.ensures
+    subst (g.B.Builder.built_from c.begin.result) (sym (one_more rs c.args._line c.args.rec ∙ ap (λ xs. xs ++ c.args.rec ∷ []) none)) c.begin.ensures
 
 pub returns-in_err-test_first-in-None-clause-refused : goal.returns-in_err-test_first-in-None-clause-refused
 returns-in_err-test_first-in-None-clause-refused g c =
     let p = err_from_is_err_and c.from_residual-in_err-test_first-in-None.result c.from_residual-in_err-test_first-in-None.ensures.1 in
-    let needs : needs_problem (kind_of c.args.rec) ≡ true = ap needs_problem c.requires.of_kind.spelled.for_kind ∙ g.met.B.Begun.has_problem in
+    let needs : needs_problem (kind_of c.args.rec) ≡ true = ap needs_problem c.requires.of_kind.spelled.for_kind ∙ g.met.B.Builder.has_problem in
     rw (p.1, p.2) (λ rs h. let none : records_of rs ≡ [] = rw c.in-None.is at h in rw none (c.in_err-test_first-in-None.ensures.refused needs))
 
 pub returns-in_ok-test_first-in-None-clause-allowed : goal.returns-in_ok-test_first-in-None-clause-allowed
