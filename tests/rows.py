@@ -37,6 +37,13 @@ MOST_NODES = " 134217728 1"
 # The most steps from one better solution to the next.
 MOST_STEPS = 100
 
+# The rows whose texts are cut off, by their judges.
+CUT_OFF = [
+    ("max", "a tight cut"),
+    ("min", "slack potentials"),
+    ("paths", "nodes of a cycle of weight 0 that support each other"),
+]
+
 # Text, and how many bytes of it are read one by one before it is refused; the last read finds the end.
 LAST_READS = [
     ("x\np sp 1 0\n", 2),
@@ -46,32 +53,43 @@ LAST_READS = [
     ("p sp 1 1", 10),
 ]
 
-# Graphs with bytes past 127 and with many bytes: the text, the status, and what is printed.
+# Graphs with bytes past 127 and with many bytes: the text, and what is printed.
 BYTES = [
-    (b"p sp 2 1\na 1\xa02 5\n", 1, "x instance 2 0 FieldCount\n"),
-    (b"p sp 2 1\nc\xff\na 1 2 5\n", 0, "p sp 2 1\na 1 2 5\n"),
-    (b"p sp 2 1\na 1 2 " + b"0" * 1_000 + b"7\n", 0, "p sp 2 1\na 1 2 7\n"),
-    (b" " * 1_048_576, 1, "x instance 2 0 ProblemMissing\n"),
-    (b" " * 1_048_577, 1, "x instance 1 0 LineTooLong\n"),
+    (b"p sp 2 1\na 1\xa02 5\n", "x instance 2 0 FieldCount\n"),
+    (b"p sp 2 1\nc\xff\x00\xfe \x80\na 1 2 5\n", "p sp 2 1\na 1 2 5\n"),
+    (b"p sp 2 1\na 1 2 " + b"0" * 1_000 + b"7\n", "p sp 2 1\na 1 2 7\n"),
 ]
 
-# What is written of a text by a judge or a solver of each kind, where it is any right one.
+# The longest line, and longer ones; a comment is as good as any.
+LONGEST = b"c" * 1_048_576
+LONG_LINES = [
+    (LONGEST + b"\nz", "x instance 2 1 UnknownLine\n"),
+    (LONGEST + b"\n", "x instance 2 0 ProblemMissing\n"),
+    (LONGEST, "x instance 2 0 ProblemMissing\n"),
+    (LONGEST + b"c\nz", "x instance 1 0 LineTooLong\n"),
+    (LONGEST + b"c", "x instance 1 0 LineTooLong\n"),
+    (LONGEST + b"\r\n", "x instance 1 0 LineTooLong\n"),
+    (b"c\n\n" + LONGEST + b"c", "x instance 3 0 LineTooLong\n"),
+    (b" " * 1_048_576, "x instance 2 0 ProblemMissing\n"),
+    (b" " * 1_048_577, "x instance 1 0 LineTooLong\n"),
+]
+LONG_SIZES = [7, 65_535, None]
+
+# The cell of a text that may be any right one.
 ANY = "any"
 
 
 def unescaped(cell):
-    """The bytes of a cell, a character for each."""
+    """The text of a cell, a character for each byte."""
     return re.sub(r"\\(x..|.)", lambda it: it[0].encode().decode("unicode_escape"), cell)
 
 
 def rows(table):
-    """The rows of a table, each a list of texts. What is left out at the end of a row is empty."""
+    """The rows of a table, each a list of texts."""
     with open(f"{HERE}/rows/{table}", encoding="ascii") as it:
-        head, lines = [], []
         for line in it.read().splitlines():
-            (head if line.startswith("# ") else lines).append(line)
-    for line in lines:
-        yield [unescaped(cell).replace(";", "\n") for cell in re.split(r" \|(?: |$)", line)]
+            if not line.startswith("# "):
+                yield [unescaped(cell).replace(";", "\n") for cell in re.split(r" \|(?: |$)", line)]
 
 
 class Runs:
@@ -117,19 +135,24 @@ class Runs:
         self.passed += not found
 
 
+def is_right(made, wanted):
+    """Whether this text was to be made."""
+    return made == wanted or wanted == ANY and made != ""
+
+
 def status_of(output):
     """The exit status of a run that prints this."""
     return {"x": 1, "g": 5}.get(output[:1], 0)
 
 
-def sizes(instance):
+def sizes_for(instance):
     """The sizes of pieces in which an instance is read."""
     return [None] if instance.split("\n")[0].endswith(MOST_NODES) else SIZES
 
 
-def unlike(runs, words, texts, wanted, made=()):
+def unlike(runs, words, texts, wanted, made=(), sizes=SIZES):
     """Yields how a run differs from what is wanted, in pieces of each size: in what it prints, and in what it makes."""
-    for size in SIZES:
+    for size in sizes:
         ran = runs.answers(words, texts, made, size)
         if ran != (status_of(wanted[0]), *wanted):
             yield f"by {size} bytes {ran}, and not {wanted}"
@@ -164,9 +187,11 @@ def texts(runs):
             runs.case(f"{kind}, {name}", converted(runs, kind, *row))
     for text, reads in LAST_READS:
         runs.case(f"reads of {text!r}", read_no_more(runs, text, reads))
-    for text, status, printed in BYTES:
-        found = [runs.answers("convert gr T", {"T": text}, (), size) for size in SIZES]
-        runs.case(f"bytes {text[:30]!r}", [it for it in found if it != (status, printed)])
+    for number, (text, printed) in enumerate(BYTES + LONG_LINES):
+        sizes = SIZES if len(text) < len(LONGEST) else LONG_SIZES
+        runs.case(f"bytes {number}", unlike(runs, "convert gr T", {"T": text}, [printed], sizes=sizes))
+    endless = runs.run("convert gr /dev/zero")
+    runs.case("a line without an end", [endless] * (endless != (1, "x instance 1 0 LineTooLong\n", "")))
 
 
 # ---- judges
@@ -196,8 +221,8 @@ def judges(runs):
     for name, instance, certificate, output in rows("judge-infeasible"):
         given = {"I": instance, "C": certificate}
         runs.case(f"judge-infeasible, {name}", unlike(runs, "judge-infeasible I C", given, [output]))
-    for command, name in (("max", "a tight cut"), ("min", "slack potentials"), ("paths", "nodes of a cycle of weight 0 that support each other")):
-        given = next(row[1:4] for row in rows(f"judge-{command}") if row[0] == name)
+    for command, cut_row in CUT_OFF:
+        given = next(texts for name, *texts, _ in rows(f"judge-{command}") if name == cut_row)
         runs.case(f"judge-{command}, cut off", cut_off(runs, command, given))
 
 
@@ -223,9 +248,9 @@ def better_leads_to(runs, command, instance, solution, verdict):
 def certified_flow(runs, command, instance, solution, certificate, output, verdict=""):
     """Yields what is wrong with a row of a certified flow."""
     given = {"I": instance, "S": solution}
-    for size in sizes(instance):
+    for size in sizes_for(instance):
         status, printed, made = runs.answers(f"certify-{command} I S W", given, ["W"], size)
-        if (status, printed) != (status_of(output), output) or certificate not in (ANY, made):
+        if (status, printed) != (status_of(output), output) or not is_right(made, certificate):
             yield f"by {size} bytes prints {printed!r} and writes {made!r}"
         elif status == 0 and judged(runs, command, instance, solution, made) != (0, output):
             yield f"{made!r} isn't accepted"
@@ -235,9 +260,9 @@ def certified_flow(runs, command, instance, solution, certificate, output, verdi
 
 def certified_set(runs, instance, certificate, output):
     """Yields what is wrong with a row of an infeasible instance."""
-    for size in sizes(instance):
+    for size in sizes_for(instance):
         status, printed, made = runs.answers("certify-infeasible I W", {"I": instance}, ["W"], size)
-        if (status, printed) != (status_of(output), output) or certificate not in (ANY, made):
+        if (status, printed) != (status_of(output), output) or not is_right(made, certificate):
             yield f"by {size} bytes prints {printed!r} and writes {made!r}"
         elif status == 0 and judged(runs, "infeasible", instance, "", made) != (0, output):
             yield f"{made!r} isn't accepted"
@@ -266,7 +291,8 @@ def solved(runs, command, limit, instance, solution, certificate, output):
     for size in SIZES:
         words = f"solve-{command} I S C --limit {limit}"
         status, printed, *made = runs.answers(words, {"I": instance}, ["S", "C"], size)
-        if (status, printed) != (status_of(output), output) or solution not in (ANY, made[0]) or certificate not in (ANY, made[1]):
+        is_made = all(map(is_right, made, (solution, certificate)))
+        if (status, printed) != (status_of(output), output) or not is_made:
             yield f"by {size} bytes prints {printed!r} and writes {made!r}"
         elif status == 0:
             judge = "infeasible" if output == "v infeasible\n" else command
@@ -278,7 +304,7 @@ def solved_paths(runs, graph, queries, labels, output):
     """Yields what is wrong with a row of the solver of distances."""
     for size in SIZES:
         status, printed, made = runs.answers("solve-paths I S C", {"I": graph, "S": queries}, ["C"], size)
-        if (status, printed) != (status_of(output), output) or labels not in (ANY, made):
+        if (status, printed) != (status_of(output), output) or not is_right(made, labels):
             yield f"by {size} bytes prints {printed!r} and writes {made!r}"
         elif status == 0 and judged(runs, "paths", graph, queries, made) != (0, output):
             yield f"{made!r} isn't accepted"
