@@ -28,6 +28,7 @@ SCRIPTS = {
     "malicious": ["{build}/dimacs"],
     "referee": ["{build}/dimacs"],
     "refusals": ["{build}/dimacs"],
+    "rows": ["{build}/dimacs"],
     "large_runs": ["{build}/dimacs"],
     "batch": ["{build}/dimacs"],
     "explain": ["{build}/dimacs"],

@@ -4,7 +4,7 @@
 Both judge COUNT cases (30,000 if it isn't given), whose texts spoiled_texts.py makes at random, and have to print the
 same, with the same status. Listed is how often each answer of a judge was met, and each fault of a text by KIND,
 letter, field and reason; what wasn't met has failed, but LineLimit, which takes 10^12 lines. Then both commands run
-with files that fail, and with wrong arguments. At last the referee alone judges the rows of tables of dimacs_tests.
+with files that fail, and with wrong arguments. At last the referee alone judges the rows of tests/rows.
 
 BINARY is the built program; crates/dimacs/out/dimacs by default.
 """
@@ -18,6 +18,7 @@ import sys
 import tempfile
 
 from instances import BINARY
+from rows import rows
 from spoiled_texts import JUDGES, KINDS, judged_texts
 import referee  # the folder of which spoiled_texts.py adds to the path
 
@@ -177,57 +178,28 @@ def compare_commands(binary):
     return len(runs), failures
 
 
-# ---- the tables of dimacs_tests
-
-TEXT_TABLES = {
-    "max_flows": "max",
-    "min_flows": "min",
-    "graphs": "gr",
-    "queries": "query",
-    "solutions": "solution",
-    "cuts": "cut",
-    "potentials": "pot",
-    "labels": "dist",
-}
-
-
-def unescaped(text):
-    """The bytes of a Rust string, a character for each."""
-    text = re.sub(r"\\u\{(\w+)\}", lambda it: chr(int(it[1], 16)), text).encode().decode("latin-1")
-    return re.sub(r"\\(x..|.)", lambda it: it[0].encode().decode("unicode_escape"), text)
-
-
-def tables(name):
-    """The code of a file, and the rows of its tables by their names. In a cell `;` ends a line."""
-    with open(f"{TOP}/crates/dimacs_tests/src/{name}.rt", encoding="utf-8") as file:
-        code = file.read()
-    found = re.findall(r'static (\w+): &str = "\\\n(.*?)";\n', code, re.DOTALL)
-    rows = {table: [row.split(" | ") for row in unescaped(content).split("\n")] for table, content in found}
-    return code, {table: [[cell.replace(";", "\n") for cell in row] for row in of] for table, of in rows.items()}
+# ---- the rows of tests/rows
 
 
 def judged_rows():
     """Each row of a judge: its name, what the referee answers, and what it has to."""
-    for file in ("flows", "paths"):
-        code, by_name = tables(file)
-        for table, command in [(table, re.search(rf"JudgeKind::(\w+), {table},", code)[1].lower()) for table in by_name]:
-            for name, instance, claim, certificate, ended, output in by_name[table]:
-                texts = [instance, certificate] if command == "infeasible" else [instance, claim, certificate]
-                wanted = ["Done", "Refused"].index(ended), output.lstrip(" ")
-                yield f"{table}, {name}", referee.judge(command, texts), wanted
+    for command in JUDGES:
+        for name, *texts, output in rows(f"judge-{command}"):
+            yield f"{command}, {name}", referee.judge(command, texts), (int(output.startswith("x ")), output)
 
 
 def read_rows():
     """Each row of a text: its name, the refusal of the referee or nothing, and what it has to be."""
-    for file, kind in TEXT_TABLES.items():
-        for name, text, asked, wanted, *_ in tables(f"texts/{file}")[1]["CASES"]:
+    for kind in KINDS:
+        for name, text, asked, wanted in rows(kind):
             try:
                 referee.read(kind, text)
                 refusal = ""
             except referee.Refused as refused:
                 refusal = str(refused)
-            wanted = f"x {KINDS[kind][0]} {wanted}" if asked == "is refused" else wanted if asked == "isn't shown" else ""
-            yield f"{file}, {name}", refusal, wanted.strip("\n")
+            is_refused = asked == "refused" or wanted.startswith("x ")
+            wanted = f"x {KINDS[kind][0]} {wanted}" if asked == "refused" else wanted
+            yield f"{kind}, {name}", refusal, wanted.strip("\n") if is_refused else ""
 
 
 def judge_tables():

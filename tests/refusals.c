@@ -6,6 +6,8 @@
  *   REFUSE_GROWTH, REFUSE_READ, REFUSE_WRITE, REFUSE_OPENING   the number of the call that fails, once
  *   INTERRUPT   so many reads or writes in a row, from the one that fails on, are interrupted by a signal
  *   AT_MOST     the most bytes that one read or write moves
+ *   EVENTS      the file that is written at the end: a line for each file that was opened, created or closed, or not
+ *               opened or created, as "opened road.gr" or "not created out"
  *   COUNTS      the file that is written at the end: a line of the four counts, the most memory that was held at once, in
  *               kB, and how many bytes the growths asked for; and where a call failed, a line that names it and
  *               its file, as "read road.gr"
@@ -29,6 +31,7 @@ void *__libc_memalign(size_t, size_t);
 ssize_t __read(int, void *, size_t);
 ssize_t __write(int, const void *, size_t);
 int __open(const char *, int, ...);
+int __close(int);
 
 enum call { GROWTH, READ, WRITE, OPENING, CALLS };
 
@@ -43,6 +46,10 @@ static int counting;
 /* The names of the open files, and the line about the call that failed. */
 static char names[MOST_FILES][MOST_NAME] = {"standard input", "standard output"};
 static char failed[2 * MOST_NAME];
+
+/* What was done with files, a line for each. */
+static char events[16 * 1024];
+static size_t events_size;
 
 static long number(const char *name)
 {
@@ -73,18 +80,31 @@ static long peak(void)
     return line ? atol(line + strlen("VmHWM:")) : -1;
 }
 
+/* Writes to the file that a variable names, if there is one. */
+static void put(const char *variable, const char *line, ssize_t size)
+{
+    const char *name = getenv(variable);
+    if (name && __write(__open(name, O_WRONLY | O_CREAT | O_TRUNC, 0666), line, size) != size)
+        abort();
+}
+
 __attribute__((destructor)) static void end(void)
 {
-    const char *name = getenv("COUNTS");
     counting = 0;
-    if (!name)
-        return;
     char line[200 + sizeof failed];
     int size = snprintf(line, sizeof line, "%ld %ld %ld %ld %ld %zu\n%s", counts[GROWTH], counts[READ], counts[WRITE],
                         counts[OPENING], peak(), bytes, failed);
-    int file = __open(name, O_WRONLY | O_CREAT | O_TRUNC, 0666);
-    if (__write(file, line, size) != size)
-        abort();
+    put("COUNTS", line, size);
+    put("EVENTS", events, events_size);
+}
+
+/* Notes what was done with a file. */
+static void note(const char *done, const char *name)
+{
+    size_t room = sizeof events - events_size;
+    int size = counting && *name ? snprintf(events + events_size, room, "%s %s\n", done, name) : 0;
+    if (0 < size && (size_t)size < room)
+        events_size += size;
 }
 
 /* Counts a call on a file of this name, and returns whether it fails, with this error. */
@@ -179,5 +199,15 @@ int open(const char *name, int flags, ...)
     int file = __open(name, flags, mode);
     if (counting && 0 <= file && file < MOST_FILES)
         snprintf(names[file], MOST_NAME, "%s", name);
+    if (flags & O_CREAT)
+        note(file < 0 ? "not created" : "created", name);
+    else
+        note(file < 0 ? "not opened" : "opened", name);
     return file;
+}
+
+int close(int file)
+{
+    note("closed", name_of(file));
+    return __close(file);
 }

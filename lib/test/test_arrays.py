@@ -107,6 +107,39 @@ class Judges(unittest.TestCase):
         self.assertEqual((it.text, it.line, it.field, it.reason), ("certificate", 0, 0, "NotViolated"))
 
 
+class Worked(unittest.TestCase):
+    """Two arcs, one after the other, of which the first has less capacity; two parallel ones, of which the first is cheaper."""
+
+    PIPES = (3, 1, 3, [1, 2], [2, 3], [2, 3])
+    WAYS = (2, [1, 1], [2, 2], [0, 0], [2, 1], [3, 5])
+
+    def test_pipes(self):
+        self.assertEqual(dimacs.judge_max_arrays(*self.PIPES, [2, 2], [1, 0, 0]), dimacs.Verdict("max", 2))
+        self.assertEqual(dimacs.certify_max_arrays(*self.PIPES, [2, 2]), dimacs.Certified(2, [True, False, False]))
+        with self.assertRaises(dimacs.NotOptimal) as caught:
+            dimacs.certify_max_arrays(*self.PIPES, [1, 1])
+        self.assertEqual(list(caught.exception.better), [2, 2])
+        self.assertEqual(dimacs.solve_max_arrays(*self.PIPES, limit=9).value, 2)
+        with self.assertRaises(dimacs.GaveUp):
+            dimacs.solve_max_arrays(*self.PIPES, limit=1)
+
+    def test_ways(self):
+        two, four = (*self.WAYS, [2, -2]), (*self.WAYS, [4, -4])
+        self.assertEqual(dimacs.judge_min_arrays(*two, [2, 0], [3, 0]), dimacs.Verdict("min", 6))
+        with self.assertRaises(dimacs.Refused) as caught:
+            dimacs.judge_min_arrays(*two, [1, 1], [3, 0])
+        self.assertEqual((caught.exception.arc, caught.exception.reason), (2, "NotTight"))
+        self.assertEqual(dimacs.certify_min_arrays(*two, [2, 0])[0], 6)
+        with self.assertRaises(dimacs.NotOptimal) as caught:
+            dimacs.certify_min_arrays(*two, [1, 1])
+        self.assertEqual(list(caught.exception.better), [2, 0])
+        self.assertEqual(dimacs.solve_min_arrays(*two, limit=9)[0], 6)
+        with self.assertRaises(dimacs.Infeasible) as caught:
+            dimacs.solve_min_arrays(*four, limit=9)
+        self.assertEqual(list(caught.exception.inside), [True, False])
+        self.assertEqual(dimacs.judge_infeasible_arrays(*four, [1, 0]), dimacs.Verdict("infeasible"))
+
+
 #: No flow leaves node 1, which supplies 6 of 5 that can.
 NARROW = (2, [1], [2], [0], [5], [1], [6, -6])
 

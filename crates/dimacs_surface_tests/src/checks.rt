@@ -23,8 +23,3 @@ pub fn same_at<T: PartialEq + Debug + Drop>(
 pub fn holds(rt: &impl Abort, name: &str, condition: bool) {
     assert!(rt; condition, "{name}");
 }
-
-/// Asserts it of the case with this number.
-pub fn holds_at(rt: &impl Abort, name: &str, number: u64, condition: bool) {
-    assert!(rt; condition, "{name} {number}");
-}

@@ -4,11 +4,10 @@
 
 use crate::checks::{holds, same};
 use dimacs_claims::{
-    Block, Cut, Entry, Label, Labels, Placed, Potentials, Solution, read_cut, read_labels,
-    read_potentials, read_solution, read_solution_into, write_cut, write_labels, write_potentials,
-    write_solution,
+    Block, Cut, Entry, Label, Labels, Potentials, Solution, read_labels, read_solution,
+    read_solution_into, write_cut, write_labels, write_potentials, write_solution,
 };
-use dimacs_lines::{DeviceFault, Memory, MemorySink, MemorySource};
+use dimacs_lines::{Memory, MemorySink, MemorySource};
 use dimacs_records::ReadError;
 use std::alloc::Global;
 use std::process::Abort;
@@ -21,13 +20,6 @@ fn entry(tail: u32, head: u32, flow: i64, line: u64) -> Entry {
         flow,
         line,
     }
-}
-
-/// The text of a solution.
-fn solution_text(alloc: Global, solution: &Solution) -> Result<MemorySink, DeviceFault> {
-    let mut sink = MemorySink::new(alloc);
-    write_solution(solution, &mut sink)?;
-    Ok(sink)
 }
 
 /// The value after an entry, with comments and empty lines between.
@@ -53,22 +45,14 @@ fn a_solution_knows_the_lines_of_its_text(rt: HostRuntime) -> Result<(), Fail> {
     Ok(())
 }
 
-/// The solution of a text, with its entries placed in a list.
-fn placed(alloc: Global, text: &[u8]) -> Result<Placed<Vec<Entry>>, ReadError> {
-    read_solution_into(alloc, Vec::new(alloc), &mut MemorySource::new(text))
-}
-
 #[test]
 fn a_solution_that_was_written_knows_its_new_lines(rt: HostRuntime) -> Result<(), Fail> {
-    let solution = scattered(rt.alloc())?;
-    let written = solution_text(rt.alloc(), &solution)?;
-    let again = placed(rt.alloc(), written.bytes())?;
-    same(
-        &rt,
-        "value and its line",
-        (again.value, again.value_line),
-        (6, 1),
-    );
+    let mut written = MemorySink::new(rt.alloc());
+    write_solution(&scattered(rt.alloc())?, &mut written)?;
+    let list = Vec::new(rt.alloc());
+    let again = read_solution_into(rt.alloc(), list, &mut MemorySource::new(written.bytes()))?;
+    let found = (again.value, again.value_line);
+    same(&rt, "value and its line", found, (6, 1));
     let wanted = [entry(1, 2, 4, 2), entry(3, 4, -2, 3), entry(1, 2, 4, 4)];
     same(&rt, "entries", again.place.as_slice(), wanted.as_slice());
     Ok(())
@@ -81,7 +65,8 @@ fn open_solutions_are_written_as_they_are(rt: HostRuntime) -> Result<(), Fail> {
         value_line: 0,
         entries: [entry(0, u32::MAX, i64::MIN, 0)].to_vec(rt.alloc())?,
     };
-    let sink = solution_text(rt.alloc(), &solution)?;
+    let mut sink = MemorySink::new(rt.alloc());
+    write_solution(&solution, &mut sink)?;
     let wanted =
         b"s -170141183460469231731687303715884105728\nf 0 4294967295 -9223372036854775808\n".as_slice();
     holds(&rt, "the text", sink.bytes() == wanted);
@@ -97,34 +82,18 @@ fn cut(alloc: Global) -> Result<Cut, Memory> {
     Ok(cut)
 }
 
-const CUT: &[u8] = b"p cut 300 2\nu 1\nu 300\n";
-
-fn cut_text(alloc: Global, cut: &Cut) -> Result<MemorySink, DeviceFault> {
-    let mut sink = MemorySink::new(alloc);
-    write_cut(cut, &mut sink)?;
-    Ok(sink)
-}
-
-fn cut_read(alloc: Global) -> Result<Cut, ReadError> {
-    read_cut(alloc, &mut MemorySource::new(CUT))
-}
-
-/// Tests that a cut has these two nodes alone.
-fn has_nodes(rt: &impl Abort, cut: &Cut) {
-    same(rt, "nodes", cut.nodes(), 300);
-    for id in [0, 2, 255, 256, 299, 301, u32::MAX] {
-        holds(rt, "a node outside", !cut.contains(id));
-    }
-    holds(rt, "a node inside", cut.contains(1) && cut.contains(300));
-}
-
 #[test]
 fn a_cut_has_the_nodes_that_were_put_in(rt: HostRuntime) -> Result<(), Fail> {
-    let made = cut(rt.alloc())?;
-    has_nodes(&rt, &made);
-    has_nodes(&rt, &cut_read(rt.alloc())?);
-    let text = cut_text(rt.alloc(), &made)?;
-    holds(&rt, "the text", text.bytes() == CUT);
+    let cut = cut(rt.alloc())?;
+    same(&rt, "nodes", cut.nodes(), 300);
+    for id in [0, 2, 255, 256, 299, 301, u32::MAX] {
+        holds(&rt, "a node outside", !cut.contains(id));
+    }
+    holds(&rt, "a node inside", cut.contains(1) && cut.contains(300));
+    let mut sink = MemorySink::new(rt.alloc());
+    write_cut(&cut, &mut sink)?;
+    let wanted = b"p cut 300 2\nu 1\nu 300\n".as_slice();
+    holds(&rt, "the text", sink.bytes() == wanted);
     Ok(())
 }
 
@@ -138,41 +107,28 @@ fn potentials(alloc: Global) -> Result<Potentials, Memory> {
     Ok(potentials)
 }
 
-const POTENTIALS: &[u8] = b"p pot 300 2\ny 1 -5\ny 300 7\n";
-
-fn potentials_text(alloc: Global, potentials: &Potentials) -> Result<MemorySink, DeviceFault> {
-    let mut sink = MemorySink::new(alloc);
-    write_potentials(potentials, &mut sink)?;
-    Ok(sink)
-}
-
-fn potentials_read(alloc: Global) -> Result<Potentials, ReadError> {
-    read_potentials(alloc, &mut MemorySource::new(POTENTIALS))
-}
-
-/// Tests each potential.
-fn has_potentials(rt: &impl Abort, potentials: &Potentials) {
-    same(rt, "nodes", potentials.nodes(), 300);
-    for (id, value) in [
-        (0, 0),
-        (1, -5),
-        (2, 0),
-        (299, 0),
-        (300, 7),
-        (301, 0),
-        (u32::MAX, 0),
-    ] {
-        same(rt, "a potential", potentials.of(id), value);
-    }
-}
+/// Nodes, each with its potential.
+static OF_NODES: [(u32, i128); 7] = [
+    (0, 0),
+    (1, -5),
+    (2, 0),
+    (299, 0),
+    (300, 7),
+    (301, 0),
+    (u32::MAX, 0),
+];
 
 #[test]
 fn potentials_are_those_that_were_set(rt: HostRuntime) -> Result<(), Fail> {
-    let made = potentials(rt.alloc())?;
-    has_potentials(&rt, &made);
-    has_potentials(&rt, &potentials_read(rt.alloc())?);
-    let text = potentials_text(rt.alloc(), &made)?;
-    holds(&rt, "the text", text.bytes() == POTENTIALS);
+    let potentials = potentials(rt.alloc())?;
+    same(&rt, "nodes", potentials.nodes(), 300);
+    for &(id, value) in &OF_NODES {
+        same(&rt, "a potential", potentials.of(id), value);
+    }
+    let mut sink = MemorySink::new(rt.alloc());
+    write_potentials(&potentials, &mut sink)?;
+    let wanted = b"p pot 300 2\ny 1 -5\ny 300 7\n".as_slice();
+    holds(&rt, "the text", sink.bytes() == wanted);
     Ok(())
 }
 
@@ -181,12 +137,6 @@ const BLOCKS: &[u8] = b"p dist 4 3\nt 1 2 8\nd 2 5 1\nd 3 -7 2\nt 2 1\nd 3 1000 
 
 fn labels(alloc: Global) -> Result<Labels, ReadError> {
     read_labels(alloc, &mut MemorySource::new(BLOCKS))
-}
-
-fn labels_text(alloc: Global, labels: &Labels) -> Result<MemorySink, DeviceFault> {
-    let mut sink = MemorySink::new(alloc);
-    write_labels(labels, &mut sink)?;
-    Ok(sink)
 }
 
 /// Blocks and nodes, each with its distance.
@@ -202,20 +152,16 @@ static DISTANCES: [(usize, u32, Option<i128>); 9] = [
     (usize::MAX, u32::MAX, None),
 ];
 
-/// Tests the rows of `DISTANCES`.
-fn has_distances(rt: &impl Abort, labels: &Labels) {
-    same(rt, "nodes", labels.nodes(), 4);
-    for &(block, id, dist) in &DISTANCES {
-        same(rt, "a distance", labels.label(block, id), dist);
-    }
-}
-
 #[test]
 fn labels_are_those_of_the_text(rt: HostRuntime) -> Result<(), Fail> {
     let labels = labels(rt.alloc())?;
-    has_distances(&rt, &labels);
-    let text = labels_text(rt.alloc(), &labels)?;
-    holds(&rt, "the text", text.bytes() == BLOCKS);
+    same(&rt, "nodes", labels.nodes(), 4);
+    for &(block, id, dist) in &DISTANCES {
+        same(&rt, "a distance", labels.label(block, id), dist);
+    }
+    let mut sink = MemorySink::new(rt.alloc());
+    write_labels(&labels, &mut sink)?;
+    holds(&rt, "the text", sink.bytes() == BLOCKS);
     Ok(())
 }
 

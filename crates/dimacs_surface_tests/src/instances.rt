@@ -1,7 +1,6 @@
 //! Instances and queries: their networks, look-ups, and how they are written.
 
 use crate::checks::{holds, same};
-use crate::tables::{cell, rows};
 use dimacs_instance::{
     ArcView, Network, Queries, read_graph, read_max, read_min, read_queries, write_graph,
     write_max, write_min, write_queries,
@@ -18,113 +17,64 @@ const MIN: &[u8] =
 
 const GRAPH: &[u8] = b"p sp 2 3\na 1 2 5\na 2 1 -6\na 1 2 7\n";
 
-/// Arcs: instance, index, description.
-static ARCS: &str = "\
-max | 0 | ArcView { tail: 1, head: 2, low: 0, cap: 4, cost: 0 }
-max | 4 | ArcView { tail: 3, head: 4, low: 0, cap: 5, cost: 0 }
-min | 1 | ArcView { tail: 1, head: 3, low: 0, cap: 2, cost: 2 }
-min | 3 | ArcView { tail: 2, head: 4, low: 0, cap: 3, cost: 3 }
-graph | 1 | ArcView { tail: 2, head: 1, low: 0, cap: 0, cost: -6 }
-graph | 3 | no arc";
-
-/// The description of an arc.
-fn describe<N: Network>(alloc: Global, network: &N, i: u32) -> Result<String, Fail> {
-    if i < network.arcs() {
-        let arc: ArcView = network.arc(i);
-        return Ok(format!(in alloc; "{arc:?}")?);
+/// The arcs of a network: `tail>head low..cap cost|` of each.
+fn arcs_of<N: Network>(alloc: Global, network: &N) -> Result<String, Fail> {
+    let mut spelled = String::new(alloc);
+    for i in 0..network.arcs() {
+        let it: ArcView = network.arc(i);
+        write!(
+            spelled,
+            "{}>{} {}..{} {}|",
+            it.tail, it.head, it.low, it.cap, it.cost
+        )?;
     }
-    Ok(String::from_str(alloc, "no arc")?)
-}
-
-fn max_arc(alloc: Global, i: u32) -> Result<String, Fail> {
-    let max = read_max(alloc, &mut MemorySource::new(MAX))?;
-    describe(alloc, max.network(), i)
-}
-
-fn min_arc(alloc: Global, i: u32) -> Result<String, Fail> {
-    let min = read_min(alloc, &mut MemorySource::new(MIN))?;
-    describe(alloc, min.network(), i)
-}
-
-fn graph_arc(alloc: Global, i: u32) -> Result<String, Fail> {
-    let graph = read_graph(alloc, &mut MemorySource::new(GRAPH))?;
-    describe(alloc, graph.network(), i)
-}
-
-/// Tests a row of `ARCS`.
-fn has_arc(rt: &impl Abort, alloc: Global, line: &str) -> Result<(), Fail> {
-    let (which, rest) = cell(rt, line);
-    let (i, wanted) = cell(rt, rest);
-    let i = i.parse::<u32>().expect(rt, line);
-    let actual = match which {
-        "max" => max_arc(alloc, i)?,
-        "min" => min_arc(alloc, i)?,
-        _ => graph_arc(alloc, i)?,
-    };
-    same(rt, line, actual.as_str(), wanted);
-    Ok(())
+    Ok(spelled)
 }
 
 #[test]
-fn networks_have_the_arcs_of_their_texts(rt: HostRuntime) -> Result<(), Fail> {
-    for line in rows(&rt, ARCS, 6) {
-        has_arc(&rt, rt.alloc(), line)?;
-    }
-    Ok(())
-}
-
-#[test]
-fn an_instance_of_maximum_flow_has_its_ends(rt: HostRuntime) -> Result<(), Fail> {
+fn an_instance_of_maximum_flow_has_its_ends_and_arcs(rt: HostRuntime) -> Result<(), Fail> {
     let max = read_max(rt.alloc(), &mut MemorySource::new(MAX))?;
     same(&rt, "source and sink", (max.source(), max.sink()), (1, 4));
+    let arcs = arcs_of(rt.alloc(), max.network())?;
+    let wanted = "1>2 0..4 0|1>3 0..2 0|2>3 0..2 0|2>4 0..3 0|3>4 0..5 0|";
+    same(&rt, "arcs", arcs.as_str(), wanted);
+    let mut sink = MemorySink::new(rt.alloc());
+    write_max(&max.into_plain(), &mut sink)?;
+    holds(&rt, "the text without an index", sink.bytes() == MAX);
     Ok(())
 }
 
 #[test]
-fn an_instance_of_least_cost_has_its_supplies(rt: HostRuntime) -> Result<(), Fail> {
+fn an_instance_of_least_cost_has_its_supplies_and_arcs(rt: HostRuntime) -> Result<(), Fail> {
     let min = read_min(rt.alloc(), &mut MemorySource::new(MIN))?;
     for (id, supply) in [(0, 0), (1, 4), (2, 0), (4, -4), (u32::MAX, 0)] {
         same(&rt, "a supply", min.supply(id), supply);
     }
+    let arcs = arcs_of(rt.alloc(), min.network())?;
+    let wanted = "1>2 0..4 2|1>3 0..2 2|2>3 0..2 1|2>4 0..3 3|3>4 0..5 1|";
+    same(&rt, "arcs", arcs.as_str(), wanted);
+    let mut sink = MemorySink::new(rt.alloc());
+    write_min(&min.into_plain(), &mut sink)?;
+    holds(&rt, "the text without an index", sink.bytes() == MIN);
     Ok(())
 }
 
-/// The text of an instance, read and written without its index.
-fn max_text(alloc: Global) -> Result<MemorySink, Fail> {
-    let mut sink = MemorySink::new(alloc);
-    let max = read_max(alloc, &mut MemorySource::new(MAX))?;
-    write_max(&max.into_plain(), &mut sink)?;
-    Ok(sink)
-}
-
-fn min_text(alloc: Global) -> Result<MemorySink, Fail> {
-    let mut sink = MemorySink::new(alloc);
-    let min = read_min(alloc, &mut MemorySource::new(MIN))?;
-    write_min(&min.into_plain(), &mut sink)?;
-    Ok(sink)
-}
-
-fn graph_text(alloc: Global) -> Result<MemorySink, Fail> {
-    let mut sink = MemorySink::new(alloc);
-    let graph = read_graph(alloc, &mut MemorySource::new(GRAPH))?;
-    write_graph(&graph.into_plain(), &mut sink)?;
-    Ok(sink)
-}
-
 #[test]
-fn instances_are_written_as_they_were_read(rt: HostRuntime) -> Result<(), Fail> {
-    let alloc = rt.alloc();
-    holds(
+fn a_graph_has_its_arcs(rt: HostRuntime) -> Result<(), Fail> {
+    let graph = read_graph(rt.alloc(), &mut MemorySource::new(GRAPH))?;
+    let arcs = arcs_of(rt.alloc(), graph.network())?;
+    same(
         &rt,
-        "a maximum flow instance",
-        max_text(alloc)?.bytes() == MAX,
+        "arcs",
+        arcs.as_str(),
+        "1>2 0..0 5|2>1 0..0 -6|1>2 0..0 7|",
     );
-    holds(
-        &rt,
-        "a least cost instance",
-        min_text(alloc)?.bytes() == MIN,
-    );
-    holds(&rt, "a graph", graph_text(alloc)?.bytes() == GRAPH);
+    finds(&rt, graph.network());
+    let plain = graph.into_plain();
+    finds(&rt, plain.network());
+    let mut sink = MemorySink::new(rt.alloc());
+    write_graph(&plain, &mut sink)?;
+    holds(&rt, "the text without an index", sink.bytes() == GRAPH);
     Ok(())
 }
 
@@ -167,12 +117,4 @@ fn finds<N: Network>(rt: &impl Abort, network: &N) {
     for &(tail, head, k, found) in &FOUND {
         same(rt, "an arc", network.find(tail, head, k), found);
     }
-}
-
-#[test]
-fn both_networks_find_the_same_arcs(rt: HostRuntime) -> Result<(), Fail> {
-    let graph = read_graph(rt.alloc(), &mut MemorySource::new(GRAPH))?;
-    finds(&rt, graph.network());
-    finds(&rt, graph.into_plain().network());
-    Ok(())
 }

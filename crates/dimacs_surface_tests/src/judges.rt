@@ -3,17 +3,11 @@
 ghost use Rattle.std.specs.Prelude.{◌≡◌, length, IfOk};
 
 use crate::checks::same;
-use dimacs_claims::{
-    Cut, Potentials, Solution, read_cut, read_labels, read_potentials, read_solution,
-    read_solution_into,
-};
-use dimacs_instance::{
-    MaxInstance, MinInstance, Network, read_graph, read_max, read_min, read_queries,
-};
+use dimacs_claims::{Solution, read_cut, read_labels, read_potentials, read_solution};
+use dimacs_instance::{Network, read_graph, read_max, read_min, read_queries};
 use dimacs_judge::{
-    Answer, Decision, Flow, FlowPlaces, JudgeError, Verdict, Where, cut_tests, decide_max,
-    feasible_max, feasible_min, flow_of, judge_infeasible, judge_max, judge_max_placed, judge_min,
-    judge_min_placed, judge_paths, label_tests, slack_tests,
+    Answer, Decision, Flow, JudgeError, Verdict, Where, cut_tests, decide_max, feasible_max,
+    feasible_min, flow_of, judge_max, judge_min, judge_paths, label_tests, slack_tests,
 };
 use dimacs_lines::MemorySource;
 use dimacs_records::{ReadError, Reason};
@@ -43,52 +37,21 @@ fn flow_in<N: Network>(alloc: Global, network: &N, text: &[u8]) -> Result<Flow, 
     Ok(flow)
 }
 
-/// Judges a claimed maximum flow whose entries are in a list.
-fn kept_max<N: Network>(
-    alloc: Global,
-    instance: &MaxInstance<N>,
-    claim: &[u8],
-    cut: &Cut,
-) -> Result<Result<Verdict, JudgeError>, Fail> {
-    let solution = solution(alloc, claim)?;
-    Ok(judge_max(alloc, instance, &solution, cut))
-}
-
-/// The same, with its entries placed while they are read.
-fn placed_max<N: Network>(
-    alloc: Global,
-    instance: &MaxInstance<N>,
-    claim: &[u8],
-    cut: &Cut,
-) -> Result<Result<Verdict, JudgeError>, Fail> {
-    let places = FlowPlaces::new(alloc, instance.network())?;
-    let placed = read_solution_into(alloc, places, &mut MemorySource::new(claim))?;
-    Ok(judge_max_placed(alloc, instance, &placed, cut))
-}
-
-/// Judges a claim both ways.
-fn judged_max(alloc: Global, claim: &[u8]) -> Result<[Result<Verdict, JudgeError>; 2], Fail> {
+/// The judge's answer to a claim with the cut.
+fn judged_max(alloc: Global, claim: &[u8]) -> Result<Result<Verdict, JudgeError>, Fail> {
     let instance = read_max(alloc, &mut MemorySource::new(MAX))?;
     let cut = read_cut(alloc, &mut MemorySource::new(CUT))?;
-    let kept = kept_max(alloc, &instance, claim, &cut)?;
-    Ok([kept, placed_max(alloc, &instance, claim, &cut)?])
+    Ok(judge_max(alloc, &instance, &solution(alloc, claim)?, &cut))
 }
 
 #[test]
 fn a_maximum_flow_is_judged_by_a_cut(rt: HostRuntime) -> Result<(), Fail> {
-    let [kept, placed] = judged_max(rt.alloc(), MAXIMUM)?;
-    same(&rt, "verdict", kept, Ok(Verdict::Max(3)));
-    same(
-        &rt,
-        "verdict on what is placed",
-        placed,
-        Ok(Verdict::Max(3)),
-    );
-    let [kept, placed] = judged_max(rt.alloc(), b"f 1 3 1\nc\nf 1 3 2\nf 3 1 2\ns 3\n")?;
+    let yes = judged_max(rt.alloc(), MAXIMUM)?;
+    same(&rt, "verdict", yes, Ok(Verdict::Max(3)));
+    let no = judged_max(rt.alloc(), b"f 1 3 1\nc\nf 1 3 2\nf 3 1 2\ns 3\n")?;
     let place = Where::Solution { line: 3, field: 0 };
     let refusal = JudgeError::Refused(place, Reason::ArcTwice);
-    same(&rt, "the first entry that fails", kept, Err(refusal));
-    same(&rt, "the first that is placed", placed, Err(refusal));
+    same(&rt, "the first entry that fails", no, Err(refusal));
     Ok(())
 }
 
@@ -116,44 +79,34 @@ fn a_maximum_flow_is_feasible_and_its_cut_is_tight(rt: HostRuntime) -> Result<()
     Ok(())
 }
 
-/// Decides a flow without a cut.
-fn decided(alloc: Global, claim: &[u8]) -> Result<Decision, Fail> {
+/// Decides a flow without a cut: whether the cut has each node, or the amounts of a better flow.
+fn decided(alloc: Global, claim: &[u8]) -> Result<String, Fail> {
     let instance = read_max(alloc, &mut MemorySource::new(MAX))?;
     let flow = flow_in(alloc, instance.network(), claim)?;
     feasible_max(alloc, &instance, &flow)?;
-    Ok(decide_max(alloc, &instance, &flow)?)
-}
-
-/// The nodes of a tight cut, or the amounts of a better flow.
-fn spelled(alloc: Global, decision: &Decision) -> Result<String, Fail> {
-    match decision {
+    let spelled = match decide_max(alloc, &instance, &flow)? {
         Decision::Optimal(cut) => {
-            let mut text = String::from_str(alloc, "cut")?;
-            for id in 1..4 {
-                if cut.contains(id) {
-                    write!(text, " {id}")?;
-                }
-            }
-            Ok(text)
+            format!(in alloc;
+                "cut {:?}",
+                [cut.contains(1), cut.contains(2), cut.contains(3)]
+            )?
         }
-        Decision::Better(flow) => {
-            let mut text = String::from_str(alloc, "flow")?;
-            for amount in flow.amounts() {
-                write!(text, " {amount}")?;
-            }
-            Ok(text)
-        }
-    }
+        Decision::Better(flow) => format!(in alloc; "flow {:?}", flow.amounts())?,
+    };
+    Ok(spelled)
 }
 
 #[test]
 fn a_flow_is_decided_without_a_cut(rt: HostRuntime) -> Result<(), Fail> {
-    let maximum = decided(rt.alloc(), MAXIMUM)?;
-    let cut = spelled(rt.alloc(), &maximum)?;
-    same(&rt, "a maximum flow", cut.as_str(), "cut 1 2");
-    let smaller = decided(rt.alloc(), b"f 1 2 2\nf 2 3 2\ns 2\n")?;
-    let better = spelled(rt.alloc(), &smaller)?;
-    same(&rt, "a smaller flow", better.as_str(), "flow 2 2 1");
+    let cut = decided(rt.alloc(), MAXIMUM)?;
+    same(
+        &rt,
+        "a maximum flow",
+        cut.as_str(),
+        "cut [true, true, false]",
+    );
+    let better = decided(rt.alloc(), b"f 1 2 2\nf 2 3 2\ns 2\n")?;
+    same(&rt, "a smaller flow", better.as_str(), "flow [2, 2, 1]");
     Ok(())
 }
 
@@ -163,33 +116,12 @@ const MIN: &[u8] = b"p min 2 2\nn 1 1\nn 2 -1\na 1 2 0 1 3\na 2 1 0 1 0\n";
 /// A flow of least cost in it.
 const LEAST: &[u8] = b"s 3\nf 1 2 1\n";
 
-/// Judges the flow of least cost with its entries in a list.
-fn kept_min<N: Network>(
-    alloc: Global,
-    instance: &MinInstance<N>,
-    potentials: &Potentials,
-) -> Result<Result<Verdict, JudgeError>, Fail> {
-    let solution = solution(alloc, LEAST)?;
-    Ok(judge_min(alloc, instance, &solution, potentials))
-}
-
-/// The same, with its entries placed.
-fn placed_min<N: Network>(
-    alloc: Global,
-    instance: &MinInstance<N>,
-    potentials: &Potentials,
-) -> Result<Result<Verdict, JudgeError>, Fail> {
-    let places = FlowPlaces::new(alloc, instance.network())?;
-    let placed = read_solution_into(alloc, places, &mut MemorySource::new(LEAST))?;
-    Ok(judge_min_placed(alloc, instance, &placed, potentials))
-}
-
-/// Judges the flow of least cost both ways.
-fn judged_min(alloc: Global, potentials: &[u8]) -> Result<[Result<Verdict, JudgeError>; 2], Fail> {
+/// The judge's answer to it with these potentials.
+fn judged_min(alloc: Global, potentials: &[u8]) -> Result<Result<Verdict, JudgeError>, Fail> {
     let instance = read_min(alloc, &mut MemorySource::new(MIN))?;
     let potentials = read_potentials(alloc, &mut MemorySource::new(potentials))?;
-    let kept = kept_min(alloc, &instance, &potentials)?;
-    Ok([kept, placed_min(alloc, &instance, &potentials)?])
+    let solution = solution(alloc, LEAST)?;
+    Ok(judge_min(alloc, &instance, &solution, &potentials))
 }
 
 /// Tests that the flow of least cost is feasible, and returns the judge's answer to potentials for it.
@@ -214,26 +146,9 @@ static POTENTIALS: [(&[u8], Result<(), (Where, Reason)>); 2] = [
 fn a_flow_of_least_cost_is_judged_by_potentials(rt: HostRuntime) -> Result<(), Fail> {
     for &(potentials, wanted) in &POTENTIALS {
         same(&rt, "tests", tests_of_min(rt.alloc(), potentials)?, wanted);
-        let [kept, placed] = judged_min(rt.alloc(), potentials)?;
-        same(&rt, "alike", kept.is_ok(), wanted.is_ok());
-        same(&rt, "as it is placed", placed, kept);
+        let judged = judged_min(rt.alloc(), potentials)?;
+        same(&rt, "alike", judged.is_ok(), wanted.is_ok());
     }
-    Ok(())
-}
-
-/// The judge's answer to a set.
-fn judged_set(alloc: Global, text: &[u8]) -> Result<Result<Verdict, JudgeError>, Fail> {
-    let instance = read_min(alloc, &mut MemorySource::new(text))?;
-    let set = read_cut(alloc, &mut MemorySource::new(b"p cut 2 1\nu 1\n"))?;
-    Ok(judge_infeasible(&instance, &set))
-}
-
-#[test]
-fn a_set_is_judged(rt: HostRuntime) -> Result<(), Fail> {
-    let refusal = JudgeError::Refused(Where::Certificate, Reason::NotViolated);
-    same(&rt, "a set", judged_set(rt.alloc(), MIN)?, Err(refusal));
-    let actual = judged_set(rt.alloc(), b"p min 2 1\nn 1 1\nn 2 -1\na 1 2 2 5 0\n")?;
-    same(&rt, "a violated one", actual, Ok(Verdict::Infeasible));
     Ok(())
 }
 

@@ -1,5 +1,5 @@
-//! Tests of the calls that a program in Rattle makes, by their paths, with nothing else of the crates. The answers were
-//! worked out by hand.
+//! Tests of the calls that a program in Rattle makes and `dimacs` doesn't, by their paths, with nothing else of the crates.
+//! The answers were worked out by hand.
 #![tactic(auto)]
 
 #[cfg(test)]
@@ -18,8 +18,6 @@ mod instances;
 mod judges;
 #[cfg(test)]
 mod lines;
-#[cfg(test)]
-mod producers;
 #[cfg(test)]
 mod records;
 #[cfg(test)]

@@ -1,11 +1,9 @@
 //! The lines of a text, however its source cuts it.
 
-ghost use Rattle.std.specs.Prelude.{None};
-
 use crate::checks::{same, same_at};
 use crate::spelling::spell_lines;
 use crate::tables::{case, cell, number, rows};
-use dimacs_lines::{CutSource, DeviceFault, FlakySource, Lines, MemorySource, Source};
+use dimacs_lines::{CutSource, FlakySource, Lines, MemorySource};
 use std::alloc::Global;
 use std::process::Abort;
 use std::test::Fail;
@@ -69,73 +67,16 @@ fn lines_are_those_of_the_text(rt: HostRuntime) -> Result<(), Fail> {
     Ok(())
 }
 
-/// What comes before a line, the line's length, what comes after it, and the result.
-static LONG_LINES: &str = "\
-the longest |  | 1048576 | ;z | 1:(1048576 bytes)|2:z|end
-the longest, with its end alone |  | 1048576 | ; | 1:(1048576 bytes)|end
-the longest, without its end |  | 1048576 |  | 1:(1048576 bytes)|end
-a byte more |  | 1048577 | ;z | TooLong(1)
-a byte more, without its end |  | 1048577 |  | TooLong(1)
-a CR more |  | 1048576 | \r; | TooLong(1)
-a byte more, on the third line | a;; | 1048577 |  | 1:a|2:|TooLong(3)";
-
-/// Tests a row of `LONG_LINES`.
-fn gives_long(rt: &impl Abort, alloc: Global, line: &str) -> Result<(), Fail> {
-    let case = case(alloc, line)?;
-    let (name, rest) = cell(rt, &case);
-    let (before, rest) = cell(rt, rest);
-    let (length, rest) = cell(rt, rest);
-    let (after, wanted) = cell(rt, rest);
-    let mut text = before.as_bytes().to_vec(alloc)?;
-    let bytes = Vec::from_elem(alloc, b'x', number(rt, length) as usize)?;
-    text.extend_from_slice(&bytes)?;
-    text.extend_from_slice(after.as_bytes())?;
-    for size in [7, 65_535, usize::MAX] {
-        gives_in_pieces(rt, alloc, name, &text, size, wanted)?;
-    }
-    Ok(())
-}
-
-#[test]
-fn a_line_has_a_greatest_length(rt: HostRuntime) -> Result<(), Fail> {
-    for line in rows(&rt, LONG_LINES, 7) {
-        gives_long(&rt, rt.alloc(), line)?;
-    }
-    for most in [1, 2, 7, usize::MAX] {
-        let spelled = spell_lines(&rt, rt.alloc(), &mut EndlessBlanks { most })?;
-        same_at(&rt, "blanks", most as u64, spelled.as_str(), "TooLong(1)");
-    }
-    Ok(())
-}
-
-/// Returns blanks for ever, at most so many at once, none of them stated in its contract.
-#[derive(Drop)]
-struct EndlessBlanks {
-    most: usize,
-}
-
-impl Source for EndlessBlanks {
-    ghost coming = { λ s. None };
-
-    ghost faults = { λ s. 0 };
-
-    fn pull(&mut self, into: &mut [u8]) -> Result<usize, DeviceFault> {
-        let count = into.len().min(self.most);
-        into[..count].fill(b' ');
-        Ok(count)
-    }
-}
-
-/// Text, size of its first piece, pull that fails, result, and number of pulls: none after the end or a fault.
+/// Text, size of its first piece, pull that fails, result. In the last two it is the pull after the one that finds the end.
 static FAULTS: &str = "\
-at the first pull | ab;cd;ef | 8 | 1 | Device | 1
-within the first line | ab;cd;ef | 1 | 2 | Device | 2
-after the first line | ab;cd;ef | 3 | 2 | 1:ab|Device | 2
-within the second line | ab;cd;ef | 4 | 2 | 1:ab|Device | 2
-within the last line | ab;cd;ef | 7 | 2 | 1:ab|2:cd|Device | 2
-in place of the end | ab;cd;ef | 8 | 2 | 1:ab|2:cd|Device | 2
-the end of the empty text |  | 8 | 9 | end | 1
-the end | ab;cd; | 8 | 9 | 1:ab|2:cd|end | 2";
+at the first pull | ab;cd;ef | 8 | 1 | Device
+within the first line | ab;cd;ef | 1 | 2 | Device
+after the first line | ab;cd;ef | 3 | 2 | 1:ab|Device
+within the second line | ab;cd;ef | 4 | 2 | 1:ab|Device
+within the last line | ab;cd;ef | 7 | 2 | 1:ab|2:cd|Device
+in place of the end | ab;cd;ef | 8 | 2 | 1:ab|2:cd|Device
+after the end of the empty text |  | 8 | 2 | end
+after the end | ab;cd; | 8 | 3 | 1:ab|2:cd|end";
 
 /// Tests a row of `FAULTS`.
 fn tells_fault(rt: &impl Abort, alloc: Global, line: &str) -> Result<(), Fail> {
@@ -143,34 +84,13 @@ fn tells_fault(rt: &impl Abort, alloc: Global, line: &str) -> Result<(), Fail> {
     let (name, rest) = cell(rt, &case);
     let (text, rest) = cell(rt, rest);
     let (size, rest) = cell(rt, rest);
-    let (fail, rest) = cell(rt, rest);
-    let (wanted, pulls) = cell(rt, rest);
+    let (fail, wanted) = cell(rt, rest);
     let sizes = [number(rt, size) as usize];
     let fails = [number(rt, fail)];
-    let source = FlakySource::new(text.as_bytes(), &sizes, &fails);
-    let mut counted = Counted { source, pulls: 0 };
-    let spelled = spell_lines(rt, alloc, &mut counted)?;
+    let mut source = FlakySource::new(text.as_bytes(), &sizes, &fails);
+    let spelled = spell_lines(rt, alloc, &mut source)?;
     same(rt, name, spelled.as_str(), wanted);
-    same(rt, name, counted.pulls, number(rt, pulls));
     Ok(())
-}
-
-/// Counts the pulls of another source.
-#[derive(Drop)]
-struct Counted<S> {
-    source: S,
-    pulls: u64,
-}
-
-impl<S: Source> Source for Counted<S> {
-    ghost coming = { λ s. S.coming s.source };
-
-    ghost faults = { λ s. S.faults s.source };
-
-    fn pull(&mut self, into: &mut [u8]) -> Result<usize, DeviceFault> {
-        self.pulls = self.pulls.saturating_add(1);
-        self.source.pull(into)
-    }
 }
 
 #[test]

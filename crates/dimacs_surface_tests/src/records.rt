@@ -3,10 +3,8 @@
 use crate::checks::{holds, same};
 use crate::tables::{cell, rows};
 use dimacs_instance::{GraphReading, Network};
-use dimacs_lines::{FlakySource, MemorySink};
-use dimacs_records::{
-    At, LineFault, ReadError, Reading, Reason, TakeError, TextKind, put_record, read_text, record,
-};
+use dimacs_lines::MemorySink;
+use dimacs_records::{LineFault, Reading, Reason, TakeError, TextKind, put_record, record};
 use std::alloc::Global;
 use std::test::Fail;
 
@@ -181,25 +179,4 @@ fn a_refused_record_leaves_the_reading_as_it_was(rt: HostRuntime) -> Result<(), 
     same(&rt, "arcs", (arcs.nodes(), arcs.arcs()), (2, 2));
     same(&rt, "the loop", arcs.find(2, 2, 0), Some(1));
     Ok(())
-}
-
-/// Texts in pieces of four bytes, the pulls that fail, and the error.
-static READ: [(&str, &[u64], Option<ReadError>); 3] = [
-    ("p sp 3 1\na 3 2 8\n", &[], None),
-    (
-        "p sp 3 1\na 3 4 8\n",
-        &[],
-        Some(ReadError::Refused(At { line: 2, field: 3 }, Reason::NodeRange)),
-    ),
-    ("p sp 3 0\n", &[2], Some(ReadError::Device)),
-];
-
-#[test]
-fn a_text_is_read_by_a_reading_of_its_kind(rt: HostRuntime) {
-    for &(text, fails, error) in &READ {
-        let mut source = FlakySource::new(text.as_bytes(), &[4, 4, 4, 4, 4], fails);
-        let reading = GraphReading::new(rt.alloc());
-        let read = read_text(rt.alloc(), TextKind::Graph, reading, &mut source);
-        same(&rt, text, read.err(), error);
-    }
 }

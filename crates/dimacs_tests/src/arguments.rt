@@ -1,26 +1,13 @@
-//! The meaning of the command's arguments, and its exit statuses.
+//! The meaning of the command's arguments.
 
 use crate::checks::same;
 use crate::tables::{cell, rows};
-use dimacs_runs::{RunError, Status, exit_status, job, request};
+use dimacs_runs::{job, request};
 use std::alloc::Global;
-use std::process::Abort;
 use std::test::Fail;
 
-/// The status of this name.
-pub fn status(rt: &impl Abort, name: &str) -> Status {
-    match name {
-        "Done" => Status::Done,
-        "Refused" => Status::Refused,
-        _ => {
-            same(rt, "a status", name, "GaveUp");
-            Status::GaveUp
-        }
-    }
-}
-
 /// The arguments of a line, with one blank between them.
-pub fn arguments(alloc: Global, line: &str) -> Result<Vec<String>, Fail> {
+fn arguments(alloc: Global, line: &str) -> Result<Vec<String>, Fail> {
     let mut list = Vec::new(alloc);
     for word in line.split(' ') {
         list.push(String::from_str(alloc, word)?)?;
@@ -209,20 +196,4 @@ fn words_ask_for_help_or_runs(rt: HostRuntime) -> Result<(), Fail> {
     let none = Vec::new(rt.alloc());
     same(&rt, "no words at all", request(&none), None);
     Ok(())
-}
-
-/// Outcomes of runs, each with its exit status.
-static STATUSES: [(Result<Status, RunError>, u8); 5] = [
-    (Ok(Status::Done), 0),
-    (Ok(Status::Refused), 1),
-    (Ok(Status::GaveUp), 5),
-    (Err(RunError::Device), 3),
-    (Err(RunError::Memory), 4),
-];
-
-#[test]
-fn runs_have_their_exit_statuses(rt: HostRuntime) {
-    for &(outcome, number) in &STATUSES {
-        same(&rt, "exit status", exit_status(&outcome), number);
-    }
 }

@@ -1,15 +1,11 @@
 //! Calls over arrays: which arrays are refused, and the answers to others.
 
-use crate::checks::{holds, same};
+use crate::checks::same;
 use crate::tables::{cell, ids, numbers, rows};
 use dimacs_arrays::{
-    Array, ArrayError, GraphArrays, MaxArrays, MaxCertified, MaxSolved, MinArrays, MinCertified,
-    MinSolved, PathsSolved, certify_max_arrays, certify_min_arrays, certify_paths_arrays,
-    judge_infeasible_arrays, judge_max_arrays, judge_min_arrays, judge_paths_arrays,
-    solve_max_arrays, solve_min_arrays, solve_paths_arrays,
+    Array, ArrayError, GraphArrays, MaxArrays, PathsSolved, certify_paths_arrays, judge_max_arrays,
+    judge_paths_arrays, solve_paths_arrays,
 };
-use dimacs_judging::{Verdict, Where};
-use dimacs_records::Reason;
 use std::alloc::Global;
 use std::process::Abort;
 use std::test::Fail;
@@ -65,6 +61,8 @@ too great | certify | 3 | 1 1 2 | 2 3 3 | 4 1 -5 | 1 | 0 4 1 | - | Refused(Arc(3
 true distances | certify | 4 | 1 1 3 | 2 3 2 | 4 1 2 | 1 | 0 3 1 x | - | [0, 3, 1, 0]
 a distance too great | certify | 4 | 1 1 3 | 2 3 2 | 4 1 2 | 1 | 0 4 1 x | - | Refused(Arc(3), NotShortest)
 a distance too few | certify | 4 | 1 1 3 | 2 3 2 | 4 1 2 | 1 | 0 3 1 | - | Length(Distances)
+the source at another distance | certify | 2 | 1 | 2 | 1 | 1 | 1 2 | - | Refused(Node(1), NotShortest)
+the source without a distance | certify | 2 | 1 | 2 | 1 | 1 | x 1 | - | Refused(Node(1), NotShortest)
 distances that are made | solve | 4 | 1 1 3 | 2 3 2 | 4 1 2 | 1 | - | - | [0, 3, 1, 9223372036854775807] [0, 3, 1, 0]";
 
 /// The answer to a call.
@@ -137,128 +135,23 @@ fn answers(rt: &impl Abort, alloc: Global, line: &str) -> Result<(), Fail> {
 
 #[test]
 fn distances_over_arrays_are_answered(rt: HostRuntime) -> Result<(), Fail> {
-    for line in rows(&rt, PATHS, 50) {
+    for line in rows(&rt, PATHS, 52) {
         answers(&rt, rt.alloc(), line)?;
     }
     Ok(())
 }
 
-/// Two arcs, one after the other; the first has less capacity.
-fn pipes() -> MaxArrays<'static> {
-    MaxArrays {
+#[test]
+fn a_cut_of_another_length_is_refused(rt: HostRuntime) {
+    let pipes = MaxArrays {
         nodes: 3,
         source: 1,
         sink: 3,
         tails: &[1, 2],
         heads: &[2, 3],
         caps: &[2, 3],
-    }
-}
-
-fn judged_pipes(alloc: Global, inside: &[u8]) -> Result<Verdict, ArrayError> {
-    judge_max_arrays(alloc, &pipes(), &[2, 2], inside)
-}
-
-/// Whether the maximum flow is certified by its cut.
-fn certifies_pipes(alloc: Global) -> bool {
-    match certify_max_arrays(alloc, &pipes(), &[2, 2]) {
-        Ok(MaxCertified::Optimal { value, inside }) => {
-            value == 2 && inside.as_slice() == [1, 0, 0].as_slice()
-        }
-        _ => false,
-    }
-}
-
-/// Whether a lesser flow is certified not to be maximum.
-fn betters_pipes(alloc: Global) -> bool {
-    match certify_max_arrays(alloc, &pipes(), &[1, 1]) {
-        Ok(MaxCertified::Better(flow)) => flow.amounts() == [2, 2].as_slice(),
-        _ => false,
-    }
-}
-
-/// The value of the flow that is found within a limit.
-fn value_of_pipes(alloc: Global, limit: u64) -> Option<i128> {
-    match solve_max_arrays(alloc, &pipes(), limit) {
-        Ok(MaxSolved::Optimal { value, .. }) => Some(value),
-        _ => None,
-    }
-}
-
-#[test]
-fn maximum_flows_over_arrays_are_answered(rt: HostRuntime) {
-    let alloc = rt.alloc();
-    let yes = judged_pipes(alloc, &[1, 0, 0]);
-    same(&rt, "maximum", yes, Ok(Verdict::Max(2)));
+    };
+    let short = judge_max_arrays(rt.alloc(), &pipes, &[2, 2], &[1, 0]);
     let wanted = ArrayError::Length(Array::Inside);
-    let short = judged_pipes(alloc, &[1, 0]);
     same(&rt, "a byte too few", short, Err(wanted));
-    holds(&rt, "a cut", certifies_pipes(alloc));
-    holds(&rt, "a better flow", betters_pipes(alloc));
-    same(&rt, "nine flows", value_of_pipes(alloc, 9), Some(2));
-    same(&rt, "one flow", value_of_pipes(alloc, 1), None);
-}
-
-/// Two parallel arcs; the first is cheaper.
-fn ways(supplies: &[i64]) -> MinArrays<'_> {
-    MinArrays {
-        nodes: 2,
-        tails: &[1, 1],
-        heads: &[2, 2],
-        lows: &[0, 0],
-        caps: &[2, 1],
-        costs: &[3, 5],
-        supplies,
-    }
-}
-
-fn judged_ways(alloc: Global, flows: &[i64]) -> Result<Verdict, ArrayError> {
-    judge_min_arrays(alloc, &ways(&[2, -2]), flows, &[3, 0])
-}
-
-/// Whether the least flow is certified.
-fn certifies_ways(alloc: Global) -> bool {
-    match certify_min_arrays(alloc, &ways(&[2, -2]), &[2, 0]) {
-        Ok(MinCertified::Optimal { cost, .. }) => cost == 6,
-        _ => false,
-    }
-}
-
-/// Whether a flow by the other arc is certified not to be least.
-fn betters_ways(alloc: Global) -> bool {
-    match certify_min_arrays(alloc, &ways(&[2, -2]), &[1, 1]) {
-        Ok(MinCertified::Better(flow)) => flow.amounts() == [2, 0].as_slice(),
-        _ => false,
-    }
-}
-
-/// The cost of the flow that is found, or none and whether the set of node 1 shows that none is feasible.
-fn made_of_ways(alloc: Global, supplies: &[i64]) -> (Option<i128>, bool) {
-    match solve_min_arrays(alloc, &ways(supplies), 9) {
-        Ok(MinSolved::Optimal { cost, .. }) => (Some(cost), false),
-        Ok(MinSolved::Infeasible { inside }) => (None, inside.as_slice() == [1, 0].as_slice()),
-        _ => (None, false),
-    }
-}
-
-#[test]
-fn least_flows_over_arrays_are_answered(rt: HostRuntime) {
-    let alloc = rt.alloc();
-    let yes = judged_ways(alloc, &[2, 0]);
-    same(&rt, "least", yes, Ok(Verdict::Min(6)));
-    let wanted = ArrayError::Refused(Where::Arc(2), Reason::NotTight);
-    let no = judged_ways(alloc, &[1, 1]);
-    same(&rt, "one by the other way", no, Err(wanted));
-    holds(&rt, "potentials", certifies_ways(alloc));
-    holds(&rt, "a better flow", betters_ways(alloc));
-    let made = made_of_ways(alloc, &[2, -2]);
-    same(&rt, "a flow that is made", made, (Some(6), false));
-    let made = made_of_ways(alloc, &[4, -4]);
-    same(&rt, "a set that is made", made, (None, true));
-}
-
-#[test]
-fn sets_over_arrays_are_judged(rt: HostRuntime) {
-    let yes = judge_infeasible_arrays(rt.alloc(), &ways(&[4, -4]), &[1, 0]);
-    same(&rt, "one unit too many", yes, Ok(Verdict::Infeasible));
 }

@@ -1,4 +1,4 @@
-//! Tables of cases, one a line. ` | ` separates the cells of a line, and `;` ends a line of a text in a cell.
+//! Tables of cases, one a line. ` | ` separates the cells of a line.
 
 use crate::checks::same;
 use std::alloc::{AllocError, Global};
@@ -11,19 +11,9 @@ pub fn rows<'a>(rt: &impl Abort, table: &'a str, count: usize) -> Lines<'a> {
     table.lines()
 }
 
-/// A line with a line end for each `;`.
-pub fn case(alloc: Global, line: &str) -> Result<String, AllocError> {
-    line.replace(alloc, ";", "\n")
-}
-
 /// The first cell, and the rest. The test fails if there is none.
 pub fn cell<'a>(rt: &impl Abort, case: &'a str) -> (&'a str, &'a str) {
     case.split_once(" | ").expect(rt, case)
-}
-
-/// The number in a cell. The test fails if it is none.
-pub fn number(rt: &impl Abort, cell: &str) -> u64 {
-    cell.parse::<u64>().expect(rt, cell)
 }
 
 /// The numbers in a cell, `x` for the greatest 64-bit one, and `-` for none. The test fails at a word that is no such

@@ -1,0 +1,382 @@
+#!/usr/bin/env python3
+"""Runs the rows of tests/rows: tests/rows.py [BINARY]
+
+Each file there is a table, and its first lines say what the cells of a row are. Cells stand between ` | `; in a cell `;`
+ends a line of a text, and `\\r`, `\\t` and `\\x0b` stand for bytes. The answers were worked out by hand.
+
+Each row is a run of the program over its texts, made four times: read and written in pieces of 1, 2 and 7 bytes, and as
+the program does it. A canonical text is converted again. Where any right certificate will do, the judge has to accept
+it with the same verdict, and a better solution is certified in turn. The texts of three judges, cut off at each byte,
+are judged alike in pieces of 1 byte and whole. Where a text is refused, no byte after the fault is read. Commands have to
+open, create and close their files in the order of their rows.
+
+BINARY is the built program; crates/dimacs/out/dimacs by default. refusals.c, which cuts reads and writes and counts them,
+is compiled with cc.
+"""
+import os
+import re
+import subprocess
+import sys
+import tempfile
+
+from instances import BINARY
+from refusals import build
+
+HERE = os.path.dirname(os.path.abspath(__file__))
+
+# What a refusal calls the text of each kind.
+TEXTS = {"max": "instance", "min": "instance", "gr": "instance", "query": "query", "solution": "solution"}
+TEXTS |= {"cut": "certificate", "pot": "certificate", "dist": "certificate", "distances": "distances"}
+
+# The most bytes that a read or a write moves; None for no such limit.
+SIZES = [1, 2, 7, None]
+
+# A flow's instance with so many nodes takes a second, and is read only as the program does.
+MOST_NODES = " 134217728 1"
+
+# The most steps from one better solution to the next.
+MOST_STEPS = 100
+
+# The rows whose texts are cut off, by their judges.
+CUT_OFF = [
+    ("max", "a tight cut"),
+    ("min", "slack potentials"),
+    ("paths", "nodes of a cycle of weight 0 that support each other"),
+]
+
+# Text, and how many bytes of it are read one by one before it is refused; the last read finds the end.
+LAST_READS = [
+    ("x\np sp 1 0\n", 2),
+    ("p sp 1 1\ne 1 1 0\na 1 1 0\n", 17),
+    ("p sp 1 0\na 1 1 0\n\n", 17),
+    ("p sp 1 1\n", 10),
+    ("p sp 1 1", 10),
+]
+
+# Graphs with bytes past 127 and with many bytes: the text, and what is printed.
+BYTES = [
+    (b"p sp 2 1\na 1\xa02 5\n", "x instance 2 0 FieldCount\n"),
+    (b"p sp 2 1\nc\xff\x00\xfe \x80\na 1 2 5\n", "p sp 2 1\na 1 2 5\n"),
+    (b"p sp 2 1\na 1 2 " + b"0" * 1_000 + b"7\n", "p sp 2 1\na 1 2 7\n"),
+]
+
+# The longest line, and longer ones; a comment is as good as any.
+LONGEST = b"c" * 1_048_576
+LONG_LINES = [
+    (LONGEST + b"\nz", "x instance 2 1 UnknownLine\n"),
+    (LONGEST + b"\n", "x instance 2 0 ProblemMissing\n"),
+    (LONGEST, "x instance 2 0 ProblemMissing\n"),
+    (LONGEST + b"c\nz", "x instance 1 0 LineTooLong\n"),
+    (LONGEST + b"c", "x instance 1 0 LineTooLong\n"),
+    (LONGEST + b"\r\n", "x instance 1 0 LineTooLong\n"),
+    (b"c\n\n" + LONGEST + b"c", "x instance 3 0 LineTooLong\n"),
+    (b" " * 1_048_576, "x instance 2 0 ProblemMissing\n"),
+    (b" " * 1_048_577, "x instance 1 0 LineTooLong\n"),
+]
+LONG_SIZES = [7, 65_535, None]
+
+# The cell of a text that may be any right one.
+ANY = "any"
+
+
+def unescaped(cell):
+    """The text of a cell, a character for each byte."""
+    return re.sub(r"\\(x..|.)", lambda it: it[0].encode().decode("unicode_escape"), cell)
+
+
+def rows(table):
+    """The rows of a table, each a list of texts."""
+    with open(f"{HERE}/rows/{table}", encoding="ascii") as it:
+        for line in it.read().splitlines():
+            if not line.startswith("# "):
+                yield [unescaped(cell).replace(";", "\n") for cell in re.split(r" \|(?: |$)", line)]
+
+
+class Runs:
+    """Runs of the program over files of one folder."""
+
+    def __init__(self, binary, library, folder):
+        self.binary, self.library, self.folder = binary, library, folder
+        self.passed, self.failures = 0, []
+
+    def path(self, name):
+        return os.path.join(self.folder, name)
+
+    def write(self, name, text):
+        with open(self.path(name), "wb") as it:
+            it.write(text if isinstance(text, bytes) else text.encode("latin-1"))
+
+    def read(self, name):
+        """The text of a file; an empty one if it isn't there."""
+        if not os.path.exists(self.path(name)):
+            return ""
+        with open(self.path(name), encoding="latin-1") as it:
+            return it.read()
+
+    def run(self, words, size=None, **variables):
+        """The status of a run, and what it prints and complains of."""
+        env = {"LD_PRELOAD": self.library, **variables, **({"AT_MOST": str(size)} if size else {})}
+        ran = subprocess.run([self.binary, *words.split(" ")], capture_output=True, env=env, cwd=self.folder, check=False)
+        return ran.returncode, ran.stdout.decode("latin-1"), ran.stderr.decode()
+
+    def answers(self, words, texts, made, size=None):
+        """Gives texts to a run, and returns its status, what it prints, and what it makes. It makes anew what was there."""
+        for name, text in texts.items():
+            self.write(name, text)
+        for name in made:
+            self.write(name, "")
+        status, printed, complaint = self.run(words, size)
+        return status, printed + complaint, *map(self.read, made)
+
+    def case(self, name, faults):
+        """Counts a case, which fails if it has a fault."""
+        found = list(faults)
+        self.failures += [f"{name}: {it}" for it in found]
+        self.passed += not found
+
+
+def is_right(made, wanted):
+    """Whether this text was to be made."""
+    return made == wanted or wanted == ANY and made != ""
+
+
+def status_of(output):
+    """The exit status of a run that prints this."""
+    return {"x": 1, "g": 5}.get(output[:1], 0)
+
+
+def sizes_for(instance):
+    """The sizes of pieces in which an instance is read."""
+    return [None] if instance.split("\n")[0].endswith(MOST_NODES) else SIZES
+
+
+def unlike(runs, words, texts, wanted, made=(), sizes=SIZES):
+    """Yields how a run differs from what is wanted, in pieces of each size: in what it prints, and in what it makes."""
+    for size in sizes:
+        ran = runs.answers(words, texts, made, size)
+        if ran != (status_of(wanted[0]), *wanted):
+            yield f"by {size} bytes {ran}, and not {wanted}"
+
+
+# ---- texts
+
+
+def converted(runs, kind, text, asked, wanted):
+    """Yields what is wrong with a row of a text."""
+    if asked == "refused":
+        yield from unlike(runs, f"convert {kind} T", {"T": text}, [f"x {TEXTS[kind]} {wanted}\n"])
+    elif asked == "shown":
+        yield from unlike(runs, f"show {kind} T", {"T": text}, [wanted])
+    else:
+        yield from unlike(runs, f"convert {kind} T", {"T": text}, [wanted])
+        yield from unlike(runs, f"convert {kind} T", {"T": wanted}, [wanted])
+
+
+def read_no_more(runs, text, wanted):
+    """Yields what is wrong if a text isn't refused after so many reads."""
+    runs.write("T", text)
+    status, *_ = runs.run("convert gr T", 1, COUNTS=runs.path("counts"))
+    reads = int(runs.read("counts").split()[1])
+    if (status, reads) != (1, wanted):
+        yield f"status {status} after {reads} reads, and not {wanted}"
+
+
+def texts(runs):
+    for kind in TEXTS:
+        for name, *row in rows(kind):
+            runs.case(f"{kind}, {name}", converted(runs, kind, *row))
+    for text, reads in LAST_READS:
+        runs.case(f"reads of {text!r}", read_no_more(runs, text, reads))
+    for number, (text, printed) in enumerate(BYTES + LONG_LINES):
+        sizes = SIZES if len(text) < len(LONGEST) else LONG_SIZES
+        runs.case(f"bytes {number}", unlike(runs, "convert gr T", {"T": text}, [printed], sizes=sizes))
+    endless = runs.run("convert gr /dev/zero")
+    runs.case("a line without an end", [endless] * (endless != (1, "x instance 1 0 LineTooLong\n", "")))
+
+
+# ---- judges
+
+
+def judged(runs, command, instance, claim, certificate, size=None):
+    """What a judge answers to these texts, of which `infeasible` has no claim."""
+    words = "I C" if command == "infeasible" else "I S C"
+    return runs.answers(f"judge-{command} {words}", {"I": instance, "S": claim, "C": certificate}, (), size)
+
+
+def cut_off(runs, command, given):
+    """Yields where texts that are cut off aren't judged alike whole and byte by byte."""
+    for at, text in enumerate(given):
+        for end in range(len(text)):
+            shorter = [*given[:at], text[:end], *given[at + 1 :]]
+            whole, by_byte = judged(runs, command, *shorter), judged(runs, command, *shorter, 1)
+            if whole != by_byte:
+                yield f"text {at + 1} up to byte {end}: whole {whole}, by bytes {by_byte}"
+
+
+def judges(runs):
+    for command in ("max", "min", "paths"):
+        for name, instance, claim, certificate, output in rows(f"judge-{command}"):
+            given = {"I": instance, "S": claim, "C": certificate}
+            runs.case(f"judge-{command}, {name}", unlike(runs, f"judge-{command} I S C", given, [output]))
+    for name, instance, certificate, output in rows("judge-infeasible"):
+        given = {"I": instance, "C": certificate}
+        runs.case(f"judge-infeasible, {name}", unlike(runs, "judge-infeasible I C", given, [output]))
+    for command, cut_row in CUT_OFF:
+        given = next(texts for name, *texts, _ in rows(f"judge-{command}") if name == cut_row)
+        runs.case(f"judge-{command}, cut off", cut_off(runs, command, given))
+
+
+# ---- certifiers
+
+
+def better_leads_to(runs, command, instance, solution, verdict):
+    """Yields what is wrong if better solutions, claimed in turn, don't end in this verdict."""
+    refusal = f"x solution 1 2 {'NotMaximum' if command == 'max' else 'NotLeast'}\n"
+    for _ in range(MOST_STEPS):
+        status, printed, made = runs.answers(f"certify-{command} I S W", {"I": instance, "S": solution}, ["W"])
+        if status == 0:
+            if printed != verdict or judged(runs, command, instance, solution, made) != (0, verdict):
+                yield f"{solution!r} with {made!r} prints {printed!r}"
+            return
+        if printed != refusal:
+            yield f"{solution!r} prints {printed!r}"
+            return
+        solution = made
+    yield "steps without end"
+
+
+def certified_flow(runs, command, instance, solution, certificate, output, verdict=""):
+    """Yields what is wrong with a row of a certified flow."""
+    given = {"I": instance, "S": solution}
+    for size in sizes_for(instance):
+        status, printed, made = runs.answers(f"certify-{command} I S W", given, ["W"], size)
+        if (status, printed) != (status_of(output), output) or not is_right(made, certificate):
+            yield f"by {size} bytes prints {printed!r} and writes {made!r}"
+        elif status == 0 and judged(runs, command, instance, solution, made) != (0, output):
+            yield f"{made!r} isn't accepted"
+        elif verdict:
+            yield from better_leads_to(runs, command, instance, made, verdict)
+
+
+def certified_set(runs, instance, certificate, output):
+    """Yields what is wrong with a row of an infeasible instance."""
+    for size in sizes_for(instance):
+        status, printed, made = runs.answers("certify-infeasible I W", {"I": instance}, ["W"], size)
+        if (status, printed) != (status_of(output), output) or not is_right(made, certificate):
+            yield f"by {size} bytes prints {printed!r} and writes {made!r}"
+        elif status == 0 and judged(runs, "infeasible", instance, "", made) != (0, output):
+            yield f"{made!r} isn't accepted"
+        elif made and status == 1:
+            _, answer, _ = runs.answers("certify-min I S W", {"S": made}, ["W"])
+            if not re.fullmatch(r"v min .*\n|x solution 1 2 NotLeast\n", answer):
+                yield f"{made!r} isn't feasible: {answer!r}"
+
+
+def certifiers(runs):
+    for command in ("max", "min"):
+        for name, *row in rows(f"certify-{command}"):
+            runs.case(f"certify-{command}, {name}", certified_flow(runs, command, *row))
+    for name, *row in rows("certify-infeasible"):
+        runs.case(f"certify-infeasible, {name}", certified_set(runs, *row))
+    for name, graph, distances, labels, output in rows("certify-paths"):
+        given = {"G": graph, "D": distances}
+        runs.case(f"certify-paths, {name}", unlike(runs, "certify-paths G D W", given, [output, labels], ["W"]))
+
+
+# ---- solvers
+
+
+def solved(runs, command, limit, instance, solution, certificate, output):
+    """Yields what is wrong with a row of a solver of flows."""
+    for size in SIZES:
+        words = f"solve-{command} I S C --limit {limit}"
+        status, printed, *made = runs.answers(words, {"I": instance}, ["S", "C"], size)
+        is_made = all(map(is_right, made, (solution, certificate)))
+        if (status, printed) != (status_of(output), output) or not is_made:
+            yield f"by {size} bytes prints {printed!r} and writes {made!r}"
+        elif status == 0:
+            judge = "infeasible" if output == "v infeasible\n" else command
+            if judged(runs, judge, instance, *made) != (0, output):
+                yield f"{made!r} isn't accepted"
+
+
+def solved_paths(runs, graph, queries, labels, output):
+    """Yields what is wrong with a row of the solver of distances."""
+    for size in SIZES:
+        status, printed, made = runs.answers("solve-paths I S C", {"I": graph, "S": queries}, ["C"], size)
+        if (status, printed) != (status_of(output), output) or not is_right(made, labels):
+            yield f"by {size} bytes prints {printed!r} and writes {made!r}"
+        elif status == 0 and judged(runs, "paths", graph, queries, made) != (0, output):
+            yield f"{made!r} isn't accepted"
+
+
+def solvers(runs):
+    for command in ("max", "min"):
+        for name, *row in rows(f"solve-{command}"):
+            runs.case(f"solve-{command}, {name}", solved(runs, command, *row))
+        for name, instance, solution, dealt, output in rows(f"spread-{command}"):
+            given = {"I": instance, "S": solution}
+            runs.case(f"spread-{command}, {name}", unlike(runs, f"spread-{command} I S W", given, [output, dealt], ["W"]))
+    for name, *row in rows("solve-paths"):
+        runs.case(f"solve-paths, {name}", solved_paths(runs, *row))
+
+
+# ---- commands
+
+
+def events(runs, log):
+    """What was done with files by the log of refusals.c, in the words of a row."""
+    created = set()
+    for line in log.splitlines():
+        done, name = re.fullmatch(r"((?:not )?\w+) (.*)", line).groups()
+        if "/" in name:
+            continue
+        if done == "created":
+            created.add(name)
+        signs = {"opened": "<", "created": ">", "not opened": "! <", "not created": "! >"}
+        signs["closed"] = "=" if name in created else "-"
+        yield f"{signs[done]} {name}\n"
+        if signs[done] == "=" and not os.path.islink(runs.path(name)):
+            yield runs.read(name)
+
+
+def ended(runs, words, done, output, complaint, status):
+    """Yields what is wrong with a row of a command."""
+    for name, text in rows("files"):
+        runs.write(name, text)
+    for name in ("a", "b"):
+        if os.path.exists(runs.path(name)):
+            os.remove(runs.path(name))
+    *ran, complained = runs.run(words, EVENTS=runs.path("events"))
+    if ran != [int(status), output]:
+        yield f"{ran}, and not {[int(status), output]}"
+    if complaint and f"dimacs: {complaint.replace(' ', ': ', 1)}: " not in complained:
+        yield f"complains {complained!r}"
+    found = "".join(events(runs, runs.read("events")))
+    if found != done:
+        yield f"does {found!r}, and not {done!r}"
+
+
+def commands(runs):
+    for name in ("broken", "denied"):
+        os.mkdir(runs.path(name))
+    os.symlink("/dev/full", runs.path("full"))
+    for words, *row in rows("commands"):
+        runs.case(words, ended(runs, words, *row))
+
+
+def main():
+    binary = os.path.abspath(sys.argv[1] if len(sys.argv) > 1 else BINARY)
+    with tempfile.TemporaryDirectory() as folder:
+        runs = Runs(binary, build(folder), folder)
+        for part in (texts, judges, certifiers, solvers, commands):
+            part(runs)
+    for failure in runs.failures:
+        print(f"FAILED: {failure}")
+    failed = len({it.split(": ")[0] for it in runs.failures})
+    print(f"{runs.passed} passed, {failed} failed")
+    return 1 if failed or not runs.passed else 0
+
+
+if __name__ == "__main__":
+    sys.exit(main())
