@@ -7,10 +7,10 @@ own. tools/theorem.md has the text, with these lines between:
     @contract FILE FUNCTION     the declaration of a public function, without its body
     @trait FILE NAME            a trait of Rust
     @declared FILE NAME..       types of Rust of one file
-    @define NAME..              definitions, one after another, of one file of specs
+    @define NAME..              definitions, one after another
     @table NAME                 a definition that has a line for each reason, cut short: each gives the reason's own name
     @kit NAME : MEANING         a row of the table of what is cited of the kit
-    @adds command|library       the names of what wider contracts cite beside that
+    @adds judge|command|library the files and names of what it cites, and of what wider contracts cite beside that
 
 tools/believed.py finds what the contract cites. The script ends with 1 if something cited is missing on the page, if
 something there isn't cited, stands twice or before what it uses, or if a definition has neither a comment nor its name
@@ -31,6 +31,9 @@ ROOT = believed.ROOT
 FRAME = f"{ROOT}/tools/theorem.md"
 PAGE = f"{ROOT}/docs/THEOREM.md"
 CIRCLE = "judge"
+
+# The columns of a line.
+WIDTH = 120
 
 # A kit's module, or that of a type of Rust.
 KIT = re.compile(r"Rattle\.(std|core)\.specs\.")
@@ -57,15 +60,14 @@ class Page:
     # ---- what each line of the frame asks for
 
     def contract(self, path, name):
-        self.add_code(textwrap.dedent(item_of(path, "fn", name, r"(?=^ *\{$)")).rstrip(), "rust")
+        self.add_code([textwrap.dedent(item_of(path, "fn", name, r"(?=^ *\{$)")).rstrip()], "rust")
 
     def trait(self, path, name):
-        self.add_code(item_of(path, "trait", name), "rust")
+        self.add_code([item_of(path, "trait", name)], "rust")
 
     def declared(self, path, *names):
         self.types.update(names)
-        code = [shortened(item_of(path, "(?:enum|struct)", name)) for name in names]
-        self.add_code("\n".join(code), "rust", names)
+        self.add_code(["\n".join(shortened(item_of(path, "(?:enum|struct)", name)) for name in names)], "rust", names)
 
     def define(self, *names):
         self.add_definitions(names, [self.defined.blocks[it] for it in map(self.place, names) if it])
@@ -125,10 +127,7 @@ class Page:
     def add_definitions(self, names, blocks):
         for name in names:
             self.check(name)
-        modules = {module_of(self.by_name[it]) for it in names if it in self.by_name}
-        if len(modules) > 1:
-            self.wrong.append(f"of several files: {' '.join(names)}")
-        self.add_code(f"---- {' '.join(modules)}\n{spaced(map(bare, blocks))}", "text", names)
+        self.add_code([bare(it) for it in blocks], "text", names)
 
     def check(self, name):
         it = self.by_name.get(name)
@@ -151,11 +150,11 @@ class Page:
         self.text += text + "\n"
         self.parts.append(("prose", text, ()))
 
-    def add_code(self, code, kind, names=()):
+    def add_code(self, blocks, kind, names=()):
+        before, earlier = [], []
         if self.parts and self.parts[-1][0] == kind:
             _, before, earlier = self.parts.pop()
-            code, names = f"{before}\n\n{code}", [*earlier, *names]
-        self.parts.append((kind, code, names))
+        self.parts.append((kind, [*before, *blocks], [*earlier, *names]))
 
     def end(self):
         types = {it[1] for it in map(DECLARED.search, (module for module, _ in self.named())) if it}
@@ -177,19 +176,50 @@ def module_of(it):
 
 
 def bare(block):
-    """A definition without the words that each has, with the types of its arguments beside their names."""
+    """A definition without the words that each has, in few lines."""
     comments = list(itertools.takewhile(lambda it: it.startswith("--"), block))
     lines = [re.sub(r"^( *)(?:abbrev )?pub ", r"\1", it) for it in block[len(comments) :]]
-    return "\n".join([*comments, *fused(lines)])
+    head, *more = joined(fused(lines))
+    beside = f"{head}  -- {' '.join(it.removeprefix('-- ') for it in comments)}"
+    if comments and len(beside) <= WIDTH:
+        return "\n".join([beside, *more])
+    return "\n".join([*comments, head, *more])
 
 
 def spaced(blocks):
-    """Definitions one after another: with a line between two, unless each has one line."""
-    text, before = "", ""
+    """Definitions one after another: with a line between long ones, and around each of three lines or more."""
+    text, before = "", 0
     for block in blocks:
-        text += ("" if not before else "\n\n" if "\n" in before + block else "\n") + block
-        before = block
+        size = sum(not it.startswith("--") for it in block.split("\n"))
+        text += ("" if not before else "\n\n" if max(size, before) > 2 or size == before == 2 else "\n") + block
+        before = size
     return text
+
+
+def joined(lines):
+    """The lines of a definition, with its fields, or its equations, side by side if they fit."""
+    head, *inner = lines
+    if not inner:
+        return lines
+    if re.match(r"(record|data) .* where$", head):
+        whole = f"{head} {'; '.join(it.strip() for it in inner)}"
+        is_flat = all(re.match(r" {2}\S", it) for it in inner)
+        return [whole] if is_flat and len(whole) <= WIDTH else [head, *side_by_side(inner)]
+    name = head.split()[0]
+    equations = "; ".join(inner)
+    return [head, equations] if len(equations) <= WIDTH and all(it.startswith(f"{name} ") for it in inner) else lines
+
+
+def side_by_side(lines):
+    """Fields with as many on a line as fit. One that has several lines keeps them."""
+    fields, told = re.split(r"\n(?= {2}\S)", "\n".join(lines)), []
+    for field in fields:
+        beside = f"{told[-1]}; {field.strip()}" if told else ""
+        if beside and "\n" not in beside and len(beside) <= WIDTH:
+            told[-1] = beside
+        else:
+            told.append(field)
+    return "\n".join(told).split("\n")
 
 
 def fused(lines):
@@ -211,13 +241,13 @@ def fused(lines):
             groups.append(([name], its_type))
     told = [*given, *(f"({' '.join(names)} : {its_type})" for names, its_type in groups)]
     start = f"{' '.join([head[1], *told])} : {' → '.join(left)} ="
-    if len(start + equation[3]) <= 120:
+    if len(start + equation[3]) <= WIDTH:
         return [start + equation[3], *lines[2:]]
     return [start, *([f"   {equation[3]}"] if equation[3] else []), *lines[2:]]
 
 
 def filled(item):
-    return textwrap.fill(item, 120, subsequent_indent="  ", break_long_words=False, break_on_hyphens=False)
+    return textwrap.fill(item, WIDTH, subsequent_indent="  ", break_long_words=False, break_on_hyphens=False)
 
 
 def as_code(name):
@@ -225,14 +255,13 @@ def as_code(name):
 
 
 def shortened(item):
-    """A type of Rust, each variant or field on a line with its comment; variants that have none stand side by side."""
+    """A type of Rust, each variant or field on a line with its comment; if none has one, side by side."""
     item = re.sub(r"^ *#\[.*\n", "", item, flags=re.M)
     item = re.sub(r"\{\n((?: {8}.*\n)+) {4}\}", lambda it: "{ " + " ".join(it[1].split()).rstrip(",") + " }", item)
     item = re.sub(r"^ */// (.*)\n( *)(.*)$", r"\2\3  // \1", item, flags=re.M)
     head, *inner, end = item.split("\n")
-    if all(re.fullmatch(r" +\w+,", it) for it in inner):
-        return f"{head} {' '.join(it.strip() for it in inner).rstrip(',')} {end}"
-    return item
+    whole = f"{head} {' '.join(it.strip() for it in inner).rstrip(',')} {end}"
+    return whole if "//" not in item and len(whole) <= WIDTH else item
 
 
 @functools.cache
@@ -240,7 +269,7 @@ def cited():
     """The definitions, those that the judge's contract cites, and those that wider ones cite beside them."""
     defined = believed.all_definitions()
     circles = {name: believed.reached_from(defined, believed.named_by(*it)) for name, it in believed.CIRCLES.items()}
-    outer = {name: it - circles[CIRCLE] for name, it in circles.items()}
+    outer = {name: it - circles[CIRCLE] for name, it in circles.items()} | {CIRCLE: circles[CIRCLE]}
     outer["library"] = believed.reached_from(defined, believed.named_by_all()) - set().union(*circles.values())
     return defined, circles[CIRCLE], outer
 
@@ -272,7 +301,7 @@ def follow(page, paragraph):
 
 
 def markdown(page):
-    blocks = [text if kind == "prose" else f"```{kind}\n{text}\n```" for kind, text, _ in page.parts]
+    blocks = [it if kind == "prose" else f"```{kind}\n{spaced(it)}\n```" for kind, it, _ in page.parts]
     return "\n\n".join(blocks) + "\n"
 
 
@@ -285,7 +314,7 @@ def html_page(page):
         if kind == "prose":
             body += [html_block(page, *it) for it in man_pages.blocks(text)]
         else:
-            body.append(f"<pre>{linked(page, text, names)}</pre>")
+            body.append(f"<pre>{linked(page, spaced(text), names)}</pre>")
     title = '<!DOCTYPE html>\n<html lang="en"><meta charset="utf-8"><title>The theorem</title>'
     head = f"{title}\n<style>{STYLE}</style>\n"
     return head + "\n".join(body).replace("</ul>\n<ul>\n", "\n") + "\n</html>\n"
