@@ -175,15 +175,19 @@ def module_of(it):
     return it[0].removeprefix("Rattle.").replace(".specs.", ": ")
 
 
-def bare(block):
-    """A definition without the words that each has, in few lines."""
+def parts_of(block):
+    """The comments and the lines of a definition, without the words that each has."""
     comments = list(itertools.takewhile(lambda it: it.startswith("--"), block))
-    lines = [re.sub(r"^( *)(?:abbrev )?pub ", r"\1", it) for it in block[len(comments) :]]
-    head, *more = joined(fused(lines))
+    return comments, fused([re.sub(r"^( *)(?:abbrev )?pub ", r"\1", it) for it in block[len(comments) :]])
+
+
+def bare(block):
+    """A definition in few lines, with its comment beside the first if it fits."""
+    comments, lines = parts_of(block)
+    head, *more = joined(lines)
     beside = f"{head}  -- {' '.join(it.removeprefix('-- ') for it in comments)}"
-    if comments and len(beside) <= WIDTH:
-        return "\n".join([beside, *more])
-    return "\n".join([*comments, head, *more])
+    told = [beside] if comments and len(beside) <= WIDTH else [*comments, head]
+    return "\n".join([*told, *more])
 
 
 def spaced(blocks):
