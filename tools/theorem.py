@@ -8,6 +8,7 @@ own. tools/theorem.md has the text, with these lines between:
     @trait FILE NAME            a trait of Rust
     @declared FILE NAME..       types of Rust of one file
     @define NAME..              definitions, one after another
+    @says NAME : SENTENCE       the comment of a definition that has none in the sources
     @table NAME                 a definition that has a line for each reason, cut short: each gives the reason's own name
     @kit NAME : MEANING         a row of the table of what is cited of the kit
     @adds judge|command|library the files and names of what it cites, and of what wider contracts cite beside that
@@ -54,7 +55,7 @@ class Page:
         self.by_name = {name: (module, name) for module, name in circle}
         names = [name for _, name in circle]
         self.wrong = [f"two of this name: {it}" for it in sorted(set(names)) if names.count(it) > 1]
-        self.shown, self.types, self.kit = set(), set(), {}
+        self.shown, self.types, self.kit, self.said = set(), set(), {}, {}
         self.text, self.parts = "", []
 
     # ---- what each line of the frame asks for
@@ -70,13 +71,18 @@ class Page:
         self.add_code(["\n".join(shortened(item_of(path, "(?:enum|struct)", name)) for name in names)], "rust", names)
 
     def define(self, *names):
-        self.add_definitions(names, [self.defined.blocks[it] for it in map(self.place, names) if it])
+        self.add_definitions(names, [self.block(it) for it in map(self.place, names) if it])
 
     def table(self, name):
         first, *rows = self.defined.blocks[self.place(name)]
         own = re.compile(rf'{name} (\w+) = codes "\1"')
         self.wrong += [f"{name}: not the reason's own name: {it}" for it in rows if not own.fullmatch(it)]
         self.add_definitions([name], [[first, *rows[:2], f"-- and so on, {len(rows)} lines"]])
+
+    def says(self, name, sentence):
+        self.said[name] = sentence
+        if name in self.shown or self.by_name.get(name) and self.has_comment(name):
+            self.wrong.append(f"said of {name}, which has a comment or stands above")
 
     def kit_table(self):
         cited = {}
@@ -105,6 +111,13 @@ class Page:
         if name not in self.by_name:
             self.wrong.append(f"not cited: {name}")
         return self.by_name.get(name)
+
+    def has_comment(self, name):
+        return self.defined.blocks[self.by_name[name]][0].startswith("--")
+
+    def block(self, it):
+        said = self.said.get(it[1])
+        return [*([f"-- {said}"] if said else []), *self.defined.blocks[it]]
 
     def named(self):
         """All that the contract and the definitions of the circle name."""
@@ -143,7 +156,7 @@ class Page:
             type_of = DECLARED.search(module)
             if type_of and type_of[1] not in self.types:
                 self.wrong.append(f"{name} stands before {type_of[1]}, which it uses")
-        if not self.defined.blocks[it][0].startswith("--") and f"`{name}" not in self.text:
+        if name not in self.said and not self.has_comment(name) and f"`{name}" not in self.text:
             self.wrong.append(f"{name} has no sentence")
 
     def add_text(self, text):
@@ -159,7 +172,7 @@ class Page:
     def end(self):
         types = {it[1] for it in map(DECLARED.search, (module for module, _ in self.named())) if it}
         self.wrong += [f"missing: {it}" for it in sorted(types - self.types | self.by_name.keys() - self.shown)]
-        self.wrong += [f"not cited: {it}" for it in sorted(self.types - types)]
+        self.wrong += [f"not cited: {it}" for it in sorted(self.types - types | self.said.keys() - self.shown)]
 
 
 ASKED = {f"@{it.__name__}": it for it in (Page.contract, Page.trait, Page.declared, Page.define, Page.table, Page.adds)}
@@ -296,6 +309,8 @@ def follow(page, paragraph):
         asked, *words = line.split()
         if asked == "@kit":
             page.kit[words[0]] = line.split(" : ", 1)[1]
+        elif asked == "@says":
+            page.says(words[0], line.split(" : ", 1)[1])
         elif asked in ASKED:
             ASKED[asked](page, *words)
         else:
