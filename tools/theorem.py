@@ -165,8 +165,13 @@ class Page:
 
     def add_code(self, blocks, kind, names=()):
         before, earlier = [], []
-        if self.parts and self.parts[-1][0] == kind:
-            _, before, earlier = self.parts.pop()
+        if self.parts and self.parts[-1][0] != "prose":
+            before_kind, before, earlier = self.parts[-1]
+            # a type of Rust on one line stands among the definitions
+            if before_kind == kind or kind == "text" and not any("\n" in it for it in before):
+                self.parts.pop()
+            else:
+                before, earlier = [], []
         self.parts.append((kind, [*before, *blocks], [*earlier, *names]))
 
     def end(self):
@@ -204,18 +209,18 @@ def bare(block):
 
 
 def spaced(blocks):
-    """Definitions one after another: with a line between long ones, and around each of three lines or more."""
+    """Definitions one after another: with a line around each of three lines or more."""
     text, before = "", 0
     for block in blocks:
         size = sum(not it.startswith("--") for it in block.split("\n"))
-        text += ("" if not before else "\n\n" if max(size, before) > 2 or size == before == 2 else "\n") + block
+        text += ("" if not before else "\n\n" if max(size, before) > 2 else "\n") + block
         before = size
     return text
 
 
 def joined(lines):
-    """The lines of a definition, with its fields, or its equations, side by side if they fit."""
-    head, *inner = lines
+    """The lines of a definition, with its fields, its equations, or the items of a list side by side if they fit."""
+    head, *inner = lines = carried_on(lines)
     if not inner:
         return lines
     if re.match(r"(record|data) .* where$", head):
@@ -225,6 +230,18 @@ def joined(lines):
     name = head.split()[0]
     equations = "; ".join(inner)
     return [head, equations] if len(equations) <= WIDTH and all(it.startswith(f"{name} ") for it in inner) else lines
+
+
+def carried_on(lines):
+    """The lines, where one that begins with an operator carries on the one before it, if it fits."""
+    told = lines[:1]
+    for line in lines[1:]:
+        beside = f"{told[-1]} {line.strip()}"
+        if re.match(r" +[∷⊎×→] ", line) and len(beside) <= WIDTH:
+            told[-1] = beside
+        else:
+            told.append(line)
+    return told
 
 
 def side_by_side(lines):
