@@ -164,15 +164,13 @@ class Page:
         self.parts.append(("prose", text, ()))
 
     def add_code(self, blocks, kind, names=()):
-        before, earlier = [], []
         if self.parts and self.parts[-1][0] != "prose":
             before_kind, before, earlier = self.parts[-1]
-            # a type of Rust on one line stands among the definitions
-            if before_kind == kind or kind == "text" and not any("\n" in it for it in before):
-                self.parts.pop()
-            else:
-                before, earlier = [], []
-        self.parts.append((kind, [*before, *blocks], [*earlier, *names]))
+            # types of Rust on one line each stand among the definitions
+            if before_kind == kind or not any("\n" in it for it in (before if kind == "text" else blocks)):
+                self.parts[-1] = "text" if "text" in (kind, before_kind) else kind, [*before, *blocks], [*earlier, *names]
+                return
+        self.parts.append((kind, blocks, names))
 
     def end(self):
         types = {it[1] for it in map(DECLARED.search, (module for module, _ in self.named())) if it}
