@@ -7,10 +7,11 @@ own. tools/theorem.md has the text, with these lines between:
     @contract FILE FUNCTION     the declaration of a public function, without its body
     @trait FILE NAME            a trait of Rust
     @declared FILE NAME..       types of Rust of one file
-    @define NAME..              definitions, one after another, of one file of specs
+    @define NAME..              definitions, one after another
+    @says NAME : SENTENCE       the comment of a definition that has none in the sources
     @table NAME                 a definition that has a line for each reason, cut short: each gives the reason's own name
     @kit NAME : MEANING         a row of the table of what is cited of the kit
-    @adds command|library       the names of what wider contracts cite beside that
+    @adds judge|command|library the files and names of what it cites, and of what wider contracts cite beside that
 
 tools/believed.py finds what the contract cites. The script ends with 1 if something cited is missing on the page, if
 something there isn't cited, stands twice or before what it uses, or if a definition has neither a comment nor its name
@@ -32,6 +33,9 @@ FRAME = f"{ROOT}/tools/theorem.md"
 PAGE = f"{ROOT}/docs/THEOREM.md"
 CIRCLE = "judge"
 
+# The columns of a line.
+WIDTH = 120
+
 # A kit's module, or that of a type of Rust.
 KIT = re.compile(r"Rattle\.(std|core)\.specs\.")
 DECLARED = re.compile(r"\.specs\.declared\..*?([A-Z]\w*)")
@@ -51,30 +55,34 @@ class Page:
         self.by_name = {name: (module, name) for module, name in circle}
         names = [name for _, name in circle]
         self.wrong = [f"two of this name: {it}" for it in sorted(set(names)) if names.count(it) > 1]
-        self.shown, self.types, self.kit = set(), set(), {}
+        self.shown, self.types, self.kit, self.said = set(), set(), {}, {}
         self.text, self.parts = "", []
 
     # ---- what each line of the frame asks for
 
     def contract(self, path, name):
-        self.add_code(textwrap.dedent(item_of(path, "fn", name, r"(?=^ *\{$)")).rstrip(), "rust")
+        self.add_code([textwrap.dedent(item_of(path, "fn", name, r"(?=^ *\{$)")).rstrip()], "rust")
 
     def trait(self, path, name):
-        self.add_code(item_of(path, "trait", name), "rust")
+        self.add_code([item_of(path, "trait", name)], "rust")
 
     def declared(self, path, *names):
         self.types.update(names)
-        code = [shortened(item_of(path, "(?:enum|struct)", name)) for name in names]
-        self.add_code("\n".join(code), "rust", names)
+        self.add_code(["\n".join(shortened(item_of(path, "(?:enum|struct)", name)) for name in names)], "rust", names)
 
     def define(self, *names):
-        self.add_definitions(names, [self.defined.blocks[it] for it in map(self.place, names) if it])
+        self.add_definitions(names, [self.block(it) for it in map(self.place, names) if it])
 
     def table(self, name):
         first, *rows = self.defined.blocks[self.place(name)]
         own = re.compile(rf'{name} (\w+) = codes "\1"')
         self.wrong += [f"{name}: not the reason's own name: {it}" for it in rows if not own.fullmatch(it)]
         self.add_definitions([name], [[first, *rows[:2], f"-- and so on, {len(rows)} lines"]])
+
+    def says(self, name, sentence):
+        self.said[name] = sentence
+        if name in self.shown or self.by_name.get(name) and self.has_comment(name):
+            self.wrong.append(f"said of {name}, which has a comment or stands above")
 
     def kit_table(self):
         cited = {}
@@ -104,6 +112,13 @@ class Page:
             self.wrong.append(f"not cited: {name}")
         return self.by_name.get(name)
 
+    def has_comment(self, name):
+        return self.defined.blocks[self.by_name[name]][0].startswith("--")
+
+    def block(self, it):
+        said = self.said.get(it[1])
+        return [*([f"-- {said}"] if said else []), *self.defined.blocks[it]]
+
     def named(self):
         """All that the contract and the definitions of the circle name."""
         by_definitions = (self.defined.rests_on[it] for it in self.circle)
@@ -125,10 +140,7 @@ class Page:
     def add_definitions(self, names, blocks):
         for name in names:
             self.check(name)
-        modules = {module_of(self.by_name[it]) for it in names if it in self.by_name}
-        if len(modules) > 1:
-            self.wrong.append(f"of several files: {' '.join(names)}")
-        self.add_code(f"---- {' '.join(modules)}\n{spaced(map(bare, blocks))}", "text", names)
+        self.add_code([bare(it) for it in blocks], "text", names)
 
     def check(self, name):
         it = self.by_name.get(name)
@@ -144,23 +156,26 @@ class Page:
             type_of = DECLARED.search(module)
             if type_of and type_of[1] not in self.types:
                 self.wrong.append(f"{name} stands before {type_of[1]}, which it uses")
-        if not self.defined.blocks[it][0].startswith("--") and f"`{name}" not in self.text:
+        if name not in self.said and not self.has_comment(name) and f"`{name}" not in self.text:
             self.wrong.append(f"{name} has no sentence")
 
     def add_text(self, text):
         self.text += text + "\n"
         self.parts.append(("prose", text, ()))
 
-    def add_code(self, code, kind, names=()):
-        if self.parts and self.parts[-1][0] == kind:
-            _, before, earlier = self.parts.pop()
-            code, names = f"{before}\n\n{code}", [*earlier, *names]
-        self.parts.append((kind, code, names))
+    def add_code(self, blocks, kind, names=()):
+        if self.parts and self.parts[-1][0] != "prose":
+            before_kind, before, earlier = self.parts[-1]
+            # types of Rust on one line each stand among the definitions
+            if before_kind == kind or not any("\n" in it for it in (before if kind == "text" else blocks)):
+                self.parts[-1] = "text" if "text" in (kind, before_kind) else kind, [*before, *blocks], [*earlier, *names]
+                return
+        self.parts.append((kind, blocks, names))
 
     def end(self):
         types = {it[1] for it in map(DECLARED.search, (module for module, _ in self.named())) if it}
         self.wrong += [f"missing: {it}" for it in sorted(types - self.types | self.by_name.keys() - self.shown)]
-        self.wrong += [f"not cited: {it}" for it in sorted(self.types - types)]
+        self.wrong += [f"not cited: {it}" for it in sorted(self.types - types | self.said.keys() - self.shown)]
 
 
 ASKED = {f"@{it.__name__}": it for it in (Page.contract, Page.trait, Page.declared, Page.define, Page.table, Page.adds)}
@@ -176,20 +191,67 @@ def module_of(it):
     return it[0].removeprefix("Rattle.").replace(".specs.", ": ")
 
 
-def bare(block):
-    """A definition without the words that each has, with the types of its arguments beside their names."""
+def parts_of(block):
+    """The comments and the lines of a definition, without the words that each has."""
     comments = list(itertools.takewhile(lambda it: it.startswith("--"), block))
-    lines = [re.sub(r"^( *)(?:abbrev )?pub ", r"\1", it) for it in block[len(comments) :]]
-    return "\n".join([*comments, *fused(lines)])
+    return comments, fused([re.sub(r"^( *)(?:abbrev )?pub ", r"\1", it) for it in block[len(comments) :]])
+
+
+def bare(block):
+    """A definition in few lines, with its comment beside the first if it fits."""
+    comments, lines = parts_of(block)
+    head, *more = joined(lines)
+    beside = f"{head}  -- {' '.join(it.removeprefix('-- ') for it in comments)}"
+    told = [beside] if comments and len(beside) <= WIDTH else [*comments, head]
+    return "\n".join([*told, *more])
 
 
 def spaced(blocks):
-    """Definitions one after another: with a line between two, unless each has one line."""
-    text, before = "", ""
+    """Definitions one after another: with a line around each of three lines or more."""
+    text, before = "", 0
     for block in blocks:
-        text += ("" if not before else "\n\n" if "\n" in before + block else "\n") + block
-        before = block
+        size = sum(not it.startswith("--") for it in block.split("\n"))
+        text += ("" if not before else "\n\n" if max(size, before) > 2 else "\n") + block
+        before = size
     return text
+
+
+def joined(lines):
+    """The lines of a definition, with its fields, its equations, or the items of a list side by side if they fit."""
+    head, *inner = lines = carried_on(lines)
+    if not inner:
+        return lines
+    if re.match(r"(record|data) .* where$", head):
+        whole = f"{head} {'; '.join(it.strip() for it in inner)}"
+        is_flat = all(re.match(r" {2}\S", it) for it in inner)
+        return [whole] if is_flat and len(whole) <= WIDTH else [head, *side_by_side(inner)]
+    name = head.split()[0]
+    equations = "; ".join(inner)
+    return [head, equations] if len(equations) <= WIDTH and all(it.startswith(f"{name} ") for it in inner) else lines
+
+
+def carried_on(lines):
+    """The lines, where one that begins with an operator carries on the one before it, if it fits."""
+    told = lines[:1]
+    for line in lines[1:]:
+        beside = f"{told[-1]} {line.strip()}"
+        if re.match(r" +[∷⊎×→] ", line) and len(beside) <= WIDTH:
+            told[-1] = beside
+        else:
+            told.append(line)
+    return told
+
+
+def side_by_side(lines):
+    """Fields with as many on a line as fit. One that has several lines keeps them."""
+    fields, told = re.split(r"\n(?= {2}\S)", "\n".join(lines)), []
+    for field in fields:
+        beside = f"{told[-1]}; {field.strip()}" if told else ""
+        if beside and "\n" not in beside and len(beside) <= WIDTH:
+            told[-1] = beside
+        else:
+            told.append(field)
+    return "\n".join(told).split("\n")
 
 
 def fused(lines):
@@ -211,13 +273,13 @@ def fused(lines):
             groups.append(([name], its_type))
     told = [*given, *(f"({' '.join(names)} : {its_type})" for names, its_type in groups)]
     start = f"{' '.join([head[1], *told])} : {' → '.join(left)} ="
-    if len(start + equation[3]) <= 120:
+    if len(start + equation[3]) <= WIDTH:
         return [start + equation[3], *lines[2:]]
     return [start, *([f"   {equation[3]}"] if equation[3] else []), *lines[2:]]
 
 
 def filled(item):
-    return textwrap.fill(item, 120, subsequent_indent="  ", break_long_words=False, break_on_hyphens=False)
+    return textwrap.fill(item, WIDTH, subsequent_indent="  ", break_long_words=False, break_on_hyphens=False)
 
 
 def as_code(name):
@@ -225,14 +287,13 @@ def as_code(name):
 
 
 def shortened(item):
-    """A type of Rust, each variant or field on a line with its comment; variants that have none stand side by side."""
+    """A type of Rust, each variant or field on a line with its comment; if none has one, side by side."""
     item = re.sub(r"^ *#\[.*\n", "", item, flags=re.M)
     item = re.sub(r"\{\n((?: {8}.*\n)+) {4}\}", lambda it: "{ " + " ".join(it[1].split()).rstrip(",") + " }", item)
     item = re.sub(r"^ */// (.*)\n( *)(.*)$", r"\2\3  // \1", item, flags=re.M)
     head, *inner, end = item.split("\n")
-    if all(re.fullmatch(r" +\w+,", it) for it in inner):
-        return f"{head} {' '.join(it.strip() for it in inner).rstrip(',')} {end}"
-    return item
+    whole = f"{head} {' '.join(it.strip() for it in inner).rstrip(',')} {end}"
+    return whole if "//" not in item and len(whole) <= WIDTH else item
 
 
 @functools.cache
@@ -240,7 +301,7 @@ def cited():
     """The definitions, those that the judge's contract cites, and those that wider ones cite beside them."""
     defined = believed.all_definitions()
     circles = {name: believed.reached_from(defined, believed.named_by(*it)) for name, it in believed.CIRCLES.items()}
-    outer = {name: it - circles[CIRCLE] for name, it in circles.items()}
+    outer = {name: it - circles[CIRCLE] for name, it in circles.items()} | {CIRCLE: circles[CIRCLE]}
     outer["library"] = believed.reached_from(defined, believed.named_by_all()) - set().union(*circles.values())
     return defined, circles[CIRCLE], outer
 
@@ -263,6 +324,8 @@ def follow(page, paragraph):
         asked, *words = line.split()
         if asked == "@kit":
             page.kit[words[0]] = line.split(" : ", 1)[1]
+        elif asked == "@says":
+            page.says(words[0], line.split(" : ", 1)[1])
         elif asked in ASKED:
             ASKED[asked](page, *words)
         else:
@@ -272,7 +335,7 @@ def follow(page, paragraph):
 
 
 def markdown(page):
-    blocks = [text if kind == "prose" else f"```{kind}\n{text}\n```" for kind, text, _ in page.parts]
+    blocks = [it if kind == "prose" else f"```{kind}\n{spaced(it)}\n```" for kind, it, _ in page.parts]
     return "\n\n".join(blocks) + "\n"
 
 
@@ -285,7 +348,7 @@ def html_page(page):
         if kind == "prose":
             body += [html_block(page, *it) for it in man_pages.blocks(text)]
         else:
-            body.append(f"<pre>{linked(page, text, names)}</pre>")
+            body.append(f"<pre>{linked(page, spaced(text), names)}</pre>")
     title = '<!DOCTYPE html>\n<html lang="en"><meta charset="utf-8"><title>The theorem</title>'
     head = f"{title}\n<style>{STYLE}</style>\n"
     return head + "\n".join(body).replace("</ul>\n<ul>\n", "\n") + "\n</html>\n"
