@@ -21,8 +21,8 @@ SPOILED = [
     ("@says Unreachable :", "@says Beyond :", "said of Beyond, which has a comment or stands above"),
     ("@says Unreachable :", "@says Reachable :", "not cited: Reachable"),
     ("@declared dimacs_network/src/network.rt ArcView", "", "MaxValue stands before ArcView, which it uses"),
-    ("JudgeKind\n", "CertifyKind\n", "missing: JudgeKind"),
-    ("JudgeKind\n", "CertifyKind\n", "not cited: CertifyKind"),
+    ("JudgeKind\n", "SpreadKind\n", "missing: JudgeKind"),
+    ("JudgeKind\n", "SpreadKind\n", "not cited: SpreadKind"),
     ("@kit AllZip :", "@kit OneZip :", "missing in the table of the kit: AllZip"),
     ("@kit AllZip :", "@kit OneZip :", "not cited of the kit: OneZip"),
 ]
