@@ -117,9 +117,10 @@ build/man: tools/man_pages.py VERSION crates/dimacs/src/usage.rt $(wildcard man/
 	mv $@.new $@
 
 ## make dist: makes packages of what is proved in dist/, and tests them; MAINTAINER="Name <address>" is their contact
+## make dist ARCH=aarch64: makes those for that system in dist/aarch64; ARCH=windows makes a wheel in dist/windows
 dist: $(if $(UNPROVED),proved-only,all) $(MAN)
-	tools/dist.py
-	tests/packages.py dist
+	tools/dist.py $(ARCH:%=--for %)
+	tests/packages.py dist$(addprefix /,$(filter-out x86_64,$(ARCH)))
 
 ## make check-packages: tests the packages in dist/ in an empty Debian, and has lintian read them, which takes some minutes
 check-packages:
