@@ -118,7 +118,7 @@ build/man: tools/man_pages.py VERSION crates/dimacs/src/usage.rt $(wildcard man/
 
 ## make dist: makes packages of what is proved in dist/, and tests them; MAINTAINER="Name <address>" is their contact
 ## make dist ARCH=aarch64: makes those for that system in dist/aarch64; ARCH=windows makes a wheel in dist/windows
-dist: $(if $(UNPROVED),proved-only,all) $(MAN)
+dist: $(or $(if $(UNPROVED),proved-only),$(if $(filter-out x86_64 aarch64 windows,$(ARCH)),no-such-system),all) $(MAN)
 	tools/dist.py $(ARCH:%=--for %)
 	tests/packages.py dist$(addprefix /,$(filter-out x86_64,$(ARCH)))
 
@@ -128,6 +128,10 @@ check-packages:
 
 proved-only:
 	@echo "make dist: packages are made of what is proved alone" >&2
+	@exit 2
+
+no-such-system:
+	@echo "make dist: ARCH is x86_64, aarch64 or windows, and not $(ARCH)" >&2
 	@exit 2
 
 ## make release: goes through what a release wants, runs the gate, dist and check-packages, and prints the tag's text
@@ -153,4 +157,4 @@ include targets.mk
 .PRECIOUS: build/dimacs build/dimacs_c.a build/dimacs_c.bc %/dimacs.o %/libdimacs.a %/libdimacs.so.0 \
     %/libdimacs.so
 .PHONY: all help quick check prove prove-all proved-by-ci install uninstall linked dist check-packages proved-only \
-    release theorem bench clean FORCE
+    no-such-system release theorem bench clean FORCE
