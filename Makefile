@@ -117,9 +117,10 @@ build/man: tools/man_pages.py VERSION crates/dimacs/src/usage.rt $(wildcard man/
 	mv $@.new $@
 
 ## make dist: makes packages of what is proved in dist/, and tests them; MAINTAINER="Name <address>" is their contact
-dist: $(if $(UNPROVED),proved-only,all) $(MAN)
-	tools/dist.py
-	tests/packages.py dist
+## make dist ARCH=aarch64: makes those for that system in dist/aarch64; ARCH=windows makes a wheel in dist/windows
+dist: $(or $(if $(UNPROVED),proved-only),$(if $(filter-out x86_64 aarch64 windows,$(ARCH)),no-such-system),all) $(MAN)
+	tools/dist.py $(ARCH:%=--for %)
+	tests/packages.py dist$(addprefix /,$(filter-out x86_64,$(ARCH)))
 
 ## make check-packages: tests the packages in dist/ in an empty Debian, and has lintian read them, which takes some minutes
 check-packages:
@@ -127,6 +128,10 @@ check-packages:
 
 proved-only:
 	@echo "make dist: packages are made of what is proved alone" >&2
+	@exit 2
+
+no-such-system:
+	@echo "make dist: ARCH is x86_64, aarch64 or windows, and not $(ARCH)" >&2
 	@exit 2
 
 ## make release: goes through what a release wants, runs the gate, dist and check-packages, and prints the tag's text
@@ -152,4 +157,4 @@ include targets.mk
 .PRECIOUS: build/dimacs build/dimacs_c.a build/dimacs_c.bc %/dimacs.o %/libdimacs.a %/libdimacs.so.0 \
     %/libdimacs.so
 .PHONY: all help quick check prove prove-all proved-by-ci install uninstall linked dist check-packages proved-only \
-    release theorem bench clean FORCE
+    no-such-system release theorem bench clean FORCE

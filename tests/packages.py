@@ -1,35 +1,51 @@
 #!/usr/bin/env python3
 """Tests the packages without the kit on the path: tests/packages.py DIST [--root]
 
-DIST is the folder that `make dist` makes. With --root they are installed in an empty Debian, made for it, which takes some
+DIST is a folder that `make dist` makes. With --root they are installed in an empty Debian, made for it, which takes some
 minutes: over version 0.1.0 by `dpkg -i`, and by pip in a new environment beside numpy; lintian reads them before, and at
 last they are removed. Without it, or if debootstrap isn't there or root doesn't run this, they are made a second time and
 compared, and unpacked into an empty folder. Then the program is asked for a verdict, and so is the library: by a program
 in C that is built by pkg-config, by one that is built by CMake, and from Python. The man pages are shown and words are
-completed.
+completed. Of those for another machine the program, and that by pkg-config, are run under qemu, and the library of the
+wheel with the latter; those for Windows are read alone.
 
 What needs a tool that isn't there is left out, and named. The last line counts what passed and what failed.
 """
 import argparse
 import glob
 import hashlib
+import io
 import json
 import os
+import platform
 import re
 import shutil
 import subprocess
 import sys
+import tarfile
 import tempfile
+import zipfile
 
 TOP = os.path.dirname(os.path.dirname(os.path.abspath(__file__)))
 
 # What the empty Debian has beside its base.
 TOOLS = "python3,python3-venv,python3-numpy,gcc,libc6-dev,cmake,make,pkg-config,man-db,bash-completion"
 
-# The packages for Debian, in an order in which dpkg can install them, and the folder of their libraries. libdimacs-dev
-# takes over files of the old dimacs, and waits for the new one.
+# The packages for Debian, in an order in which dpkg can install them. libdimacs-dev takes over files of the old dimacs, and
+# waits for the new one.
 DEBIAN = ["dimacs", "libdimacs0", "libdimacs-dev", "python3-dimacs"]
-LIBRARIES = "lib/x86_64-linux-gnu"
+
+# What machines are called: by Debian, and in an ELF file.
+MACHINES = {"x86_64": ("amd64", 62), "aarch64": ("arm64", 183)}
+
+# How many files of each package are compiled, and which those are of a wheel, whose name ends in this.
+COMPILED = {"dimacs-*-linux.tar.gz": 3, "dimacs_*.deb": 1, "libdimacs0_*.deb": 1, "libdimacs-dev_*.deb": 1}
+COMPILED |= {"python3-dimacs_*.deb": 0, "*.whl": 1}
+WHEELS = {
+    "x86_64": ("dimacs/libdimacs.so", r"-py3-none-manylinux_2_\d+_x86_64"),
+    "aarch64": ("dimacs/libdimacs.so", r"-py3-none-manylinux_2_\d+_aarch64"),
+    "windows": ("dimacs/dimacs.dll", r"\+translated-py3-none-win_amd64"),
+}
 
 # The package of version 0.1.0: one with all files, of which these are some.
 OLD = {"usr/bin/dimacs": "", "usr/include/dimacs.h": "", "usr/lib/libdimacs.so.0.1.0": ""}
@@ -93,9 +109,15 @@ class Packages:
         self.passed = self.failed = 0
         self.usr = f"{place}/root/usr"
         self.version = open(f"{TOP}/VERSION", encoding="ascii").read().strip()
-        paths = {"PKG_CONFIG_PATH": f"{self.usr}/{LIBRARIES}/pkgconfig", "CMAKE_PREFIX_PATH": self.usr}
-        paths |= {"CMAKE_LIBRARY_ARCHITECTURE": "x86_64-linux-gnu", "PYTHONPATH": f"{self.usr}/lib/python3/dist-packages"}
-        paths |= {"LD_LIBRARY_PATH": f"{self.usr}/{LIBRARIES}", "PATH": f"{self.usr}/bin:/usr/bin:/bin"}
+        self.system = self.only("dimacs-*-linux.tar.gz", r"-(\w+)-linux\.tar\.gz$") or "windows"
+        self.is_foreign = self.system != platform.machine()
+        triplet = f"{self.system}-linux-gnu"
+        self.by = [f"qemu-{self.system}", "-L", f"/usr/{triplet}"] if self.is_foreign else []
+        self.compiler = f"{triplet}-gcc" if self.is_foreign else "cc"
+        libraries = f"{self.usr}/lib/{triplet}"
+        paths = {"PKG_CONFIG_PATH": f"{libraries}/pkgconfig", "CMAKE_PREFIX_PATH": self.usr}
+        paths |= {"CMAKE_LIBRARY_ARCHITECTURE": triplet, "PYTHONPATH": f"{self.usr}/lib/python3/dist-packages"}
+        paths |= {"LD_LIBRARY_PATH": libraries, "PATH": f"{self.usr}/bin:/usr/bin:/bin"}
         self.environment = {"HOME": place, "LANG": "C.UTF-8", "MANPATH": f"{self.usr}/share/man"} | paths
 
     def run(self, *words, **more):
@@ -121,27 +143,85 @@ class Packages:
             print(f"left out: {name}: no {', '.join(lacking)}", flush=True)
         return not lacking
 
-    def only(self, pattern):
-        """The one package whose name has this pattern."""
+    def only(self, pattern, part="(.*)"):
+        """The one package whose name has this pattern, or a part of its name."""
         found = glob.glob(f"{self.dist}/{pattern}")
         self.message = f"{pattern}: {found}"
-        return found[0] if len(found) == 1 else None
+        return re.search(part, found[0])[1] if len(found) == 1 else None
+
+    def names(self):
+        """The names of all packages, and of the files beside them."""
+        return sorted(it.name for it in os.scandir(self.dist) if it.is_file())
 
 
-def put(path, text):
-    with open(path, "w", encoding="utf-8") as it:
-        it.write(text)
+def put(path, content):
+    content = content.encode() if isinstance(content, str) else content
+    with open(path, "wb") as it:
+        it.write(content)
 
 
 def test_sums(its):
     """Each package is in SHA256SUMS with its sum."""
     with open(f"{its.dist}/SHA256SUMS", encoding="ascii") as it:
         sums = dict(reversed(line.split()) for line in it)
-    for name in sorted(os.listdir(its.dist)):
+    for name in its.names():
         if name != "SHA256SUMS":
             with open(f"{its.dist}/{name}", "rb") as it:
                 its.message = f"{name} has another sum than {sums.get(name)}"
                 its.expect(name, sums.get(name) == hashlib.sha256(it.read()).hexdigest())
+
+
+def files_in(package):
+    """Yields the names and the contents of a package's files."""
+    if package.endswith(".whl"):
+        with zipfile.ZipFile(package) as it:
+            yield from ((name, it.read(name)) for name in it.namelist())
+        return
+    with open(package, "rb") as it:
+        packed = it.read()
+    if package.endswith(".deb"):
+        packed = subprocess.run(["dpkg-deb", "--fsys-tarfile", package], stdout=subprocess.PIPE, check=True).stdout
+    with tarfile.open(fileobj=io.BytesIO(packed)) as it:
+        yield from ((entry.name, it.extractfile(entry).read()) for entry in it if entry.isfile())
+
+
+def machine_of(content):
+    """The machine for which a file is compiled, or the first one of an archive, or None."""
+    if content.startswith(b"MZ"):
+        at = int.from_bytes(content[60:64], "little")
+        return "windows" if content[at : at + 6] == b"PE\0\0\x64\x86" else "?"
+    at = content.find(b"\x7fELF") if content.startswith((b"\x7fELF", b"!<arch>\n")) else -1
+    number = int.from_bytes(content[at + 18 : at + 20], "little")
+    return next((name for name, (_, it) in MACHINES.items() if it == number), "?") if at >= 0 else None
+
+
+def test_contents(its):
+    """Each package that is there says which machine it is for, and what is compiled in it is for that."""
+    for pattern, count in COMPILED.items():
+        package = its.only(pattern)
+        if its.system == "windows" and pattern != "*.whl" or pattern.endswith(".deb") and not shutil.which("dpkg-deb"):
+            continue
+        found = {name: machine_of(content) for name, content in files_in(package)} if package else {}
+        found = {name: it for name, it in found.items() if it}
+        its.message = f"{pattern} has {found}"
+        its.expect(f"the machine of {pattern}", list(found.values()) == [its.system] * count)
+        if pattern.endswith(".deb"):
+            said = its.run("dpkg-deb", "-f", package, "Architecture")
+            its.expect(f"the architecture of {pattern}", said == f"{MACHINES[its.system][0]}\n")
+    test_tag(its)
+
+
+def test_tag(its):
+    """The wheel's name and its own file say the same of it, and the library is where the loader looks."""
+    files = dict(files_in(its.only("*.whl")))
+    library, pattern = WHEELS[its.system]
+    name = its.only("*.whl", r"([^/]*)\.whl$")
+    tag = "-".join(name.split("-")[2:])
+    its.message = f"{name}: {sorted(files)}"
+    its.expect("the wheel's name", name.startswith("dimacs-") and re.search(f"{pattern}$", name) is not None)
+    its.expect("the wheel's library", library in files)
+    described = next(content.decode() for name, content in files.items() if name.endswith("/WHEEL"))
+    its.expect("the wheel's tag", f"\nTag: {tag}\n" in described)
 
 
 def test_again(its):
@@ -149,12 +229,12 @@ def test_again(its):
     again = f"{its.place}/again"
     os.mkdir(f"{its.place}/temporary")
     settings = {"LC_ALL": "C", "TZ": "Asia/Tokyo", "TMPDIR": f"{its.place}/temporary"}
-    words = [f"{TOP}/tools/dist.py", again]
+    words = [f"{TOP}/tools/dist.py", "--for", its.system, again]
     environment = {**os.environ, **settings}
     ran = subprocess.run(words, cwd="/", env=environment, umask=0o077, capture_output=True, text=True, check=False)
     its.message = ran.stdout + ran.stderr
     its.expect("making them again", ran.returncode == 0)
-    for name in sorted(os.listdir(its.dist)):
+    for name in its.names():
         with open(f"{its.dist}/{name}", "rb") as it:
             first = it.read()
         its.message = f"{name} differs, or wasn't made"
@@ -206,6 +286,8 @@ def test_debian(its, is_root):
     for package in found:
         its.run("dpkg-deb", "-x", package, f"{its.place}/root")
     its.expect("unpacking the packages", os.path.exists(f"{its.usr}/bin/dimacs"))
+    loaded = f"{its.usr}/lib/python3/dist-packages/dimacs/libdimacs.so"
+    its.expect("the package for Python has a link to the library", os.path.islink(loaded) and os.path.exists(loaded))
 
 
 def test_upgrade(its, packages):
@@ -238,9 +320,9 @@ def test_package_for_python(its):
 
 def test_program(its, program):
     """A verdict, and the version."""
-    output = its.run(program, "certify-max", f"{its.place}/instance", f"{its.place}/flow")
+    output = its.run(*its.by, program, "certify-max", f"{its.place}/instance", f"{its.place}/flow")
     its.expect("a verdict", output == "v max 3\n")
-    output = its.run(program)
+    output = its.run(*its.by, program)
     its.expect("the version of the program", f"dimacs {its.version} (proved by " in output)
 
 
@@ -257,17 +339,17 @@ def test_batch(its):
 
 def test_tarball(its):
     """The program where the tarball is unpacked."""
-    name = f"dimacs-{its.version}-x86_64-linux"
+    name = f"dimacs-{its.version}-{its.system}-linux"
     its.run("tar", "-xzf", f"{its.dist}/{name}.tar.gz")
     test_program(its, f"{its.place}/{name}/bin/dimacs")
 
 
 def test_pkg_config(its):
     """A program in C that is built with the flags that pkg-config prints."""
-    if not its.has("C by pkg-config", "cc", "pkg-config"):
+    if not its.has("C by pkg-config", its.compiler, "pkg-config"):
         return
-    its.run("sh", "-c", "cc -o shown shown.c $(pkg-config --cflags --libs dimacs)")
-    its.expect("C by pkg-config", its.run("./shown") == f"i cut 4 1\n{its.version} both\n")
+    its.run("sh", "-c", f"{its.compiler} -o shown shown.c $(pkg-config --cflags --libs dimacs)")
+    its.expect("C by pkg-config", its.run(*its.by, "./shown") == f"i cut 4 1\n{its.version} both\n")
     its.expect("the version of dimacs.pc", its.run("pkg-config", "--modversion", "dimacs") == f"{its.version}\n")
 
 
@@ -304,6 +386,17 @@ def test_wheel(its):
     its.expect("arrays of numpy", its.run("venv/bin/python", "-c", over) == answer)
 
 
+def test_library_of_wheel(its):
+    """The program in C with the library of the wheel, which takes the place of that of Debian's package."""
+    its.run("sh", "-c", f"rm {its.environment['LD_LIBRARY_PATH']}/libdimacs.so*")
+    its.run(*its.by, "./shown")
+    its.expect("C without a library", not its.succeeded)
+    with zipfile.ZipFile(its.only("*.whl")) as it:
+        put(f"{its.place}/libdimacs.so.0", it.read("dimacs/libdimacs.so"))
+    its.environment["LD_LIBRARY_PATH"] = its.place
+    its.expect("C with the library of the wheel", its.run(*its.by, "./shown") == f"i cut 4 1\n{its.version} both\n")
+
+
 def test_man(its):
     """The pages, if there are some."""
     if not os.path.isdir(f"{its.usr}/share/man") or not its.has("man pages", "man"):
@@ -336,23 +429,33 @@ def test_all(dist, is_root):
             put(f"{place}/{name}", text)
         test_sums(its)
         test_list(its)
-        test_recipes(its)
+        test_contents(its)
         if not is_root:
             test_again(its)
-        test_debian(its, is_root)
-        test_program(its, f"{its.usr}/bin/dimacs")
-        test_batch(its)
-        test_tarball(its)
-        test_pkg_config(its)
-        test_cmake(its)
-        test_package_for_python(its)
-        test_wheel(its)
-        test_man(its)
-        test_completion(its)
-        if is_root:
-            test_removal(its)
+        if its.system != "windows" and (not its.is_foreign or its.has(f"runs on {its.system}", its.by[0])):
+            test_runs(its, is_root)
     print(f"{its.passed} passed, {its.failed} failed")
     return 1 if its.failed or not its.passed else 0
+
+
+def test_runs(its, is_root):
+    """What is in the packages for Linux, by running it."""
+    test_debian(its, is_root)
+    test_program(its, f"{its.usr}/bin/dimacs")
+    test_tarball(its)
+    test_pkg_config(its)
+    if its.is_foreign:
+        test_library_of_wheel(its)
+        return
+    test_recipes(its)
+    test_batch(its)
+    test_cmake(its)
+    test_package_for_python(its)
+    test_wheel(its)
+    test_man(its)
+    test_completion(its)
+    if is_root:
+        test_removal(its)
 
 
 def is_clean(dist):

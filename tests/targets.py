@@ -10,7 +10,7 @@ What a part tests is built by make first. The parts:
   page      the page in Chromium: answers, marked lines, downloads, refused requests
   aarch64   under qemu the library's tests in C, and the program, compared as the command
 With --all there are more instances and all runs over the examples, npm installs the package, and two parts more:
-  windows   under wine the library's tests in C
+  windows   under wine the library's tests in C; and the wheel, of what is proved
   firefox   the page in Firefox
 
 What needs a tool that isn't there is left out, and named. The last line counts what passed and what failed.
@@ -77,10 +77,13 @@ class Tests:
 # ---- the module
 
 
-def test_module(tests):
+def is_proved(tests):
     with open(f"{tests.build}/dimacs_c.a", "rb") as it:
-        is_proved = PROVED in it.read()
-    if not is_proved and not os.path.exists(f"{tests.build}/dimacs_c.words"):
+        return PROVED in it.read()
+
+
+def test_module(tests):
+    if not is_proved(tests) and not os.path.exists(f"{tests.build}/dimacs_c.words"):
         return  # the words of clang are kept for what is proved alone
     kit = run(f"{TOP}/tools/kit.py").stdout.strip()
     shutil.copy(f"{tests.build}/dimacs_c.bc", f"{tests.room}/module.bc")
@@ -258,7 +261,8 @@ def test_command(tests):
         return
     command = ["node", f"{tests.build}/npm/package/cli.js"]
     compare_commands(tests, "npx dimacs", command, in_words_of_node)
-    wanted = 2, b"", b"dimacs: usage\nno command explain\n" + outcome([*command, "help"], tests.room)[1], {}
+    said = b"explain isn't here, where the code is compiled to WebAssembly: the program for Linux has it\n"
+    wanted = 2, b"", b"dimacs: usage\n" + said + outcome([*command, "help"], tests.room)[1], {}
     for words in (["explain"], ["help", "explain"], ["explain", "show", "gr", "examples/road.gr"]):
         found = outcome([*command, *words], tests.room)
         tests.add(f"npx dimacs {words}", int(found == wanted), int(found != wanted), f"{found}")
@@ -329,13 +333,14 @@ def test_aarch64(tests):
 
 
 def test_scripts(tests, program):
-    """Scripts that test the program, over that for aarch64."""
+    """Scripts that test the program, over that for aarch64. Each run of it begins qemu, which takes 50 ms."""
     by_qemu = f"{tests.room}/dimacs-by-qemu"
     with open(by_qemu, "w", encoding="utf-8") as it:
         it.write(f'#!/bin/sh\nexec {" ".join(QEMU)} {program} "$@"\n')
     os.chmod(by_qemu, 0o755)
-    for name, words in (("shown_runs", []), ("certify_trials", ["300", "1"]), ("solve_min_trials", ["300", "1"])):
-        tests.counted(f"{name}.py on aarch64", run(f"{TOP}/tests/{name}.py", *words, by_qemu, cwd=TOP))
+    tests.counted("shown_runs.py on aarch64", run(f"{TOP}/tests/shown_runs.py", by_qemu, cwd=TOP))
+    for name, count in (("certify_trials", "60"), ("solve_min_trials", "150")):
+        tests.ended(f"{name}.py on aarch64", run(f"{TOP}/tests/{name}.py", count, "1", by_qemu, cwd=TOP))
 
 
 def test_windows(tests):
@@ -347,6 +352,10 @@ def test_windows(tests):
     linked, objects = [f"{folder}/libdimacs.dll.a"], [f"{folder}/calls.o", f"{folder}/heap.o"]
     libraries = [("texts", linked), ("arrays", linked), ("refused", [*objects, *WRAPPED])]
     test_in_c(tests, "windows", "x86_64-w64-mingw32-gcc", [f"-I{TEST}/windows"], libraries, [WINE])
+    if is_proved(tests):  # others aren't packed
+        packed = f"{tests.room}/dist"
+        tests.ended("the wheel for Windows", run(f"{TOP}/tools/dist.py", "--for", "windows", packed))
+        tests.counted("packages.py for Windows", run(f"{TOP}/tests/packages.py", packed))
 
 
 # ---- all of them

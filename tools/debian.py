@@ -7,6 +7,7 @@ import fnmatch
 import gzip
 import hashlib
 import os
+import platform
 import re
 import shutil
 import subprocess
@@ -16,15 +17,16 @@ import zipfile
 
 TOP = os.path.dirname(os.path.dirname(os.path.abspath(__file__)))
 SOURCES = f"{TOP}/lib/package/debian"
-LIBRARIES = "usr/lib/x86_64-linux-gnu"
 PYTHON = "usr/lib/python3/dist-packages"
-FOLDERS = ["prefix=/usr", f"libdir=/{LIBRARIES}", "ZSHDIR=/usr/share/zsh/vendor-completions"]
+
+# What Debian calls the machines.
+ARCHITECTURES = {"x86_64": "amd64", "aarch64": "arm64"}
 
 # Which files are in which package. What make install writes for make uninstall is in none.
 FILES = {
     None: ["usr/share/dimacs/files"],
-    "libdimacs0": [f"{LIBRARIES}/libdimacs.so.*"],
-    "libdimacs-dev": ["usr/include/*", f"{LIBRARIES}/*", "usr/share/dimacs/rust/*"],
+    "libdimacs0": ["usr/lib/*-linux-gnu/libdimacs.so.*"],
+    "libdimacs-dev": ["usr/include/*", "usr/lib/*-linux-gnu/*", "usr/share/dimacs/rust/*"],
     "python3-dimacs": [f"{PYTHON}/*"],
     "dimacs": ["*"],
 }
@@ -32,6 +34,11 @@ FILES = {
 NO_MAINTAINER = 'make dist: name the contact of the packages as MAINTAINER="Name <name@example.org>"'
 CONTACT = r"[^<>]+ <[^<>@\s]+@[^<>@\s]+>"
 PLACEHOLDER = "nobody yet <nobody@example.invalid>"
+
+
+def folders(machine):
+    """The folders of what is installed, for make install."""
+    return ["prefix=/usr", f"libdir=/usr/lib/{machine}-linux-gnu", "ZSHDIR=/usr/share/zsh/vendor-completions"]
 
 
 def read(path):
@@ -65,24 +72,26 @@ def filled(name, words):
     return re.sub(r"@([A-Z_]+)@", lambda it: words[it[1]], read(f"{SOURCES}/{name}"))
 
 
-def words_for(version, epoch, glibc):
+def words_for(release):
     """What stands in place of the words between @."""
+    version = release.version
     first, _, text = read(f"{TOP}/LICENCE-STATUS").partition("\n\n")
-    date = time.strftime("%a, %d %b %Y %H:%M:%S +0000", time.gmtime(epoch))
+    date = time.strftime("%a, %d %b %Y %H:%M:%S +0000", time.gmtime(release.epoch))
     indented = "\n".join(f" {line}" for line in text.strip().split("\n"))
     words = {"VERSION": version.replace("-", "~") + "-1", "DATE": date, "MAINTAINER": maintainer(version)}
-    words |= {"DISTRIBUTION": "UNRELEASED" if "-" in version else "unstable", "GLIBC": str(glibc)}
+    words |= {"DISTRIBUTION": "UNRELEASED" if "-" in version else "unstable", "GLIBC": str(release.glibc)}
+    words["ARCHITECTURE"] = ARCHITECTURES[release.machine]
     return words | {"LICENCE": first.strip(), "LICENCE_TEXT": indented}
 
 
-def unpack_wheel(wheel, into):
+def unpack_wheel(wheel, into, machine):
     """The package for Python, which loads the library of the system."""
     with zipfile.ZipFile(wheel) as it:
         it.extractall(f"{into}/{PYTHON}")
     for name in files_of(f"{into}/{PYTHON}"):
         os.chmod(f"{into}/{PYTHON}/{name}", 0o644)
     os.remove(f"{into}/{PYTHON}/dimacs/libdimacs.so")
-    os.symlink("../../../x86_64-linux-gnu/libdimacs.so.0", f"{into}/{PYTHON}/dimacs/libdimacs.so")
+    os.symlink(f"../../../{machine}-linux-gnu/libdimacs.so.0", f"{into}/{PYTHON}/dimacs/libdimacs.so")
     for it in ("RECORD", "WHEEL"):  # pip's own
         os.remove(next(f"{into}/{PYTHON}/{name}" for name in files_of(f"{into}/{PYTHON}") if name.endswith(f"/{it}")))
 
@@ -96,12 +105,13 @@ def share_out(installed, room):
             os.rename(f"{installed}/{name}", f"{room}/{package}/{name}")
 
 
-def strip(path, mark):
+def strip(path, release):
     """Strips a binary of names that nothing needs, unless the mark of what is proved would be lost."""
+    tool = "strip" if release.machine == platform.machine() else f"{release.machine}-linux-gnu-strip"
     words = ["--strip-debug"] if path.endswith(".a") else ["--strip-unneeded"]
-    subprocess.run(["strip", "--enable-deterministic-archives", *words, "-o", f"{path}.new", path], check=True)
+    subprocess.run([tool, "--enable-deterministic-archives", *words, "-o", f"{path}.new", path], check=True)
     with open(path, "rb") as old, open(f"{path}.new", "rb") as new:
-        is_kept = (mark in old.read()) == (mark in new.read())
+        is_kept = (release.mark in old.read()) == (release.mark in new.read())
     shutil.copymode(path, f"{path}.new")
     os.replace(f"{path}.new", path) if is_kept else os.remove(f"{path}.new")
 
@@ -164,7 +174,7 @@ def add_control(root, package, words):
 
 def pack(root, package, words, epoch, out):
     """Packs a package, whose files are all of one time."""
-    name = f"{out}/{package}_{words['VERSION']}_amd64.deb"
+    name = f"{out}/{package}_{words['VERSION']}_{words['ARCHITECTURE']}.deb"
     environment = {**os.environ, "SOURCE_DATE_EPOCH": str(epoch)}
     for at, _, _ in os.walk(root):
         os.chmod(at, 0o755)
@@ -173,10 +183,10 @@ def pack(root, package, words, epoch, out):
 
 
 def make(installed, room, wheel, release, out):
-    """Makes all packages of what was installed by FOLDERS, and of the wheel. The release has a version, a time, the
-    oldest C library and the mark of what is proved."""
-    words = words_for(release.version, release.epoch, release.glibc)
-    unpack_wheel(wheel, installed)
+    """Makes all packages of what was installed in its folders, and of the wheel. The release has a version, a time, the
+    machine, the oldest C library and the mark of what is proved."""
+    words = words_for(release)
+    unpack_wheel(wheel, installed, release.machine)
     share_out(installed, room)
     for package in filter(None, FILES):
         root = f"{room}/{package}"
@@ -185,7 +195,7 @@ def make(installed, room, wheel, release, out):
             write(f"{root}/usr/share/lintian/overrides/{package}", read(overrides))
         for name in files_of(root):
             if name == "usr/bin/dimacs" or name.endswith(".a") or ".so.0." in name:
-                strip(f"{root}/{name}", release.mark)
+                strip(f"{root}/{name}", release)
         add_documents(root, package, words, f"{room}/changelog")
         add_control(root, package, words)
         pack(root, package, words, release.epoch, out)

@@ -1,13 +1,15 @@
 #!/usr/bin/env python3
-"""Makes the packages: tools/dist.py [OUT]
+"""Makes the packages: tools/dist.py [--for SYSTEM] [OUT]
 
-Of what `make` proved, in build/, it makes in OUT, or in dist/, a tarball with all that `make install` installs, packages
-for Debian (where dpkg-deb is; tools/debian.py), a wheel for Python, the recipes of packaging/ with the tarball's sum
-(tools/other_systems.py), a list of what they are made of (tools/sbom.py), and SHA256SUMS. What is of other sources, or
-doesn't have the mark of what is proved, it refuses, with the status 2. The same files give the same packages: they are of
-the time that SOURCE_DATE_EPOCH has in seconds, or of the last date in CHANGELOG.md. MAINTAINER is the contact that
-packages for Debian name.
+SYSTEM is x86_64, else aarch64 or windows. Of what `make` proved and built for it, in build/ or build/SYSTEM/, it makes in
+OUT, or in dist/ or dist/SYSTEM/, a tarball with all that `make install` installs, packages for Debian (where dpkg-deb is;
+tools/debian.py), a wheel for Python, the recipes of packaging/ with the tarball's sum (tools/other_systems.py; for x86_64
+alone), a list of what they are made of (tools/sbom.py), and SHA256SUMS; for Windows all but the first two and the recipes.
+What is of other sources, or doesn't have the mark of what is proved, it refuses, with the status 2. The same files give
+the same packages: they are of the time that SOURCE_DATE_EPOCH has in seconds, or of the last date in CHANGELOG.md.
+MAINTAINER is the contact that packages for Debian name.
 """
+import argparse
 import calendar
 import collections
 import hashlib
@@ -31,10 +33,18 @@ TOP = os.path.dirname(os.path.dirname(os.path.abspath(__file__)))
 sys.path.insert(0, f"{TOP}/lib/python")
 import build_wheel  # noqa: E402  (the folder isn't a package of this one)
 
-BUILT = ["dimacs", "libdimacs.a", "libdimacs.so.0"]
+# What is packed for each system: its folder in build/ and in dist/, and what make builds there.
+System = collections.namedtuple("System", "folder built")
+LINUX = ["dimacs", "libdimacs.a", "libdimacs.so.0"]
+SYSTEMS = {
+    "x86_64": System("", LINUX),
+    "aarch64": System("/aarch64", LINUX),
+    "windows": System("/windows", ["dimacs.dll"]),
+}
 
-# What packages are of: the version, the time, the oldest C library that they run with, and the mark of what is proved.
-Release = collections.namedtuple("Release", "version epoch glibc mark")
+# What packages are of: the version, the time, the machine, the oldest C library of Linux that they run with, and the mark
+# of what is proved.
+Release = collections.namedtuple("Release", "version epoch machine glibc mark")
 
 
 def content(path):
@@ -46,23 +56,31 @@ def text(name):
     return content(f"{TOP}/{name}").decode()
 
 
-def test_proved(build):
-    """Refuses what isn't built of what stands here, or isn't proved."""
-    if not sources.is_current(f"{build}/sources", sources.PROVED, [f"{build}/{it}" for it in proved_build.BUILT]):
-        print("build isn't of these sources: make proves and builds them", file=sys.stderr)
-        sys.exit(2)
-    for it in BUILT:
-        if build_wheel.PROVED not in content(f"{build}/{it}"):
-            print(f"build/{it} isn't proved, and packages are made of what is proved alone", file=sys.stderr)
-            sys.exit(2)
+def refuse(why):
+    print(why, file=sys.stderr)
+    sys.exit(2)
 
 
-def release_of(build):
+def test_proved(name):
+    """Refuses what isn't built of what stands here, or isn't proved. What is for another system is built first."""
+    if not sources.is_current("build/sources", sources.PROVED, [f"build/{it}" for it in proved_build.BUILT]):
+        refuse("build isn't of these sources: make proves and builds them")
+    files = [f"build{SYSTEMS[name].folder}/{it}" for it in SYSTEMS[name].built]
+    if name != "x86_64" and subprocess.run(["make", "-s", "UNPROVED=", *files], check=False).returncode:
+        refuse(f"make can't build {' '.join(files)}")
+    mark = build_wheel.PROVED_CODE if name == "windows" else build_wheel.PROVED
+    for it in files:
+        if mark not in content(it):
+            refuse(f"{it} isn't proved, and packages are made of what is proved alone")
+
+
+def release_of(build, name):
     dates = re.findall(r"^## .*(\d{4}-\d\d-\d\d)$", text("CHANGELOG.md"), re.MULTILINE)
     last = calendar.timegm(time.strptime(max(dates), "%Y-%m-%d"))
-    glibc = max(build_wheel.oldest_glibc(content(f"{build}/{it}")) for it in BUILT if it != "libdimacs.a")
+    dynamic = [it for it in SYSTEMS[name].built if it in ("dimacs", "libdimacs.so.0")]
+    glibc = max((build_wheel.oldest_glibc(content(f"{build}/{it}")) for it in dynamic), default=None)
     epoch = int(os.environ.get("SOURCE_DATE_EPOCH") or last)
-    return Release(text("VERSION").strip(), epoch, glibc, build_wheel.PROVED)
+    return Release(text("VERSION").strip(), epoch, name, glibc, build_wheel.PROVED)
 
 
 def install(build, into, *folders):
@@ -90,47 +108,74 @@ def write_tar(out, folder, name, epoch):
 
 
 def make_tarball(build, room, out, release):
-    name = f"dimacs-{release.version}-x86_64-linux"
+    name = f"dimacs-{release.version}-{release.machine}-linux"
     install(build, room, f"prefix=/{name}")
     os.remove(f"{room}/{name}/share/dimacs/files")  # of make uninstall, which has nothing to do with a tarball
     write_tar(out, f"{room}/{name}", name, release.epoch)
     return name
 
 
+def write_recipes(room, out, release, name, licence):
+    """Packs the recipes, which install the tarball of this name."""
+    other_systems.fill(room, other_systems.words_for(release, name, dict(sums_of(out))[f"{name}.tar.gz"], licence))
+    write_tar(out, room, f"dimacs-{release.version}-packaging", release.epoch)
+
+
+def files_of(folder):
+    return sorted(it.name for it in os.scandir(folder) if it.is_file())
+
+
 def sums_of(out):
-    return [(it, hashlib.sha256(content(f"{out}/{it}")).hexdigest()) for it in sorted(os.listdir(out))]
+    return [(it, hashlib.sha256(content(f"{out}/{it}")).hexdigest()) for it in files_of(out)]
 
 
-def make(build, out):
-    """Makes all packages of a build in a folder."""
+def make_wheel(build, name, out):
+    os.environ["DIMACS_LIBRARY"] = f"{TOP}/{build}/{SYSTEMS[name].built[-1]}"
+    return f"{out}/{build_wheel.build_wheel(out)}"
+
+
+def make_for_linux(build, release, room, out, licence):
+    """Makes the packages that are for Linux alone, and the wheel."""
+    name = make_tarball(build, f"{room}/tarball", out, release)
+    if release.machine == "x86_64":
+        write_recipes(f"{room}/packaging", out, release, name, licence)
+    wheel = make_wheel(build, release.machine, out)
+    if shutil.which("dpkg-deb"):
+        install(build, f"{room}/installed", *debian.folders(release.machine))
+        debian.make(f"{room}/installed", f"{room}/debian", wheel, release, out)
+    else:
+        print("left out: the packages for Debian: no dpkg-deb")
+
+
+def make(build, name, out):
+    """Makes all packages of what was built for a system, in a folder."""
     os.umask(0o022)
-    release = release_of(build)
-    shutil.rmtree(out, ignore_errors=True)
-    os.makedirs(out)
-    os.environ["DIMACS_LIBRARY"] = f"{TOP}/{build}/libdimacs.so.0"
+    release, licence = release_of(build, name), text("LICENCE-STATUS").split("\n")[0]
+    os.makedirs(out, exist_ok=True)
+    for it in files_of(out):
+        os.remove(f"{out}/{it}")
     with tempfile.TemporaryDirectory() as room:
-        name = make_tarball(build, f"{room}/tarball", out, release)
-        digest, licence = dict(sums_of(out))[f"{name}.tar.gz"], text("LICENCE-STATUS").split("\n")[0]
-        other_systems.fill(f"{room}/packaging", other_systems.words_for(release, name, digest, licence))
-        write_tar(out, f"{room}/packaging", f"dimacs-{release.version}-packaging", release.epoch)
-        wheel = f"{out}/{build_wheel.build_wheel(out)}"
-        if shutil.which("dpkg-deb"):
-            install(build, f"{room}/installed", *debian.FOLDERS)
-            debian.make(f"{room}/installed", f"{room}/debian", wheel, release, out)
+        if name == "windows":
+            make_wheel(build, name, out)
         else:
-            print("left out: the packages for Debian: no dpkg-deb")
-    sbom.write(f"{out}/dimacs-{release.version}.spdx.json", release.version, release.epoch, sums_of(out), licence)
+            make_for_linux(build, release, room, out, licence)
+    sbom.write(f"{out}/dimacs-{release.version}.spdx.json", name, release, sums_of(out), licence)
     sums = sums_of(out)
     with open(f"{out}/SHA256SUMS", "w", encoding="ascii") as it:
         it.writelines(f"{value}  {name}\n" for name, value in sums)
-    for name, _ in sums:
-        print(f"{os.path.relpath(out, TOP)}/{name}: {os.path.getsize(f'{out}/{name}') // 1024} KB")
+    for it, _ in sums:
+        print(f"{os.path.relpath(out, TOP)}/{it}: {os.path.getsize(f'{out}/{it}') // 1024} KB")
 
 
 def main():
+    words = argparse.ArgumentParser(description="Makes the packages.")
+    words.add_argument("--for", dest="system", choices=SYSTEMS, default="x86_64", help="the system; x86_64 is Linux too")
+    words.add_argument("out", nargs="?", type=os.path.abspath, help="the folder of the packages")
+    asked = words.parse_args()
+    folder = SYSTEMS[asked.system].folder
     os.chdir(TOP)
-    test_proved("build")
-    make("build", os.path.abspath(sys.argv[1]) if len(sys.argv) > 1 else f"{TOP}/dist")
+    test_proved(asked.system)
+    make(f"build{folder}", asked.system, asked.out or f"{TOP}/dist{folder}")
 
 
 if __name__ == "__main__":

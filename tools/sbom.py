@@ -6,6 +6,14 @@ import time
 
 TOP = os.path.dirname(os.path.dirname(os.path.abspath(__file__)))
 
+# What is linked with what the kit compiled, for each system: what it is called, its version, and how it is linked.
+GLIBC = ("glibc", "any that the packages name or later", "DYNAMIC_LINK")
+LINKED = {
+    "x86_64": [GLIBC],
+    "aarch64": [GLIBC],
+    "windows": [("mingw-w64", "that of the cross compiler", "STATIC_LINK"), ("msvcrt", "any", "DYNAMIC_LINK")],
+}
+
 
 def kit():
     """The version and the logic of the kit that proves and compiles the sources, by what these name."""
@@ -19,19 +27,21 @@ def package(name, version, **more):
     return {**described, "filesAnalyzed": False, "copyrightText": "NOASSERTION", **unknown, **more}
 
 
-def document(version, epoch, sums, licence):
-    """The document: the product, the kit that proved and compiled it, the C library that it calls, and each package."""
+def document(system, version, epoch, sums, licence):
+    """The document: the product, the kit that proved and compiled it, what is linked with it, and each package."""
     release, logic = kit()
     digest = sums[0][1][:32] if sums else "0"
     product = package("dimacs", version, licenseDeclared=licence)
-    used = package("rattle-kit", release, comment=f"Proves and compiles, and its C library is linked: logic {logic}")
-    system = package("glibc", "any that the packages name or later")
+    by_kit = "Proves and compiles, and its C library is linked" if system == "x86_64" else "Proves and compiles"
+    used = package("rattle-kit", release, comment=f"{by_kit}: logic {logic}")
+    linked = [(package(*it), how) for *it, how in LINKED[system]]
     packed = [
         package(name, version, packageFileName=name, checksums=[{"algorithm": "SHA256", "checksumValue": value}])
         for name, value in sums
     ]
     relations = [("SPDXRef-DOCUMENT", "DESCRIBES", product), (used["SPDXID"], "BUILD_TOOL_OF", product)]
-    relations += [(product["SPDXID"], "STATIC_LINK", used), (product["SPDXID"], "DYNAMIC_LINK", system)]
+    linked_all = [(used, "STATIC_LINK"), *linked] if system == "x86_64" else linked
+    relations += [(product["SPDXID"], how, it) for it, how in linked_all]
     relations += [(it["SPDXID"], "PACKAGE_OF", product) for it in packed]
     return {
         "spdxVersion": "SPDX-2.3",
@@ -43,7 +53,7 @@ def document(version, epoch, sums, licence):
             "created": time.strftime("%Y-%m-%dT%H:%M:%SZ", time.gmtime(epoch)),
             "creators": ["Tool: make-dist"],
         },
-        "packages": [product, used, system, *packed],
+        "packages": [product, used, *(it for it, _ in linked), *packed],
         "relationships": [
             {"spdxElementId": one, "relationshipType": how, "relatedSpdxElement": other["SPDXID"]}
             for one, how, other in relations
@@ -51,7 +61,7 @@ def document(version, epoch, sums, licence):
     }
 
 
-def write(path, *described):
+def write(path, system, release, sums, licence):
     with open(path, "w", encoding="utf-8") as it:
-        json.dump(document(*described), it, indent=1)
+        json.dump(document(system, release.version, release.epoch, sums, licence), it, indent=1)
         it.write("\n")

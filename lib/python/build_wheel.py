@@ -4,8 +4,10 @@ It is the build backend that pyproject.toml names, and needs nothing but Python.
 
     make && pip install ./lib/python
 
-The library is the one that `make` proved and built, or another that DIMACS_LIBRARY names. If that doesn't have the mark
-of a proved one, the wheel's version ends in +unproved. The same files give the same wheel and archive, to the byte.
+The library is the one that `make` proved and built, or another that DIMACS_LIBRARY names: its header says for which system
+the wheel is. If it doesn't have the mark of a proved one, the wheel's version ends in +unproved; in +translated if it is
+compiled from proved code by a translation that isn't proved, as that for Windows. The same files give the same wheel and
+archive, to the byte.
 """
 
 from __future__ import annotations
@@ -34,8 +36,17 @@ NO_LIBRARY = """{place} isn't there. There are two ways to get it:
     make          proves and builds it, which takes over an hour; then pip install ./lib/python
     make quick    builds it unproved; then DIMACS_LIBRARY=build/quick/libdimacs.so pip install ./lib/python"""
 
+NO_SYSTEM = "{place} isn't a library for x86-64 Linux, aarch64 Linux or 64-bit Windows"
+
 # What the compiler leaves in a library that is proved: the logic in which it is.
 PROVED = b"rattle logic="
+
+# What a library for Windows, in which that isn't kept, says of itself if its code is proved.
+PROVED_CODE = b" (proved by "
+
+# The machines of libraries, by the number that an ELF file has, or one for Windows.
+ELF_MACHINES = {62: "x86_64", 183: "aarch64"}
+PE_MACHINES = {0x8664: "amd64"}
 
 
 def _library() -> bytes:
@@ -43,8 +54,28 @@ def _library() -> bytes:
     named = Path(os.environ.get("DIMACS_LIBRARY") or "build/libdimacs.so")
     for place in Path.cwd() / named, TOP / named:
         if place.is_file():
-            return place.read_bytes()
+            found = place.read_bytes()
+            if not _machine_of(found):
+                raise SystemExit(NO_SYSTEM.format(place=place))
+            return found
     raise SystemExit(NO_LIBRARY.format(place=TOP / named))
+
+
+def is_for_windows(library: bytes) -> bool:
+    return library.startswith(b"MZ")
+
+
+def _number(library: bytes, at: int, length: int) -> int:
+    return int.from_bytes(library[at : at + length], "little")
+
+
+def _machine_of(library: bytes) -> str | None:
+    """The machine that a library is for, as wheels of its system name it."""
+    if library.startswith(b"\x7fELF"):
+        return ELF_MACHINES.get(_number(library, 18, 2))
+    header = _number(library, 60, 4)
+    is_one = is_for_windows(library) and library[header : header + 4] == b"PE\0\0"
+    return PE_MACHINES.get(_number(library, header + 4, 2)) if is_one else None
 
 
 def _plain_version() -> str:
@@ -55,6 +86,8 @@ def _plain_version() -> str:
 
 def version_of(library: bytes) -> str:
     """The version of a package that has this library."""
+    if is_for_windows(library):
+        return _plain_version() + ("+translated" if PROVED_CODE in library else "+unproved")
     return _plain_version() + ("" if PROVED in library else "+unproved")
 
 
@@ -65,7 +98,8 @@ def oldest_glibc(file: bytes) -> int:
 
 def tag_of(library: bytes) -> str:
     """The systems that can load this library. It calls nothing but the C library."""
-    return f"py3-none-manylinux_2_{oldest_glibc(library)}_x86_64"
+    system = "win" if is_for_windows(library) else f"manylinux_2_{oldest_glibc(library)}"
+    return f"py3-none-{system}_{_machine_of(library)}"
 
 
 # pyproject.toml is read line by line: Python 3.10 has no module for it.
@@ -134,7 +168,8 @@ def _sources() -> dict[str, bytes]:
 def _files(library: bytes, version: str) -> dict[str, bytes]:
     """What the wheel holds, but for the list of it."""
     described = {f"{NAME}-{version}.dist-info/{name}": it for name, it in _description(library, version).items()}
-    return {**_sources(), f"{NAME}/libdimacs.so": library, **described}
+    name = "dimacs.dll" if is_for_windows(library) else "libdimacs.so"
+    return {**_sources(), f"{NAME}/{name}": library, **described}
 
 
 def _digest(content: bytes) -> str:

@@ -71,7 +71,7 @@ class Docs(unittest.TestCase):
         self.assertEqual(sorted(dir(dimacs)), sorted([*dimacs.__all__, "__version__"]))
 
     def test_version(self):
-        self.assertRegex(dimacs.__version__, r"^\d+\.\d+\.\d+(\.dev0)?(\+unproved)?$")
+        self.assertRegex(dimacs.__version__, r"^\d+\.\d+\.\d+(\.dev0)?(\+unproved|\+translated)?$")
         self.assertIs(dimacs.proved, not dimacs.__version__.endswith("+unproved"))
 
     @unittest.skipUnless(importlib.util.find_spec("mypy"), "no mypy")

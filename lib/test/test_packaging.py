@@ -13,9 +13,45 @@ import zipfile
 from unittest import mock
 
 import dimacs
+from dimacs import library
 
 FOLDER = pathlib.Path(dimacs.__file__).parents[1]
 LIBRARY = os.environ.get("DIMACS_LIBRARY", "")
+
+# Where the library is looked for: what Python calls the system, what DIMACS_LIBRARY names, and the places.
+PLACES = """
+linux  |           | PACKAGE/libdimacs.so, TOP/build/libdimacs.so
+linux  | other.so  | other.so
+win32  |           | PACKAGE/dimacs.dll, TOP/build/windows/dimacs.dll
+win32  | other.dll | other.dll
+darwin |           | there is no library of dimacs for darwin
+darwin | other     | other
+"""
+
+
+def elf(machine, *texts):
+    """The beginning of a library for Linux, and texts in it."""
+    return b"\x7fELF\2\1\1".ljust(18, b"\0") + machine.to_bytes(2, "little") + b"".join(b"\0" + it for it in texts)
+
+
+def pe(machine, *texts):
+    """The beginning of one for Windows."""
+    header = b"MZ".ljust(60, b"\0") + (128).to_bytes(4, "little")
+    return header.ljust(128, b"\0") + b"PE\0\0" + machine.to_bytes(2, "little") + b"".join(texts)
+
+
+GLIBC, LATER, IDENT = b"GLIBC_2.17", b"GLIBC_2.4", b"rattle logic=00"
+
+# Libraries, by the numbers of machines that the formats have: what the wheel's name has after the version, and its library.
+# The other files are of no system that is known.
+LIBRARIES = {
+    "-py3-none-manylinux_2_17_x86_64.whl libdimacs.so": elf(62, GLIBC, LATER, IDENT),
+    "+unproved-py3-none-manylinux_2_17_aarch64.whl libdimacs.so": elf(183, LATER, GLIBC),
+    "-py3-none-manylinux_2_4_aarch64.whl libdimacs.so": elf(183, LATER, IDENT),
+    "+translated-py3-none-win_amd64.whl dimacs.dll": pe(0x8664, b"0.2.0 (proved by rattle)"),
+    "+unproved-py3-none-win_amd64.whl dimacs.dll": pe(0x8664, b"0.2.0 (not proved)"),
+}
+OTHERS = [elf(40, GLIBC, IDENT), pe(0xAA64, b" (proved by "), pe(0x14C), b"MZ", b"\xcf\xfa\xed\xfe", b""]
 
 
 def backend_of(folder):
@@ -69,6 +105,40 @@ class Packaging(unittest.TestCase):
         unpacked = self.place / archive.name.removesuffix(".tar.gz")
         made = self.built("again", backend_of(unpacked))
         self.assertEqual(made.read_bytes(), self.built("here").read_bytes())
+
+    def test_a_wheel_for_each_system(self):
+        version = self.backend.version_of(elf(62, IDENT))
+        self.library = self.place / "library"
+        for wanted, content in LIBRARIES.items():
+            self.library.write_bytes(content)
+            wheel = self.built(wanted)
+            with zipfile.ZipFile(wheel) as it:
+                name = next(name for name in it.namelist() if "libdimacs.so" in name or "dimacs.dll" in name)
+                tag = next(it.read(name).decode() for name in it.namelist() if name.endswith("/WHEEL"))
+                self.assertEqual(it.read(name), content)
+            self.assertEqual(f"{wheel.name} {name.removeprefix('dimacs/')}", f"dimacs-{version}{wanted}")
+            self.assertIn(f"Tag: {wheel.stem.partition('-')[2].partition('-')[2]}\n", tag)
+
+    def test_a_library_for_no_system_that_is_known(self):
+        for content in OTHERS:
+            (self.place / "library").write_bytes(content)
+            named = mock.patch.dict(os.environ, {"DIMACS_LIBRARY": f"{self.place}/library"})
+            with named, self.assertRaises(SystemExit) as caught:
+                self.backend.build_wheel(self.place)
+            self.assertIn("library isn't a library for x86-64 Linux, aarch64 Linux or 64-bit Windows", str(caught.exception))
+
+    def test_where_the_library_is_looked_for(self):
+        places = {"PACKAGE": str(FOLDER / "dimacs"), "TOP": str(FOLDER.parents[1])}
+        for line in PLACES.strip().splitlines():
+            platform, named, wanted = (it.strip() for it in line.split("|"))
+            with self.subTest(line):
+                try:
+                    found = ", ".join(map(str, library.places(platform, named)))
+                except ImportError as caught:
+                    found = str(caught).partition(",")[0]
+                for short, long in places.items():
+                    wanted = wanted.replace(short, long)
+                self.assertEqual(found, wanted)
 
     def test_no_library(self):
         """pip shows what the build prints."""

@@ -4,6 +4,7 @@ from __future__ import annotations
 
 import ctypes
 import os
+import sys
 from pathlib import Path
 from typing import Any, Callable, Sequence
 
@@ -18,15 +19,31 @@ LINE = 256
 _HERE = Path(__file__).resolve().parent
 
 
+#: Where the library of a system is in `build`. In the package it has the same name.
+BUILT = {"linux": "libdimacs.so", "win32": "windows/dimacs.dll"}
+
+
+def places(platform: str, named: str | None = None) -> list[Path]:
+    """Where the library is looked for: the one that DIMACS_LIBRARY names, else that of this package, or the one of proved
+    code that make built."""
+    if named:
+        return [Path(named)]
+    if platform not in BUILT:
+        raise ImportError(
+            f"there is no library of dimacs for {platform}, but for Linux and Windows: elsewhere `npx dimacs` judges, "
+            "and so does the page for browsers"
+        )
+    built = _HERE.parents[2] / "build" / BUILT[platform]
+    return [_HERE / built.name, built]
+
+
 def _find() -> Path:
-    """The library that DIMACS_LIBRARY names, else the one of this package, else the proved one that `make` built."""
-    named = os.environ.get("DIMACS_LIBRARY")
-    places = [Path(named)] if named else [_HERE / "libdimacs.so", _HERE.parents[2] / "build" / "libdimacs.so"]
-    for place in places:
+    looked = places(sys.platform, os.environ.get("DIMACS_LIBRARY"))
+    for place in looked:
         if place.is_file():
             return place
     raise ImportError(
-        f"{places[-1]} isn't there: build it by `make`, or by `make quick`, unproved, and name it by "
+        f"{looked[-1]} isn't there: build it by `make`, or by `make quick`, unproved, and name it by "
         "DIMACS_LIBRARY=build/quick/libdimacs.so"
     )
 
@@ -53,7 +70,8 @@ def _version() -> str:
 
 
 proved = _is_proved()
-version = _version() + ("" if proved else "+unproved")
+_TRANSLATED = "+translated" if sys.platform == "win32" else ""
+version = _version() + (_TRANSLATED if proved else "+unproved")
 
 
 def _export(name: str, *words: Any, texts: int = 0, more: Sequence[Any] = (), rooms: int = 1) -> Callable[..., int]:
