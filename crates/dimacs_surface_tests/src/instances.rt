@@ -21,12 +21,15 @@ const GRAPH: &[u8] = b"p sp 2 3\na 1 2 5\na 2 1 -6\na 1 2 7\n";
 fn arcs_of<N: Network>(alloc: Global, network: &N) -> Result<String, Fail> {
     let mut spelled = String::new(alloc);
     for i in 0..network.arcs() {
-        let it: ArcView = network.arc(i);
-        write!(
-            spelled,
-            "{}>{} {}..{} {}|",
-            it.tail, it.head, it.low, it.cap, it.cost
-        )?;
+        // `arc` asks for it, and the checker doesn't have it from the range.
+        if i < network.arcs() {
+            let it: ArcView = network.arc(i);
+            write!(
+                spelled,
+                "{}>{} {}..{} {}|",
+                it.tail, it.head, it.low, it.cap, it.cost
+            )?;
+        }
     }
     Ok(spelled)
 }
