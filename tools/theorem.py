@@ -168,7 +168,8 @@ class Page:
             before_kind, before, earlier = self.parts[-1]
             # types of Rust on one line each stand among the definitions
             if before_kind == kind or not any("\n" in it for it in (before if kind == "text" else blocks)):
-                self.parts[-1] = "text" if "text" in (kind, before_kind) else kind, [*before, *blocks], [*earlier, *names]
+                joint = "text" if "text" in (kind, before_kind) else kind
+                self.parts[-1] = joint, [*before, *blocks], [*earlier, *names]
                 return
         self.parts.append((kind, blocks, names))
 
