@@ -222,11 +222,33 @@ def test_upgrade(its, packages):
     its.expect("the new one is found", "libdimacs.so.0" in its.run("ldconfig", "-p"))
 
 
-def test_removal(its):
-    """What was installed is gone after it was purged."""
-    its.run("dpkg", "--purge", *reversed(DEBIAN))
-    its.run("find", "/usr", "/var/lib/dpkg/info", "/etc", "-name", "*dimacs*")
-    its.expect("removal leaves nothing", its.message.endswith("status 0\n"))
+def files_of_system():
+    """All files and folders of the system but those that dpkg, man and ldconfig keep for themselves."""
+    kept = ["/proc", "/sys", "/dev", "/run", "/tmp", "/packages", "/var/cache", "/var/log"]
+    kept += ["/var/lib/dpkg/alternatives", "/var/lib/dpkg/info/format", "/etc/ld.so.cache"]
+    found = set()
+    for at, folders, names in os.walk("/"):
+        folders[:] = [it for it in folders if os.path.join(at, it) not in kept]
+        found |= {os.path.join(at, it) for it in [*folders, *names] if os.path.join(at, it) not in kept}
+    return found
+
+
+def test_removal(its, before):
+    """What was installed is gone after it was removed, is there again if it is installed again, and gone once purged."""
+    packages = [its.only(f"{it}_*.deb") for it in DEBIAN]
+    for how in ("--remove", "--purge"):
+        its.run("dpkg", how, *reversed(DEBIAN))
+        its.expect(f"dpkg {how}", its.succeeded)
+        changed = files_of_system() ^ before
+        its.message = "\n".join(sorted(changed))
+        its.expect(f"dpkg {how} leaves all as it was", not changed)
+        if how == "--remove":
+            its.run("dpkg", "-i", *packages)
+            its.expect("installing what was removed", its.succeeded)
+            test_program(its, "/usr/bin/dimacs")
+            test_package_for_python(its)
+    its.run("dpkg-query", "-W", "*dimacs*")
+    its.expect("dpkg knows none of them", not its.succeeded)
 
 
 def test_package_for_python(its):
@@ -330,6 +352,7 @@ def test_all(dist, is_root):
     """Tests the packages here; what passed and what failed."""
     with tempfile.TemporaryDirectory() as place:
         its = Packages(dist, place)
+        before = files_of_system() if is_root else None
         if is_root:
             its.usr, its.environment = "/usr", {"HOME": place, "LANG": "C.UTF-8", "PATH": "/usr/sbin:/usr/bin:/sbin:/bin"}
         for name, text in (("instance", MAX), ("flow", FLOW), ("shown.c", IN_C)):
@@ -350,7 +373,7 @@ def test_all(dist, is_root):
         test_man(its)
         test_completion(its)
         if is_root:
-            test_removal(its)
+            test_removal(its, before)
     print(f"{its.passed} passed, {its.failed} failed")
     return 1 if its.failed or not its.passed else 0
 
