@@ -36,6 +36,7 @@ SCRIPTS = {
     "version": ["{build}"],
     "abi": ["{build}"],
     "release": [],
+    "licence": [],
     "install": ["{build}"],
     "promises": [],
     "theorem": [],

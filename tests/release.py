@@ -12,7 +12,8 @@ import sys
 import tempfile
 
 TOP = os.path.dirname(os.path.dirname(os.path.abspath(__file__)))
-FILES = ["VERSION", "CHANGELOG.md", "README.md", "LICENCE-STATUS", "abi"]
+FILES = ["VERSION", "CHANGELOG.md", "README.md", "LICENCE-STATUS", "abi", "CITATION.cff"]
+FILES += ["lib/rust/Cargo.toml", "lib/js/package.json"]
 CONTACT = "Ada Example <ada@example.org>"
 
 # Of a release that is right: the file, what is replaced in it by what, and what it says no to.
@@ -42,6 +43,8 @@ def put_release(place, row):
     """Writes a release that is right but for the row."""
     right = {"VERSION": (r".*", "0.2.0"), "CHANGELOG.md": (r"^## .*$", "## 0.2.0, 2026-11-27")}
     shutil.copytree(f"{TOP}/tools", f"{place}/tools", ignore=shutil.ignore_patterns("__pycache__"))
+    for folder in ("rust", "js"):
+        os.makedirs(f"{place}/lib/{folder}")
     for name in FILES:
         with open(f"{TOP}/{name}", encoding="utf-8") as it:
             text = it.read()

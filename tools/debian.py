@@ -14,6 +14,8 @@ import sys
 import time
 import zipfile
 
+import licence
+
 TOP = os.path.dirname(os.path.dirname(os.path.abspath(__file__)))
 SOURCES = f"{TOP}/lib/package/debian"
 LIBRARIES = "usr/lib/x86_64-linux-gnu"
@@ -67,12 +69,12 @@ def filled(name, words):
 
 def words_for(version, epoch, glibc):
     """What stands in place of the words between @."""
-    first, _, text = read(f"{TOP}/LICENCE-STATUS").partition("\n\n")
     date = time.strftime("%a, %d %b %Y %H:%M:%S +0000", time.gmtime(epoch))
-    indented = "\n".join(f" {line}" for line in text.strip().split("\n"))
+    chosen = licence.words()
+    chosen["LICENCE_TEXT"] = "\n".join(f" {line}" if line else " ." for line in chosen["LICENCE_TEXT"].split("\n"))
     words = {"VERSION": version.replace("-", "~") + "-1", "DATE": date, "MAINTAINER": maintainer(version)}
     words |= {"DISTRIBUTION": "UNRELEASED" if "-" in version else "unstable", "GLIBC": str(glibc)}
-    return words | {"LICENCE": first.strip(), "LICENCE_TEXT": indented}
+    return words | chosen
 
 
 def unpack_wheel(wheel, into):

@@ -110,8 +110,8 @@ def make(build, out):
     os.environ["DIMACS_LIBRARY"] = f"{TOP}/{build}/libdimacs.so.0"
     with tempfile.TemporaryDirectory() as room:
         name = make_tarball(build, f"{room}/tarball", out, release)
-        digest, licence = dict(sums_of(out))[f"{name}.tar.gz"], text("LICENCE-STATUS").split("\n")[0]
-        other_systems.fill(f"{room}/packaging", other_systems.words_for(release, name, digest, licence))
+        digest = dict(sums_of(out))[f"{name}.tar.gz"]
+        other_systems.fill(f"{room}/packaging", other_systems.words_for(release, name, digest))
         write_tar(out, f"{room}/packaging", f"dimacs-{release.version}-packaging", release.epoch)
         wheel = f"{out}/{build_wheel.build_wheel(out)}"
         if shutil.which("dpkg-deb"):
@@ -119,7 +119,7 @@ def make(build, out):
             debian.make(f"{room}/installed", f"{room}/debian", wheel, release, out)
         else:
             print("left out: the packages for Debian: no dpkg-deb")
-    sbom.write(f"{out}/dimacs-{release.version}.spdx.json", release.version, release.epoch, sums_of(out), licence)
+    sbom.write(f"{out}/dimacs-{release.version}.spdx.json", release.version, release.epoch, sums_of(out))
     sums = sums_of(out)
     with open(f"{out}/SHA256SUMS", "w", encoding="ascii") as it:
         it.writelines(f"{value}  {name}\n" for name, value in sums)

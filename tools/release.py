@@ -1,10 +1,11 @@
 #!/usr/bin/env python3
 """Goes through what a release wants, and prints the text of its tag: tools/release.py [--only-read]
 
-First it reads: VERSION has three numbers alone, and the newest part of CHANGELOG.md is its, with a day; LICENCE-STATUS is
-what README.md says; MAINTAINER is set; calls that are new are so since this version; nothing is uncommitted. If all this
-is right it runs the gate with all wrong bodies, make dist and make check-packages, which takes hours. With --only-read it
-stops before these. Each step is a line, `ok` or `no` and why; after a `no` it ends with the status 1.
+First it reads: VERSION has three numbers alone, and the newest part of CHANGELOG.md is its, with a day; the licence of
+LICENCE-STATUS stands where it has to; MAINTAINER is set; calls that are new are so since this version; nothing is
+uncommitted. If all this is right it runs the gate with all wrong bodies, make dist and make check-packages, which takes
+hours. With --only-read it stops before these. Each step is a line, `ok` or `no` and why; after a `no` it ends with the
+status 1.
 """
 import datetime
 import os
@@ -14,6 +15,7 @@ import subprocess
 import sys
 
 import debian
+import licence
 
 TOP = os.path.dirname(os.path.dirname(os.path.abspath(__file__)))
 RUN = [["make", "prove-all"], ["make", "dist"], ["make", "check-packages"]]
@@ -42,9 +44,8 @@ def heading_fault(version):
 
 
 def licence_fault():
-    first, _, text = read("LICENCE-STATUS").partition("\n\n")
-    said = " ".join(text.split()) in " ".join(read("README.md").split())
-    return None if first.strip() and said else "README.md doesn't have its text"
+    found = licence.differing()
+    return f"{', '.join(found)} have another one" if found else None
 
 
 def maintainer_fault():

@@ -4,6 +4,8 @@ import os
 import re
 import time
 
+import licence
+
 TOP = os.path.dirname(os.path.dirname(os.path.abspath(__file__)))
 
 
@@ -19,11 +21,11 @@ def package(name, version, **more):
     return {**described, "filesAnalyzed": False, "copyrightText": "NOASSERTION", **unknown, **more}
 
 
-def document(version, epoch, sums, licence):
+def document(version, epoch, sums):
     """The document: the product, the kit that proved and compiled it, the C library that it calls, and each package."""
     release, logic = kit()
     digest = sums[0][1][:32] if sums else "0"
-    product = package("dimacs", version, licenseDeclared=licence)
+    product = package("dimacs", version, licenseDeclared=licence.words()["LICENCE"])
     used = package("rattle-kit", release, comment=f"Proves and compiles, and its C library is linked: logic {logic}")
     system = package("glibc", "any that the packages name or later")
     packed = [
