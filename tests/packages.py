@@ -3,8 +3,8 @@
 
 DIST is the folder that `make dist` makes. With --root they are installed in an empty Debian, made for it, which takes some
 minutes: over version 0.1.0 by `dpkg -i`, and by pip in a new environment beside numpy; lintian reads them before, and at
-last they are removed. Without it, or if debootstrap isn't there or root doesn't run this, they are made a second time and
-compared, and unpacked into an empty folder. Then the program is asked for a verdict, and so is the library: by a program
+last they are removed, installed again and purged. Without it, or if debootstrap isn't there or root doesn't run this, they
+are made again in other locales, zones and folders and compared, and unpacked into an empty folder. Then the program is asked for a verdict, and so is the library: by a program
 in C that is built by pkg-config, by one that is built by CMake, and from Python. The man pages are shown and words are
 completed.
 
@@ -30,6 +30,12 @@ TOOLS = "python3,python3-venv,python3-numpy,gcc,libc6-dev,cmake,make,pkg-config,
 # takes over files of the old dimacs, and waits for the new one.
 DEBIAN = ["dimacs", "libdimacs0", "libdimacs-dev", "python3-dimacs"]
 LIBRARIES = "lib/x86_64-linux-gnu"
+
+# How the packages are made again: the locale, the umask, the time zone, and whether in a copy of the repository.
+AGAIN = """
+tr_TR.UTF-8 | 077 | Asia/Tokyo       | copy
+de_DE.UTF-8 | 002 | America/St_Johns | here
+"""
 
 # The package of version 0.1.0: one with all files, of which these are some.
 OLD = {"usr/bin/dimacs": "", "usr/include/dimacs.h": "", "usr/lib/libdimacs.so.0.1.0": ""}
@@ -144,22 +150,45 @@ def test_sums(its):
                 its.expect(name, sums.get(name) == hashlib.sha256(it.read()).hexdigest())
 
 
+def make_locale(its, name):
+    """Makes a locale that the system may not have; whether it could."""
+    if not its.has(f"the locale {name}", "localedef"):
+        return False
+    os.makedirs(f"{its.place}/locales", exist_ok=True)
+    its.run("localedef", "-i", name.partition(".")[0], "-f", "UTF-8", f"{its.place}/locales/{name}")
+    if not its.succeeded:
+        print(f"left out: the locale {name}: no package locales")
+    return its.succeeded
+
+
+def copy_sources(its):
+    """Copies the sources and what is built: all is of another time, and nobody but its owner may read it."""
+    made = f"{its.place}/copy"
+    ignored = shutil.ignore_patterns(".git", "__pycache__", "dist", "out", "quick")
+    shutil.copytree(TOP, made, symlinks=True, ignore=ignored, copy_function=shutil.copy)
+    its.run("chmod", "-R", "go-rwx", made)
+    return made
+
+
 def test_again(its):
-    """Made a second time, by another user's settings, the packages are the same to the byte."""
-    again = f"{its.place}/again"
-    os.mkdir(f"{its.place}/temporary")
-    settings = {"LC_ALL": "C", "TZ": "Asia/Tokyo", "TMPDIR": f"{its.place}/temporary"}
-    words = [f"{TOP}/tools/dist.py", again]
-    environment = {**os.environ, **settings}
-    ran = subprocess.run(words, cwd="/", env=environment, umask=0o077, capture_output=True, text=True, check=False)
-    its.message = ran.stdout + ran.stderr
-    its.expect("making them again", ran.returncode == 0)
-    for name in sorted(os.listdir(its.dist)):
-        with open(f"{its.dist}/{name}", "rb") as it:
-            first = it.read()
-        its.message = f"{name} differs, or wasn't made"
-        is_there = os.path.exists(f"{again}/{name}")
-        its.expect(f"{name} made again", is_there and first == open(f"{again}/{name}", "rb").read())
+    """Made again, by others' settings and elsewhere, the packages are the same to the byte."""
+    for row in AGAIN.strip().splitlines():
+        locale, umask, zone, where = [it.strip() for it in row.split("|")]
+        if not make_locale(its, locale):
+            continue
+        top, again = copy_sources(its) if where == "copy" else TOP, f"{its.place}/again-{where}"
+        os.mkdir(f"{its.place}/temporary-{where}")
+        settings = {"LC_ALL": locale, "LOCPATH": f"{its.place}/locales", "TZ": zone, "TMPDIR": f"{its.place}/temporary-{where}"}
+        how = {"env": {**os.environ, **settings}, "umask": int(umask, 8), "capture_output": True, "text": True}
+        ran = subprocess.run([f"{top}/tools/dist.py", again], cwd="/", check=False, **how)
+        its.message = ran.stdout + ran.stderr
+        its.expect(f"making them again: {row}", ran.returncode == 0)
+        for name in sorted(os.listdir(its.dist)):
+            with open(f"{its.dist}/{name}", "rb") as it:
+                first = it.read()
+            its.message = f"{name} differs, or wasn't made: {row}"
+            is_there = os.path.exists(f"{again}/{name}")
+            its.expect(f"{name} made again", is_there and first == open(f"{again}/{name}", "rb").read())
 
 
 def test_list(its):
