@@ -31,6 +31,13 @@ TOOLS = "python3,python3-venv,python3-numpy,gcc,libc6-dev,cmake,make,pkg-config,
 DEBIAN = ["dimacs", "libdimacs0", "libdimacs-dev", "python3-dimacs"]
 LIBRARIES = "lib/x86_64-linux-gnu"
 
+# What reads recipes of packaging/, if it is there.
+READ_BY = {
+    "conda/meta.yaml": ["ruby", "-ryaml", "-e", "YAML.load_file(ARGV[0])"],
+    "homebrew/dimacs.rb": ["ruby", "-c"],
+    "nix/default.nix": ["nix-instantiate", "--parse"],
+}
+
 # How the packages are made again: the locale, the umask, the time zone, and whether in a copy of the repository.
 AGAIN = """
 tr_TR.UTF-8 | 077 | Asia/Tokyo       | copy
@@ -45,6 +52,15 @@ Architecture: amd64
 Maintainer: nobody <nobody@example.invalid>
 Description: stand-in
 """
+
+# What readelf prints of a file that can lie anywhere, whose tables are written before it runs alone, and whose stack isn't
+# executed.
+HARDENED = {
+    "position": r"Type: +DYN",
+    "relocations": r"\n +GNU_RELRO ",
+    "binding": r"\(FLAGS\) +BIND_NOW",
+    "stack": r"\n +GNU_STACK +(0x\w+ +){5}RW +",
+}
 
 MAX = "p max 3 3\nn 1 s\nn 3 t\na 1 2 4\na 2 3 2\na 1 3 1\n"
 FLOW = "s 3\nf 1 2 2\nf 1 3 1\nf 2 3 2\n"
@@ -295,6 +311,17 @@ def test_program(its, program):
     its.expect("the version of the program", f"dimacs {its.version} (proved by " in output)
 
 
+def test_hardening(its):
+    """What the linker does against attacks, in the program and in the library."""
+    if not its.has("hardening", "readelf"):
+        return
+    for file in (f"{its.usr}/bin/dimacs", f"{its.usr}/{LIBRARIES}/libdimacs.so.0"):
+        its.run("readelf", "-dhlW", file)
+        for name, pattern in HARDENED.items():
+            its.expect(f"{name} of {file}", re.search(pattern, its.message) is not None)
+        its.expect(f"no search path of {file}", not re.search("RPATH|RUNPATH|TEXTREL", its.message))
+
+
 def test_batch(its):
     """A row with the verdict of one answer."""
     if not os.path.exists(f"{its.usr}/bin/dimacs-batch"):
@@ -393,6 +420,7 @@ def test_all(dist, is_root):
             test_again(its)
         test_debian(its, is_root)
         test_program(its, f"{its.usr}/bin/dimacs")
+        test_hardening(its)
         test_batch(its)
         test_tarball(its)
         test_pkg_config(its)
@@ -418,10 +446,26 @@ def is_clean(dist):
     return ran.returncode == 0 and not ran.stdout
 
 
+def are_read(dist):
+    """Whether the languages of the recipes for other systems read them."""
+    with tempfile.TemporaryDirectory() as room:
+        subprocess.run(["tar", "-xzf", *glob.glob(f"{dist}/*-packaging.tar.gz"), "-C", room], check=True)
+        refused = []
+        for name, words in READ_BY.items():
+            if not shutil.which(words[0]):
+                print(f"left out: {name}: no {words[0]}")
+                continue
+            ran = subprocess.run([*words, *glob.glob(f"{room}/*/{name}")], capture_output=True, text=True, check=False)
+            if ran.returncode:
+                print(f"{name}: {ran.stderr}")
+                refused.append(name)
+    return not refused
+
+
 def test_in_root(dist):
-    """Makes an empty Debian, and tests the packages in it, after lintian has."""
-    if not is_clean(dist):
-        print("lintian finds something\n0 passed, 1 failed")
+    """Makes an empty Debian, and tests the packages in it, after lintian and others have."""
+    if not is_clean(dist) or not are_read(dist):
+        print("lintian finds something, or a recipe isn't read\n0 passed, 1 failed")
         return 1
     with tempfile.TemporaryDirectory() as root:
         words = ["debootstrap", "--variant=minbase", f"--include={TOOLS}", "stable", root]

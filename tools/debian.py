@@ -144,7 +144,7 @@ def symbols():
     """The calls, each with the version that it first was in, or what came before that: its ~ sorts first."""
     listed = [line.split()[:2] for line in read(f"{TOP}/abi").splitlines() if line.startswith("dimacs_")]
     lines = sorted(f" {name}@Base {since}~" for name, since in listed)
-    return "\n".join(["libdimacs.so.0 libdimacs0 #MINVER#", *lines, ""])
+    return "\n".join(["libdimacs.so.0 libdimacs0 #MINVER#", "* Build-Depends-Package: libdimacs-dev", *lines, ""])
 
 
 def add_control(root, package, words):
