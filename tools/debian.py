@@ -4,7 +4,6 @@ lib/package/debian has what is written into each: the fields of its control file
 belongs to the first package that has a pattern for it. dpkg-deb packs them.
 """
 import fnmatch
-import gzip
 import hashlib
 import os
 import re
@@ -112,8 +111,7 @@ def compress(path, target):
     """Compresses a file as Debian wants it: by gzip -9n."""
     os.makedirs(os.path.dirname(target), exist_ok=True)
     with open(path, "rb") as it, open(target, "wb") as out:
-        with gzip.GzipFile(filename="", mode="wb", compresslevel=9, fileobj=out, mtime=0) as packed:
-            packed.write(it.read())
+        subprocess.run(["gzip", "-9n"], stdin=it, stdout=out, check=True)
     os.chmod(target, 0o644)
 
 
