@@ -138,6 +138,10 @@ no-such-system:
 release:
 	tools/release.py
 
+## make licence: writes what LICENCE-STATUS says into the files here that have a field for it
+licence:
+	tools/licence.py
+
 ## make theorem: writes docs/THEOREM.md, and build/THEOREM.html with links from names to their definitions
 theorem:
 	tools/theorem.py
@@ -157,4 +161,4 @@ include targets.mk
 .PRECIOUS: build/dimacs build/dimacs_c.a build/dimacs_c.bc %/dimacs.o %/libdimacs.a %/libdimacs.so.0 \
     %/libdimacs.so
 .PHONY: all help quick check prove prove-all proved-by-ci install uninstall linked dist check-packages proved-only \
-    no-such-system release theorem bench clean FORCE
+    no-such-system release licence theorem bench clean FORCE

@@ -61,7 +61,7 @@ ARM = aarch64-linux-gnu
 	$(ARM)-gcc -O2 -fPIC -Wall -Wextra -c $< -o $@
 
 %/aarch64/dimacs: %/aarch64/main.o %/aarch64/heap.o lib/glue/os.c
-	$(ARM)-gcc -O2 -fPIE -pie -Wall -Wextra -s -o $@ $^
+	$(ARM)-gcc -O2 -fPIE -pie -Wl,-z,relro,-z,now -Wall -Wextra -s -o $@ $^
 
 build/aarch64/dimacs_c.a build/aarch64/main.o &: build/dimacs tools/targets/aarch64.py
 	tools/targets/aarch64.py build/aarch64

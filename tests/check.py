@@ -37,6 +37,7 @@ SCRIPTS = {
     "version": ["{build}"],
     "abi": ["{build}"],
     "release": [],
+    "licence": [],
     "install": ["{build}"],
     "promises": [],
     "theorem": [],

@@ -3,8 +3,8 @@
 
 DIST is a folder that `make dist` makes. With --root they are installed in an empty Debian, made for it, which takes some
 minutes: over version 0.1.0 by `dpkg -i`, and by pip in a new environment beside numpy; lintian reads them before, and at
-last they are removed. Without it, or if debootstrap isn't there or root doesn't run this, they are made a second time and
-compared, and unpacked into an empty folder. Then the program is asked for a verdict, and so is the library: by a program
+last they are removed, installed again and purged. Without it, or if debootstrap isn't there or root doesn't run this, they
+are made again in other locales, zones and folders and compared, and unpacked into an empty folder. Then the program is asked for a verdict, and so is the library: by a program
 in C that is built by pkg-config, by one that is built by CMake, and from Python. The man pages are shown and words are
 completed. Of those for another machine the program, and that by pkg-config, are run under qemu, and the library of the
 wheel with the latter; those for Windows are read alone.
@@ -47,6 +47,19 @@ WHEELS = {
     "windows": ("dimacs/dimacs.dll", r"\+translated-py3-none-win_amd64"),
 }
 
+# What reads recipes of packaging/, if it is there.
+READ_BY = {
+    "conda/meta.yaml": ["ruby", "-ryaml", "-e", "YAML.load_file(ARGV[0])"],
+    "homebrew/dimacs.rb": ["ruby", "-c"],
+    "nix/default.nix": ["nix-instantiate", "--parse"],
+}
+
+# How the packages are made again: the locale, the umask, the time zone, and whether in a copy of the repository.
+AGAIN = """
+tr_TR.UTF-8 | 077 | Asia/Tokyo       | copy
+de_DE.UTF-8 | 002 | America/St_Johns | here
+"""
+
 # The package of version 0.1.0: one with all files, of which these are some.
 OLD = {"usr/bin/dimacs": "", "usr/include/dimacs.h": "", "usr/lib/libdimacs.so.0.1.0": ""}
 OLD["DEBIAN/control"] = """Package: dimacs
@@ -55,6 +68,15 @@ Architecture: amd64
 Maintainer: nobody <nobody@example.invalid>
 Description: stand-in
 """
+
+# What readelf prints of a file that can lie anywhere, whose tables are written before it runs alone, and whose stack isn't
+# executed.
+HARDENED = {
+    "position": r"Type: +DYN",
+    "relocations": r"\n +GNU_RELRO ",
+    "binding": r"\(FLAGS\) +BIND_NOW",
+    "stack": r"\n +GNU_STACK +(0x\w+ +){5}RW +",
+}
 
 MAX = "p max 3 3\nn 1 s\nn 3 t\na 1 2 4\na 2 3 2\na 1 3 1\n"
 FLOW = "s 3\nf 1 2 2\nf 1 3 1\nf 2 3 2\n"
@@ -114,6 +136,7 @@ class Packages:
         triplet = f"{self.system}-linux-gnu"
         self.by = [f"qemu-{self.system}", "-L", f"/usr/{triplet}"] if self.is_foreign else []
         self.compiler = f"{triplet}-gcc" if self.is_foreign else "cc"
+        self.triplet = triplet
         libraries = f"{self.usr}/lib/{triplet}"
         paths = {"PKG_CONFIG_PATH": f"{libraries}/pkgconfig", "CMAKE_PREFIX_PATH": self.usr}
         paths |= {"CMAKE_LIBRARY_ARCHITECTURE": triplet, "PYTHONPATH": f"{self.usr}/lib/python3/dist-packages"}
@@ -224,22 +247,45 @@ def test_tag(its):
     its.expect("the wheel's tag", f"\nTag: {tag}\n" in described)
 
 
+def make_locale(its, name):
+    """Makes a locale that the system may not have; whether it could."""
+    if not its.has(f"the locale {name}", "localedef"):
+        return False
+    os.makedirs(f"{its.place}/locales", exist_ok=True)
+    its.run("localedef", "-i", name.partition(".")[0], "-f", "UTF-8", f"{its.place}/locales/{name}")
+    if not its.succeeded:
+        print(f"left out: the locale {name}: no package locales")
+    return its.succeeded
+
+
+def copy_sources(its):
+    """Copies the sources and what is built: all is of another time, and nobody but its owner may read it."""
+    made = f"{its.place}/copy"
+    ignored = shutil.ignore_patterns(".git", "__pycache__", "dist", "out", "quick")
+    shutil.copytree(TOP, made, symlinks=True, ignore=ignored, copy_function=shutil.copy)
+    its.run("chmod", "-R", "go-rwx", made)
+    return made
+
+
 def test_again(its):
-    """Made a second time, by another user's settings, the packages are the same to the byte."""
-    again = f"{its.place}/again"
-    os.mkdir(f"{its.place}/temporary")
-    settings = {"LC_ALL": "C", "TZ": "Asia/Tokyo", "TMPDIR": f"{its.place}/temporary"}
-    words = [f"{TOP}/tools/dist.py", "--for", its.system, again]
-    environment = {**os.environ, **settings}
-    ran = subprocess.run(words, cwd="/", env=environment, umask=0o077, capture_output=True, text=True, check=False)
-    its.message = ran.stdout + ran.stderr
-    its.expect("making them again", ran.returncode == 0)
-    for name in its.names():
-        with open(f"{its.dist}/{name}", "rb") as it:
-            first = it.read()
-        its.message = f"{name} differs, or wasn't made"
-        is_there = os.path.exists(f"{again}/{name}")
-        its.expect(f"{name} made again", is_there and first == open(f"{again}/{name}", "rb").read())
+    """Made again, by others' settings and elsewhere, the packages are the same to the byte."""
+    for row in AGAIN.strip().splitlines():
+        locale, umask, zone, where = [it.strip() for it in row.split("|")]
+        if not make_locale(its, locale):
+            continue
+        top, again = copy_sources(its) if where == "copy" else TOP, f"{its.place}/again-{where}"
+        os.mkdir(f"{its.place}/temporary-{where}")
+        settings = {"LC_ALL": locale, "LOCPATH": f"{its.place}/locales", "TZ": zone, "TMPDIR": f"{its.place}/temporary-{where}"}
+        how = {"env": {**os.environ, **settings}, "umask": int(umask, 8), "capture_output": True, "text": True}
+        ran = subprocess.run([f"{top}/tools/dist.py", "--for", its.system, again], cwd="/", check=False, **how)
+        its.message = ran.stdout + ran.stderr
+        its.expect(f"making them again: {row}", ran.returncode == 0)
+        for name in its.names():
+            with open(f"{its.dist}/{name}", "rb") as it:
+                first = it.read()
+            its.message = f"{name} differs, or wasn't made: {row}"
+            is_there = os.path.exists(f"{again}/{name}")
+            its.expect(f"{name} made again", is_there and first == open(f"{again}/{name}", "rb").read())
 
 
 def test_list(its):
@@ -304,11 +350,33 @@ def test_upgrade(its, packages):
     its.expect("the new one is found", "libdimacs.so.0" in its.run("ldconfig", "-p"))
 
 
-def test_removal(its):
-    """What was installed is gone after it was purged."""
-    its.run("dpkg", "--purge", *reversed(DEBIAN))
-    its.run("find", "/usr", "/var/lib/dpkg/info", "/etc", "-name", "*dimacs*")
-    its.expect("removal leaves nothing", its.message.endswith("status 0\n"))
+def files_of_system():
+    """All files and folders of the system but those that dpkg, man and ldconfig keep for themselves."""
+    kept = ["/proc", "/sys", "/dev", "/run", "/tmp", "/packages", "/var/cache", "/var/log"]
+    kept += ["/var/lib/dpkg/alternatives", "/var/lib/dpkg/info/format", "/etc/ld.so.cache"]
+    found = set()
+    for at, folders, names in os.walk("/"):
+        folders[:] = [it for it in folders if os.path.join(at, it) not in kept]
+        found |= {os.path.join(at, it) for it in [*folders, *names] if os.path.join(at, it) not in kept}
+    return found
+
+
+def test_removal(its, before):
+    """What was installed is gone after it was removed, is there again if it is installed again, and gone once purged."""
+    packages = [its.only(f"{it}_*.deb") for it in DEBIAN]
+    for how in ("--remove", "--purge"):
+        its.run("dpkg", how, *reversed(DEBIAN))
+        its.expect(f"dpkg {how}", its.succeeded)
+        changed = files_of_system() ^ before
+        its.message = "\n".join(sorted(changed))
+        its.expect(f"dpkg {how} leaves all as it was", not changed)
+        if how == "--remove":
+            its.run("dpkg", "-i", *packages)
+            its.expect("installing what was removed", its.succeeded)
+            test_program(its, "/usr/bin/dimacs")
+            test_package_for_python(its)
+    its.run("dpkg-query", "-W", "*dimacs*")
+    its.expect("dpkg knows none of them", not its.succeeded)
 
 
 def test_package_for_python(its):
@@ -324,6 +392,17 @@ def test_program(its, program):
     its.expect("a verdict", output == "v max 3\n")
     output = its.run(*its.by, program)
     its.expect("the version of the program", f"dimacs {its.version} (proved by " in output)
+
+
+def test_hardening(its):
+    """What the linker does against attacks, in the program and in the library."""
+    if not its.has("hardening", "readelf"):
+        return
+    for file in (f"{its.usr}/bin/dimacs", f"{its.usr}/lib/{its.triplet}/libdimacs.so.0"):
+        its.run("readelf", "-dhlW", file)
+        for name, pattern in HARDENED.items():
+            its.expect(f"{name} of {file}", re.search(pattern, its.message) is not None)
+        its.expect(f"no search path of {file}", not re.search("RPATH|RUNPATH|TEXTREL", its.message))
 
 
 def test_batch(its):
@@ -423,6 +502,7 @@ def test_all(dist, is_root):
     """Tests the packages here; what passed and what failed."""
     with tempfile.TemporaryDirectory() as place:
         its = Packages(dist, place)
+        before = files_of_system() if is_root else None
         if is_root:
             its.usr, its.environment = "/usr", {"HOME": place, "LANG": "C.UTF-8", "PATH": "/usr/sbin:/usr/bin:/sbin:/bin"}
         for name, text in (("instance", MAX), ("flow", FLOW), ("shown.c", IN_C)):
@@ -433,15 +513,17 @@ def test_all(dist, is_root):
         if not is_root:
             test_again(its)
         if its.system != "windows" and (not its.is_foreign or its.has(f"runs on {its.system}", its.by[0])):
-            test_runs(its, is_root)
+            test_runs(its, before)
     print(f"{its.passed} passed, {its.failed} failed")
     return 1 if its.failed or not its.passed else 0
 
 
-def test_runs(its, is_root):
+def test_runs(its, before):
     """What is in the packages for Linux, by running it."""
+    is_root = before is not None
     test_debian(its, is_root)
     test_program(its, f"{its.usr}/bin/dimacs")
+    test_hardening(its)
     test_tarball(its)
     test_pkg_config(its)
     if its.is_foreign:
@@ -455,7 +537,7 @@ def test_runs(its, is_root):
     test_man(its)
     test_completion(its)
     if is_root:
-        test_removal(its)
+        test_removal(its, before)
 
 
 def is_clean(dist):
@@ -469,10 +551,26 @@ def is_clean(dist):
     return ran.returncode == 0 and not ran.stdout
 
 
+def are_read(dist):
+    """Whether the languages of the recipes for other systems read them."""
+    with tempfile.TemporaryDirectory() as room:
+        subprocess.run(["tar", "-xzf", *glob.glob(f"{dist}/*-packaging.tar.gz"), "-C", room], check=True)
+        refused = []
+        for name, words in READ_BY.items():
+            if not shutil.which(words[0]):
+                print(f"left out: {name}: no {words[0]}")
+                continue
+            ran = subprocess.run([*words, *glob.glob(f"{room}/*/{name}")], capture_output=True, text=True, check=False)
+            if ran.returncode:
+                print(f"{name}: {ran.stderr}")
+                refused.append(name)
+    return not refused
+
+
 def test_in_root(dist):
-    """Makes an empty Debian, and tests the packages in it, after lintian has."""
-    if not is_clean(dist):
-        print("lintian finds something\n0 passed, 1 failed")
+    """Makes an empty Debian, and tests the packages in it, after lintian and others have."""
+    if not is_clean(dist) or not are_read(dist):
+        print("lintian finds something, or a recipe isn't read\n0 passed, 1 failed")
         return 1
     with tempfile.TemporaryDirectory() as root:
         words = ["debootstrap", "--variant=minbase", f"--include={TOOLS}", "stable", root]

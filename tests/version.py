@@ -83,6 +83,8 @@ def of_files(wanted):
     header = dict(re.findall(r"^#define DIMACS_VERSION(\w*) ([\w\-.\"]+)$", read("lib/include/dimacs.h"), re.MULTILINE))
     numbers = dict(zip(("_MAJOR", "_MINOR", "_PATCH"), parts(wanted)))
     yield "dimacs.h", header, {"": f'"{wanted}"', **numbers}
+    text = read("crates/dimacs_runs/src/build.rt")
+    yield "build.rt", re.findall(r'VERSION: &str = "(\S+) \(', text), [wanted, wanted]
     crate = [re.findall(r'^version = "(.*)"$', read(f"lib/rust/Cargo.{it}"), re.MULTILINE) for it in ("toml", "lock")]
     yield "the crate for Cargo", crate, [[wanted], [wanted]]
     if os.path.exists(f"{TOP}/CITATION.cff"):

@@ -4,7 +4,6 @@ lib/package/debian has what is written into each: the fields of its control file
 belongs to the first package that has a pattern for it. dpkg-deb packs them.
 """
 import fnmatch
-import gzip
 import hashlib
 import os
 import platform
@@ -14,6 +13,8 @@ import subprocess
 import sys
 import time
 import zipfile
+
+import licence
 
 TOP = os.path.dirname(os.path.dirname(os.path.abspath(__file__)))
 SOURCES = f"{TOP}/lib/package/debian"
@@ -75,13 +76,13 @@ def filled(name, words):
 def words_for(release):
     """What stands in place of the words between @."""
     version = release.version
-    first, _, text = read(f"{TOP}/LICENCE-STATUS").partition("\n\n")
     date = time.strftime("%a, %d %b %Y %H:%M:%S +0000", time.gmtime(release.epoch))
-    indented = "\n".join(f" {line}" for line in text.strip().split("\n"))
+    chosen = licence.words()
+    chosen["LICENCE_TEXT"] = "\n".join(f" {line}" if line else " ." for line in chosen["LICENCE_TEXT"].split("\n"))
     words = {"VERSION": version.replace("-", "~") + "-1", "DATE": date, "MAINTAINER": maintainer(version)}
     words |= {"DISTRIBUTION": "UNRELEASED" if "-" in version else "unstable", "GLIBC": str(release.glibc)}
     words["ARCHITECTURE"] = ARCHITECTURES[release.machine]
-    return words | {"LICENCE": first.strip(), "LICENCE_TEXT": indented}
+    return words | chosen
 
 
 def unpack_wheel(wheel, into, machine):
@@ -120,8 +121,7 @@ def compress(path, target):
     """Compresses a file as Debian wants it: by gzip -9n."""
     os.makedirs(os.path.dirname(target), exist_ok=True)
     with open(path, "rb") as it, open(target, "wb") as out:
-        with gzip.GzipFile(filename="", mode="wb", compresslevel=9, fileobj=out, mtime=0) as packed:
-            packed.write(it.read())
+        subprocess.run(["gzip", "-9n"], stdin=it, stdout=out, check=True)
     os.chmod(target, 0o644)
 
 
@@ -152,7 +152,7 @@ def symbols():
     """The calls, each with the version that it first was in, or what came before that: its ~ sorts first."""
     listed = [line.split()[:2] for line in read(f"{TOP}/abi").splitlines() if line.startswith("dimacs_")]
     lines = sorted(f" {name}@Base {since}~" for name, since in listed)
-    return "\n".join(["libdimacs.so.0 libdimacs0 #MINVER#", *lines, ""])
+    return "\n".join(["libdimacs.so.0 libdimacs0 #MINVER#", "* Build-Depends-Package: libdimacs-dev", *lines, ""])
 
 
 def add_control(root, package, words):

@@ -115,9 +115,9 @@ def make_tarball(build, room, out, release):
     return name
 
 
-def write_recipes(room, out, release, name, licence):
+def write_recipes(room, out, release, name):
     """Packs the recipes, which install the tarball of this name."""
-    other_systems.fill(room, other_systems.words_for(release, name, dict(sums_of(out))[f"{name}.tar.gz"], licence))
+    other_systems.fill(room, other_systems.words_for(release, name, dict(sums_of(out))[f"{name}.tar.gz"]))
     write_tar(out, room, f"dimacs-{release.version}-packaging", release.epoch)
 
 
@@ -134,11 +134,11 @@ def make_wheel(build, name, out):
     return f"{out}/{build_wheel.build_wheel(out)}"
 
 
-def make_for_linux(build, release, room, out, licence):
+def make_for_linux(build, release, room, out):
     """Makes the packages that are for Linux alone, and the wheel."""
     name = make_tarball(build, f"{room}/tarball", out, release)
     if release.machine == "x86_64":
-        write_recipes(f"{room}/packaging", out, release, name, licence)
+        write_recipes(f"{room}/packaging", out, release, name)
     wheel = make_wheel(build, release.machine, out)
     if shutil.which("dpkg-deb"):
         install(build, f"{room}/installed", *debian.folders(release.machine))
@@ -150,7 +150,7 @@ def make_for_linux(build, release, room, out, licence):
 def make(build, name, out):
     """Makes all packages of what was built for a system, in a folder."""
     os.umask(0o022)
-    release, licence = release_of(build, name), text("LICENCE-STATUS").split("\n")[0]
+    release = release_of(build, name)
     os.makedirs(out, exist_ok=True)
     for it in files_of(out):
         os.remove(f"{out}/{it}")
@@ -158,8 +158,8 @@ def make(build, name, out):
         if name == "windows":
             make_wheel(build, name, out)
         else:
-            make_for_linux(build, release, room, out, licence)
-    sbom.write(f"{out}/dimacs-{release.version}.spdx.json", name, release, sums_of(out), licence)
+            make_for_linux(build, release, room, out)
+    sbom.write(f"{out}/dimacs-{release.version}.spdx.json", name, release, sums_of(out))
     sums = sums_of(out)
     with open(f"{out}/SHA256SUMS", "w", encoding="ascii") as it:
         it.writelines(f"{value}  {name}\n" for name, value in sums)

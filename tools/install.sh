@@ -92,7 +92,7 @@ library() {
 }
 
 pages() {
-    put 644 "$DOCDIR" README.md CHANGELOG.md
+    put 644 "$DOCDIR" README.md CHANGELOG.md LICENCE-STATUS
     tree "$DOCDIR/docs" docs
     tree "$DOCDIR/examples" examples
     tree "$DOCDIR/recipes" recipes

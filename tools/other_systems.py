@@ -5,17 +5,18 @@ URL names the place of the tarball, and HOMEPAGE that of the product; else they 
 import os
 import re
 
+import licence
+
 TOP = os.path.dirname(os.path.dirname(os.path.abspath(__file__)))
 NOT_SET = "https://example.invalid"
 
 
-def words_for(release, name, digest, licence):
+def words_for(release, name, digest):
     """What stands in place of the words between @."""
     url = os.environ.get("URL") or f"{NOT_SET}/{name}.tar.gz"
     words = {"VERSION": release.version, "NUMBERS": release.version.partition("-")[0], "NAME": name, "SHA256": digest}
     words |= {"URL": url, "HOMEPAGE": os.environ.get("HOMEPAGE") or NOT_SET, "GLIBC": str(release.glibc)}
-    words |= {"LICENCE": licence, "LICENCE_RUBY": ":cannot_represent" if licence == "NONE" else f'"{licence}"'}
-    return words | {"PEP440": release.version.replace("-dev", ".dev0")}
+    return words | licence.words() | {"PEP440": release.version.replace("-dev", ".dev0")}
 
 
 def fill(room, words):

@@ -1,10 +1,11 @@
 #!/usr/bin/env python3
 """Goes through what a release wants, and prints the text of its tag: tools/release.py [--only-read]
 
-First it reads: VERSION has three numbers alone, and the newest part of CHANGELOG.md is its, with a day; LICENCE-STATUS is
-what README.md says; MAINTAINER is set; calls that are new are so since this version; nothing is uncommitted. If all this
-is right it runs the gate with all wrong bodies, make dist and make check-packages, which takes hours. With --only-read it
-stops before these. Each step is a line, `ok` or `no` and why; after a `no` it ends with the status 1.
+First it reads: VERSION has three numbers alone, and the newest part of CHANGELOG.md is its, with a day; that version and
+the licence of LICENCE-STATUS stand where they have to; MAINTAINER is set; calls that are new are so since this version;
+nothing is uncommitted; there is no such tag. If all this is right it runs the gate with all wrong bodies, make dist and
+make check-packages, which takes hours, and in which no tool may be missing. With --only-read it stops before these. Each
+step is a line, `ok` or `no` and why; after a `no` it ends with the status 1.
 """
 import datetime
 import os
@@ -14,8 +15,13 @@ import subprocess
 import sys
 
 import debian
+import licence
 
 TOP = os.path.dirname(os.path.dirname(os.path.abspath(__file__)))
+
+sys.path.insert(0, f"{TOP}/tests")
+import version as versions  # noqa: E402  (the folder isn't a package of this one)
+
 RUN = [["make", "prove-all"], ["make", "dist"], ["make", "check-packages"]]
 
 
@@ -30,6 +36,11 @@ def version_fault(version):
     return None
 
 
+def files_fault(version):
+    other = [place for place, named, wanted in versions.of_files(version) if named != wanted]
+    return f"these have another one: {', '.join(other)}" if other else None
+
+
 def heading_fault(version):
     heading = re.search(r"^## (.*)$", read("CHANGELOG.md"), re.MULTILINE)[1]
     if not re.fullmatch(rf"{re.escape(version)}, \d{{4}}-\d\d-\d\d", heading):
@@ -42,9 +53,8 @@ def heading_fault(version):
 
 
 def licence_fault():
-    first, _, text = read("LICENCE-STATUS").partition("\n\n")
-    said = " ".join(text.split()) in " ".join(read("README.md").split())
-    return None if first.strip() and said else "README.md doesn't have its text"
+    found = licence.differing()
+    return f"{', '.join(found)} have another one" if found else None
 
 
 def maintainer_fault():
@@ -62,13 +72,24 @@ def abi_fault(version):
     return f"these are of a later version: {', '.join(late)}" if late else None
 
 
-def uncommitted():
+def git_fault(fault, *words):
+    """Why what git prints isn't nothing."""
     if not shutil.which("git"):
         return "there is no git"
-    ran = subprocess.run(["git", "status", "--porcelain"], cwd=TOP, capture_output=True, text=True, check=False)
-    if ran.returncode:
-        return ran.stderr.strip()
-    return f"{len(ran.stdout.splitlines())} files aren't" if ran.stdout else None
+    ran = subprocess.run(["git", *words], cwd=TOP, capture_output=True, text=True, check=False)
+    return ran.stderr.strip() if ran.returncode else f"{fault} {' '.join(ran.stdout.split())}" if ran.stdout else None
+
+
+def run(words):
+    """Runs a step, in which nothing may be left out; why it failed."""
+    environment = {**os.environ, "ALL_TOOLS": "yes"}
+    left_out = []
+    with subprocess.Popen(words, cwd=TOP, env=environment, stdout=subprocess.PIPE, text=True, errors="replace") as ran:
+        for line in ran.stdout:
+            print(line, end="", flush=True)
+            if line.startswith("left out: "):
+                left_out.append(line.strip())
+    return f"it ended with the status {ran.returncode}" if ran.returncode else ", ".join(left_out)
 
 
 def tag_text(version):
@@ -80,14 +101,17 @@ def tag_text(version):
 def main():
     version = read("VERSION").strip()
     checks = {"VERSION": version_fault(version), "CHANGELOG.md": heading_fault(version), "abi": abi_fault(version)}
-    checks |= {"LICENCE-STATUS": licence_fault(), "MAINTAINER": maintainer_fault(), "all is committed": uncommitted()}
+    checks |= {"the version elsewhere": files_fault(version), "LICENCE-STATUS": licence_fault()}
+    checks |= {"MAINTAINER": maintainer_fault(), "git status": git_fault("these aren't committed:", "status", "--porcelain")}
+    checks["git tag"] = git_fault("there is", "tag", "--list", f"v{version}")
     for name, fault in checks.items():
         print(f"no  {name}: {fault}" if fault else f"ok  {name}", flush=True)
     if any(checks.values()):
         return 1
     for words in [] if sys.argv[1:] == ["--only-read"] else RUN:
-        if subprocess.run(words, cwd=TOP, check=False).returncode:
-            print(f"no  {' '.join(words)}")
+        fault = run(words)
+        if fault:
+            print(f"no  {' '.join(words)}: {fault}")
             return 1
         print(f"ok  {' '.join(words)}", flush=True)
     print(f"\ngit tag -a v{version}, with this text:\n\n{tag_text(version)}")

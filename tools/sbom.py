@@ -4,6 +4,8 @@ import os
 import re
 import time
 
+import licence
+
 TOP = os.path.dirname(os.path.dirname(os.path.abspath(__file__)))
 
 # What is linked with what the kit compiled, for each system: what it is called, its version, and how it is linked.
@@ -27,11 +29,11 @@ def package(name, version, **more):
     return {**described, "filesAnalyzed": False, "copyrightText": "NOASSERTION", **unknown, **more}
 
 
-def document(system, version, epoch, sums, licence):
+def document(system, version, epoch, sums):
     """The document: the product, the kit that proved and compiled it, what is linked with it, and each package."""
     release, logic = kit()
     digest = sums[0][1][:32] if sums else "0"
-    product = package("dimacs", version, licenseDeclared=licence)
+    product = package("dimacs", version, licenseDeclared=licence.words()["LICENCE"])
     by_kit = "Proves and compiles, and its C library is linked" if system == "x86_64" else "Proves and compiles"
     used = package("rattle-kit", release, comment=f"{by_kit}: logic {logic}")
     linked = [(package(*it), how) for *it, how in LINKED[system]]
@@ -61,7 +63,7 @@ def document(system, version, epoch, sums, licence):
     }
 
 
-def write(path, system, release, sums, licence):
+def write(path, system, release, sums):
     with open(path, "w", encoding="utf-8") as it:
-        json.dump(document(system, release.version, release.epoch, sums, licence), it, indent=1)
+        json.dump(document(system, release.version, release.epoch, sums), it, indent=1)
         it.write("\n")

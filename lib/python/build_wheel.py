@@ -78,10 +78,14 @@ def _machine_of(library: bytes) -> str | None:
     return PE_MACHINES.get(_number(library, header + 4, 2)) if is_one else None
 
 
+def _beside(name: str) -> str:
+    """A file that the sources have of the repository that they are in: the one here, if they were taken out of that."""
+    return (HERE / name if (HERE / name).is_file() else TOP / name).read_text()
+
+
 def _plain_version() -> str:
-    """The version as PEP 440 spells it: that of the sources here, or of the repository that they are in."""
-    place = HERE / "VERSION" if (HERE / "VERSION").is_file() else TOP / "VERSION"
-    return place.read_text().strip().replace("-dev", ".dev0")
+    """The version as PEP 440 spells it."""
+    return _beside("VERSION").strip().replace("-dev", ".dev0")
 
 
 def version_of(library: bytes) -> str:
@@ -135,6 +139,7 @@ def metadata(version: str) -> str:
     lines = ["Metadata-Version: 2.1", f"Name: {NAME}", f"Version: {version}", f"Summary: {_field('description')}"]
     lines += [f"Keywords: {','.join(_list('keywords'))}", *(f"Classifier: {it}" for it in _list("classifiers"))]
     lines += [
+        f"License: {_beside('LICENCE-STATUS').splitlines()[0]}",
         f"Requires-Python: {_field('requires-python')}",
         *_extras(),
         "Description-Content-Type: text/markdown",
@@ -211,6 +216,7 @@ def build_sdist(sdist_directory, config_settings=None):
     version = _plain_version()
     files = {name: (HERE / name).read_bytes() for name in ("README.md", "build_wheel.py", "pyproject.toml")}
     files |= {"PKG-INFO": metadata(version).encode(), "VERSION": f"{version}\n".encode(), **_sources()}
+    files["LICENCE-STATUS"] = _beside("LICENCE-STATUS").encode()
     packed = io.BytesIO()
     with tarfile.open(fileobj=packed, mode="w", format=tarfile.PAX_FORMAT) as it:
         for name, content in sorted(files.items()):

@@ -22,7 +22,7 @@ stdenv.mkDerivation {
   meta = {
     description = "Judge of network flows and shortest paths that is proved";
     homepage = "@HOMEPAGE@";
-    license = lib.licenses.unfree; # LICENCE-STATUS: @LICENCE@
+    license = @LICENCE_NIX@;
     platforms = [ "x86_64-linux" ];
     sourceProvenance = [ lib.sourceTypes.binaryNativeCode ];
   };
