@@ -65,12 +65,12 @@ MAKE = """
 import os, sys
 sys.path[:0] = ["tools", "lib/python"]
 import build_wheel, debian, dist, other_systems, sbom
-release = dist.Release("0.2.0-dev", 0, 14, b"")
+release = dist.Release("0.2.0-dev", 0, "x86_64", 14, b"")
 os.mkdir("made")
 other_systems.fill("made", other_systems.words_for(release, "dimacs", "0"))
-debian.write("made/copyright", debian.filled("copyright", debian.words_for(*release[:3])))
+debian.write("made/copyright", debian.filled("copyright", debian.words_for(release)))
 debian.write("made/METADATA", build_wheel.metadata("0.2.0.dev0"))
-sbom.write("made/spdx.json", release.version, release.epoch, [])
+sbom.write("made/spdx.json", "x86_64", release, [])
 build_wheel.build_sdist("made")
 """
 
