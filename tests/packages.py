@@ -255,6 +255,12 @@ def test_batch(its):
     its.expect("dimacs-batch", ",v max 3,3," in its.run(f"{its.usr}/bin/dimacs-batch", "answers"))
 
 
+def test_draw(its):
+    """A picture with the verdict on one answer."""
+    drawn = its.run(f"{its.usr}/bin/dimacs-draw", f"{its.place}/instance", f"{its.place}/flow")
+    its.expect("dimacs-draw", drawn.startswith("<svg ") and "certify-max: v max 3" in drawn)
+
+
 def test_tarball(its):
     """The program where the tarball is unpacked."""
     name = f"dimacs-{its.version}-x86_64-linux"
@@ -309,7 +315,7 @@ def test_man(its):
     if not os.path.isdir(f"{its.usr}/share/man") or not its.has("man pages", "man"):
         print("left out: man pages")
         return
-    for name, section in (("dimacs", "1"), ("dimacs", "5"), ("dimacs-batch", "1")):
+    for name, section in (("dimacs", "1"), ("dimacs", "5"), ("dimacs-batch", "1"), ("dimacs-draw", "1")):
         output = its.run("man", "-P", "cat", section, name)
         its.expect(f"man {section} {name}", "NAME" in output and name in output)
 
@@ -342,6 +348,7 @@ def test_all(dist, is_root):
         test_debian(its, is_root)
         test_program(its, f"{its.usr}/bin/dimacs")
         test_batch(its)
+        test_draw(its)
         test_tarball(its)
         test_pkg_config(its)
         test_cmake(its)
