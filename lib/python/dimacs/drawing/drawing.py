@@ -30,12 +30,15 @@ class Judge(Protocol):
 
     def show(self, kind: str, text: bytes) -> str:
         """A line about a text."""
+        ...
 
     def convert(self, kind: str, text: bytes) -> bytes:
         """The canonical form of a text."""
+        ...
 
     def answer(self, command: str, texts: Sequence[bytes]) -> Answer:
         """The verdict on texts, or the refusal."""
+        ...
 
 
 @dataclass
@@ -44,6 +47,9 @@ class Drawing:
 
     svg is its text, dot the network in the language of Graphviz, and lines are those that dimacs printed: a verdict, a
     refusal, or one about the instance. A notebook shows the picture.
+
+    >>> Drawing("<svg/>", "digraph {}", ("v max 3",))
+    <Drawing: v max 3>
     """
 
     svg: str
@@ -85,7 +91,8 @@ def picture(network: Network, answer: Answer, names: Sequence[str], has_own_laye
     sketch = words.sketch_of(network)
     layout = None if has_own_layers else graphviz.place(sketch)
     layout = layout or layers.place(sketch)
-    return Drawing(svg.write(network, sketch, layout, said), graphviz.write(sketch, network, [said.title, *said.verdict, *said.notes]), tuple(answer.lines))
+    dot = graphviz.write(sketch, network, [said.title, *said.verdict, *said.notes])
+    return Drawing(svg.write(network, sketch, layout, said), dot, tuple(answer.lines))
 
 
 def _answer(judge: Judge, found: Sequence[str], texts: Sequence[Text]) -> Answer:
@@ -127,7 +134,7 @@ def _mark_block(
     source: Optional[int],
     refusal: Optional[marks.Refusal],
 ) -> Optional[marks.Refusal]:
-    """Marks the block of a source, or the first in which a test fails, or the first. The refusal, if it is of this block."""
+    """Marks the block of a source, or the first in which a test fails, or the first. The refusal, if it is of this one."""
     if source is not None and source not in [it.source for it in blocks]:
         raise ValueError(f"there are no distances from {source}")
     if not blocks:

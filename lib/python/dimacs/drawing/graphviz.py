@@ -74,7 +74,7 @@ def _room(box: Box) -> str:
 def _layout(sketch: Sketch, printed: str) -> Layout:
     """What dot printed: its lines begin with graph, node or edge. Parallel arcs come in any order."""
     lines = [shlex.split(it) for it in printed.split("\n") if it]
-    layout = Layout(*(float(it) * POINTS for it in lines[0][2:4]), is_beside=True)
+    layout = Layout(*_point(lines[0][2:]), is_beside=True)
     layout.places = {int(words[1]): _point(words[2:]) for words in lines if words[0] == "node"}
     drawn: Dict[Tuple[int, int], List[List[str]]] = {}
     for words in lines:

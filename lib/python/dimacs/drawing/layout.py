@@ -2,6 +2,7 @@
 
 from __future__ import annotations
 
+import math
 from dataclasses import dataclass, field
 from typing import Dict, List, NamedTuple
 
@@ -83,4 +84,4 @@ def inset(box: Box, above: float) -> float:
     """How far the border of a node lies inside of its box, so far above its middle."""
     radius = corner(box)
     over = abs(above) - (box.height / 2 - radius)
-    return radius - (max(0.0, radius * radius - over * over)) ** 0.5 if over > 0 else 0.0
+    return radius - math.sqrt(max(0.0, radius * radius - over * over)) if over > 0 else 0.0

@@ -25,7 +25,7 @@ def refusal_of(line: str) -> Optional[Refusal]:
     if not found:
         return None
     arc, node, text, at, reason = found.groups()
-    return Refusal(reason, arc and int(arc), node and int(node), text, int(at or 0))
+    return Refusal(reason, int(arc) if arc else None, int(node) if node else None, text, int(at or 0))
 
 
 # ---- flows and sets

@@ -122,7 +122,8 @@ def _arc(kind: str, number: int, fields: List[int]) -> Arc:
         return Arc(number, tail, head, cap=numbers[0])
     if kind == "gr":
         return Arc(number, tail, head, cost=numbers[0])
-    return Arc(number, tail, head, *numbers)
+    low, cap, cost = numbers
+    return Arc(number, tail, head, low, cap, cost)
 
 
 # ---- claims and certificates

@@ -39,6 +39,7 @@ def write(network: Network, sketch: Sketch, layout: Layout, said: Said) -> str:
     caption, top = _caption(said, width)
     legend, height = _legend(said.legend, width, top + layout.height + 2 * MARGIN)
     left = (width - layout.width) / 2
+    beside = "beside" if layout.is_beside else "along"
     size = f'width="{width:.0f}" height="{height:.0f}" viewBox="0 0 {width:.0f} {height:.0f}"'
     lines = [
         f'<svg xmlns="http://www.w3.org/2000/svg" class="dimacs-drawing" role="img" {size}>',
@@ -50,7 +51,7 @@ def write(network: Network, sketch: Sketch, layout: Layout, said: Said) -> str:
         f'<g transform="translate({left:.1f} {top + MARGIN:.1f})">',
         *_shade(network, sketch, layout),
         *(_arc(network, *it) for it in zip(network.arcs, layout.curves)),
-        *(_label(*it, "beside" if layout.is_beside else "along") for it in zip(network.arcs, sketch.edges, layout.labels)),
+        *(_label(*it, beside) for it in zip(network.arcs, sketch.edges, layout.labels)),
         *(_node(network, sketch, node, place) for node, place in layout.places.items()),
         "</g>",
         *legend,
@@ -62,10 +63,10 @@ def write(network: Network, sketch: Sketch, layout: Layout, said: Said) -> str:
 def _style() -> str:
     """The classes s-NAME and f-NAME give strokes and insides a colour. They are of this picture alone in a page."""
     here = ".dimacs-drawing"
-    light = [f"{here} .s-{name} {{ stroke: {it.light} }} {here} .f-{name} {{ fill: {it.light} }}" for name, it in PALETTE.items()]
-    dark = [f"{here} .s-{name} {{ stroke: {it.dark} }} {here} .f-{name} {{ fill: {it.dark} }}" for name, it in PALETTE.items()]
-    darkened = ["@media (prefers-color-scheme: dark) {", *dark, "}", ""]
-    return _STYLE.format(here) + "\n".join([*light, *darkened])
+    rule = "{0} .s-{1} {{ stroke: {2} }} {0} .f-{1} {{ fill: {2} }}"
+    light = [rule.format(here, name, it.light) for name, it in PALETTE.items()]
+    dark = [rule.format(here, name, it.dark) for name, it in PALETTE.items()]
+    return _STYLE.format(here) + "\n".join([*light, "@media (prefers-color-scheme: dark) {", *dark, "}", ""])
 
 
 # ---- text
@@ -109,7 +110,8 @@ def _sample(sample: Sequence[str], x: float, y: float) -> str:
     border, inside = node_colours(marks)
     drawn = f'<rect class="s-{border} f-{inside}" x="{x + 4:.1f}" y="{y - 7:.1f}" width="18" height="14" rx="7"/>'
     if is_doubled(marks):
-        drawn += f'<rect class="s-{border}" fill="none" x="{x + 1:.1f}" y="{y - 10:.1f}" width="24" height="20" rx="10"/>'
+        place = f'x="{x + 1:.1f}" y="{y - 10:.1f}" width="24" height="20" rx="10"'
+        drawn += f'<rect class="s-{border}" fill="none" {place}/>'
     return drawn
 
 
