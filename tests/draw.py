@@ -145,7 +145,8 @@ class Picture:
         self.nodes = {int(it.get("data-node")): set(it.get("class").split()[1:]) for it in nodes}
         self.below = {int(it.get("data-node")): [text.text for text in it.iter(f"{SVG}text")][1:] for it in nodes}
         self.claimed = [set(it.get("class").split()[1:]) for it in arcs if not it.get("data-arc")]
-        self.labels = [it.text for it in self.root.iter(f"{SVG}text") if {"along", "beside"} & set(it.get("class").split())]
+        texts = [(it.text, set(it.get("class").split())) for it in self.root.iter(f"{SVG}text")]
+        self.labels = [text for text, classes in texts if classes & {"along", "beside"}]
         self.texts = [it.text for it in self.root.findall(f"{SVG}text")]
 
     def with_mark(self, mark):
@@ -196,7 +197,7 @@ class Claim:
                     break
                 source, found = int(line[1]), {int(line[1]): (0, None)}
             elif line[0] == "d":
-                found[int(line[1])] = (int(line[2]), int(line[3]) if line[4 - 1 :] else None)
+                found[int(line[1])] = (int(line[2]), int(line[3]) if line[3:] else None)
         return source, found
 
 
@@ -327,7 +328,7 @@ def text_of(name):
     """A text of a table, or a large one."""
     word, _, count = name.partition(" ")
     if word == "ring":
-        return f"p sp {count} {count}; " + "; ".join(f"a {k + 1} {(k + 1) % int(count) + 1} 1" for k in range(int(count)))
+        return f"p sp {count} {count}; a {count} 1 1; " + "; ".join(f"a {k} {k + 1} 1" for k in range(1, int(count)))
     if word == "star":
         return f"p sp {count} {int(count) - 1}; " + "; ".join(f"a 1 {k} 1" for k in range(2, int(count) + 1))
     if word == "many":
@@ -403,6 +404,20 @@ def test_files(counts, place):
     counts.expect("without Graphviz it lies in layers", alone == plain)
 
 
+def test_pages(counts, place):
+    """The pictures of the examples are those of these sources, and the page shows each."""
+    made = f"{place}/pictures"
+    ran = subprocess.run([f"{TOP}/tools/pictures.py", made, BINARY], capture_output=True, check=False)
+    counts.expect("tools/pictures.py", ran.returncode == 0, ran.stderr)
+    with open(f"{TOP}/examples/README.md", encoding="utf-8") as it:
+        shown = re.findall(r"\]\(\.\./docs/pictures/(\S+)\)", it.read())
+    names = sorted(os.listdir(f"{TOP}/docs/pictures"))
+    counts.expect("each is shown", sorted(shown) == names == sorted(os.listdir(made)), f"{shown}: {names}")
+    for name in names:
+        with open(f"{TOP}/docs/pictures/{name}", "rb") as it, open(f"{made}/{name}", "rb") as again:
+            counts.expect(f"docs/pictures/{name} is of these sources", it.read() == again.read())
+
+
 # ---- the own layers
 
 
@@ -410,6 +425,12 @@ def overlaps(first, second):
     """Whether two boxes with their middles have a place in common."""
     (a, box), (b, other) = first, second
     return abs(a.x - b.x) < (box.width + other.width) / 2 and abs(a.y - b.y) < (box.height + other.height) / 2
+
+
+def is_inside(made, middle, box):
+    """Whether a box lies in the picture, but for what rounding takes."""
+    beyond = (middle.x - box.width / 2, made.width - middle.x - box.width / 2)
+    return all(it > -0.01 for it in (*beyond, middle.y - box.height / 2, made.height - middle.y - box.height / 2))
 
 
 def points_of(curve):
@@ -441,9 +462,7 @@ def test_layers(counts):
         nodes = [(made.places[it], box) for it, box in sketch.boxes.items()]
         boxes = nodes + [(it, edge.box) for it, edge in zip(made.labels, sketch.edges)]
         wrong["overlap"] += any(overlaps(a, b) for k, a in enumerate(boxes) for b in boxes[:k])
-        wrong["outside"] += any(not (0 <= it.x - box.width / 2 + 0.01 and it.x + box.width / 2 <= made.width + 0.01
-                                     and 0 <= it.y - box.height / 2 + 0.01 and it.y + box.height / 2 <= made.height + 0.01)
-                                for it, box in boxes)
+        wrong["outside"] += not all(is_inside(made, *it) for it in boxes)
         for edge, curve in zip(sketch.edges, made.curves):
             others = [(made.places[it], box) for it, box in sketch.boxes.items() if it not in (edge.tail, edge.head)]
             point = layout.Box(0, 0)
@@ -463,6 +482,7 @@ def main():
         test_complaints(counts, place)
         test_odd(counts, place)
         test_files(counts, place)
+        test_pages(counts, place)
         test_layers(counts)
     print(f"{counts.passed} passed, {counts.failed} failed")
     return 1 if counts.failed or not counts.passed else 0
