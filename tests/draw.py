@@ -80,6 +80,21 @@ x node 9 QueryNode | {GRAPH} | p aux sp p2p 1; q 1 9 | p dist 4 1; t 1 2; d 2 5 
 x node 4 BlockMissing | {GRAPH} | p aux sp ss 1; s 4 | p dist 4 1; t 1 2; d 2 5 1; d 3 11 2 | node 4
 """
 
+# Distances over road.gr from 6, and from 1, of which one is wrong.
+NEAR = """p distances 6 2
+t 6 5
+d 1 2100
+d 2 1800
+d 3 1400
+d 4 900
+d 5 700
+t 1 4
+d 2 300
+d 3 700
+d 4 1200
+d 5 1300
+"""
+
 # Words, what dimacs-draw complains of, and its status. {x} is a file with this text.
 COMPLAINTS = """
 2 | there is no text: nothing.max: No such file | nothing.max
@@ -97,6 +112,7 @@ COMPLAINTS = """
 2 | the standard input is one text | - -
 2 | a node is a number, and not x | --only x {p sp 2 0}
 2 | is there, and no picture: remove it first | -o {s 3} {p sp 2 0}
+2 | nowhere/dimacs: No such file or directory: --program or DIMACS names the program | --program nowhere/dimacs {p sp 2 0}
 """
 
 
@@ -372,6 +388,29 @@ def test_odd(counts, place):
     counts.expect("--only", set(Picture(ran.stdout).nodes) == {2999, 3000, 3001, 3002, 3003}, ran.stderr)
 
 
+def test_paths(counts, place):
+    """Of parallel arcs the tight one is of the tree, and a node may be beyond a radius."""
+    graph = written(place, 0, "p sp 3 3; a 1 2 9; a 1 2 5; a 2 3 9")
+    queries, labels = written(place, 1, "p aux sp p2p 1; q 1 3"), written(place, 2, "p dist 3 1; t 1 1 8; d 2 5 1")
+    picture = Picture(run("--layers", graph, queries, labels, folder=place).stdout)
+    counts.expect("a tight arc of two", picture.with_mark("tree") == [{2}, set()])
+    counts.expect("beyond a radius", picture.below[3] == ["> 8"] and picture.below[2] == ["5"], picture.below)
+    counts.expect("asked for beyond it", picture.with_mark("asked")[1] == {3})
+
+
+def test_elsewhere(counts):
+    """A refusal that isn't of what is drawn colours nothing, and is said to lie elsewhere."""
+    folder = f"{TOP}/examples"
+    flow = run("--layers", "--only", "4", "bridges.max", "bridges-sums.solution", folder=folder).stdout
+    paths = run("--layers", "--source", "6", "road.gr", "-", folder=folder, input=NEAR.encode()).stdout
+    drawn = Picture(run("--layers", "road.gr", "-", folder=folder, input=NEAR.encode()).stdout)
+    counts.expect("the block that is refused", drawn.with_mark("ends")[1] == {1} and drawn.with_mark("wrong")[1] == {5})
+    for name, text in (("--only", flow), ("--source", paths)):
+        picture = Picture(text)
+        counts.expect(f"{name}: nothing is red", picture.with_mark("wrong") == [set(), set()])
+        counts.expect(f"{name}: said", "what is refused isn't among what is drawn" in " ".join(picture.texts))
+
+
 def test_files(counts, place):
     """Compressed texts, the standard input, --source and -o."""
     folder = f"{TOP}/examples"
@@ -481,6 +520,8 @@ def main():
         test_refusals(counts, place)
         test_complaints(counts, place)
         test_odd(counts, place)
+        test_paths(counts, place)
+        test_elsewhere(counts)
         test_files(counts, place)
         test_pages(counts, place)
         test_layers(counts)

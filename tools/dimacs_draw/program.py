@@ -48,7 +48,10 @@ class Program:
         return printed
 
     def _run(self, words):
-        ran = subprocess.run([self.program, *words], stdin=subprocess.DEVNULL, capture_output=True, check=False)
+        try:
+            ran = subprocess.run([self.program, *words], stdin=subprocess.DEVNULL, capture_output=True, check=False)
+        except OSError as error:
+            raise Failed(f"{self.program}: {error.strerror}: --program or DIMACS names the program") from error
         if ran.returncode not in (YES, NO):
             raise Failed(ran.stderr.decode("utf-8", "replace").strip() or f"{words[0]} ended with {ran.returncode}")
         return ran.returncode, ran.stdout
