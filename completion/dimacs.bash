@@ -1,4 +1,4 @@
-# Completes the words of dimacs and dimacs-batch in bash. Files with the ending of their kind come first: others are
+# Completes the words of dimacs, dimacs-batch and dimacs-draw in bash. Files with the ending of their kind come first: others are
 # offered where there is none.
 
 # The endings of the files of a kind, as a pattern.
@@ -88,5 +88,22 @@ _dimacs_batch() {
     esac
 }
 
+_dimacs_draw() {
+    local word=${COMP_WORDS[COMP_CWORD]}
+    COMPREPLY=()
+    case ${COMP_WORDS[COMP_CWORD - 1]} in
+        --only | --source) ;;
+        *)
+            if [[ $word == -* ]]; then
+                mapfile -t COMPREPLY < <(compgen -W '--output --dot --only --source --layers --program --version' \
+                    -- "$word")
+            else
+                mapfile -t COMPREPLY < <(compgen -f -- "$word") && compopt -o filenames 2>/dev/null
+            fi
+            ;;
+    esac
+}
+
 complete -F _dimacs dimacs
 complete -F _dimacs_batch dimacs-batch
+complete -F _dimacs_draw dimacs-draw

@@ -1,4 +1,4 @@
-# Completes the words of dimacs and dimacs-batch in fish.
+# Completes the words of dimacs, dimacs-batch and dimacs-draw in fish.
 
 # The words that were typed, without one that has a refusal explained.
 function __dimacs_words
@@ -84,3 +84,11 @@ complete -c dimacs-batch -l version -d 'The version'
 complete -c dimacs-batch -l run -x -a 'max= min= gr=' -d 'The command for a kind'
 complete -c dimacs-batch -l seconds -x -d 'End a run after so many seconds'
 complete -c dimacs-batch -l program -r -F -d 'The program'
+
+complete -c dimacs-draw -s o -l output -r -F -d 'The picture'
+complete -c dimacs-draw -l dot -d 'In the language of Graphviz'
+complete -c dimacs-draw -l only -x -d 'Draw this node and its neighbours'
+complete -c dimacs-draw -l source -x -d 'Draw the distances from this node'
+complete -c dimacs-draw -l layers -d 'Lay out without Graphviz'
+complete -c dimacs-draw -l program -r -F -d 'The program'
+complete -c dimacs-draw -l version -d 'The version'

@@ -32,6 +32,7 @@ SCRIPTS = {
     "large_runs": ["{build}/dimacs"],
     "batch": ["{build}/dimacs"],
     "explain": ["{build}/dimacs"],
+    "draw": ["{build}/dimacs"],
     "usage": ["{build}/dimacs"],
     "shown_runs": ["{build}/dimacs"],
     "version": ["{build}"],

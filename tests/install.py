@@ -3,8 +3,8 @@
 
 BUILD is the folder of what is installed: build if none is given, or build/quick. It is copied, so that it has other times,
 and installed without the kit on the path, in folders that a distribution names and by a user whose files nobody else may
-read. What was installed is moved elsewhere, and used there: the program, dimacs-batch, and the library in C, by
-pkg-config and by CMake. At last it is removed again.
+read. What was installed is moved elsewhere, and used there: the program, dimacs-batch, dimacs-draw, and the library in C,
+by pkg-config and by CMake. At last it is removed again.
 
 What needs a tool that isn't there is left out, and named. The last line counts what passed and what failed.
 """
@@ -25,13 +25,14 @@ FOLDERS += ["ZSHDIR=/usr/share/zsh/vendor"]
 # What has to be there, by the files' modes.
 INSTALLED = {
     0o755: """
-        bin/dimacs bin/dimacs-batch share/doc/libdimacs-doc/referee/referee.py share/doc/libdimacs-doc/recipes/scipy_max.py""",
+        bin/dimacs bin/dimacs-batch bin/dimacs-draw share/doc/libdimacs-doc/referee/referee.py share/doc/libdimacs-doc/recipes/scipy_max.py""",
     0o644: """
         include/dimacs.h include/dimacs.hpp include/dimacs/boost.hpp include/dimacs/lemon.hpp
         lib/x86_64-linux-gnu/libdimacs.a lib/x86_64-linux-gnu/libdimacs.so lib/x86_64-linux-gnu/libdimacs.so.0
         lib/x86_64-linux-gnu/pkgconfig/dimacs.pc lib/x86_64-linux-gnu/cmake/dimacs/dimacsConfig.cmake
-        share/man/man1/dimacs.1 share/man/man1/dimacs-batch.1 share/man/man5/dimacs.5
+        share/man/man1/dimacs.1 share/man/man1/dimacs-batch.1 share/man/man1/dimacs-draw.1 share/man/man5/dimacs.5
         share/zsh/vendor/_dimacs share/fish/vendor_completions.d/dimacs-batch.fish
+        share/fish/vendor_completions.d/dimacs-draw.fish share/bash-completion/completions/dimacs-draw
         share/bash-completion/completions/dimacs share/bash-completion/completions/dimacs-batch
         share/dimacs/rust/Cargo.toml share/dimacs/rust/src/lib.rs
         share/doc/libdimacs-doc/README.md share/doc/libdimacs-doc/docs/PROMISES.md
@@ -143,6 +144,8 @@ def test_moved(its):
     write(f"{its.place}/list", f"{instance} {answer}\n")
     its.run(f"{its.moved}/bin/dimacs-batch", "list")
     its.expect("dimacs-batch", "v max 12" in its.printed)
+    its.run(f"{its.moved}/bin/dimacs-draw", instance, answer)
+    its.expect("dimacs-draw", "certify-max: v max 12" in its.printed and its.printed.startswith("<svg "))
 
 
 def test_library(its):

@@ -2,7 +2,7 @@
 """Tests the man pages that tools/man_pages.py writes: tests/man_pages.py
 
 dimacs(1) has each command of the usage text and each exit status, dimacs(5) each kind and each reason of TEXTS.md and
-each of its headings, dimacs-batch(1) each option and column. Neither man nor mandoc warns of a page, if they are
+each of its headings, dimacs-batch(1) each option and column, dimacs-draw(1) each option. Neither man nor mandoc warns of a page, if they are
 there.
 """
 import os
@@ -13,7 +13,7 @@ import sys
 import tempfile
 
 TOP = os.path.join(os.path.dirname(os.path.abspath(__file__)), "..")
-PAGES = ["dimacs.1", "dimacs.5", "dimacs-batch.1"]
+PAGES = ["dimacs.1", "dimacs.5", "dimacs-batch.1", "dimacs-draw.1"]
 
 
 def read(name):
@@ -47,6 +47,8 @@ def wanted():
         yield "dimacs.5", "heading", heading
     for option in re.findall(r'"(--?[a-z]+)"', read("tools/dimacs_batch/options.py")):
         yield "dimacs-batch.1", "option", option
+    for option in re.findall(r'"(--?[a-z]+)"', read("tools/dimacs_draw/options.py")):
+        yield "dimacs-draw.1", "option", option
     rows = read("tools/dimacs_batch/rows.py")
     for column in re.findall(r'"(\w+)"', re.search(r"^COLUMNS = \[(.*?)^\]$", rows, re.MULTILINE | re.DOTALL)[1]):
         yield "dimacs-batch.1", "column", f" {column} "

@@ -416,6 +416,12 @@ def test_batch(its):
     its.expect("dimacs-batch", ",v max 3,3," in its.run(f"{its.usr}/bin/dimacs-batch", "answers"))
 
 
+def test_draw(its):
+    """A picture with the verdict on one answer."""
+    drawn = its.run(f"{its.usr}/bin/dimacs-draw", f"{its.place}/instance", f"{its.place}/flow")
+    its.expect("dimacs-draw", drawn.startswith("<svg ") and "certify-max: v max 3" in drawn)
+
+
 def test_tarball(its):
     """The program where the tarball is unpacked."""
     name = f"dimacs-{its.version}-{its.system}-linux"
@@ -481,7 +487,7 @@ def test_man(its):
     if not os.path.isdir(f"{its.usr}/share/man") or not its.has("man pages", "man"):
         print("left out: man pages")
         return
-    for name, section in (("dimacs", "1"), ("dimacs", "5"), ("dimacs-batch", "1")):
+    for name, section in (("dimacs", "1"), ("dimacs", "5"), ("dimacs-batch", "1"), ("dimacs-draw", "1")):
         output = its.run("man", "-P", "cat", section, name)
         its.expect(f"man {section} {name}", "NAME" in output and name in output)
 
@@ -531,6 +537,7 @@ def test_runs(its, before):
         return
     test_recipes(its)
     test_batch(its)
+    test_draw(its)
     test_cmake(its)
     test_package_for_python(its)
     test_wheel(its)

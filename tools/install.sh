@@ -60,9 +60,12 @@ note() {
 
 programs() {
     put 755 "$BINDIR" "$build/dimacs"
-    fill tools/dimacs-batch "$BINDIR/dimacs-batch"
-    chmod 755 "$DESTDIR$BINDIR/dimacs-batch"
-    tree "$DATADIR/dimacs/dimacs_batch" tools/dimacs_batch
+    for tool in batch draw; do
+        fill "tools/dimacs-$tool" "$BINDIR/dimacs-$tool"
+        chmod 755 "$DESTDIR$BINDIR/dimacs-$tool"
+        tree "$DATADIR/dimacs/dimacs_$tool" "tools/dimacs_$tool"
+    done
+    tree "$DATADIR/dimacs/dimacs_draw/drawing" lib/python/dimacs/drawing # which a link names there
     copy 644 VERSION "$DATADIR/dimacs/dimacs_batch/VERSION"
     copy 755 referee/referee.py "$DATADIR/dimacs/referee.py"
     for page in build/man/*.[15]; do
@@ -73,8 +76,10 @@ programs() {
     put 644 "$ZSHDIR" completion/_dimacs
     put 644 "$fish" completion/dimacs.fish
     link dimacs.fish "$fish/dimacs-batch.fish"
+    link dimacs.fish "$fish/dimacs-draw.fish"
     copy 644 completion/dimacs.bash "$bash/dimacs"
     link dimacs "$bash/dimacs-batch"
+    link dimacs "$bash/dimacs-draw"
 }
 
 library() {

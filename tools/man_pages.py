@@ -7,14 +7,14 @@ The sources are man/*.md, in the Markdown that the other pages use, with three k
     @usage                      the commands of the usage text
     @version                    the version
 
-So no text has to stand in two places. OUT gets dimacs.1, dimacs.5 and dimacs-batch.1.
+So no text has to stand in two places. OUT gets a page for each.
 """
 import os
 import re
 import sys
 
 TOP = os.path.join(os.path.dirname(os.path.abspath(__file__)), "..")
-SOURCES = ["dimacs.1", "dimacs.5", "dimacs-batch.1"]
+SOURCES = ["dimacs.1", "dimacs.5", "dimacs-batch.1", "dimacs-draw.1"]
 WIDTH = 68  # of a table, in columns of text
 
 # Pages whose text stands in a man page.

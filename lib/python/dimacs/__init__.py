@@ -43,6 +43,7 @@ from .arrays import (
     solve_min_arrays,
     solve_paths_arrays,
 )
+from .drawing import Drawing
 from .graphs import (
     certify_networkx_infeasible,
     certify_networkx_max,
@@ -54,6 +55,7 @@ from .graphs import (
     solve_networkx_min,
     solve_networkx_paths,
 )
+from .pictures import draw
 from .spread import spread_max_arrays, spread_min_arrays
 from .texts import (
     certify_infeasible,
@@ -83,6 +85,7 @@ __all__ = [
     "UNREACHED",
     "Beyond",
     "Certified",
+    "Drawing",
     "Feasible",
     "GaveUp",
     "Infeasible",
@@ -106,6 +109,7 @@ __all__ = [
     "certify_paths",
     "certify_paths_arrays",
     "convert",
+    "draw",
     "from_frame",
     "judge_infeasible",
     "judge_infeasible_arrays",

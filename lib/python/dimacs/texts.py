@@ -13,7 +13,7 @@ from .buffers import LIMIT, LIMITS, Buffer, bytes_of, number_of
 
 Text = Union[bytes, str, bytearray, memoryview, "os.PathLike[str]"]
 
-_KINDS = {"max": 0, "min": 1, "infeasible": 2, "paths": 3}
+KINDS = {"max": 0, "min": 1, "infeasible": 2, "paths": 3}
 _TEXTS = {"max": 0, "min": 1, "gr": 2, "query": 3, "solution": 4, "cut": 5, "pot": 6, "dist": 7, "distances": 8}
 
 
@@ -37,7 +37,7 @@ def _words(texts: list[Buffer]) -> list[Any]:
 
 def _judge(kind: str, instance: Text, claim: Text, certificate: Text) -> Verdict:
     with _read(f"judge_{kind}", instance, claim, certificate) as texts:
-        status, output = library.call(library.judge, _KINDS[kind], *_words(texts))
+        status, output = library.call(library.judge, KINDS[kind], *_words(texts))
         if status == library.REFUSED:
             raise library.refusal(output)
     return library.verdict(output)
@@ -86,7 +86,7 @@ def _in_form_of(came: Text, text: bytes) -> Any:
 def _certify(kind: str, instance: Text, claim: Text) -> Certified:
     with _read(f"certify_{kind}", instance, claim) as texts:
         rooms = [library.LINE, library.LINE + texts[0].length + texts[1].length]
-        status, (line, shown) = library.call_for_texts(library.certify, _KINDS[kind], *_words(texts), rooms=rooms)
+        status, (line, shown) = library.call_for_texts(library.certify, KINDS[kind], *_words(texts), rooms=rooms)
         if status == library.REFUSED:
             raise _refusal(library.refusal(line), instance, claim, shown)
     value = library.verdict(line).value if kind in ("max", "min") else None
@@ -160,7 +160,7 @@ def certify_paths(graph: Text, distances: Text) -> Certified:
 def _spread(kind: str, instance: Text, solution: Text) -> Any:
     with _read(f"spread_{kind}", instance, solution) as texts:
         rooms = [library.LINE, library.LINE + texts[0].length + texts[1].length]
-        status, (line, spread) = library.call_for_texts(library.spread, _KINDS[kind], *_words(texts), rooms=rooms)
+        status, (line, spread) = library.call_for_texts(library.spread, KINDS[kind], *_words(texts), rooms=rooms)
         if status == library.REFUSED:
             raise library.refusal(line)
     return _in_form_of(solution, spread)
@@ -194,7 +194,7 @@ def _solve(kind: str, instance: Text, queries: Text, limit: int) -> Solved:
         # An answer to a query is a longer line than the query, and a potential or label may be one than an arc.
         length = texts[0].length
         rooms = [library.LINE + 4 * texts[1].length, library.LINE + length, library.LINE + 2 * length]
-        handed = library.call_for_texts(library.solve, _KINDS[kind], *words, rooms=rooms)
+        handed = library.call_for_texts(library.solve, KINDS[kind], *words, rooms=rooms)
         status, (output, solution, certificate) = handed
         if status == library.REFUSED:
             raise library.refusal(output)

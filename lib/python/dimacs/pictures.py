@@ -1,0 +1,81 @@
+"""Pictures of texts, with what the library says of them. They aren't proved: only the verdict is."""
+
+from __future__ import annotations
+
+import os
+from pathlib import Path
+from typing import Any, Iterable, Sequence, Union
+
+from . import drawing, library
+from .answers import Certified, Solved
+from .buffers import bytes_of
+from .drawing import Answer, Drawing
+from .texts import KINDS, Text, convert, show
+
+
+class _Library:
+    """What drawing asks: the judges and certifiers of the library, word for word."""
+
+    def show(self, kind: str, text: bytes) -> str:
+        return bytes(show(kind, text)).decode("ascii").rstrip("\n")
+
+    def convert(self, kind: str, text: bytes) -> bytes:
+        return bytes(convert(kind, text))
+
+    def answer(self, command: str, texts: Sequence[bytes]) -> Answer:
+        how, kind = command.split("-")
+        claims = [texts[0], b"", texts[1]] if command == "judge-infeasible" else texts
+        words = [word for it in claims for word in bytes_of(it).words()]
+        if how == "judge":
+            _, line = library.call(library.judge, KINDS[kind], *words)
+            return Answer(command, line.decode("ascii").splitlines())
+        rooms = [library.LINE, library.LINE + sum(map(len, texts))]
+        _, (line, shown) = library.call_for_texts(library.certify, KINDS[kind], *words, rooms=rooms)
+        return Answer(command, line.decode("ascii").splitlines(), shown)
+
+
+def _text(name: str, text: Any) -> drawing.Text:
+    """A text, with the name of its file if it has one."""
+    if isinstance(text, os.PathLike):
+        return drawing.Text(Path(text).name, Path(text).read_bytes())
+    if isinstance(text, str) and "\n" not in text and os.path.isfile(text):
+        raise ValueError(f"draw takes texts, and {text!r} names a file: pass pathlib.Path({text!r})")
+    bytes_of(text, "draw")  # raises TypeError if it isn't a text
+    content = text.encode("utf-8", "surrogatepass") if isinstance(text, str) else bytes(memoryview(text))
+    return drawing.Text(name, content)
+
+
+def draw(
+    instance: Text,
+    claim: Union[Text, Solved, None] = None,
+    certificate: Union[Text, Certified, None] = None,
+    *,
+    only: Iterable[int] = (),
+    source: int | None = None,
+    layers: bool = False,
+) -> Drawing:
+    r"""Draws an instance, with a claim about it and its certificate, as the command dimacs-draw does; a notebook shows it.
+
+    The claim is a solution, a set of nodes, distances or queries, or what solve_max or solve_min returned. Without a
+    certificate the claim is certified, if it can be; what certify_max and so on returned is one. A refusal is drawn, and not
+    raised. only are nodes that are drawn with their neighbours; source is the node from which distances are drawn; layers
+    is whether Graphviz isn't used, even if it is there. Raises Refused if a text has a fault; ValueError if no command
+    judges these texts, or the network is too large.
+
+    >>> drawn = draw("p max 2 1\nn 1 s\nn 2 t\na 1 2 3\n", "s 2\nf 1 2 2\n")
+    >>> drawn
+    <Drawing: x solution 1 2 NotMaximum>
+    >>> drawn.svg[:4], drawn.dot[:7]
+    ('<svg', 'digraph')
+    """
+    if isinstance(claim, Solved):
+        certificate = claim.certificate if certificate is None else certificate
+        claim = claim.solution
+    if isinstance(certificate, Certified):
+        certificate = certificate.certificate
+    given = {"claim": claim, "certificate": certificate}
+    texts = [_text("instance", instance), *(_text(name, it) for name, it in given.items() if it is not None)]
+    try:
+        return drawing.draw(_Library(), texts, only, source, layers)
+    except drawing.TooLarge as error:
+        raise drawing.TooLarge(f"{error}: only=[..] draws some nodes with their neighbours") from None

@@ -1,0 +1,533 @@
+#!/usr/bin/env python3
+"""Tests dimacs-draw: tests/draw.py [BINARY]
+
+Of each claim in a table the marks in the picture are compared with those that the definitions give, computed here from the
+texts: which arcs are saturated, empty, leave or enter the set, or are of the tree. What is refused has to be red, and the
+caption has to be what dimacs prints. Pictures are made by Graphviz too, if it is there. In the layers of the script no two
+nodes or labels overlap, and no arc crosses a node, over random networks. BINARY is the built program;
+crates/dimacs/out/dimacs by default. The last line counts what passed and what failed.
+"""
+import gzip
+import os
+import random
+import re
+import shutil
+import subprocess
+import sys
+import tempfile
+import xml.etree.ElementTree as ElementTree
+
+TOP = os.path.dirname(os.path.dirname(os.path.abspath(__file__)))
+DRAW = f"{TOP}/tools/dimacs-draw"
+BINARY = os.path.abspath(sys.argv[1] if len(sys.argv) > 1 else f"{TOP}/crates/dimacs/out/dimacs")
+SVG = "{http://www.w3.org/2000/svg}"
+
+sys.path.insert(0, f"{TOP}/tools")
+sys.dont_write_bytecode = True
+from dimacs_draw.drawing import layers, layout  # noqa: E402  (the folder of tools is on the path now)
+
+# Claims over the examples: the command, and the texts.
+EXAMPLES = """
+show | pipes.max
+show | freight.min
+show | road.gr
+certify-max | pipes.max pipes.solution
+judge-max | pipes.max pipes.solution pipes.cut
+certify-max | pipes.max pipes-careless.solution
+certify-max | bridges.max bridges.solution
+judge-max | bridges.max bridges.solution bridges.cut
+certify-max | bridges.max bridges-sums.solution
+judge-max | trucks.max trucks.solution trucks.cut
+certify-min | freight.min freight.solution
+judge-min | freight.min freight.solution freight.pot
+certify-min | freight.min freight-dear.solution
+judge-min | canning.min canning.solution canning.pot
+judge-infeasible | shortage.min shortage.cut
+judge-infeasible | detroit.min detroit.cut
+judge-paths | road.gr road.query road.dist
+certify-paths | road.gr road.distances
+certify-paths | road.gr road-near.distances
+judge-paths | romania.gr romania.query romania.dist
+"""
+
+# Refusals: what dimacs prints, the texts, and the arcs and nodes that are red; ? is an entry without an arc.
+MAX = "p max 3 4; n 1 s; n 3 t; a 1 2 4; a 2 3 3; a 1 2 2; a 3 2 1"
+MIN = "p min 2 2; n 1 4; n 2 -4; a 1 2 1 3 5; a 1 2 0 9 2"
+GRAPH = "p sp 4 5; a 1 2 5; a 2 3 6; a 1 3 20; a 3 1 1; a 2 2 0"
+REFUSALS = f"""
+x arc 3 AboveCap | {MAX} | s 3; f 1 2 0; f 2 3 3; f 1 2 3 | arc 3
+x arc 2 BelowLow | {MAX} | s 0; f 2 3 -1 | arc 2
+x arc 1 BelowLow | {MIN} | s 8; f 1 2 0; f 1 2 4 | arc 1
+x node 2 Balance | {MAX} | s 3; f 1 2 3; f 2 3 2 | node 2
+x solution 1 2 ValueDiffers | {MAX} | s 5; f 1 2 3; f 2 3 3 | none
+x solution 3 0 UnknownArc | {MAX} | s 0; c no arc; f 3 1 +07 | ?
+x solution 2 0 UnknownArc | {MAX} | s 0; f 9 1 7 | none
+x solution 4 0 ArcTwice | {MAX} | s 0; f 2 3 0; c again; f 2 3 1 | arc 2
+x node 1 SourceOutside | {MAX} | s 3; f 1 2 3; f 2 3 3 | p cut 3 1; u 2 | node 1
+x node 3 SinkInside | {MAX} | s 3; f 1 2 3; f 2 3 3 | p cut 3 2; u 1; u 3 | node 3
+x arc 1 NotSaturated | {MAX} | s 3; f 1 2 3; f 2 3 3 | p cut 3 1; u 1 | arc 1
+x arc 4 BackFlow | {MAX} | s 2; f 1 2 2; f 2 3 3; f 3 2 1 | p cut 3 2; u 1; u 2 | arc 4
+x certificate 0 0 NodesDiffer | {MAX} | s 3; f 1 2 3; f 2 3 3 | p cut 9 2; u 1; u 2 | none
+x arc 2 NotTight | {MIN} | s 11; f 1 2 1; f 1 2 3 | p pot 2 1; y 1 5 | arc 2
+x certificate 0 0 NotViolated | {MIN} | p cut 2 1; u 1 | none
+x solution 1 2 NotLeast | {MIN} | s 14; f 1 2 2; f 1 2 2 | none
+x node 3 NoTightArc | {GRAPH} | p aux sp ss 1; s 1 | p dist 4 1; t 1 2; d 2 5 1; d 3 10 2 | node 3
+x node 3 NoTightArc | {GRAPH} | p distances 4 1; t 1 2; d 2 5; d 3 10 | node 3
+x arc 2 NotShortest | {GRAPH} | p distances 4 1; t 1 2; d 2 5; d 3 20 | arc 2
+x arc 2 Escapes | {GRAPH} | p distances 4 2; t 4 0; t 2 0 | arc 2
+x arc 1 NegativeWeight | p sp 2 1; a 1 2 -5 | p aux sp p2p 1; q 1 2 | p dist 2 1; t 1 0 9 | arc 1
+x node 9 QueryNode | {GRAPH} | p aux sp p2p 1; q 1 9 | p dist 4 1; t 1 2; d 2 5 1; d 3 11 2 | none
+x node 4 BlockMissing | {GRAPH} | p aux sp ss 1; s 4 | p dist 4 1; t 1 2; d 2 5 1; d 3 11 2 | node 4
+"""
+
+# Distances over road.gr from 6, and from 1, of which one is wrong.
+NEAR = """p distances 6 2
+t 6 5
+d 1 2100
+d 2 1800
+d 3 1400
+d 4 900
+d 5 700
+t 1 4
+d 2 300
+d 3 700
+d 4 1200
+d 5 1300
+"""
+
+# Words, what dimacs-draw complains of, and its status. {x} is a file with this text.
+COMPLAINTS = """
+2 | there is no text: nothing.max: No such file | nothing.max
+2 | is no text that dimacs reads | {hello}
+2 | an instance comes first | {s 3}
+2 | is followed by a solution | {p max 2 0; n 1 s; n 2 t} {p pot 2 0}
+2 | is followed by distances; or by queries and labels: not by labels | {p sp 2 0} {p dist 2 0}
+1 | x instance 2 2 NodeRange | {p sp 2 1; a 3 1 1}
+1 | x solution 2 0 SolutionMissing | {p max 2 0; n 1 s; n 2 t} {c nothing}
+2 | 61 nodes and 61 arcs, and a picture has room for 60 and 200: --only NODE | {ring 61}
+2 | 3 nodes and 201 arcs | {many 201}
+2 | 61, and a picture has room for 60 | --only 1 {star 61}
+2 | there is no node 5: the network has nodes 1 to 2 | --only 5 {p sp 2 1; a 1 2 1}
+2 | there are no distances from 2 | --source 2 {p sp 2 1; a 1 2 1} {p distances 2 1; t 1 1; d 2 1}
+2 | the standard input is one text | - -
+2 | a node is a number, and not x | --only x {p sp 2 0}
+2 | is there, and no picture: remove it first | -o {s 3} {p sp 2 0}
+2 | nowhere/dimacs: No such file or directory: --program or DIMACS names the program | --program nowhere/dimacs {p sp 2 0}
+"""
+
+
+class Counts:
+    """What passed and what failed."""
+
+    def __init__(self):
+        self.passed = self.failed = 0
+
+    def expect(self, name, is_so, more=""):
+        self.passed += bool(is_so)
+        self.failed += not is_so
+        if not is_so:
+            print(f"{name} failed {more}", flush=True)
+
+
+def run(*words, folder, **how):
+    """Runs dimacs-draw over the program."""
+    command = [sys.executable, "-B", DRAW, *words]
+    environment = {**os.environ, "DIMACS": BINARY, **how.pop("env", {})}
+    return subprocess.run(command, cwd=folder, capture_output=True, check=False, env=environment, **how)
+
+
+def printed(command, texts, folder, certificate):
+    """The lines that dimacs prints."""
+    kind = {"max": "max", "min": "min", "gr": "gr"}[texts[0].split(".")[-1]]
+    words = ["show", kind, *texts] if command == "show" else [command, *texts]
+    if command.startswith("certify"):
+        words.append(certificate)
+    ran = subprocess.run([BINARY, *words], cwd=folder, capture_output=True, text=True, check=False)
+    return ran.stdout.splitlines()
+
+
+# ---- pictures
+
+
+class Picture:
+    """The nodes and arcs of a picture, by their attributes."""
+
+    def __init__(self, text):
+        self.root = ElementTree.fromstring(text)
+        groups = [it for it in self.root.iter(f"{SVG}g") if it.get("class")]
+        arcs = [it for it in groups if it.get("class").split()[0] == "arc"]
+        nodes = [it for it in groups if it.get("class").split()[0] == "node"]
+        self.arcs = {int(it.get("data-arc")): set(it.get("class").split()[1:]) for it in arcs if it.get("data-arc")}
+        self.nodes = {int(it.get("data-node")): set(it.get("class").split()[1:]) for it in nodes}
+        self.below = {int(it.get("data-node")): [text.text for text in it.iter(f"{SVG}text")][1:] for it in nodes}
+        self.claimed = [set(it.get("class").split()[1:]) for it in arcs if not it.get("data-arc")]
+        texts = [(it.text, set(it.get("class").split())) for it in self.root.iter(f"{SVG}text")]
+        self.labels = [text for text, classes in texts if classes & {"along", "beside"}]
+        self.texts = [it.text for it in self.root.findall(f"{SVG}text")]
+
+    def with_mark(self, mark):
+        """The arcs and the nodes that have a mark."""
+        return [{k for k, marks in found.items() if mark in marks} for found in (self.arcs, self.nodes)]
+
+
+# ---- what the definitions say
+
+
+def fields_of(path):
+    with open(path, encoding="ascii") as it:
+        return [line.split() for line in it if line.split() and not line.startswith("c")]
+
+
+class Claim:
+    """Texts, by their kinds as their files are named."""
+
+    def __init__(self, folder, texts):
+        self.texts = {it.split(".")[-1]: fields_of(os.path.join(folder, it)) for it in texts}
+        instance = fields_of(os.path.join(folder, texts[0]))
+        self.kind, self.nodes = instance[0][1], int(instance[0][2])
+        self.arcs = [[int(it) for it in line[1:]] for line in instance if line[0] == "a"]
+        self.ends = {line[2]: int(line[1]) for line in instance if line[0] == "n"}
+        self.supplies = {int(line[1]): int(line[2]) for line in instance if line[0] == "n" and self.kind == "min"}
+
+    def flows(self):
+        """The flow of each arc: of parallel ones in their order."""
+        entries = [[int(it) for it in line[1:]] for line in self.texts["solution"] if line[0] == "f"]
+        found = []
+        for arc in self.arcs:
+            at = next((k for k, entry in enumerate(entries) if entry[:2] == arc[:2]), None)
+            found.append(0 if at is None else entries.pop(at)[2])
+        return found
+
+    def capacities(self):
+        return [arc[2] if self.kind == "max" else arc[3] for arc in self.arcs]
+
+    def inside(self):
+        return {int(line[1]) for line in self.texts["cut"] if line[0] == "u"}
+
+    def first_block(self, kind):
+        """The source of the first block, and the distances and predecessors in it."""
+        source, found = None, {}
+        for line in self.texts[kind]:
+            if line[0] == "t":
+                if source is not None:
+                    break
+                source, found = int(line[1]), {int(line[1]): (0, None)}
+            elif line[0] == "d":
+                found[int(line[1])] = (int(line[2]), int(line[3]) if line[3:] else None)
+        return source, found
+
+
+def numbers(marked):
+    """The numbers of the arcs for which something is so."""
+    return {k for k, is_so in enumerate(marked, 1) if is_so}
+
+
+def expected(claim):
+    """The arcs of each mark, by the definitions."""
+    found = dict.fromkeys(["saturated", "empty", "leaves", "enters", "tree"], set())
+    if "solution" in claim.texts:
+        flows = claim.flows()
+        found["saturated"] = numbers(flow == cap for flow, cap in zip(flows, claim.capacities()))
+        found["empty"] = numbers(flow == 0 for flow in flows)
+    if "cut" in claim.texts:
+        inside = claim.inside()
+        found["leaves"] = numbers(it[0] in inside and it[1] not in inside for it in claim.arcs)
+        found["enters"] = numbers(it[1] in inside and it[0] not in inside for it in claim.arcs)
+    return found
+
+
+def test_marks(counts, name, picture, claim):
+    """Each arc has the marks that the definitions give it, and no other."""
+    for mark, arcs in expected(claim).items():
+        if mark != "tree":
+            drawn = picture.with_mark(mark)[0]
+            counts.expect(f"{name}: {mark}", drawn == arcs, f"{sorted(drawn)} and not {sorted(arcs)}")
+    if "cut" in claim.texts:
+        counts.expect(f"{name}: inside", picture.with_mark("inside")[1] == claim.inside())
+    ends = {claim.ends[it] for it in "st" if it in claim.ends}
+    if claim.kind != "sp":
+        counts.expect(f"{name}: source and sink", picture.with_mark("ends")[1] == ends)
+    for node, supply in claim.supplies.items():
+        counts.expect(f"{name}: supply of {node}", f"{supply:+}" in picture.below[node])
+
+
+def test_labels(counts, name, picture, claim):
+    """Each arc has its numbers."""
+    flows = claim.flows() if "solution" in claim.texts else [None] * len(claim.arcs)
+    has_costs = claim.kind == "min" and any(arc[4] for arc in claim.arcs)
+    wanted = []
+    for arc, flow in zip(claim.arcs, flows):
+        bounds = str(arc[-1] if claim.kind != "min" else f"{arc[2]}..{arc[3]}" if arc[2] else arc[3])
+        wanted.append(("" if flow is None else f"{flow}/") + bounds + (f" ({arc[4]})" if has_costs else ""))
+    counts.expect(f"{name}: labels", picture.labels == wanted, f"{picture.labels} and not {wanted}")
+
+
+def test_distances(counts, name, picture, claim):
+    """Each node has its distance, and the tree has an arc to each labelled node, from its predecessor."""
+    kind = "dist" if "dist" in claim.texts else "distances"
+    source, labels = claim.first_block(kind)
+    for node in range(1, claim.nodes + 1):
+        wanted = str(labels[node][0]) if node in labels else "∞"
+        counts.expect(f"{name}: distance of {node}", picture.below[node][-1] == wanted)
+    tree = [claim.arcs[k - 1] for k in picture.with_mark("tree")[0]]
+    is_tight = all(labels[tail][0] + weight == labels[head][0] for tail, head, weight in tree)
+    heads = sorted(head for _, head, _ in tree)
+    reached = sorted(set(labels) - {source})
+    is_judged = not any("x " in it for it in picture.texts)
+    counts.expect(f"{name}: tree", is_tight and heads == (reached if is_judged else []), f"{tree}")
+    if kind == "dist":
+        counts.expect(f"{name}: predecessors", all(labels[head][1] == tail for tail, head, _ in tree))
+        asked = {int(it[2]) for it in claim.texts["query"] if it[0] == "q" and int(it[1]) == source}
+        counts.expect(f"{name}: asked", picture.with_mark("asked")[1] == asked)
+
+
+def test_picture(counts, name, picture, lines):
+    """The caption is what dimacs prints, and the picture has a title and a description."""
+    caption = " ".join(picture.texts)
+    counts.expect(f"{name}: verdict", all(line in caption for line in lines[:4]), f"{lines}: {caption}")
+    said = "".join(picture.root.itertext()).lower()
+    quoted = any("max" in it for it in lines)
+    counts.expect(f"{name}: says no verdict of its own", quoted or not re.search(r"\bmaximum\b|\boptimal\b", said))
+    title, desc = picture.root.find(f"{SVG}title"), picture.root.find(f"{SVG}desc")
+    counts.expect(f"{name}: title", title is not None and lines[0] in title.text)
+    counts.expect(f"{name}: description", desc is not None and "isn't proved" in desc.text)
+
+
+def test_examples(counts, place):
+    folder = f"{TOP}/examples"
+    for line in EXAMPLES.strip().split("\n"):
+        command, texts = (it.strip() for it in line.split("|"))
+        found = f"{place}/found"
+        lines = printed(command, texts.split(), folder, found)
+        claim = Claim(folder, texts.split())
+        certificate = {"certify-max": "cut", "certify-paths": "dist"}.get(command)
+        if certificate and lines[0].startswith("v ") and claim.kind != "sp":
+            claim.texts[certificate] = fields_of(found)
+        for how in (["--layers"], []):
+            name = f"{command} {texts} {' '.join(how)}"
+            ran = run(*how, *texts.split(), folder=folder)
+            counts.expect(f"{name}: status", ran.returncode == (1 if lines[0].startswith("x ") else 0), ran.stderr)
+            picture = Picture(ran.stdout)
+            test_marks(counts, name, picture, claim)
+            test_labels(counts, name, picture, claim)
+            test_picture(counts, name, picture, lines)
+            if {"dist", "distances"} & set(claim.texts):
+                test_distances(counts, name, picture, claim)
+
+
+# ---- refusals, complaints and odd texts
+
+
+def written(place, number, text):
+    path = f"{place}/{number}.text"
+    with open(path, "w", encoding="utf-8") as it:
+        it.write(text.strip().replace("; ", "\n") + "\n")
+    return path
+
+
+def test_refusals(counts, place):
+    for line in REFUSALS.strip().split("\n"):
+        refusal, *texts, red = (it.strip() for it in line.split("|"))
+        ran = run("--layers", *(written(place, k, it) for k, it in enumerate(texts)), folder=place)
+        counts.expect(f"{refusal}: status", ran.returncode == 1, ran.stderr)
+        picture = Picture(ran.stdout)
+        counts.expect(f"{refusal}: caption", refusal in " ".join(picture.texts), picture.texts)
+        arcs, nodes = picture.with_mark("wrong")
+        found = [f"arc {it}" for it in sorted(arcs)] + [f"node {it}" for it in sorted(nodes)]
+        found += ["?" for it in picture.claimed if it == {"claimed", "wrong"}]
+        counts.expect(f"{refusal}: red", " ".join(found or ["none"]) == red, f"{found}")
+        if "NodesDiffer" in refusal:
+            counts.expect("a set of other nodes isn't drawn", not picture.with_mark("inside")[1])
+
+
+def text_of(name):
+    """A text of a table, or a large one."""
+    word, _, count = name.partition(" ")
+    if word == "ring":
+        return f"p sp {count} {count}; a {count} 1 1; " + "; ".join(f"a {k} {k + 1} 1" for k in range(1, int(count)))
+    if word == "star":
+        return f"p sp {count} {int(count) - 1}; " + "; ".join(f"a 1 {k} 1" for k in range(2, int(count) + 1))
+    if word == "many":
+        return f"p sp 3 {count}; " + "; ".join(["a 1 2 1"] * int(count))
+    return name
+
+
+def test_complaints(counts, place):
+    for line in COMPLAINTS.strip().split("\n"):
+        status, complaint, words = (it.strip() for it in line.split("|"))
+        texts = iter(re.findall(r"\{(.*?)\}", words))
+        typed = re.sub(r"\{.*?\}", "TEXT", words).split()
+        typed = [written(place, k, text_of(next(texts))) if it == "TEXT" else it for k, it in enumerate(typed)]
+        ran = run(*typed, folder=place)
+        said = ran.stderr.decode()
+        complaint = complaint.removeprefix("there is no text: ")
+        is_so = ran.returncode == int(status) and complaint in said and not ran.stdout and "Traceback" not in said
+        counts.expect(f"{words}: {complaint}", is_so, f"{ran.returncode}: {said}")
+
+
+def test_odd(counts, place):
+    """Texts that are odd, and files with odd names, are drawn."""
+    gaps = "p max 134217728 3; n 5 s; n 134217728 t; a 5 77 4; a 77 134217728 9; a 77 77 3"
+    ran = run("--layers", written(place, "a <b> & \udce9", gaps), folder=place)
+    picture = Picture(ran.stdout)
+    counts.expect("gaps", set(picture.nodes) == {5, 77, 134217728} and len(picture.arcs) == 3, ran.stderr)
+    counts.expect("gaps are counted", any("134,217,725 nodes without arcs" in it for it in picture.texts))
+    counts.expect("an odd name", any("<b> & \ufffd.text" in it for it in picture.texts), picture.texts)
+    counts.expect("by Graphviz", run("--dot", written(place, 'q"\\N', gaps), folder=place).returncode == 0)
+    huge = "p min 2 2; n 1 9223372036854775807; n 2 -9223372036854775807"
+    huge += "; a 1 2 9223372036854775806 9223372036854775807 -9223372036854775808; a 1 2 0 9223372036854775807 1"
+    picture = Picture(run("--layers", written(place, 0, huge), folder=place).stdout)
+    wanted = "9223372036854775806..9223372036854775807 (-9223372036854775808)"
+    counts.expect("huge numbers", wanted in picture.labels and "-9223372036854775807" in picture.below[2])
+    for name, text, nodes in (("no arcs", "p max 3 0; n 1 s; n 3 t", 3), ("no nodes", "p sp 0 0", 0)):
+        for how in (["--layers"], []):
+            ran = run(*how, written(place, 0, text), folder=place)
+            counts.expect(name, ran.returncode == 0 and len(Picture(ran.stdout).nodes) == nodes, ran.stderr)
+    chain = "p sp 5000 4999; " + "; ".join(f"a {k} {k + 1} 1" for k in range(1, 5000))
+    ran = run("--layers", "--only", "3000", "--only", "3002", written(place, 0, chain), folder=place)
+    counts.expect("--only", set(Picture(ran.stdout).nodes) == {2999, 3000, 3001, 3002, 3003}, ran.stderr)
+
+
+def test_paths(counts, place):
+    """Of parallel arcs the tight one is of the tree, and a node may be beyond a radius."""
+    graph = written(place, 0, "p sp 3 3; a 1 2 9; a 1 2 5; a 2 3 9")
+    queries, labels = written(place, 1, "p aux sp p2p 1; q 1 3"), written(place, 2, "p dist 3 1; t 1 1 8; d 2 5 1")
+    picture = Picture(run("--layers", graph, queries, labels, folder=place).stdout)
+    counts.expect("a tight arc of two", picture.with_mark("tree") == [{2}, set()])
+    counts.expect("beyond a radius", picture.below[3] == ["> 8"] and picture.below[2] == ["5"], picture.below)
+    counts.expect("asked for beyond it", picture.with_mark("asked")[1] == {3})
+
+
+def test_elsewhere(counts):
+    """A refusal that isn't of what is drawn colours nothing, and is said to lie elsewhere."""
+    folder = f"{TOP}/examples"
+    flow = run("--layers", "--only", "4", "bridges.max", "bridges-sums.solution", folder=folder).stdout
+    paths = run("--layers", "--source", "6", "road.gr", "-", folder=folder, input=NEAR.encode()).stdout
+    drawn = Picture(run("--layers", "road.gr", "-", folder=folder, input=NEAR.encode()).stdout)
+    counts.expect("the block that is refused", drawn.with_mark("ends")[1] == {1} and drawn.with_mark("wrong")[1] == {5})
+    for name, text in (("--only", flow), ("--source", paths)):
+        picture = Picture(text)
+        counts.expect(f"{name}: nothing is red", picture.with_mark("wrong") == [set(), set()])
+        counts.expect(f"{name}: said", "what is refused isn't among what is drawn" in " ".join(picture.texts))
+
+
+def test_files(counts, place):
+    """Compressed texts, the standard input, --source and -o."""
+    folder = f"{TOP}/examples"
+    names = ("pipes.max", "pipes.solution", "pipes.cut")
+    plain = run("--layers", *names, folder=folder).stdout
+    for it in names:
+        with open(f"{folder}/{it}", "rb") as text, gzip.open(f"{place}/{it}", "wb") as packed:
+            packed.write(text.read())
+    counts.expect("gzip", run("--layers", *names, folder=place).stdout == plain)
+    with open(f"{folder}/pipes.solution", "rb") as it:
+        ran = run("--layers", names[0], "-", names[2], folder=folder, stdin=it)
+    counts.expect("the standard input", ran.stdout == plain.replace(b"pipes.solution", b"standard input"))
+    with open(f"{place}/pipes.cut", "r+b") as it:
+        it.truncate(20)
+    ran = run(*names, folder=place)
+    counts.expect("a part of a file of gzip", ran.returncode == 2 and b"pipes.cut: isn't whole" in ran.stderr)
+    for _ in range(2):
+        ran = run("--layers", "-o", f"{place}/made.svg", *names, folder=folder)
+        with open(f"{place}/made.svg", "rb") as it:
+            counts.expect("-o", ran.returncode == 0 and it.read() == plain)
+    ran = run("--source", "6", "road.gr", "road.distances", folder=folder)
+    counts.expect("--source", Picture(ran.stdout).below[5] == ["700"], ran.stderr)
+    if shutil.which("dot"):
+        made = run("--dot", *names, folder=folder).stdout
+        drawn = subprocess.run(["dot", "-Tplain"], input=made, capture_output=True, check=False)
+        counts.expect("--dot", drawn.returncode == 0 and drawn.stdout.count(b"\nedge ") == 7, drawn.stderr)
+    else:
+        print("left out: Graphviz: no dot")
+    alone = run(*names, folder=folder, env={"PATH": "/nowhere"}).stdout
+    counts.expect("without Graphviz it lies in layers", alone == plain)
+
+
+def test_pages(counts, place):
+    """The pictures of the examples are those of these sources, and the page shows each."""
+    made = f"{place}/pictures"
+    ran = subprocess.run([f"{TOP}/tools/pictures.py", made, BINARY], capture_output=True, check=False)
+    counts.expect("tools/pictures.py", ran.returncode == 0, ran.stderr)
+    with open(f"{TOP}/examples/README.md", encoding="utf-8") as it:
+        shown = re.findall(r"\]\(\.\./docs/pictures/(\S+)\)", it.read())
+    names = sorted(os.listdir(f"{TOP}/docs/pictures"))
+    counts.expect("each is shown", sorted(shown) == names == sorted(os.listdir(made)), f"{shown}: {names}")
+    for name in names:
+        with open(f"{TOP}/docs/pictures/{name}", "rb") as it, open(f"{made}/{name}", "rb") as again:
+            counts.expect(f"docs/pictures/{name} is of these sources", it.read() == again.read())
+
+
+# ---- the own layers
+
+
+def overlaps(first, second):
+    """Whether two boxes with their middles have a place in common."""
+    (a, box), (b, other) = first, second
+    return abs(a.x - b.x) < (box.width + other.width) / 2 and abs(a.y - b.y) < (box.height + other.height) / 2
+
+
+def is_inside(made, middle, box):
+    """Whether a box lies in the picture, but for what rounding takes."""
+    beyond = (middle.x - box.width / 2, made.width - middle.x - box.width / 2)
+    return all(it > -0.01 for it in (*beyond, middle.y - box.height / 2, made.height - middle.y - box.height / 2))
+
+
+def points_of(curve):
+    """Places on the curves of an arc."""
+    for k in range(0, len(curve) - 1, 3):
+        a, b, c, d = curve[k : k + 4]
+        for step in range(9):
+            t = step / 8
+            weights = (1 - t) ** 3, 3 * t * (1 - t) ** 2, 3 * t * t * (1 - t), t**3
+            yield layout.Point(*(sum(w * it[axis] for w, it in zip(weights, (a, b, c, d))) for axis in (0, 1)))
+
+
+def random_sketch(rng):
+    nodes = rng.sample(range(1, 200), rng.randint(1, 25))
+    box = layout.Box
+    boxes = {it: box(rng.choice([36, 60, 150]), rng.choice([36, 54])) for it in nodes}
+    ends = [(rng.choice(nodes), rng.choice(nodes)) for _ in range(rng.randint(0, 40))]
+    edges = [layout.Edge(*it, "", box(rng.choice([20, 80, 400]), 16)) for it in ends]
+    return layout.Sketch({it: [str(it)] for it in nodes}, boxes, edges, nodes[: rng.randint(0, 2)])
+
+
+def test_layers(counts):
+    """Nodes and labels lie apart, and arcs pass by nodes, from their tail's border to their head's."""
+    rng = random.Random(7)
+    wrong = {"overlap": 0, "crossing": 0, "ends": 0, "outside": 0}
+    for _ in range(300):
+        sketch = random_sketch(rng)
+        made = layers.place(sketch)
+        nodes = [(made.places[it], box) for it, box in sketch.boxes.items()]
+        boxes = nodes + [(it, edge.box) for it, edge in zip(made.labels, sketch.edges)]
+        wrong["overlap"] += any(overlaps(a, b) for k, a in enumerate(boxes) for b in boxes[:k])
+        wrong["outside"] += not all(is_inside(made, *it) for it in boxes)
+        for edge, curve in zip(sketch.edges, made.curves):
+            others = [(made.places[it], box) for it, box in sketch.boxes.items() if it not in (edge.tail, edge.head)]
+            point = layout.Box(0, 0)
+            wrong["crossing"] += any(overlaps((it, point), other) for it in points_of(curve) for other in others)
+            for node, end in ((edge.tail, curve[0]), (edge.head, curve[-1])):
+                near = layout.Box(sketch.boxes[node].width + 1, sketch.boxes[node].height + 1)
+                wrong["ends"] += not overlaps((end, point), (made.places[node], near))
+    for name, count in wrong.items():
+        counts.expect(f"layers: {name}", count == 0, f"{count} times")
+
+
+def main():
+    counts = Counts()
+    with tempfile.TemporaryDirectory() as place:
+        test_examples(counts, place)
+        test_refusals(counts, place)
+        test_complaints(counts, place)
+        test_odd(counts, place)
+        test_paths(counts, place)
+        test_elsewhere(counts)
+        test_files(counts, place)
+        test_pages(counts, place)
+        test_layers(counts)
+    print(f"{counts.passed} passed, {counts.failed} failed")
+    return 1 if counts.failed or not counts.passed else 0
+
+
+if __name__ == "__main__":
+    sys.exit(main())
