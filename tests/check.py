@@ -31,6 +31,7 @@ SCRIPTS = {
     "large_runs": ["{build}/dimacs"],
     "batch": ["{build}/dimacs"],
     "explain": ["{build}/dimacs"],
+    "explained_texts": ["{build}/dimacs"],
     "usage": ["{build}/dimacs"],
     "shown_runs": ["{build}/dimacs"],
     "version": ["{build}"],
