@@ -55,43 +55,67 @@ impl Finder {
         let Some(record) = record else {
             return matches!(self.wanted, Wanted::Line(number) if number == line);
         };
-        match record {
-            Record::MaxArc { .. } | Record::MinArc { .. } | Record::GraphArc { .. } => {
-                self.arcs = self.arcs.saturating_add(1);
-            }
-            Record::LabelsBlock { source, .. } | Record::DistancesBlock { source, .. } => {
-                self.source = source;
-            }
-            _ => (),
+        if is_arc(record) {
+            self.arcs = self.arcs.saturating_add(1);
+        }
+        if let Some(source) = block_of(record) {
+            self.source = source;
         }
         self.is_at(line, record)
     }
 
     fn is_at(&self, line: u64, record: Record) -> bool {
-        match (self.wanted, record) {
-            (Wanted::Line(number), _) => number == line,
-            (Wanted::Value, Record::SolutionValue { .. }) => true,
-            (Wanted::Problem, record) => nodes_of(record).is_some(),
-            (
-                Wanted::Arc(number),
-                Record::MaxArc { .. } | Record::MinArc { .. } | Record::GraphArc { .. },
-            ) => self.arcs == number,
-            (Wanted::End(wanted), Record::MaxNode { end, .. }) => end == wanted,
-            (Wanted::Node(node), record) => named_node(record) == Some(node),
-            (Wanted::Query(node) | Wanted::QueryNaming(node), Record::SourceQuery { id }) => id
-                == node,
-            (Wanted::Query(node), Record::PairQuery { from, .. }) => from == node,
-            (Wanted::QueryNaming(node), Record::PairQuery { from, to }) => {
-                from == node || to == node
+        match self.wanted {
+            Wanted::Line(number) => number == line,
+            Wanted::Problem => nodes_of(record).is_some(),
+            Wanted::Value => matches!(record, Record::SolutionValue { .. }),
+            Wanted::Arc(number) => is_arc(record) && self.arcs == number,
+            Wanted::End(wanted) => end_of(record) == Some(wanted),
+            Wanted::Node(node) => named_node(record) == Some(node),
+            Wanted::Query(node) => query_of(record).is_some_and(|query| query.0 == node),
+            Wanted::QueryNaming(node) => {
+                query_of(record).is_some_and(|query| query.0 == node || query.1 == node)
             }
-            (Wanted::Block(wanted), Record::LabelsBlock { source, .. })
-            | (Wanted::Block(wanted), Record::DistancesBlock { source, .. }) => source == wanted,
-            (Wanted::Label { source, id: wanted }, Record::LabelsNode { id, .. })
-            | (Wanted::Label { source, id: wanted }, Record::DistancesNode { id, .. }) => {
-                id == wanted && self.source == source
-            }
-            _ => false,
+            Wanted::Block(source) => block_of(record) == Some(source),
+            Wanted::Label { source, id } => label_of(record) == Some(id) && self.source == source,
         }
+    }
+}
+
+fn is_arc(record: Record) -> bool {
+    matches!(
+        record,
+        Record::MaxArc { .. } | Record::MinArc { .. } | Record::GraphArc { .. }
+    )
+}
+
+fn end_of(record: Record) -> Option<End> {
+    match record {
+        Record::MaxNode { end, .. } => Some(end),
+        _ => None,
+    }
+}
+
+/// The source and the target of a query; of an ss query, the source twice.
+fn query_of(record: Record) -> Option<(u32, u32)> {
+    match record {
+        Record::SourceQuery { id } => Some((id, id)),
+        Record::PairQuery { from, to } => Some((from, to)),
+        _ => None,
+    }
+}
+
+fn block_of(record: Record) -> Option<u32> {
+    match record {
+        Record::LabelsBlock { source, .. } | Record::DistancesBlock { source, .. } => Some(source),
+        _ => None,
+    }
+}
+
+fn label_of(record: Record) -> Option<u32> {
+    match record {
+        Record::LabelsNode { id, .. } | Record::DistancesNode { id, .. } => Some(id),
+        _ => None,
     }
 }
 
