@@ -33,6 +33,7 @@ SCRIPTS = {
     "batch": ["{build}/dimacs"],
     "explain": ["{build}/dimacs"],
     "draw": ["{build}/dimacs"],
+    "explained_texts": ["{build}/dimacs"],
     "usage": ["{build}/dimacs"],
     "shown_runs": ["{build}/dimacs"],
     "version": ["{build}"],

@@ -1,27 +1,30 @@
-//! Explains refusals, for `dimacs explain COMMAND FILE...`: quotes the line of the fault, and prints the numbers that
-//! the failed test compares. Nothing is proved about the content of these lines.
+//! Explains answers, for `dimacs explain COMMAND FILE...`. After a refusal it quotes the line of the fault, and prints
+//! the numbers that the failed test compares; after a yes, the sums that show the claim. Nothing is proved about the
+//! content of these lines.
 #![tactic(auto)]
 
-mod arcs;
 mod before;
 mod better;
 mod command;
-mod costs;
-mod distance_tests;
 mod faults;
 mod first_line;
-mod flow_tests;
+mod flows;
 mod forms;
+mod kept;
 mod lookups;
 mod numbers;
 mod oddities;
-mod path_tests;
+mod paths;
 mod quote;
 mod refusal;
 mod reopen;
+mod routes;
+mod sets;
+mod sums;
 mod texts;
-mod whole_tests;
+mod yes;
 
 pub use command::explain_command;
 pub use first_line::FirstLine;
+pub use kept::KeptFiles;
 pub use reopen::Reopen;
