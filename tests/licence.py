@@ -1,9 +1,9 @@
 #!/usr/bin/env python3
 """Tests that LICENCE-STATUS is the one place where a licence is chosen: tests/licence.py
 
-The files here have the licence that it names. In copies licences are chosen: files differ until tools/licence.py wrote them,
-and then they, and those that are made for packages, have the choice as each form spells it. Nothing is built for it. The
-last line counts what passed and what failed.
+The files here have the licence that it names. In copies licences are chosen: files differ until tools/licence.py wrote
+them, and then they, and those that are made for packages, have the choice as each form spells it. Nothing is built for it.
+The last line counts what passed and what failed.
 """
 import os
 import re

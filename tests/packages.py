@@ -4,10 +4,10 @@
 DIST is a folder that `make dist` makes. With --root they are installed in an empty Debian, made for it, which takes some
 minutes: over version 0.1.0 by `dpkg -i`, and by pip in a new environment beside numpy; lintian reads them before, and at
 last they are removed, installed again and purged. Without it, or if debootstrap isn't there or root doesn't run this, they
-are made again in other locales, zones and folders and compared, and unpacked into an empty folder. Then the program is asked for a verdict, and so is the library: by a program
-in C that is built by pkg-config, by one that is built by CMake, and from Python. The man pages are shown and words are
-completed. Of those for another machine the program, and that by pkg-config, are run under qemu, and the library of the
-wheel with the latter; those for Windows are read alone.
+are made again in other locales, zones and folders and compared, and unpacked into an empty folder. Then the program is
+asked for a verdict, and so is the library: by a program in C that is built by pkg-config, by one that is built by CMake,
+and from Python. The man pages are shown and words are completed. Of those for another machine the program, and that by
+pkg-config, are run under qemu, and the library of the wheel with the latter; those for Windows are read alone.
 
 What needs a tool that isn't there is left out, and named. The last line counts what passed and what failed.
 """
@@ -275,7 +275,8 @@ def test_again(its):
             continue
         top, again = copy_sources(its) if where == "copy" else TOP, f"{its.place}/again-{where}"
         os.mkdir(f"{its.place}/temporary-{where}")
-        settings = {"LC_ALL": locale, "LOCPATH": f"{its.place}/locales", "TZ": zone, "TMPDIR": f"{its.place}/temporary-{where}"}
+        settings = {"LC_ALL": locale, "LOCPATH": f"{its.place}/locales", "TZ": zone}
+        settings["TMPDIR"] = f"{its.place}/temporary-{where}"
         how = {"env": {**os.environ, **settings}, "umask": int(umask, 8), "capture_output": True, "text": True}
         ran = subprocess.run([f"{top}/tools/dist.py", "--for", its.system, again], cwd="/", check=False, **how)
         its.message = ran.stdout + ran.stderr

@@ -129,7 +129,9 @@ def main():
     if not shutil.which("git"):
         print("left out: all: no git\n0 passed, 0 failed")
         return 1
-    rows, steps = ([[it.strip() for it in line.split("|")] for line in table.strip("\n").splitlines()] for table in (ROWS, STEPS))
+    rows, steps = (
+        [[it.strip() for it in line.split("|")] for line in table.strip("\n").splitlines()] for table in (ROWS, STEPS)
+    )
     found = [(" ".join(row[:3]), refused(row), row[3]) for row in rows]
     found += [(f"steps, {row[:2]}", stepped(*row[:2]), (*row[2:], not row[3])) for row in steps]
     found.append(("packages of a release", packages_refuse(), "MAINTAINER= is set"))

@@ -1,9 +1,10 @@
 #!/usr/bin/env python3
 """Writes the licence into the files here that have a field for it: tools/licence.py [--check]
 
-LICENCE-STATUS is where it is chosen. Its first line is NONE, or a licence by its name of SPDX, or some with OR between; after
-an empty line comes a text. This writes it into README.md, CITATION.cff, the crate for Cargo and the package for JavaScript;
-with --check it names those that have another one, and ends with the status 1. What tools/dist.py makes has it from there too.
+LICENCE-STATUS is where it is chosen. Its first line is NONE, or a licence by its name of SPDX, or some with OR between;
+after an empty line comes a text. This writes it into README.md, CITATION.cff, the crate for Cargo and the package for
+JavaScript; with --check it names those that have another one, and ends with the status 1. What tools/dist.py makes has it
+from there too.
 """
 import re
 import sys

@@ -102,7 +102,8 @@ def main():
     version = read("VERSION").strip()
     checks = {"VERSION": version_fault(version), "CHANGELOG.md": heading_fault(version), "abi": abi_fault(version)}
     checks |= {"the version elsewhere": files_fault(version), "LICENCE-STATUS": licence_fault()}
-    checks |= {"MAINTAINER": maintainer_fault(), "git status": git_fault("these aren't committed:", "status", "--porcelain")}
+    checks["MAINTAINER"] = maintainer_fault()
+    checks["git status"] = git_fault("these aren't committed:", "status", "--porcelain")
     checks["git tag"] = git_fault("there is", "tag", "--list", f"v{version}")
     for name, fault in checks.items():
         print(f"no  {name}: {fault}" if fault else f"ok  {name}", flush=True)
