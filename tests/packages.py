@@ -258,11 +258,17 @@ def make_locale(its, name):
     return its.succeeded
 
 
+def copy_of_2001(path, target):
+    """Copies a file. If all are of one time, make builds none again."""
+    shutil.copy(path, target)
+    os.utime(target, (10**9, 10**9))
+
+
 def copy_sources(its):
     """Copies the sources and what is built: all is of another time, and nobody but its owner may read it."""
     made = f"{its.place}/copy"
     ignored = shutil.ignore_patterns(".git", "__pycache__", "dist", "out", "quick")
-    shutil.copytree(TOP, made, symlinks=True, ignore=ignored, copy_function=shutil.copy)
+    shutil.copytree(TOP, made, symlinks=True, ignore=ignored, copy_function=copy_of_2001)
     its.run("chmod", "-R", "go-rwx", made)
     return made
 
