@@ -11,8 +11,9 @@ use Rattle.dimacs_claims.specs.Labels.{BlockValue, EachAfter, IsBlock, IsFresh, 
 use Rattle.dimacs_judging.specs.Answers.{block_of}
 use Rattle.dimacs_judging.specs.QueryTests.{HasFullBlock}
 use Rattle.dimacs_decide.specs.Distances.{AreLabelsOf}
-use Rattle.dimacs_arrays.specs.Paths.{AreLabelsBy, NeedsPredecessor, pred_by_node}
-use Rattle.dimacs_arrays.specs.inside.LabelTrees.{ArePredsOf}
+use Rattle.dimacs_decide.specs.Predecessors.{NeedsPredecessor}
+use Rattle.dimacs_arrays.specs.Paths.{AreLabelsBy, pred_by_node}
+use Rattle.dimacs_arrays.specs.inside.PredecessorsOf.{ArePredsOf}
 
 -- no label is of the source
 pub not_source : (s : ℕ) (done rest : List Label) → EachAfter (IsFresh s) (done ++ rest) → All (λ (l : Label). l.id ≢ s) rest

@@ -9,7 +9,7 @@ use Rattle.dimacs_lines.specs.Limits.{IsNode}
 use Rattle.dimacs_records.specs.declared.reasons.Reason.{Reason}
 use Rattle.dimacs_records.specs.declared.reasons.Reason.TheVariants.{NodeRange, NotShortest}
 use Rattle.dimacs_claims.specs.declared.block.Label.{Label}
-use Rattle.dimacs_claims.specs.Labels.{BlockValue, EachAfter, HasPred, IsLabel, LabelsValue, distance_in, label}
+use Rattle.dimacs_claims.specs.Labels.{BlockValue, EachAfter, HasPred, IsBlock, IsLabel, LabelsValue, distance_in, label}
 use Rattle.dimacs_judging.specs.declared.verdict.Verdict.{Verdict}
 use Rattle.dimacs_network.specs.Arcs.{NetworkValue}
 use Rattle.dimacs_judging.specs.declared.verdict.Where.{Where}
@@ -19,8 +19,10 @@ use Rattle.dimacs_judging.specs.declared.verdict.JudgeError.TheVariants.{Refused
 use Rattle.dimacs_judging.specs.Tests.{Clear, First, FirstOfRow, FirstAlone, Refutes, Settles, Refuses}
 use Rattle.dimacs_judging.proofs.Firsts.{AllOneWay, node_one_way, one_first, one_test_one_way}
 use Rattle.dimacs_decide.specs.Distances.{source_row}
-use Rattle.dimacs_arrays.specs.Paths.{AreInOrder, AreLabelsBy, JudgesByNode, NeedsPredecessor, IsNext, IsPred, LeadsBack, back, back_row, label_rows, pred_row}
-use Rattle.dimacs_arrays.specs.inside.LabelTrees.{AreLabelled, IsLabelTree}
+use Rattle.dimacs_decide.specs.Predecessors.{NeedsPredecessor, IsNext, LeadsBack, back, back_row}
+use Rattle.dimacs_decide.proofs.LabelTreeLemmas.{all_agree}
+use Rattle.dimacs_arrays.specs.Paths.{AreInOrder, AreLabelsBy, JudgesByNode, IsPred, label_rows, pred_row}
+use Rattle.dimacs_decide.specs.inside.LabelTrees.{AreLabelled, IsLabelTree}
 
 -- ---- nodes of labels lead back
 module _ (s : ℕ) (pred : ℕ → ℕ) where
@@ -122,28 +124,23 @@ module _ (nodes s : ℕ) (claim : ℕ → Option ℤ) (pred : ℕ → ℕ) where
     | inr some ↦ absurd (clear v (Node v) NodeRange (node, refl, (refl, λ is. elim is [ inl due ↦ free due.0 | inr none ↦ some none.1 ])))
   ]
 
-  pub spelled : (b : BlockValue) (labelled : ℕ → Bool) → Clear (pred_row nodes s claim pred) → IsLabelTree nodes s claim pred b labelled → AreLabelled claim labelled → AreLabelsBy nodes s claim pred (record { nodes = nodes; blocks = b ∷ [] })
-  spelled b labelled clear is all = record {
+  pub spelled_by : (b : BlockValue) → Clear (pred_row nodes s claim pred) → IsBlock nodes b → b.source ≡ s → b.radius ≡ None → ((v : ℕ) → label b v ≡ claim v) → All (λ (l : Label). l.pred ≡ pred l.id) b.labels → AreLabelsBy nodes s claim pred (record { nodes = nodes; blocks = b ∷ [] })
+  spelled_by b clear lawful source whole agrees preds = record {
     block = b;
     alone = refl;
-    lawful = is.lawful;
-    source = is.source;
-    whole = is.whole;
-    agrees = λ v node. go v (label b v) (claim v) refl refl;
-    preds = is.preds;
+    lawful = lawful;
+    source = source;
+    whole = whole;
+    agrees = λ v node. agrees v;
+    preds = preds;
     others = λ v node free. zero_pred clear v node free;
   }
-    where
-      go : (v : ℕ) (mine outcome : Option ℤ) → label b v ≡ mine → claim v ≡ outcome → mine ≡ outcome
-      go v None None e f = refl
-      go v (Some d) None e f = let h : Some d ≡ None = sym (is.claimed v d e) ∙ f in absurd (cc)
-      go v (Some d) (Some c) e f = sym (is.claimed v d e) ∙ f
-      go v None (Some c) e f =
-          let t : true ≡ false = sym (all v (ap is_some f)) ∙ (is.marked v ∙ ap is_some e) in
-          absurd (cc)
 
-  pub in_order : (b : BlockValue) (labelled : ℕ → Bool) → IsLabelTree nodes s claim pred b labelled → AreInOrder s claim pred (record { nodes = nodes; blocks = b ∷ [] })
-  in_order b labelled is = All-cons (λ c. EachAfter (IsNext s claim pred) c.labels) b [] is.order (All-nil _)
+  pub spelled : (b : BlockValue) (labelled : ℕ → Bool) → Clear (pred_row nodes s claim pred) → IsLabelTree nodes s claim pred b labelled → AreLabelled claim labelled → AreLabelsBy nodes s claim pred (record { nodes = nodes; blocks = b ∷ [] })
+  spelled b labelled clear is all = spelled_by b clear is.lawful is.source is.whole (all_agree nodes s claim pred b labelled is all) is.preds
+
+  pub in_order : (b : BlockValue) → EachAfter (IsNext s claim pred) b.labels → AreInOrder s claim pred (record { nodes = nodes; blocks = b ∷ [] })
+  in_order b order = All-cons (λ c. EachAfter (IsNext s claim pred) c.labels) b [] order (All-nil _)
 
   --   the error is the first test that fails
   pub refused : (place : Where) (reason : Reason) → HasNone place reason → (result : Result LabelsValue JudgeError) → IsErrAnd result (λ error. error ≡ Refused place reason) → Settles (AreLabelsBy nodes s claim pred) (label_rows nodes s claim pred) result

@@ -16,5 +16,3 @@ mod LabelDistanceLemmas
 mod TightPredecessorLemmas
 mod SinkLemmas
 mod SolveLemmas
-mod TreeLemmas
-mod PathLemmas

@@ -15,7 +15,7 @@ use Rattle.dimacs_judging.specs.PathsJudge.{PassesPaths}
 use Rattle.dimacs_judging.specs.QueryTests.{HasFullBlock}
 use Rattle.dimacs_decide.specs.Distances.{AreLabelsOf}
 use Rattle.dimacs_arrays.specs.Paths.{AreLabelsBy, ArePredecessors, pred_by_node}
-use Rattle.dimacs_arrays.specs.inside.LabelTrees.{ArePredsOf}
+use Rattle.dimacs_arrays.specs.inside.PredecessorsOf.{ArePredsOf}
 use Rattle.dimacs_arrays.proofs.CertifyPathsLemmas.{labels_by, not_source}
 
 -- the label of a distance

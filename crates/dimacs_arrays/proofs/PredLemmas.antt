@@ -10,7 +10,7 @@ use Rattle.dimacs_claims.specs.declared.block.Label.{Label}
 use Rattle.dimacs_claims.specs.Labels.{distance_in, no_label}
 use Rattle.dimacs_claims.proofs.ByIdLemmas.{distance_in-at}
 use Rattle.dimacs_arrays.specs.Paths.{pred_by_node}
-use Rattle.dimacs_arrays.specs.inside.LabelTrees.{ArePredsOf}
+use Rattle.dimacs_arrays.specs.inside.PredecessorsOf.{ArePredsOf}
 
 abbrev pub at_place : List Label → ℕ → Label
 at_place labels j = get_or labels j no_label

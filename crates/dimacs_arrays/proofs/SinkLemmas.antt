@@ -9,10 +9,11 @@ use Rattle.dimacs_claims.specs.declared.block.Label.{Label}
 use Rattle.dimacs_claims.specs.Labels.{BlockValue, IsBlock, IsWithinRadius, LabelsValue, label, with_label}
 use Rattle.dimacs_claims.proofs.BlockLemmas.{block_empty, block_push, label-with_label}
 use Rattle.dimacs_judging.specs.Tests.{Clear}
-use Rattle.dimacs_arrays.specs.Paths.{AreInOrder, AreLabelsBy, NeedsPredecessor, IsNext, IsPred, LeadsBack, back, pred_row}
-use Rattle.dimacs_arrays.specs.inside.LabelTrees.{AreLabelled, AreLabelledBelow, IsLabelTree, Keeps}
+use Rattle.dimacs_decide.specs.Predecessors.{NeedsPredecessor, IsNext, LeadsBack, back}
+use Rattle.dimacs_arrays.specs.Paths.{AreInOrder, AreLabelsBy, IsPred, pred_row}
+use Rattle.dimacs_decide.specs.inside.LabelTrees.{AreLabelled, AreLabelledBelow, IsLabelTree, Keeps}
 use Rattle.dimacs_arrays.proofs.LabelLemmas.{in_order, spelled}
-use Rattle.dimacs_arrays.proofs.TreeLemmas.{begun, few, grown, next_label, pred_labelled, source_labelled, unlabelled}
+use Rattle.dimacs_decide.proofs.LabelTreeLemmas.{begun, few, grown, next_label, pred_labelled, source_labelled, unlabelled}
 
 -- ---- one more step back
 back_more : (pred : ℕ → ℕ) (n v : ℕ) → back pred (suc n) v ≡ pred (back pred n v)
@@ -197,4 +198,4 @@ module _ (nodes s : ℕ) (claim : ℕ → Option ℤ) (pred : ℕ → ℕ) (smal
   sink_labels =
       let (b, labelled, is, below) = all_below (nodes + 1) in
       let all : AreLabelled claim labelled = λ v some. below v (omega (arith, (are.inside v some).1)) some in
-      (record { nodes = nodes; blocks = b ∷ [] }, spelled nodes s claim pred b labelled preds_clear is all, in_order nodes s claim pred b labelled is)
+      (record { nodes = nodes; blocks = b ∷ [] }, spelled nodes s claim pred b labelled preds_clear is all, in_order nodes s claim pred b is.order)

@@ -20,7 +20,7 @@ use Rattle.dimacs_solve.specs.Paths.{AreProduced, block_source, distinct_after}
 use Rattle.dimacs_arrays.specs.ByNode.{AreBits, marked}
 use Rattle.dimacs_arrays.specs.MinArrays.{IsInfeasibleBy}
 use Rattle.dimacs_arrays.specs.Paths.{ArePredecessors}
-use Rattle.dimacs_arrays.specs.inside.LabelTrees.{ArePredsOf}
+use Rattle.dimacs_arrays.specs.inside.PredecessorsOf.{ArePredsOf}
 use Rattle.dimacs_arrays.specs.inside.LabelDistances.{AreDistancesOf}
 use Rattle.dimacs_arrays.proofs.OrderLemmas.{predecessors_by}
 

@@ -28,7 +28,8 @@ use Rattle.dimacs_judging.proofs.LabelsPassing.{labels_clear, stays_near}
 use Rattle.dimacs_claims.proofs.ByIdLemmas.{distance_in-at, fresh_apart}
 use Rattle.dimacs_decide.specs.Claims.{claimed_by_node, unless_greatest}
 use Rattle.dimacs_decide.specs.Distances.{AreDistancesFrom}
-use Rattle.dimacs_arrays.specs.Paths.{AreLabelsBy, ArePredecessors, NeedsPredecessor, JudgesByNode, pred_by_node}
+use Rattle.dimacs_decide.specs.Predecessors.{NeedsPredecessor}
+use Rattle.dimacs_arrays.specs.Paths.{AreLabelsBy, ArePredecessors, JudgesByNode, pred_by_node}
 use Rattle.dimacs_arrays.specs.inside.TightPredecessors.{AreTightPredecessors, AreTightPredecessorsFrom, HasPositiveTightArc, Relaxes, IsPositiveTight}
 use Rattle.dimacs_arrays.proofs.CertifyPathsLemmas.{not_source}
 use Rattle.dimacs_arrays.proofs.DistanceLemmas.{distance_within}

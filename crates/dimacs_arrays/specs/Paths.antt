@@ -1,14 +1,14 @@
 -- Distances and predecessors by node, and the labels that they spell.
-use Rattle.std.specs.Prelude.{ℕ, zero, suc, ◌≡◌, ◌≢◌, ◌<◌, ◌-◌, ◌^◌, ◌⊎◌, List, [], ◌∷◌, All, Contains, get_or, length, Option, None, IsSome, Result, Ok, Err, ℤ, pos}
+use Rattle.std.specs.Prelude.{ℕ, zero, suc, ◌≡◌, ◌≢◌, ◌-◌, ◌^◌, ◌⊎◌, List, [], ◌∷◌, All, Contains, get_or, length, Option, None, Result, Ok, Err, ℤ, pos}
 use Rattle.std.specs.Global.{Vec}
 use Rattle.std.specs.Result.{IsErrAnd}
 use Rattle.dimacs_lines.specs.Limits.{IsNode}
-use Rattle.dimacs_records.specs.declared.reasons.Reason.TheVariants.{NegativeWeight, NodeRange, PredUnknown}
+use Rattle.dimacs_records.specs.declared.reasons.Reason.TheVariants.{NegativeWeight, NodeRange}
 use Rattle.dimacs_records.specs.Ranges.{IsWhole}
 use Rattle.dimacs_network.specs.Arcs.{NetworkValue}
 use Rattle.dimacs_instance.specs.QueryTexts.{Sources}
 use Rattle.dimacs_claims.specs.declared.block.Label.{Label}
-use Rattle.dimacs_claims.specs.Labels.{BlockValue, EachAfter, IsBlock, LabelsValue, distance_in, label}
+use Rattle.dimacs_claims.specs.Labels.{BlockValue, EachAfter, IsBlock, LabelsValue, label}
 use Rattle.dimacs_judging.specs.Answers.{AnswersQueries}
 use Rattle.dimacs_judging.specs.PathsJudge.{PassesPaths, ShowsDistances, paths_rows}
 use Rattle.dimacs_judging.specs.Rows.{node_row}
@@ -19,6 +19,7 @@ use Rattle.dimacs_judging.specs.declared.verdict.Verdict.{Verdict}
 use Rattle.dimacs_judging.specs.declared.verdict.Where.TheVariants.{Arc}
 use Rattle.dimacs_decide.specs.Claims.{claimed_by_node}
 use Rattle.dimacs_decide.specs.Distances.{AreDistancesFrom, claim_rows, source_row}
+use Rattle.dimacs_decide.specs.Predecessors.{IsNext, NeedsPredecessor, back_row}
 use Rattle.dimacs_solve.specs.Paths.{AreProduced, HasNoNegativeWeight, IsFirstNegative}
 use Rattle.dimacs_arrays.specs.declared.solve_paths.PathsSolved.{PathsSolved}
 use Rattle.dimacs_arrays.specs.declared.solve_paths.PathsSolved.TheVariants.{Distances, Wide}
@@ -28,19 +29,6 @@ abbrev pub pred_by_node : List ℕ → ℕ → ℕ
 pred_by_node preds zero = 0
 pred_by_node preds (suc k) = get_or preds k 0
 
--- the node that this many steps lead to, each from a node to its predecessor
-abbrev pub back : (ℕ → ℕ) → ℕ → ℕ → ℕ
-back pred zero v = v
-back pred (suc steps) v = back pred steps (pred v)
-
--- v leads back to s, predecessor by predecessor
-abbrev pub LeadsBack : (ℕ → ℕ) → ℕ → ℕ → Type 0
-LeadsBack pred s v = (steps : ℕ) × (back pred steps v ≡ s)
-
--- the node needs a predecessor: it has a distance and isn't the source
-abbrev pub NeedsPredecessor : ℕ → (ℕ → Option ℤ) → ℕ → Type 0
-NeedsPredecessor s claim v = (v ≢ s) × IsSome (claim v)
-
 -- the predecessor is a node if one is needed, otherwise 0
 abbrev pub IsPred : ℕ → ℕ → (ℕ → Option ℤ) → ℕ → ℕ → Type 0
 IsPred nodes s claim v p = (NeedsPredecessor s claim v × IsNode nodes p) ⊎ ((¬ NeedsPredecessor s claim v) × (p ≡ 0))
@@ -49,23 +37,9 @@ IsPred nodes s claim v p = (NeedsPredecessor s claim v × IsNode nodes p) ⊎ ((
 abbrev pub pred_row : ℕ → ℕ → (ℕ → Option ℤ) → (ℕ → ℕ) → Row
 pred_row nodes s claim pred = node_row nodes (λ v reason. (reason ≡ NodeRange) × (¬ IsPred nodes s claim v (pred v)))
 
--- a node has a distance and doesn't lead back to the source
-abbrev pub back_row : ℕ → ℕ → (ℕ → Option ℤ) → (ℕ → ℕ) → Row
-back_row nodes s claim pred = node_row nodes (λ v reason. (reason ≡ PredUnknown) × IsSome (claim v) × (¬ LeadsBack pred s v))
-
 -- the tests of whether these distances and predecessors spell labels
 abbrev pub label_rows : ℕ → ℕ → (ℕ → Option ℤ) → (ℕ → ℕ) → List Row
 label_rows nodes s claim pred = source_row s claim ∷ pred_row nodes s claim pred ∷ back_row nodes s claim pred ∷ []
-
--- the first node that needs a predecessor and has none of these labels
-pub record IsFirstUnlabelled (s : ℕ) (claim : ℕ → Option ℤ) (before : List Label) (v : ℕ) : Type 0 where
-  pub due : NeedsPredecessor s claim v
-  pub left : distance_in before v ≡ None
-  pub least : (u : ℕ) → u < v → NeedsPredecessor s claim u → IsSome (distance_in before u)
-
--- the next label is of a node on the path back from the first node without a label
-abbrev pub IsNext : ℕ → (ℕ → Option ℤ) → (ℕ → ℕ) → List Label → Label → Type 0
-IsNext s claim pred before l = (v : ℕ) × IsFirstUnlabelled s claim before v × LeadsBack pred l.id v
 
 -- one block without a radius, with these distances from the source and predecessors; other nodes have no label
 pub record AreLabelsBy (nodes s : ℕ) (claim : ℕ → Option ℤ) (pred : ℕ → ℕ) (labels : LabelsValue) : Type 0 where

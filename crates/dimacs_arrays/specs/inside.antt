@@ -1,5 +1,5 @@
 pub mod Answers
-pub mod LabelTrees
+pub mod PredecessorsOf
 pub mod Lent
 pub mod MinCertified
 pub mod LabelDistances

@@ -2,7 +2,7 @@
 
 ghost use Rattle.std.specs.Prelude.{IfOk};
 ghost use Rattle.dimacs_claims.specs.Labels.{IsBlock};
-ghost use Rattle.dimacs_arrays.specs.inside.LabelTrees.{ArePredsOf};
+ghost use Rattle.dimacs_arrays.specs.inside.PredecessorsOf.{ArePredsOf};
 
 use dimacs_claims::Block;
 use dimacs_lines::Memory;

@@ -5,10 +5,11 @@ ghost use Rattle.dimacs_lines.specs.Limits.{most_nodes};
 ghost use Rattle.dimacs_network.specs.Arcs.{JoinsNodes};
 ghost use Rattle.dimacs_records.specs.Ranges.{IsWide};
 ghost use Rattle.dimacs_decide.specs.Claims.{claimed_by_node};
-ghost use Rattle.dimacs_arrays.specs.Paths.{NeedsPredecessor, pred_by_node};
+ghost use Rattle.dimacs_decide.specs.Predecessors.{NeedsPredecessor};
+ghost use Rattle.dimacs_arrays.specs.Paths.{pred_by_node};
 ghost use Rattle.dimacs_arrays.specs.inside.TightPredecessors.{AreTightPredecessors, AreTightPredecessorsFrom, HavePredecessors, IsArcTest, IsWeightTest};
 
-use crate::label_tree::{distance_of, predecessor_of};
+use crate::proposed::{distance_of, predecessor_of};
 use dimacs_lines::Memory;
 use dimacs_network::{ArcView, Network};
 use std::alloc::Global;

@@ -11,5 +11,6 @@ pub mod Residual
 pub mod ResidualCapacities
 pub mod PredecessorTrees
 pub mod Imbalances
+pub mod LabelTrees
 pub mod TightTrees
 pub mod Traces

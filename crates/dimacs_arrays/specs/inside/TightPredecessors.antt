@@ -2,7 +2,8 @@
 use Rattle.std.specs.Prelude.{ℕ, ◌≡◌, ◌≢◌, List, All, Contains, length, Option, Some, ℤ, pos, ◌+ℤ◌, ◌≤ℤ◌, ◌<ℤ◌}
 use Rattle.dimacs_network.specs.declared.network.ArcView.{ArcView}
 use Rattle.dimacs_decide.specs.Claims.{claimed_by_node}
-use Rattle.dimacs_arrays.specs.Paths.{NeedsPredecessor, pred_by_node}
+use Rattle.dimacs_decide.specs.Predecessors.{NeedsPredecessor}
+use Rattle.dimacs_arrays.specs.Paths.{pred_by_node}
 use Rattle.dimacs_arrays.specs.declared.tight_predecessors.ArcTest.{ArcTest}
 use Rattle.dimacs_arrays.specs.declared.tight_predecessors.ArcTest.TheVariants.{Passes, Tight, Fails}
 

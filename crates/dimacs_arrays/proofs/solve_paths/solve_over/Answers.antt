@@ -4,7 +4,7 @@ use Rattle.dimacs_claims.specs.Labels.{IsBlock, LabelsValue}
 use Rattle.dimacs_instance.specs.QueryTexts.{Sources}
 use Rattle.dimacs_network.specs.Arcs.{NetworkValue}
 use Rattle.dimacs_solve.specs.Paths.{AreProduced}
-use Rattle.dimacs_arrays.specs.inside.LabelTrees.{ArePredsOf}
+use Rattle.dimacs_arrays.specs.inside.PredecessorsOf.{ArePredsOf}
 use Rattle.dimacs_arrays.specs.inside.LabelDistances.{AreDistancesOf}
 use Rattle.dimacs_arrays.proofs.CertifyPathsLemmas.{one_block}
 use Rattle.dimacs_arrays.proofs.SolveLemmas.{found_by, one_source}

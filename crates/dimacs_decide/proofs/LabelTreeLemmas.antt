@@ -10,8 +10,8 @@ use Rattle.dimacs_claims.specs.Labels.{BlockValue, IsBlock, distance_in, label, 
 use Rattle.dimacs_claims.proofs.BlockLemmas.{each_after_nil, each_after_push}
 use Rattle.dimacs_decide.specs.inside.TightTrees.{absent}
 use Rattle.dimacs_decide.proofs.CountLemmas.{count_all, one_fewer}
-use Rattle.dimacs_arrays.specs.Paths.{IsNext, LeadsBack}
-use Rattle.dimacs_arrays.specs.inside.LabelTrees.{AreLabelledBelow, IsLabelTree, Keeps, Places}
+use Rattle.dimacs_decide.specs.Predecessors.{IsNext, LeadsBack}
+use Rattle.dimacs_decide.specs.inside.LabelTrees.{AreLabelled, AreLabelledBelow, IsLabelTree, Keeps, Places}
 
 one_labelled : (labelled after : ℕ → Bool) (at : ℕ) → ((v : ℕ) → v ≢ at → after v ≡ labelled v) → (n : ℕ) → at < n → labelled at ≡ false → after at ≡ true → absent after n + 1 ≡ absent labelled n
 one_labelled labelled after at others n h old new = one_fewer (λ v. not (labelled v)) (λ v. not (after v)) at (λ v ne. ap not (others v ne)) n h (ap not old) (ap not new)
@@ -130,3 +130,15 @@ module _ (nodes s : ℕ) (claim : ℕ → Option ℤ) (pred : ℕ → ℕ) (b : 
         },
         leads,
       )
+
+-- ---- all labels
+pub all_agree : (nodes s : ℕ) (claim : ℕ → Option ℤ) (pred : ℕ → ℕ) (b : BlockValue) (labelled : ℕ → Bool) → IsLabelTree nodes s claim pred b labelled → AreLabelled claim labelled → (v : ℕ) → label b v ≡ claim v
+all_agree nodes s claim pred b labelled is all v = go (label b v) (claim v) refl refl
+  where
+    go : (mine outcome : Option ℤ) → label b v ≡ mine → claim v ≡ outcome → mine ≡ outcome
+    go None None e f = refl
+    go (Some d) None e f = let h : Some d ≡ None = sym (is.claimed v d e) ∙ f in absurd (cc)
+    go (Some d) (Some c) e f = sym (is.claimed v d e) ∙ f
+    go None (Some c) e f =
+        let t : true ≡ false = sym (all v (ap is_some f)) ∙ (is.marked v ∙ ap is_some e) in
+        absurd (cc)

@@ -1,11 +1,16 @@
 -- Inside: labels of nodes that lead back to the source, and the path back from one more.
-use Rattle.std.specs.Prelude.{ℕ, ◌≡◌, ◌≢◌, ◌<◌, ◌≤◌, ◌+◌, ◌⊎◌, ◌==◌, Bool, true, false, not, List, [], ◌∷◌, All, length, Option, Some, None, IsSome, is_some, ℤ}
-use Rattle.dimacs_lines.specs.Limits.{IsNode}
+use Rattle.std.specs.Prelude.{ℕ, ◌≡◌, ◌≢◌, ◌<◌, ◌≤◌, ◌+◌, ◌⊎◌, Bool, true, false, List, [], ◌∷◌, All, length, Option, Some, None, IsSome, is_some, ℤ}
+use Rattle.dimacs_lines.specs.Limits.{most_nodes, IsNode}
 use Rattle.dimacs_claims.specs.declared.block.Label.{Label}
-use Rattle.dimacs_claims.specs.Labels.{BlockValue, EachAfter, IsBlock, distance_in, label}
-use Rattle.dimacs_decide.specs.inside.Counting.{count_below}
+use Rattle.dimacs_claims.specs.Labels.{BlockValue, EachAfter, IsBlock, label}
+use Rattle.dimacs_decide.specs.Predecessors.{IsNext, LeadsBack}
 use Rattle.dimacs_decide.specs.inside.TightTrees.{absent}
-use Rattle.dimacs_arrays.specs.Paths.{IsNext, LeadsBack, pred_by_node}
+
+-- distances of nodes, and predecessors of no others
+pub record IsProposed (nodes : ℕ) (claim : ℕ → Option ℤ) (pred : ℕ → ℕ) : Type 0 where
+  pub small : nodes ≤ most_nodes
+  pub within : (v : ℕ) → IsSome (claim v) → IsNode nodes v
+  pub preds : (v : ℕ) → claim v ≡ None → pred v ≡ 0
 
 -- the labels of nodes that lead back to the source, each with the distance and the predecessor of its node
 pub record IsLabelTree (nodes s : ℕ) (claim : ℕ → Option ℤ) (pred : ℕ → ℕ) (b : BlockValue) (labelled : ℕ → Bool) : Type 0 where
@@ -37,23 +42,18 @@ abbrev pub IsPathBack : (ℕ → Option ℤ) → (ℕ → ℕ) → ℕ → List 
 IsPathBack claim pred v [] end = v ≡ end
 IsPathBack claim pred v (u ∷ path) end = (v ≡ u) × IsSome (claim v) × IsPathBack claim pred (pred v) path end
 
+-- none of these nodes is labelled
+abbrev pub AreOff : (ℕ → Bool) → List ℕ → Type 0
+AreOff labelled path = All (λ u. labelled u ≡ false) path
+
+-- a path of this length ends before a node without a distance, or with a label; or it is longer than one can be
+abbrev pub EndsPath : ℕ → (ℕ → Option ℤ) → (ℕ → Bool) → ℕ → ℕ → Type 0
+EndsPath nodes claim labelled long end = (claim end ≡ None) ⊎ ((labelled end ≡ true) ⊎ (nodes < long))
+
 -- the node is at most the first on the path
 abbrev pub ComesFirst : ℕ → List ℕ → Type 0
 ComesFirst v [] = Unit {0}
 ComesFirst v (u ∷ path) = All (λ w. w ≢ v) path
-
--- how many of the nodes below n have another start than v
-abbrev pub others : (ℕ → ℕ) → ℕ → ℕ → ℕ
-others roots v n = count_below (λ u. not (roots u == v)) n
-
--- the path back from v to `end`; v is the start of its nodes, and of no others
-pub record IsClimbing (claim : ℕ → Option ℤ) (pred : ℕ → ℕ) (labelled : ℕ → Bool) (v : ℕ) (roots : ℕ → ℕ) (path : List ℕ) (end : ℕ) : Type 0 where
-  pub goes : IsPathBack claim pred v path end
-  pub at_most : (u : ℕ) → roots u ≤ v
-  pub begun : ((v ≡ end) × (path ≡ [])) ⊎ (roots v ≡ v)
-  pub once : ComesFirst v path
-  pub closed : (u : ℕ) → roots u ≡ v → (roots (pred u) ≡ v) ⊎ (pred u ≡ end)
-  pub not_labelled : (u : ℕ) → roots u ≡ v → labelled u ≡ false
 
 -- the node has no distance or is labelled; or it has a distance and doesn't lead back to the source
 abbrev pub Leads : (ℕ → ℕ) → ℕ → (ℕ → Option ℤ) → (ℕ → Bool) → ℕ → Bool → Type 0
@@ -63,9 +63,3 @@ Leads pred s claim labelled v false = IsSome (claim v) × (¬ LeadsBack pred s v
 -- each node with a distance is labelled
 abbrev pub AreLabelled : (ℕ → Option ℤ) → (ℕ → Bool) → Type 0
 AreLabelled claim labelled = (v : ℕ) → IsSome (claim v) → labelled v ≡ true
-
--- the predecessor of each labelled node; 0 for the others
-pub record ArePredsOf (nodes : ℕ) (labels : List Label) (preds : List ℕ) : Type 0 where
-  pub each : length preds ≡ nodes
-  pub named : All (λ (l : Label). l.pred ≡ pred_by_node preds l.id) labels
-  pub others : (v : ℕ) → distance_in labels v ≡ None → pred_by_node preds v ≡ 0
