@@ -65,7 +65,7 @@ programs() {
         chmod 755 "$DESTDIR$BINDIR/dimacs-$tool"
         tree "$DATADIR/dimacs/dimacs_$tool" "tools/dimacs_$tool"
     done
-    tree "$DATADIR/dimacs/dimacs_draw/drawing" lib/python/dimacs/drawing # which a link names there
+    tree "$DATADIR/dimacs/dimacs_draw/drawing" lib/python/dimacs/drawing
     copy 644 VERSION "$DATADIR/dimacs/dimacs_batch/VERSION"
     copy 755 referee/referee.py "$DATADIR/dimacs/referee.py"
     for page in build/man/*.[15]; do
