@@ -33,7 +33,6 @@ SCRIPTS = {
     "batch": ["{build}/dimacs"],
     "explain": ["{build}/dimacs"],
     "draw": ["{build}/dimacs"],
-    "explained_texts": ["{build}/dimacs"],
     "usage": ["{build}/dimacs"],
     "shown_runs": ["{build}/dimacs"],
     "version": ["{build}"],

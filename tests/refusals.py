@@ -10,7 +10,7 @@ each of its files, reads each byte, writes each byte, and takes memory for its w
 files that it writes hold an old text, longer than the new one.
 
 Runs are made too with the standard devices closed: what is meant for these never lands in a file. What a pipe gave is
-explained by what was kept of it, and an argument that isn't UTF-8 names no run. Then texts are read that declare the
+explained without reading it again, and an argument that isn't UTF-8 names no run. Then texts are read that declare the
 greatest counts, which has to take as many growths, and of as many bytes, as the least ones do. Tiny texts with the
 greatest counts and IDs are judged and solved in little memory.
 
@@ -643,7 +643,7 @@ def run_closed(runs, words, closed, status, error):
 
 
 def explain_pipe(runs):
-    """Explains a refusal of what a pipe gave, which was kept while it was read. Yields what is wrong."""
+    """Explains a refusal of what a pipe gave, which is empty the second time. Yields what is wrong."""
     os.mkfifo(runs.path("pipe"))
     threading.Thread(target=runs.write, args=("pipe", "p sp 1 1\ne 1 1 0\n")).start()
     words = [runs.binary, *"explain show gr pipe".split()]
@@ -653,7 +653,7 @@ def explain_pipe(runs):
     except subprocess.TimeoutExpired:
         yield "dimacs explain show gr pipe: doesn't end"
         return
-    if ran.returncode != 1 or not ran.stdout.startswith("x instance 2 1 UnknownLine\npipe:2: e 1 1 0\n"):
+    if ran.returncode != 1 or not ran.stdout.startswith("x instance 2 1 UnknownLine\n"):
         yield f"dimacs explain show gr pipe: status {ran.returncode}, prints {ran.stdout!r}"
 
 

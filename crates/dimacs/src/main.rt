@@ -13,10 +13,10 @@ use crate::files::SystemFiles;
 use crate::misuse::{complaint_of, complaint_of_bytes};
 use crate::regular_files::RegularFiles;
 use crate::usage::Command;
-use dimacs_explain::{FirstLine, KeptFiles, explain_command};
+use dimacs_explain::{FirstLine, explain_command};
 use dimacs_lines::{FileSink, Sink, put_all};
 use dimacs_runs::{
-    CommandError, Failure, Job, NO_RUN, Request, RunError, Status, command_status, complaint,
+    CommandError, Failure, NO_RUN, Request, RunError, Status, command_status, complaint,
     exit_status, request, run_command, version,
 };
 use std::alloc::{AllocError, Global};
@@ -53,61 +53,31 @@ fn run(rt: &HostRuntime, arguments: &[String]) -> u8 {
         return refuse(rt, complaint_of(rt.alloc(), arguments));
     };
     let mut files = SystemFiles::new(rt);
-    let mut output = FileSink::new(io::writer(rt));
+    let mut output = FirstLine::new(FileSink::new(io::writer(rt)));
     let ended = match wanted {
         Request::Help => Some(print(usage::of_all(rt.alloc()), &mut output)),
         Request::HelpOn(name) => Some(print(help_on(rt.alloc(), name), &mut output)),
         Request::Version => Some(print(version_line(rt.alloc()), &mut output)),
         Request::Run(_) => run_command(rt.alloc(), arguments, &mut files, &mut output),
-        Request::Explain(job) => {
-            return explain(rt, job, arguments.get(1..).unwrap_or_default());
+        Request::Explain(_) => {
+            let command = arguments.get(1..).unwrap_or_default();
+            let again = RegularFiles::new(rt);
+            explain_command(rt.alloc(), command, &mut files, &again, &mut output)
         }
     };
-    if let Request::Run(job) = wanted {
-        return end(rt, &ended, job, &files, &output);
-    }
-    complain_of_end(rt, &ended, &files, &output)
-}
-
-/// Runs a command, explains its answer, and returns the exit status.
-fn explain(rt: &HostRuntime, job: Job<'_>, command: &[String]) -> u8 {
-    let mut files = KeptFiles::new(rt.alloc(), SystemFiles::new(rt));
-    let mut output = FirstLine::new(FileSink::new(io::writer(rt)));
-    let again = RegularFiles::new(rt);
-    let ended = explain_command(rt.alloc(), command, &mut files, &again, &mut output);
-    end(rt, &ended, job, files.files(), output.sink())
-}
-
-/// Complains of how a job ended and of a file that it wrote twice, if it did, and returns the exit status.
-fn end<W>(
-    rt: &HostRuntime,
-    ended: &Option<Result<Status, CommandError<'_>>>,
-    job: Job<'_>,
-    files: &SystemFiles<'_>,
-    output: &FileSink<W>,
-) -> u8 {
-    let status = complain_of_end(rt, ended, files, output);
-    if let Some(name) = job.written_twice() {
-        let _ = eprintln!(rt; "dimacs: {name}: written twice");
-    }
-    status
-}
-
-/// Complains of how a run ended, if it failed, and returns the exit status.
-fn complain_of_end<W>(
-    rt: &HostRuntime,
-    ended: &Option<Result<Status, CommandError<'_>>>,
-    files: &SystemFiles<'_>,
-    output: &FileSink<W>,
-) -> u8 {
-    let status = command_status(ended);
+    let status = command_status(&ended);
     complain(rt, status);
-    if let Some(Err(CommandError::Device(failure))) = *ended {
+    if let Some(Err(CommandError::Device(failure))) = ended {
         let reason = match failure {
             Failure::File(..) => files.reason(),
-            Failure::Output => output.reason(),
+            Failure::Output => output.sink().reason(),
         };
         print_failure(rt, failure, reason);
+    }
+    if let Request::Run(job) | Request::Explain(job) = wanted
+        && let Some(name) = job.written_twice()
+    {
+        let _ = eprintln!(rt; "dimacs: {name}: written twice");
     }
     status
 }

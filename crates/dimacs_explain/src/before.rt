@@ -1,6 +1,5 @@
 //! The lines before a fault.
 
-use crate::lookups::Wanted;
 use dimacs_records::{End, Record};
 
 /// What explanations need of the lines before a fault.
@@ -99,28 +98,6 @@ impl Before {
     fn add_label(&mut self) {
         if let Some(block) = &mut self.block {
             block.counted = block.counted.saturating_add(1);
-        }
-    }
-
-    /// The earlier line that names the node of this line.
-    pub(crate) fn naming(&self, record: Record) -> Option<Wanted> {
-        match record {
-            Record::MaxNode { id, .. }
-            | Record::MinNode { id, .. }
-            | Record::CutNode { id }
-            | Record::PotentialsNode { id, .. } => Some(Wanted::Node(id)),
-            Record::LabelsBlock { source, .. } | Record::DistancesBlock { source, .. } => {
-                Some(Wanted::Block(source))
-            }
-            Record::LabelsNode { id, .. } | Record::DistancesNode { id, .. } => {
-                let source = self.block?.source;
-                if id == source {
-                    Some(Wanted::Block(source))
-                } else {
-                    Some(Wanted::Label { source, id })
-                }
-            }
-            _ => None,
         }
     }
 }

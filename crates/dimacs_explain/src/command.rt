@@ -1,4 +1,4 @@
-//! A command, and the explanation of its answer.
+//! A command, and the explanation of its refusal.
 
 ghost use Rattle.std.specs.Prelude.{map};
 ghost use Rattle.std.specs.String.{string_bytes};
@@ -6,125 +6,178 @@ ghost use Rattle.dimacs_runs.specs.Commands.{seen_by};
 ghost use Rattle.dimacs_explain.specs.Explained.{Explains};
 
 use crate::better::explain_feasible;
-use crate::faults::explain_fault;
+use crate::distance_tests::explain_distance;
+use crate::faults::{Fault, cannot_read, explain_fault};
 use crate::first_line::FirstLine;
-use crate::flows::explain_flow;
-use crate::kept::{Kept, KeptFiles};
-use crate::paths::{explain_query, explain_reached, explain_weight};
+use crate::flow_tests::{explain_arc, explain_balance, explain_solution};
+use crate::path_tests::{explain_label, explain_query};
 use crate::refusal::{Refusal, RefusalPlace};
 use crate::reopen::Reopen;
-use crate::sets::{explain_end, explain_nodes, explain_set};
-use crate::texts::Texts;
-use crate::yes::explain_yes;
+use crate::texts::{TextFile, Texts};
+use crate::whole_tests::{explain_end, explain_whole};
 use dimacs_lines::{Memory, Sink, put_all};
 use dimacs_records::{End, TextKind};
-use dimacs_runs::{CommandError, Files, Job, Status, job, run_command};
+use dimacs_runs::{CommandError, Files, Status, job, run_command};
 use std::alloc::Global;
 
-/// Runs the command of these arguments, and, only if it answers yes or refuses, writes lines that explain the answer.
-/// What the files didn't keep it reads once more, by `again`. If memory runs out, no explanation is written; if the
-/// output fails, at most a part. The result is the command's all the same.
+/// Runs the command of these arguments, and, only if it refuses, writes lines that explain the refusal. For these it
+/// reads files again, by `again`. If memory runs out, no explanation is written; if the output fails, at most a part.
+/// The result is the command's all the same.
 pub fn explain_command<'a, F: Files, A: Reopen, K: Sink>(
     alloc: Global,
     arguments: &'a [String],
-    files: &mut KeptFiles<F>,
+    files: &mut F,
     again: &A,
     output: &mut FirstLine<K>,
 ) -> Option<Result<Status, CommandError<'a>>>
-    ensures explains { Explains (map string_bytes arguments.now) (F.holds files.old.files) F.empty result
-        (seen_by (F.seen files.old.files) (K.seen output.old.sink)) (seen_by (F.seen files.new.files) (K.seen output.new.sink)) }
+    ensures explains { Explains (map string_bytes arguments.now) (F.holds files.old) F.empty result
+        (seen_by (F.seen files.old) (K.seen output.old.sink)) (seen_by (F.seen files.new) (K.seen output.new.sink)) }
 {
     let ended = run_command(alloc, arguments, files, output);
-    let is_yes = matches!(ended, Some(Ok(Status::Done)));
-    if matches!(ended, Some(Ok(Status::Done | Status::Refused)))
-        && let Ok(text) = explanation(
-            alloc,
-            arguments,
-            is_yes,
-            output.line(),
-            files.read(),
-            files.written(),
-            again,
-        )
+    if matches!(ended, Some(Ok(Status::Refused)))
+        && let Ok(text) = explanation(alloc, arguments, output.line(), again)
     {
         let _ = put_all(output, text.as_bytes());
     }
     ended
 }
 
-/// The explanation of what a command printed; empty if nothing is to be explained.
+/// The explanation of the refusal that a command printed; empty if it printed none.
 fn explanation<A: Reopen>(
     alloc: Global,
     arguments: &[String],
-    is_yes: bool,
     printed: &[u8],
-    read: &[Kept],
-    written: &[Kept],
     again: &A,
 ) -> Result<String, Memory> {
     let mut out = String::new(alloc);
-    let Some(job) = job(arguments) else {
+    let (Some(job), Some(refusal)) = (job(arguments), Refusal::read(printed)) else {
         return Ok(out);
     };
-    let texts = Texts {
-        alloc,
-        again,
-        job,
-        read,
-        written,
-    };
-    if is_yes {
-        explain_yes(&texts, printed, &mut out)?;
-        return Ok(out);
-    }
-    if let Some(refusal) = Refusal::read(printed) {
-        explain_refusal(&texts, refusal, &mut out)?;
-    }
-    if matches!(job, Job::Solve(..)) {
-        for file in texts.outputs() {
-            writeln!(
-                out,
-                "{} is empty: a solve run creates the files that it writes, or empties them, before it reads the others",
-                file.as_str()
-            )?;
-        }
+    let texts = Texts::of(job);
+    explain_place(alloc, again, texts, refusal, &mut out)?;
+    for file in texts.emptied.unwrap_or_default() {
+        write_emptied(file.as_str(), &mut out)?;
     }
     Ok(out)
 }
 
-/// Explains a refusal by its reason and its place.
-fn explain_refusal<A: Reopen>(
-    texts: &Texts<'_, A>,
+/// Explains a refusal by its place.
+fn explain_place<A: Reopen>(
+    alloc: Global,
+    again: &A,
+    texts: Texts<'_>,
     refusal: Refusal<'_>,
     out: &mut String,
 ) -> Result<(), Memory> {
-    let Refusal { place, reason } = refusal;
-    match (reason, place) {
-        ("Feasible", _) => explain_feasible(texts, out),
-        ("NodesDiffer", RefusalPlace::Text { name, .. }) => explain_nodes(texts, name, out),
-        ("NotViolated", _) => match (texts.named("instance"), texts.named("certificate")) {
-            (Some(instance), Some(set)) => explain_set(texts, instance, set, out),
-            _ => Ok(()),
-        },
-        ("SourceOutside", RefusalPlace::Node(node)) => explain_end(texts, node, End::Source, out),
-        ("SinkInside", RefusalPlace::Node(node)) => explain_end(texts, node, End::Sink, out),
-        ("NoTightArc", RefusalPlace::Node(node)) => explain_reached(texts, node, out),
-        ("QueryNode" | "BlockMissing", RefusalPlace::Node(node)) => {
-            explain_query(texts, node, reason, out)
+    let reason = refusal.reason;
+    match refusal.place {
+        RefusalPlace::Text { name, line, field } => {
+            let fault = Fault {
+                line,
+                field,
+                reason,
+            };
+            explain_text(alloc, again, texts, name, fault, out)
         }
-        (_, RefusalPlace::Arc(number)) => match texts.named("instance") {
-            Some(graph) if graph.kind == TextKind::Graph => {
-                explain_weight(texts, graph, number, reason, out)
+        RefusalPlace::Arc(number) => {
+            if are_readable(again, texts, out)? {
+                explain_arc(alloc, again, texts, number, reason, out)?;
             }
-            _ => explain_flow(texts, place, reason, out),
-        },
-        ("Balance" | "UnknownArc" | "ArcTwice" | "ValueDiffers" | "NotMaximum" | "NotLeast", _) => {
-            explain_flow(texts, place, reason, out)
+            Ok(())
         }
-        (_, RefusalPlace::Text { name, .. }) => match texts.named(name) {
-            Some(text) => explain_fault(texts, text, place, reason, out),
+        RefusalPlace::Node(node) => {
+            if are_readable(again, texts, out)? {
+                explain_node(alloc, again, texts, node, reason, out)?;
+            }
+            Ok(())
+        }
+    }
+}
+
+/// Reports that a solver has emptied a file.
+fn write_emptied(file: &str, out: &mut String) -> Result<(), Memory> {
+    writeln!(
+        out,
+        "{file} is empty: a solve run creates the files that it writes, or empties them, before it reads the others"
+    )?;
+    Ok(())
+}
+
+/// Whether all texts of a run can be read again. Names those that can't.
+fn are_readable<A: Reopen>(again: &A, texts: Texts<'_>, out: &mut String) -> Result<bool, Memory> {
+    let mut all = true;
+    for text in [texts.instance, texts.claim, texts.certificate] {
+        if let Some(TextFile { file, .. }) = text
+            && again.open(file).is_none()
+        {
+            cannot_read(out, file)?;
+            all = false;
+        }
+    }
+    Ok(all)
+}
+
+/// Explains a refusal at a place of a text: a fault of the text, or a test of a claim.
+fn explain_text<A: Reopen>(
+    alloc: Global,
+    again: &A,
+    texts: Texts<'_>,
+    name: &str,
+    fault: Fault<'_>,
+    out: &mut String,
+) -> Result<(), Memory> {
+    match fault.reason {
+        "Feasible" => explain_feasible(alloc, again, texts, out),
+        "UnknownArc" | "ArcTwice" | "ValueDiffers" | "NotMaximum" | "NotLeast" => {
+            if are_readable(again, texts, out)? {
+                explain_solution(alloc, again, texts, fault, out)?;
+            }
+            Ok(())
+        }
+        "NodesDiffer" | "NotViolated" => {
+            if are_readable(again, texts, out)? {
+                explain_whole(alloc, again, texts, fault.reason, out)?;
+            }
+            Ok(())
+        }
+        _ => match texts.by_name(name) {
+            Some(text) => explain_fault(alloc, again, text, fault, out),
             None => Ok(()),
         },
-        _ => Ok(()),
     }
+}
+
+/// Explains why the test of a node failed.
+fn explain_node<A: Reopen>(
+    alloc: Global,
+    again: &A,
+    texts: Texts<'_>,
+    node: u32,
+    reason: &str,
+    out: &mut String,
+) -> Result<(), Memory> {
+    match reason {
+        "Balance" => explain_balance(alloc, again, texts, node, out),
+        "SourceOutside" => explain_end(alloc, again, texts, node, End::Source, out),
+        "SinkInside" => explain_end(alloc, again, texts, node, End::Sink, out),
+        "NoTightArc" => explain_unreached(alloc, again, texts, node, out),
+        _ => explain_query(alloc, again, texts, node, reason, out),
+    }
+}
+
+/// Explains why a label has no tight arc, or no walk has a claimed distance.
+fn explain_unreached<A: Reopen>(
+    alloc: Global,
+    again: &A,
+    texts: Texts<'_>,
+    node: u32,
+    out: &mut String,
+) -> Result<(), Memory> {
+    let (Some(graph), Some(tested)) = (texts.instance, texts.tested()) else {
+        return Ok(());
+    };
+    if tested.kind == TextKind::Distances {
+        return explain_distance(alloc, again, graph, tested, node, out);
+    }
+    explain_label(alloc, again, graph, tested, node, out)
 }

@@ -1,15 +1,12 @@
 //! Explains the fault of a text.
 
 use crate::before::{Before, NOTHING_BEFORE};
-use crate::forms::{field_name, form_of, forms, is_plural, kind_words, range_of};
-use crate::lookups::Wanted;
+use crate::forms::{field_name, form_of, forms, kind_words, range_of};
 use crate::numbers::meant_number;
 use crate::oddities::{has_lone_return, oddity, other_kind};
 use crate::quote::{Quote, escape};
-use crate::refusal::RefusalPlace;
 use crate::reopen::Reopen;
-use crate::sums;
-use crate::texts::{ANY_LINES, TextFile, TextLines, Texts, cannot_read};
+use crate::texts::{ANY_LINES, TextFile, TextLines};
 use dimacs_lines::{Memory, fields};
 use dimacs_records::{End, Record, TextKind};
 use std::alloc::{AllocError, Global};
@@ -17,14 +14,11 @@ use std::alloc::{AllocError, Global};
 /// A longer word is cut to this many bytes.
 const LONG_WORD: usize = 60;
 
-/// The greatest number of 64 bits with a sign.
-const MOST_WHOLE: u64 = 9_223_372_036_854_775_807;
-
 #[derive(Clone, Copy)]
-struct Fault<'a> {
-    line: u64,
-    field: u64,
-    reason: &'a str,
+pub(crate) struct Fault<'a> {
+    pub(crate) line: u64,
+    pub(crate) field: u64,
+    pub(crate) reason: &'a str,
 }
 
 /// The line of a fault, and what comes before.
@@ -45,23 +39,14 @@ struct FaultContext {
     lone_return: bool,
 }
 
-/// Explains why a text was refused at this place.
-pub(crate) fn explain_fault<A: Reopen>(
-    texts: &Texts<'_, A>,
+pub(crate) fn explain_fault<F: Reopen>(
+    alloc: Global,
+    files: &F,
     text: TextFile<'_>,
-    place: RefusalPlace<'_>,
-    reason: &str,
+    fault: Fault<'_>,
     out: &mut String,
 ) -> Result<(), Memory> {
-    let RefusalPlace::Text { line, field, .. } = place else {
-        return Ok(());
-    };
-    let fault = Fault {
-        line,
-        field,
-        reason,
-    };
-    let Some(context) = read_context(texts, text, fault)? else {
+    let Some(context) = read_context(alloc, files, text, fault)? else {
         return cannot_read(out, text.file);
     };
     match &context.quote {
@@ -86,17 +71,11 @@ pub(crate) fn explain_fault<A: Reopen>(
     if let Some(other) = context.other
         && is_of_other_kind(fault.reason)
     {
-        let verb = if is_plural(text.kind) { "are" } else { "is" };
-        writeln!(out, "{other}, and {} {verb} wanted", kind_words(text.kind))?;
+        writeln!(out, "{other}, and {} is wanted", kind_words(text.kind))?;
     }
-    write_reason(texts.alloc, text.kind, fault, &context, out)?;
-    if fault.reason == "NodeTwice"
-        && let Some(wanted) = context
-            .record
-            .and_then(|record| context.before.naming(record))
-        && let Some(found) = texts.find(text, wanted, 0)?
-    {
-        writeln!(out, "line {} names the node already", found.line)?;
+    write_reason(alloc, text.kind, fault, &context, out)?;
+    if let Some(line) = earlier_line(alloc, files, text, fault, &context)? {
+        writeln!(out, "line {line} names the node already")?;
     }
     Ok(())
 }
@@ -106,17 +85,25 @@ fn is_unread(reason: &str) -> bool {
     matches!(reason, "LineTooLong" | "LineLimit")
 }
 
+/// Reports that a file can't be read again.
+pub(crate) fn cannot_read(out: &mut String, file: &str) -> Result<(), Memory> {
+    writeln!(
+        out,
+        "{file}: is no file that can be read again, so its lines are left out"
+    )?;
+    Ok(())
+}
+
 /// Reads a text up to its fault; none if it can't be read.
-fn read_context<A: Reopen>(
-    texts: &Texts<'_, A>,
+fn read_context<F: Reopen>(
+    alloc: Global,
+    files: &F,
     text: TextFile<'_>,
     fault: Fault<'_>,
 ) -> Result<Option<FaultContext>, Memory> {
-    let alloc = texts.alloc;
-    let Some(source) = texts.open(text) else {
+    let Some(mut lines) = TextLines::open(alloc, files, text)? else {
         return Ok(None);
     };
-    let mut lines = TextLines::new(alloc, text.kind, source)?;
     let mut context = FaultContext {
         before: NOTHING_BEFORE,
         quote: None,
@@ -191,12 +178,68 @@ fn is_of_other_kind(reason: &str) -> bool {
     )
 }
 
+/// The earlier line that names the same node.
+fn earlier_line<F: Reopen>(
+    alloc: Global,
+    files: &F,
+    text: TextFile<'_>,
+    fault: Fault<'_>,
+    context: &FaultContext,
+) -> Result<Option<u64>, Memory> {
+    if fault.reason != "NodeTwice" {
+        return Ok(None);
+    }
+    let Some(id) = context.record.and_then(named_node) else {
+        return Ok(None);
+    };
+    let in_block = context.record.is_some_and(is_in_block);
+    let begin = if in_block {
+        context.before.block.map_or(0, |block| block.line)
+    } else {
+        0
+    };
+    let Some(mut lines) = TextLines::open(alloc, files, text)? else {
+        return Ok(None);
+    };
+    for _ in 0..ANY_LINES {
+        let Some(number) = lines.next() else {
+            break;
+        };
+        if number >= begin && number < fault.line && names(lines.record(), id, in_block) {
+            return Ok(Some(number));
+        }
+    }
+    Ok(None)
+}
+
+/// The node that a line names as its own.
+fn named_node(record: Record) -> Option<u32> {
+    match record {
+        Record::MaxNode { id, .. }
+        | Record::MinNode { id, .. }
+        | Record::CutNode { id }
+        | Record::PotentialsNode { id, .. }
+        | Record::LabelsNode { id, .. }
+        | Record::DistancesNode { id, .. } => Some(id),
+        Record::LabelsBlock { source, .. } | Record::DistancesBlock { source, .. } => Some(source),
+        _ => None,
+    }
+}
+
 /// Whether a line is a d line.
 fn is_in_block(record: Record) -> bool {
     matches!(
         record,
         Record::LabelsNode { .. } | Record::DistancesNode { .. }
     )
+}
+
+/// Whether a line names this node, within a block or outside of blocks.
+fn names(record: Option<Record>, id: u32, in_block: bool) -> bool {
+    let Some(record) = record else {
+        return false;
+    };
+    (in_block || !is_in_block(record)) && named_node(record) == Some(id)
 }
 
 fn write_reason(
@@ -227,15 +270,16 @@ fn write_form_fault(
         ("FieldCount", Some(form)) => {
             let wanted = form.split(' ').count();
             let fields = context.fields;
-            out.push_str("the line has ")?;
-            sums::write_count(out, fields, "field")?;
             if kind == TextKind::Labels && letter == "t" {
                 return writeln!(
                     out,
-                    ", and `{form}` has {wanted}, or one more with a RADIUS"
+                    "the line has {fields} fields, and `{form}` has {wanted}, or one more with a RADIUS"
                 );
             }
-            writeln!(out, ", and `{form}` has {wanted}")
+            writeln!(
+                out,
+                "the line has {fields} fields, and `{form}` has {wanted}"
+            )
         }
         ("BadWord", Some(form)) => {
             let word = context.word.as_str();
@@ -279,12 +323,11 @@ fn write_number(
     };
     let word = context.word.as_str();
     if fault.reason == "NumberRange" {
-        writeln!(
+        return writeln!(
             out,
             "{name} is a number from {}, and not {word}",
             range_of(name)
-        )?;
-        return write_misread(word, name, out);
+        );
     }
     writeln!(
         out,
@@ -294,23 +337,6 @@ fn write_number(
         writeln!(out, "write {}", number.as_str())?;
     }
     Ok(())
-}
-
-/// Names what a number may come from that is out of its range.
-fn write_misread(word: &str, name: &str, out: &mut String) -> Result<(), AllocError> {
-    if let Ok(0_i64) = word.parse::<i64>()
-        && range_of(name).starts_with('1')
-    {
-        return writeln!(out, "IDs count from 1: numbered from 0? add 1 to each");
-    }
-    match word.parse::<u64>() {
-        Ok(number) if number > MOST_WHOLE && range_of(name).starts_with("-2^63") => writeln!(
-            out,
-            "in 64 bits with a sign this is -{}: a number may have wrapped around",
-            u64::MAX.saturating_sub(number).saturating_add(1)
-        ),
-        _ => Ok(()),
-    }
 }
 
 /// Compares the declared and the actual number of lines.
@@ -331,12 +357,15 @@ fn write_count(
     let declared = problem.count;
     let counted = context.before.counted;
     if fault.reason == "TooFew" {
-        sums::write_count(out, counted, what)?;
-        writeln!(out, " of the {declared} that line {line} declares")
+        writeln!(
+            out,
+            "{counted} {what} of the {declared} that line {line} declares"
+        )
     } else {
-        write!(out, "line {line} declares ")?;
-        sums::write_count(out, u64::from(declared), what)?;
-        writeln!(out, ", and this is one more")
+        writeln!(
+            out,
+            "line {line} declares {declared} {what}, and this is one more"
+        )
     }
 }
 
@@ -357,22 +386,20 @@ fn write_block_count(context: &FaultContext, out: &mut String) -> Result<(), All
     let line = block.line;
     let declared = block.declared;
     let counted = block.counted;
-    write!(
+    writeln!(
         out,
-        "the block of line {line}, from source {}, declares ",
+        "the block of line {line}, from source {}, declares {declared} d lines, and {counted} stand before this place",
         block.source
-    )?;
-    sums::write_count(out, u64::from(declared), "d line")?;
-    writeln!(out, ", and {counted} before this place")
+    )
 }
 
 /// What a problem line counts.
 fn counted_lines(kind: TextKind) -> &'static str {
     match kind {
-        TextKind::Max | TextKind::Min | TextKind::Graph => "arc line",
-        TextKind::Queries => "query line",
-        TextKind::Labels | TextKind::Distances => "block",
-        _ => "line",
+        TextKind::Max | TextKind::Min | TextKind::Graph => "arc lines",
+        TextKind::Queries => "query lines",
+        TextKind::Labels | TextKind::Distances => "blocks",
+        _ => "lines",
     }
 }
 
@@ -405,9 +432,11 @@ fn write_order(
                 .and_then(|problem| problem.nodes)
                 .unwrap_or(0);
             let line = before.problem.map_or(0, |problem| problem.line);
-            write!(out, "node {} is above the ", context.word.as_str())?;
-            sums::write_count(out, u64::from(nodes), "node")?;
-            writeln!(out, " that line {line} declares")
+            writeln!(
+                out,
+                "node {} is above the {nodes} nodes that line {line} declares",
+                context.word.as_str()
+            )
         }
         "EndMissing" => write_missing_ends(before, out),
         "EndTwice" => write_earlier(end_line(context), "has the same letter already", out),

@@ -1,30 +1,27 @@
-//! Explains answers, for `dimacs explain COMMAND FILE...`. After a refusal it quotes the line of the fault, and prints
-//! the numbers that the failed test compares; after a yes, the sums that show the claim. Nothing is proved about the
-//! content of these lines.
+//! Explains refusals, for `dimacs explain COMMAND FILE...`: quotes the line of the fault, and prints the numbers that
+//! the failed test compares. Nothing is proved about the content of these lines.
 #![tactic(auto)]
 
+mod arcs;
 mod before;
 mod better;
 mod command;
+mod costs;
+mod distance_tests;
 mod faults;
 mod first_line;
-mod flows;
+mod flow_tests;
 mod forms;
-mod kept;
 mod lookups;
 mod numbers;
 mod oddities;
-mod paths;
+mod path_tests;
 mod quote;
 mod refusal;
 mod reopen;
-mod routes;
-mod sets;
-mod sums;
 mod texts;
-mod yes;
+mod whole_tests;
 
 pub use command::explain_command;
 pub use first_line::FirstLine;
-pub use kept::KeptFiles;
 pub use reopen::Reopen;

@@ -1,212 +1,170 @@
-//! The texts of a run: read again, as values or line by line.
+//! The texts of a run, by their files.
 
-use crate::kept::Kept;
-use crate::lookups::{Finder, FoundLine, Wanted};
-use crate::quote::Quote;
-use crate::reopen::{Again, Reopen, Reread};
-use dimacs_lines::{Lines, MAX_LINES, Memory, MemorySource, Source};
-use dimacs_records::{ReadError, Record, Text, TextKind, record};
+use crate::reopen::Reopen;
+use dimacs_lines::{Lines, MAX_LINES, Memory, Source};
+use dimacs_records::{Record, TextKind, record};
 use dimacs_runs::{Job, JudgeKind, SolveJob, SpreadKind};
 use std::alloc::Global;
 
-/// No text has more lines.
-pub(crate) const ANY_LINES: u64 = MAX_LINES;
-
-/// A text of a run: its kind, its file and its bytes, unless they weren't kept.
+/// A text of a run: its kind and its file.
 #[derive(Clone, Copy)]
 pub(crate) struct TextFile<'a> {
     pub(crate) kind: TextKind,
     pub(crate) file: &'a str,
-    pub(crate) kept: Option<&'a [u8]>,
 }
 
-/// The texts of a run that has ended.
-#[derive(Drop)]
-pub(crate) struct Texts<'a, A> {
-    pub(crate) alloc: Global,
-    pub(crate) again: &'a A,
-    pub(crate) job: Job<'a>,
-    /// What was kept of the texts that it read, and of those that it wrote.
-    pub(crate) read: &'a [Kept],
-    pub(crate) written: &'a [Kept],
+/// The texts that a run reads.
+#[derive(Clone, Copy)]
+pub(crate) struct Texts<'a> {
+    /// The text of `convert` or `show`, of any kind.
+    single: Option<TextFile<'a>>,
+    pub(crate) instance: Option<TextFile<'a>>,
+    /// Queries, a solution or distances.
+    pub(crate) claim: Option<TextFile<'a>>,
+    pub(crate) certificate: Option<TextFile<'a>>,
+    /// The file that the run may write once it has read the others.
+    pub(crate) written_file: Option<&'a str>,
+    /// The files that the run empties before it reads the others.
+    pub(crate) emptied: Option<&'a [String]>,
 }
 
-impl<'a, A: Reopen> Texts<'a, A> {
+const NO_TEXTS: Texts<'static> = Texts {
+    single: None,
+    instance: None,
+    claim: None,
+    certificate: None,
+    written_file: None,
+    emptied: None,
+};
+
+impl<'a> Texts<'a> {
+    pub(crate) fn of(job: Job<'a>) -> Texts<'a> {
+        match job {
+            Job::Convert(kind, file) | Job::Show(kind, file) => Texts {
+                single: Some(TextFile { kind, file }),
+                ..NO_TEXTS
+            },
+            Job::Judge(kind, files) => judge_texts(kind, files),
+            Job::Certify(kind, files) => certify_texts(kind, files),
+            Job::Spread(SpreadKind::Max, files) => claim_texts(
+                TextKind::Max,
+                TextKind::Solution,
+                files,
+            ),
+            Job::Spread(SpreadKind::Min, files) => claim_texts(
+                TextKind::Min,
+                TextKind::Solution,
+                files,
+            ),
+            Job::Solve(job, files) => solve_texts(job, files),
+        }
+    }
+
     /// The text with this name in refusals.
-    pub(crate) fn named(&self, name: &str) -> Option<TextFile<'a>> {
-        for place in 0..3 {
-            let kind = kind_read(self.job, place)?;
-            if name_of(kind) == name {
-                return Some(TextFile {
-                    kind,
-                    file: file_at(self.job, place)?,
-                    kept: self.read.get(place).and_then(Kept::text),
-                });
-            }
+    pub(crate) fn by_name(&self, name: &str) -> Option<TextFile<'a>> {
+        if self.single.is_some() {
+            return self.single;
         }
-        None
-    }
-
-    /// The names of the files that the run writes.
-    pub(crate) fn outputs(&self) -> &'a [String] {
-        let read = if kind_read(self.job, 2).is_some() {
-            3
-        } else if kind_read(self.job, 1).is_some() {
-            2
-        } else {
-            1
-        };
-        files_of(self.job).get(read..).unwrap_or(&[])
-    }
-
-    /// A text that the run wrote, from 0; none if it wrote none.
-    pub(crate) fn written(&self, place: usize, kind: TextKind) -> Option<TextFile<'a>> {
-        let kept = self.written.get(place)?;
-        let file = self.outputs().get(place)?;
-        Some(TextFile {
-            kind,
-            file: file.as_str(),
-            kept: kept.text(),
-        })
-    }
-
-    pub(crate) fn open<'b>(&self, text: TextFile<'b>) -> Option<Reread<'b, A::Input>> {
-        match text.kept {
-            Some(bytes) => Some(Reread::new(Again::Kept(MemorySource::new(bytes)))),
-            None => {
-                let file = self.again.open(text.file)?;
-                Some(Reread::new(Again::File(file)))
-            }
+        match name {
+            "instance" => self.instance,
+            "certificate" => self.certificate,
+            _ => self.claim,
         }
     }
 
-    /// The value of a text; none if it can't be read again.
-    pub(crate) fn value<V: Text>(&self, text: TextFile<'_>) -> Result<Option<V>, Memory> {
-        let Some(mut source) = self.open(text) else {
-            return Ok(None);
-        };
-        match V::read(self.alloc, &mut source) {
-            Ok(value) => Ok(Some(value)),
-            Err(ReadError::Memory) => Err(Memory),
-            Err(_) => Ok(None),
-        }
-    }
-
-    /// The first such line, with this field marked, from 1; 0 marks none.
-    pub(crate) fn find(
-        &self,
-        text: TextFile<'_>,
-        wanted: Wanted,
-        field: u64,
-    ) -> Result<Option<FoundLine>, Memory> {
-        let Some(source) = self.open(text) else {
-            return Ok(None);
-        };
-        let mut lines = TextLines::new(self.alloc, text.kind, source)?;
-        let mut finder = Finder::new(wanted);
-        for _ in 0..ANY_LINES {
-            let Some(line) = lines.next() else {
-                break;
-            };
-            if finder.takes(line, lines.record()) {
-                let quote = Quote::new(self.alloc, line, lines.bytes(), field)?;
-                return Ok(Some(FoundLine { line, quote }));
-            }
-        }
-        Ok(None)
-    }
-
-    /// Quotes the first such line. Returns whether there is one.
-    pub(crate) fn quote(
-        &self,
-        text: TextFile<'_>,
-        wanted: Wanted,
-        out: &mut String,
-    ) -> Result<bool, Memory> {
-        match self.find(text, wanted, 0)? {
-            Some(found) => {
-                found.quote.show(out, text.file)?;
-                Ok(true)
-            }
-            None => Ok(false),
+    /// The text that is tested against the instance: the certificate, or distances.
+    pub(crate) fn tested(&self) -> Option<TextFile<'a>> {
+        match self.claim {
+            Some(claim) if claim.kind == TextKind::Distances => Some(claim),
+            _ => self.certificate,
         }
     }
 }
 
-/// Reports that a file can't be read again.
-pub(crate) fn cannot_read(out: &mut String, file: &str) -> Result<(), Memory> {
-    writeln!(
-        out,
-        "{file}: is too long to be kept, and no file that can be read again, so its lines are left out"
-    )?;
-    Ok(())
-}
-
-/// The kind of a text that a run reads, by its place from 0.
-fn kind_read(job: Job<'_>, place: usize) -> Option<TextKind> {
-    let (instance, claim, certificate) = match job {
-        Job::Convert(kind, _) | Job::Show(kind, _) => (kind, None, None),
-        Job::Judge(kind, _) => judged(kind),
-        Job::Certify(JudgeKind::Infeasible, _) | Job::Solve(SolveJob::Min(_), _) => {
-            (TextKind::Min, None, None)
-        }
-        Job::Certify(JudgeKind::Paths, _) => (TextKind::Graph, Some(TextKind::Distances), None),
-        Job::Certify(JudgeKind::Max, _) | Job::Spread(SpreadKind::Max, _) => {
-            (TextKind::Max, Some(TextKind::Solution), None)
-        }
-        Job::Certify(JudgeKind::Min, _) | Job::Spread(SpreadKind::Min, _) => {
-            (TextKind::Min, Some(TextKind::Solution), None)
-        }
-        Job::Solve(SolveJob::Max(_), _) => (TextKind::Max, None, None),
-        Job::Solve(SolveJob::Paths, _) => (TextKind::Graph, Some(TextKind::Queries), None),
+fn judge_texts(kind: JudgeKind, files: &[String]) -> Texts<'_> {
+    let (instance, claim, certificate) = match kind {
+        JudgeKind::Max => (TextKind::Max, TextKind::Solution, TextKind::Cut),
+        JudgeKind::Min => (TextKind::Min, TextKind::Solution, TextKind::Potentials),
+        JudgeKind::Infeasible => (TextKind::Min, TextKind::Solution, TextKind::Cut),
+        JudgeKind::Paths => (TextKind::Graph, TextKind::Queries, TextKind::Labels),
     };
-    match place {
-        0 => Some(instance),
-        1 => claim,
-        _ => certificate,
+    match files {
+        [first, second, third] => Texts {
+            instance: text_in(instance, first),
+            claim: text_in(claim, second),
+            certificate: text_in(certificate, third),
+            ..NO_TEXTS
+        },
+        [first, second] => Texts {
+            instance: text_in(instance, first),
+            certificate: text_in(certificate, second),
+            ..NO_TEXTS
+        },
+        _ => NO_TEXTS,
     }
 }
 
-fn judged(kind: JudgeKind) -> (TextKind, Option<TextKind>, Option<TextKind>) {
-    let solution = Some(TextKind::Solution);
+fn certify_texts(kind: JudgeKind, files: &[String]) -> Texts<'_> {
     match kind {
-        JudgeKind::Max => (TextKind::Max, solution, Some(TextKind::Cut)),
-        JudgeKind::Min => (TextKind::Min, solution, Some(TextKind::Potentials)),
-        JudgeKind::Infeasible => (TextKind::Min, Some(TextKind::Cut), None),
-        JudgeKind::Paths => (
-            TextKind::Graph,
-            Some(TextKind::Queries),
-            Some(TextKind::Labels),
-        ),
+        JudgeKind::Max => claim_texts(TextKind::Max, TextKind::Solution, files),
+        JudgeKind::Min => claim_texts(TextKind::Min, TextKind::Solution, files),
+        JudgeKind::Infeasible => instance_texts(TextKind::Min, files),
+        JudgeKind::Paths => claim_texts(TextKind::Graph, TextKind::Distances, files),
     }
 }
 
-/// The name of a text in refusals.
-fn name_of(kind: TextKind) -> &'static str {
-    match kind {
-        TextKind::Max | TextKind::Min | TextKind::Graph => "instance",
-        TextKind::Queries => "query",
-        TextKind::Solution => "solution",
-        TextKind::Cut | TextKind::Potentials | TextKind::Labels => "certificate",
-        TextKind::Distances => "distances",
+/// For a run that reads an instance and a claim, and may write a third file.
+fn claim_texts(instance: TextKind, claim: TextKind, files: &[String]) -> Texts<'_> {
+    match files {
+        [first, second, rest @ ..] => Texts {
+            instance: text_in(instance, first),
+            claim: text_in(claim, second),
+            written_file: rest.first().map(String::as_str),
+            ..NO_TEXTS
+        },
+        _ => NO_TEXTS,
     }
 }
 
-fn files_of(job: Job<'_>) -> &[String] {
-    match job {
-        Job::Convert(..) | Job::Show(..) => &[],
-        Job::Judge(_, files)
-        | Job::Certify(_, files)
-        | Job::Spread(_, files)
-        | Job::Solve(_, files) => files,
+/// For a run that reads an instance, and may write a second file.
+fn instance_texts(instance: TextKind, files: &[String]) -> Texts<'_> {
+    match files {
+        [first, rest @ ..] => Texts {
+            instance: text_in(instance, first),
+            written_file: rest.first().map(String::as_str),
+            ..NO_TEXTS
+        },
+        _ => NO_TEXTS,
     }
 }
 
-fn file_at(job: Job<'_>, place: usize) -> Option<&str> {
-    match job {
-        Job::Convert(_, file) | Job::Show(_, file) => Some(file),
-        other => files_of(other).get(place).map(String::as_str),
+fn solve_texts(job: SolveJob, files: &[String]) -> Texts<'_> {
+    match (job, files) {
+        (SolveJob::Max(_), [first, emptied @ ..]) => Texts {
+            instance: text_in(TextKind::Max, first),
+            emptied: Some(emptied),
+            ..NO_TEXTS
+        },
+        (SolveJob::Min(_), [first, emptied @ ..]) => Texts {
+            instance: text_in(TextKind::Min, first),
+            emptied: Some(emptied),
+            ..NO_TEXTS
+        },
+        (SolveJob::Paths, [first, second, emptied @ ..]) => Texts {
+            instance: text_in(TextKind::Graph, first),
+            claim: text_in(TextKind::Queries, second),
+            emptied: Some(emptied),
+            ..NO_TEXTS
+        },
+        _ => NO_TEXTS,
     }
+}
+
+fn text_in(kind: TextKind, file: &String) -> Option<TextFile<'_>> {
+    Some(TextFile {
+        kind,
+        file: file.as_str(),
+    })
 }
 
 /// The lines of a text, one after another.
@@ -217,13 +175,23 @@ pub(crate) struct TextLines<I> {
     kind: TextKind,
 }
 
-impl<I: Source + Drop> TextLines<I> {
-    pub(crate) fn new(alloc: Global, kind: TextKind, source: I) -> Result<TextLines<I>, Memory> {
-        Ok(TextLines {
-            lines: Lines::new(alloc)?,
+impl<I: Source> TextLines<I> {
+    /// Before the first line; none if the file can't be opened.
+    pub(crate) fn open<F: Reopen<Input = I>>(
+        alloc: Global,
+        files: &F,
+        text: TextFile<'_>,
+    ) -> Result<Option<TextLines<I>>, Memory> {
+        let lines = Lines::new(alloc)?;
+        let Some(source) = files.open(text.file) else {
+            return Ok(None);
+        };
+        let kind = text.kind;
+        Ok(Some(TextLines {
+            lines,
             source,
             kind,
-        })
+        }))
     }
 
     /// Goes to the next line, and returns its number. None at the end, or if the rest can't be read.
@@ -240,3 +208,6 @@ impl<I: Source + Drop> TextLines<I> {
         record(self.kind, self.lines.line()).ok().flatten()
     }
 }
+
+/// No text has more lines.
+pub(crate) const ANY_LINES: u64 = MAX_LINES;

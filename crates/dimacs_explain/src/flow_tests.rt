@@ -1,0 +1,376 @@
+//! Explains the tests of a flow.
+
+use crate::arcs::{FoundArc, Parallel, find_arc, find_entry, parallel_arcs};
+use crate::better::{explain_better, write_replaced};
+use crate::costs::cost_of;
+use crate::faults::{Fault, cannot_read};
+use crate::lookups::{FoundLine, Wanted, find_line, line_at};
+use crate::path_tests::explain_weight;
+use crate::reopen::Reopen;
+use crate::texts::{ANY_LINES, TextFile, TextLines, Texts};
+use dimacs_lines::Memory;
+use dimacs_network::ArcView;
+use dimacs_records::{End, Record, TextKind};
+use std::alloc::{AllocError, Global};
+
+#[derive(Clone, Copy)]
+struct ArcFlow {
+    number: u32,
+    arc: ArcView,
+    flow: i64,
+}
+
+/// Explains why the test of an arc failed.
+pub(crate) fn explain_arc<F: Reopen>(
+    alloc: Global,
+    files: &F,
+    texts: Texts<'_>,
+    number: u32,
+    reason: &str,
+    out: &mut String,
+) -> Result<(), Memory> {
+    let Some(instance) = texts.instance else {
+        return Ok(());
+    };
+    let Some(found) = find_arc(alloc, files, instance, number)? else {
+        return cannot_read(out, instance.file);
+    };
+    found.quote.show(out, instance.file)?;
+    if instance.kind == TextKind::Graph {
+        return explain_weight(alloc, files, texts, number, &found, reason, out);
+    }
+    let FoundArc { arc, .. } = found;
+    let parallel = parallel_arcs(
+        alloc,
+        files,
+        instance,
+        arc.tail,
+        arc.head,
+        u64::from(number),
+    )?;
+    let flow = show_entry(alloc, files, texts, arc, parallel, out)?;
+    let arc_flow = ArcFlow { number, arc, flow };
+    write_bound(arc_flow, reason, out)?;
+    if let Some(certificate) = texts.certificate {
+        explain_certificate(alloc, files, certificate, arc_flow, reason, out)?;
+    }
+    if parallel.all > 1 && matches!(reason, "AboveCap" | "BelowLow") {
+        write_parallel(arc, parallel, out)?;
+    }
+    Ok(())
+}
+
+/// Quotes the entry of an arc, and returns its flow.
+fn show_entry<F: Reopen>(
+    alloc: Global,
+    files: &F,
+    texts: Texts<'_>,
+    arc: ArcView,
+    parallel: Parallel,
+    out: &mut String,
+) -> Result<i64, Memory> {
+    let Some(solution) = texts.claim else {
+        return Ok(0);
+    };
+    match find_entry(alloc, files, solution, arc.tail, arc.head, parallel.before)? {
+        Some(entry) => {
+            entry.quote.show(out, solution.file)?;
+            Ok(entry.flow)
+        }
+        None => {
+            writeln!(
+                out,
+                "{}: has no entry for the arc, so it carries 0",
+                solution.file
+            )?;
+            Ok(0)
+        }
+    }
+}
+
+/// Compares the flow of an arc with its bounds, or its cost with the range.
+fn write_bound(arc_flow: ArcFlow, reason: &str, out: &mut String) -> Result<(), AllocError> {
+    let ArcFlow { number, arc, flow } = arc_flow;
+    match reason {
+        "AboveCap" => writeln!(
+            out,
+            "arc {number} carries {flow}, more than its CAP, {}",
+            arc.cap
+        ),
+        "BelowLow" => writeln!(
+            out,
+            "arc {number} carries {flow}, less than its LOW, {}",
+            arc.low
+        ),
+        "CostRange" => writeln!(
+            out,
+            "arc {number} carries {flow} at a COST of {}: the costs of the arcs up to this one leave -10^30 to 10^30",
+            arc.cost
+        ),
+        _ => Ok(()),
+    }
+}
+
+/// Explains which entries belong to parallel arcs.
+fn write_parallel(arc: ArcView, parallel: Parallel, out: &mut String) -> Result<(), AllocError> {
+    writeln!(
+        out,
+        "{} arcs lead from {} to {}, and arc {} is the first of them: entries with these ends belong to them in the order of the instance",
+        parallel.all, arc.tail, arc.head, parallel.first
+    )
+}
+
+/// Explains why an arc fails the test of a certificate.
+fn explain_certificate<F: Reopen>(
+    alloc: Global,
+    files: &F,
+    certificate: TextFile<'_>,
+    arc_flow: ArcFlow,
+    reason: &str,
+    out: &mut String,
+) -> Result<(), Memory> {
+    let ArcFlow { number, arc, flow } = arc_flow;
+    match reason {
+        "NotSaturated" => writeln!(
+            out,
+            "arc {number} leaves the set, from {} inside to {} outside, and carries {flow} of its CAP, {}",
+            arc.tail, arc.head, arc.cap
+        )?,
+        "BackFlow" => writeln!(
+            out,
+            "arc {number} enters the set, from {} outside to {} inside, and carries {flow}, not 0",
+            arc.tail, arc.head
+        )?,
+        "NotTight" => {
+            let tail = potential(alloc, files, certificate, arc.tail, out)?;
+            let head = potential(alloc, files, certificate, arc.head, out)?;
+            write_reduced_cost(arc_flow, tail, head, out)?;
+        }
+        _ => (),
+    }
+    Ok(())
+}
+
+/// Quotes the potential of a node, and returns it.
+fn potential<F: Reopen>(
+    alloc: Global,
+    files: &F,
+    certificate: TextFile<'_>,
+    node: u32,
+    out: &mut String,
+) -> Result<i128, Memory> {
+    let Some(FoundLine { record, quote }) = find_line(
+        alloc,
+        files,
+        certificate,
+        Wanted::Node(node),
+    )?
+    else {
+        return Ok(0);
+    };
+    quote.show(out, certificate.file)?;
+    match record {
+        Record::PotentialsNode { value, .. } => Ok(value),
+        _ => Ok(0),
+    }
+}
+
+/// Computes the reduced cost of an arc, and the flow that it demands.
+fn write_reduced_cost(
+    arc_flow: ArcFlow,
+    tail: i128,
+    head: i128,
+    out: &mut String,
+) -> Result<(), AllocError> {
+    let ArcFlow { number, arc, flow } = arc_flow;
+    let reduced = i128::from(arc.cost)
+        .saturating_sub(tail)
+        .saturating_add(head);
+    let (sign, bound, wanted) = if reduced > 0 {
+        ("above", "LOW", arc.low)
+    } else {
+        ("below", "CAP", arc.cap)
+    };
+    writeln!(
+        out,
+        "the reduced cost of arc {number} is COST - y({}) + y({}) = {} - {tail} + {head} = {reduced}, {sign} 0, so it has to carry its {bound}, {wanted}, and carries {flow}",
+        arc.tail, arc.head, arc.cost
+    )
+}
+
+/// The flow out of a node and into it, without loops.
+#[derive(Clone, Copy)]
+struct NodeFlow {
+    outflow: i128,
+    inflow: i128,
+}
+
+/// None if the solution can't be read.
+fn node_flow<F: Reopen>(
+    alloc: Global,
+    files: &F,
+    solution: TextFile<'_>,
+    node: u32,
+) -> Result<Option<NodeFlow>, Memory> {
+    let Some(mut lines) = TextLines::open(alloc, files, solution)? else {
+        return Ok(None);
+    };
+    let mut sums = NodeFlow {
+        outflow: 0,
+        inflow: 0,
+    };
+    for _ in 0..ANY_LINES {
+        if lines.next().is_none() {
+            break;
+        }
+        if let Some(Record::SolutionEntry { tail, head, flow }) = lines.record()
+            && tail != head
+        {
+            sums.add(node, tail, head, i128::from(flow));
+        }
+    }
+    Ok(Some(sums))
+}
+
+impl NodeFlow {
+    fn add(&mut self, node: u32, tail: u32, head: u32, flow: i128) {
+        if tail == node {
+            self.outflow = self.outflow.saturating_add(flow);
+        }
+        if head == node {
+            self.inflow = self.inflow.saturating_add(flow);
+        }
+    }
+}
+
+/// Explains why the balance of a node is wrong.
+pub(crate) fn explain_balance<F: Reopen>(
+    alloc: Global,
+    files: &F,
+    texts: Texts<'_>,
+    node: u32,
+    out: &mut String,
+) -> Result<(), Memory> {
+    let (Some(instance), Some(solution)) = (texts.instance, texts.claim) else {
+        return Ok(());
+    };
+    let Some(NodeFlow { outflow, inflow }) = node_flow(alloc, files, solution, node)? else {
+        return cannot_read(out, solution.file);
+    };
+    let net = outflow.saturating_sub(inflow);
+    let supply = supply_of(alloc, files, instance, node, out)?;
+    writeln!(
+        out,
+        "{outflow} leaves node {node} and {inflow} enters it: {net} more leaves it than enters, and its supply is {supply}"
+    )?;
+    Ok(())
+}
+
+/// Quotes a node's line, and returns its supply.
+fn supply_of<F: Reopen>(
+    alloc: Global,
+    files: &F,
+    instance: TextFile<'_>,
+    node: u32,
+    out: &mut String,
+) -> Result<i64, Memory> {
+    let Some(FoundLine { record, quote }) = find_line(alloc, files, instance, Wanted::Node(node))?
+    else {
+        return Ok(0);
+    };
+    quote.show(out, instance.file)?;
+    match record {
+        Record::MinNode { supply, .. } => Ok(supply),
+        _ => Ok(0),
+    }
+}
+
+/// Explains why a solution is refused at a line.
+pub(crate) fn explain_solution<F: Reopen>(
+    alloc: Global,
+    files: &F,
+    texts: Texts<'_>,
+    fault: Fault<'_>,
+    out: &mut String,
+) -> Result<(), Memory> {
+    let (Some(instance), Some(solution)) = (texts.instance, texts.claim) else {
+        return Ok(());
+    };
+    let reason = fault.reason;
+    if texts.written_file == Some(solution.file) && matches!(reason, "NotMaximum" | "NotLeast") {
+        return write_replaced(solution.file, out);
+    }
+    let found = line_at(alloc, files, solution, fault.line, fault.field)?;
+    let Some(FoundLine { record, quote }) = found else {
+        return cannot_read(out, solution.file);
+    };
+    quote.show(out, solution.file)?;
+    match record {
+        Record::SolutionEntry { tail, head, .. } => {
+            explain_entry(alloc, files, instance, tail, head, reason, out)
+        }
+        Record::SolutionValue { value } if reason == "ValueDiffers" => {
+            explain_value(alloc, files, instance, solution, value, out)
+        }
+        Record::SolutionValue { value } => explain_better(alloc, files, texts, value, out),
+        _ => Ok(()),
+    }
+}
+
+/// Explains why an entry belongs to no arc.
+fn explain_entry<F: Reopen>(
+    alloc: Global,
+    files: &F,
+    instance: TextFile<'_>,
+    tail: u32,
+    head: u32,
+    reason: &str,
+    out: &mut String,
+) -> Result<(), Memory> {
+    let parallel = parallel_arcs(alloc, files, instance, tail, head, 0)?;
+    if reason == "ArcTwice" {
+        writeln!(
+            out,
+            "{} has {} arcs from {tail} to {head}, and as many earlier entries have these ends",
+            instance.file, parallel.all
+        )?;
+        return Ok(());
+    }
+    writeln!(out, "{} has no arc from {tail} to {head}", instance.file)?;
+    let back = parallel_arcs(alloc, files, instance, head, tail, 0)?;
+    if back.all > 0 {
+        writeln!(out, "arc {} leads from {head} to {tail}", back.first)?;
+    }
+    Ok(())
+}
+
+/// Compares the value of a flow with the claimed one.
+fn explain_value<F: Reopen>(
+    alloc: Global,
+    files: &F,
+    instance: TextFile<'_>,
+    solution: TextFile<'_>,
+    claimed: i128,
+    out: &mut String,
+) -> Result<(), Memory> {
+    if instance.kind == TextKind::Min {
+        if let Some(cost) = cost_of(alloc, files, instance, solution)? {
+            writeln!(out, "{claimed} is claimed, and the flow costs {cost}")?;
+        }
+        return Ok(());
+    }
+    let wanted = Wanted::End(End::Source);
+    let Some(FoundLine { record, .. }) = find_line(alloc, files, instance, wanted)? else {
+        return cannot_read(out, instance.file);
+    };
+    if let Record::MaxNode { id, .. } = record
+        && let Some(NodeFlow { outflow, inflow }) = node_flow(alloc, files, solution, id)?
+    {
+        let value = outflow.saturating_sub(inflow);
+        writeln!(
+            out,
+            "{claimed} is claimed, and the flow has the value {value}: {outflow} leaves the source, node {id}, and {inflow} enters it"
+        )?;
+    }
+    Ok(())
+}
