@@ -24,6 +24,9 @@ pub(crate) struct Parallel {
     pub(crate) before: u64,
     /// The number of the first.
     pub(crate) first: u64,
+    /// The sums of their bounds.
+    pub(crate) low: i128,
+    pub(crate) cap: i128,
 }
 
 /// An entry, with its line.
@@ -107,6 +110,8 @@ pub(crate) fn parallel_arcs<F: Reopen>(
         all: 0,
         before: 0,
         first: 0,
+        low: 0,
+        cap: 0,
     };
     let Some(mut lines) = TextLines::open(alloc, files, instance)? else {
         return Ok(found);
@@ -121,7 +126,7 @@ pub(crate) fn parallel_arcs<F: Reopen>(
         };
         k = k.saturating_add(1);
         if arc.tail == tail && arc.head == head {
-            found.add(k, number);
+            found.add(arc, k, number);
         }
     }
     Ok(found)
@@ -129,11 +134,13 @@ pub(crate) fn parallel_arcs<F: Reopen>(
 
 impl Parallel {
     /// Counts the k-th arc.
-    fn add(&mut self, k: u64, number: u64) {
+    fn add(&mut self, arc: ArcView, k: u64, number: u64) {
         if self.all == 0 {
             self.first = k;
         }
         self.all = self.all.saturating_add(1);
+        self.low = self.low.saturating_add(i128::from(arc.low));
+        self.cap = self.cap.saturating_add(i128::from(arc.cap));
         if k < number {
             self.before = self.before.saturating_add(1);
         }

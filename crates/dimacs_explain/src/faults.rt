@@ -1,7 +1,7 @@
 //! Explains the fault of a text.
 
 use crate::before::{Before, NOTHING_BEFORE};
-use crate::forms::{field_name, form_of, forms, kind_words, range_of};
+use crate::forms::{field_name, form_of, forms, is_plural, kind_words, range_of};
 use crate::numbers::meant_number;
 use crate::oddities::{has_lone_return, oddity, other_kind};
 use crate::quote::{Quote, escape};
@@ -10,6 +10,9 @@ use crate::texts::{ANY_LINES, TextFile, TextLines};
 use dimacs_lines::{Memory, fields};
 use dimacs_records::{End, Record, TextKind};
 use std::alloc::{AllocError, Global};
+
+/// The greatest number of 64 bits with a sign.
+const MOST_WHOLE: u64 = 9_223_372_036_854_775_807;
 
 /// A longer word is cut to this many bytes.
 const LONG_WORD: usize = 60;
@@ -71,7 +74,8 @@ pub(crate) fn explain_fault<F: Reopen>(
     if let Some(other) = context.other
         && is_of_other_kind(fault.reason)
     {
-        writeln!(out, "{other}, and {} is wanted", kind_words(text.kind))?;
+        let verb = if is_plural(text.kind) { "are" } else { "is" };
+        writeln!(out, "{other}, and {} {verb} wanted", kind_words(text.kind))?;
     }
     write_reason(alloc, text.kind, fault, &context, out)?;
     if let Some(line) = earlier_line(alloc, files, text, fault, &context)? {
@@ -323,11 +327,12 @@ fn write_number(
     };
     let word = context.word.as_str();
     if fault.reason == "NumberRange" {
-        return writeln!(
+        writeln!(
             out,
             "{name} is a number from {}, and not {word}",
             range_of(name)
-        );
+        )?;
+        return write_misread(word, name, out);
     }
     writeln!(
         out,
@@ -337,6 +342,23 @@ fn write_number(
         writeln!(out, "write {}", number.as_str())?;
     }
     Ok(())
+}
+
+/// Names what a number may come from that is out of its range.
+fn write_misread(word: &str, name: &str, out: &mut String) -> Result<(), AllocError> {
+    if let Ok(0_i64) = word.parse::<i64>()
+        && range_of(name).starts_with('1')
+    {
+        return writeln!(out, "IDs count from 1: numbered from 0? add 1 to each");
+    }
+    match word.parse::<u64>() {
+        Ok(number) if number > MOST_WHOLE && range_of(name).starts_with("-2^63") => writeln!(
+            out,
+            "in 64 bits with a sign this is -{}: a number may have wrapped around",
+            u64::MAX.saturating_sub(number).saturating_add(1)
+        ),
+        _ => Ok(()),
+    }
 }
 
 /// Compares the declared and the actual number of lines.
@@ -357,14 +379,16 @@ fn write_count(
     let declared = problem.count;
     let counted = context.before.counted;
     if fault.reason == "TooFew" {
+        let ending = ending(counted);
         writeln!(
             out,
-            "{counted} {what} of the {declared} that line {line} declares"
+            "{counted} {what}{ending} of the {declared} that line {line} declares"
         )
     } else {
+        let ending = ending(u64::from(declared));
         writeln!(
             out,
-            "line {line} declares {declared} {what}, and this is one more"
+            "line {line} declares {declared} {what}{ending}, and this is one more"
         )
     }
 }
@@ -393,13 +417,18 @@ fn write_block_count(context: &FaultContext, out: &mut String) -> Result<(), All
     )
 }
 
+/// The ending of a noun after this number.
+pub(crate) fn ending(count: u64) -> &'static str {
+    if count == 1 { "" } else { "s" }
+}
+
 /// What a problem line counts.
 fn counted_lines(kind: TextKind) -> &'static str {
     match kind {
-        TextKind::Max | TextKind::Min | TextKind::Graph => "arc lines",
-        TextKind::Queries => "query lines",
-        TextKind::Labels | TextKind::Distances => "blocks",
-        _ => "lines",
+        TextKind::Max | TextKind::Min | TextKind::Graph => "arc line",
+        TextKind::Queries => "query line",
+        TextKind::Labels | TextKind::Distances => "block",
+        _ => "line",
     }
 }
 

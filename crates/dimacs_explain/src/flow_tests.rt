@@ -3,7 +3,7 @@
 use crate::arcs::{FoundArc, Parallel, find_arc, find_entry, parallel_arcs};
 use crate::better::{explain_better, write_replaced};
 use crate::costs::cost_of;
-use crate::faults::{Fault, cannot_read};
+use crate::faults::{Fault, cannot_read, ending};
 use crate::lookups::{FoundLine, Wanted, find_line, line_at};
 use crate::path_tests::explain_weight;
 use crate::reopen::Reopen;
@@ -48,6 +48,9 @@ pub(crate) fn explain_arc<F: Reopen>(
         arc.head,
         u64::from(number),
     )?;
+    if texts.is_spread {
+        return explain_spread(alloc, files, texts, arc, parallel, reason, out);
+    }
     let flow = show_entry(alloc, files, texts, arc, parallel, out)?;
     let arc_flow = ArcFlow { number, arc, flow };
     write_bound(arc_flow, reason, out)?;
@@ -56,8 +59,91 @@ pub(crate) fn explain_arc<F: Reopen>(
     }
     if parallel.all > 1 && matches!(reason, "AboveCap" | "BelowLow") {
         write_parallel(arc, parallel, out)?;
+        write_words(texts, out)?;
     }
     Ok(())
+}
+
+/// Explains an amount that is left for the first of parallel arcs and doesn't fit 64 bits.
+fn explain_spread<F: Reopen>(
+    alloc: Global,
+    files: &F,
+    texts: Texts<'_>,
+    arc: ArcView,
+    parallel: Parallel,
+    reason: &str,
+    out: &mut String,
+) -> Result<(), Memory> {
+    let Some(solution) = texts.claim else {
+        return Ok(());
+    };
+    let Some(sum) = sum_between(alloc, files, solution, arc.tail, arc.head)? else {
+        return cannot_read(out, solution.file);
+    };
+    let (bound, all, own) = if reason == "AboveCap" {
+        ("CAP", parallel.cap, arc.cap)
+    } else {
+        ("LOW", parallel.low, arc.low)
+    };
+    let others = all.saturating_sub(i128::from(own));
+    writeln!(
+        out,
+        "{} arc{} from {} to {}: the f lines with these ends add up to {sum}",
+        parallel.all,
+        ending(parallel.all),
+        arc.tail,
+        arc.head
+    )?;
+    writeln!(
+        out,
+        "the arcs but the first carry their {bound}, {others} in all, and {} is left for the first, arc {}: a FLOW is a number from -2^63 to 2^63 - 1",
+        sum.saturating_sub(others),
+        parallel.first
+    )?;
+    Ok(())
+}
+
+/// The sum of the entries with these ends; none if the solution can't be read.
+fn sum_between<F: Reopen>(
+    alloc: Global,
+    files: &F,
+    solution: TextFile<'_>,
+    from: u32,
+    to: u32,
+) -> Result<Option<i128>, Memory> {
+    let Some(mut lines) = TextLines::open(alloc, files, solution)? else {
+        return Ok(None);
+    };
+    let mut sum = 0_i128;
+    for _ in 0..ANY_LINES {
+        if lines.next().is_none() {
+            break;
+        }
+        if let Some(Record::SolutionEntry { tail, head, flow }) = lines.record()
+            && tail == from
+            && head == to
+        {
+            sum = sum.saturating_add(i128::from(flow));
+        }
+    }
+    Ok(Some(sum))
+}
+
+/// Names the command that deals a flow out to parallel arcs.
+fn write_words(texts: Texts<'_>, out: &mut String) -> Result<(), AllocError> {
+    let (Some(instance), Some(solution)) = (texts.instance, texts.claim) else {
+        return Ok(());
+    };
+    let word = if instance.kind == TextKind::Max {
+        "max"
+    } else {
+        "min"
+    };
+    writeln!(
+        out,
+        "if the entries don't follow the order of the arcs, have them dealt out: dimacs spread-{word} {} {} OUT",
+        instance.file, solution.file
+    )
 }
 
 /// Quotes the entry of an arc, and returns its flow.
@@ -257,12 +343,20 @@ pub(crate) fn explain_balance<F: Reopen>(
     let Some(NodeFlow { outflow, inflow }) = node_flow(alloc, files, solution, node)? else {
         return cannot_read(out, solution.file);
     };
-    let net = outflow.saturating_sub(inflow);
-    let supply = supply_of(alloc, files, instance, node, out)?;
-    writeln!(
-        out,
-        "{outflow} leaves node {node} and {inflow} enters it: {net} more leaves it than enters, and its supply is {supply}"
-    )?;
+    let supply = i128::from(supply_of(alloc, files, instance, node, out)?);
+    let excess = outflow.saturating_sub(inflow).saturating_sub(supply);
+    write!(out, "{outflow} leaves node {node}, {inflow} enters it")?;
+    if supply > 0 {
+        write!(out, ", and it supplies {supply}")?;
+    }
+    if supply < 0 {
+        write!(out, ", and it takes {}", supply.saturating_neg())?;
+    }
+    if excess > 0 {
+        writeln!(out, ": {excess} too much leaves")?;
+    } else {
+        writeln!(out, ": {} too little leaves", excess.saturating_neg())?;
+    }
     Ok(())
 }
 
@@ -307,7 +401,11 @@ pub(crate) fn explain_solution<F: Reopen>(
     quote.show(out, solution.file)?;
     match record {
         Record::SolutionEntry { tail, head, .. } => {
-            explain_entry(alloc, files, instance, tail, head, reason, out)
+            explain_entry(alloc, files, instance, tail, head, reason, out)?;
+            if reason == "ArcTwice" {
+                write_words(texts, out)?;
+            }
+            Ok(())
         }
         Record::SolutionValue { value } if reason == "ValueDiffers" => {
             explain_value(alloc, files, instance, solution, value, out)
@@ -331,8 +429,10 @@ fn explain_entry<F: Reopen>(
     if reason == "ArcTwice" {
         writeln!(
             out,
-            "{} has {} arcs from {tail} to {head}, and as many earlier entries have these ends",
-            instance.file, parallel.all
+            "{} has {} arc{} from {tail} to {head}, and as many earlier entries have these ends",
+            instance.file,
+            parallel.all,
+            ending(parallel.all)
         )?;
         return Ok(());
     }
@@ -356,6 +456,7 @@ fn explain_value<F: Reopen>(
     if instance.kind == TextKind::Min {
         if let Some(cost) = cost_of(alloc, files, instance, solution)? {
             writeln!(out, "{claimed} is claimed, and the flow costs {cost}")?;
+            write_wrapped(claimed, cost, out)?;
         }
         return Ok(());
     }
@@ -371,6 +472,25 @@ fn explain_value<F: Reopen>(
             out,
             "{claimed} is claimed, and the flow has the value {value}: {outflow} leaves the source, node {id}, and {inflow} enters it"
         )?;
+        write_wrapped(claimed, value, out)?;
+    }
+    Ok(())
+}
+
+/// Names the bits in which a sum may have wrapped around.
+fn write_wrapped(claimed: i128, right: i128, out: &mut String) -> Result<(), AllocError> {
+    let apart = claimed.saturating_sub(right);
+    if apart % 18_446_744_073_709_551_616 == 0 {
+        return writeln!(
+            out,
+            "they differ by a multiple of 2^64: a sum of 64 bits may have wrapped around"
+        );
+    }
+    if apart % 4_294_967_296 == 0 {
+        return writeln!(
+            out,
+            "they differ by a multiple of 2^32: a sum of 32 bits may have wrapped around"
+        );
     }
     Ok(())
 }

@@ -17,6 +17,14 @@ pub(crate) fn kind_words(kind: TextKind) -> &'static str {
     }
 }
 
+/// Whether the words of a kind are many.
+pub(crate) fn is_plural(kind: TextKind) -> bool {
+    matches!(
+        kind,
+        TextKind::Queries | TextKind::Potentials | TextKind::Labels | TextKind::Distances
+    )
+}
+
 pub(crate) fn forms(kind: TextKind) -> &'static [&'static str] {
     match kind {
         TextKind::Max => &["p max NODES ARCS", "n ID s|t", "a TAIL HEAD CAP"],

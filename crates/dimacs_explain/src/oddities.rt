@@ -17,9 +17,15 @@ pub(crate) fn oddity(first: &[u8]) -> Option<&'static str> {
         [a, 0, b, 0, ..] | [0, a, 0, b, ..] if *a > 0 && *b > 0 => {
             Some("the file looks like UTF-16: write it in ASCII or UTF-8")
         }
-        [b'B', b'Z', b'h', ..] => Some("the file is compressed by bzip2"),
-        [0xfd, b'7', b'z', b'X', b'Z', ..] => Some("the file is compressed by xz"),
-        [0x28, 0xb5, 0x2f, 0xfd, ..] => Some("the file is compressed by zstd"),
+        [b'B', b'Z', b'h', ..] => Some(
+            "the file is compressed by bzip2: give <(bzcat FILE) in its place",
+        ),
+        [0xfd, b'7', b'z', b'X', b'Z', ..] => Some(
+            "the file is compressed by xz: give <(xzcat FILE) in its place",
+        ),
+        [0x28, 0xb5, 0x2f, 0xfd, ..] => Some(
+            "the file is compressed by zstd: give <(zstdcat FILE) in its place",
+        ),
         _ => None,
     }
 }

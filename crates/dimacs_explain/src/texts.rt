@@ -24,6 +24,8 @@ pub(crate) struct Texts<'a> {
     pub(crate) certificate: Option<TextFile<'a>>,
     /// The file that the run may write once it has read the others.
     pub(crate) written_file: Option<&'a str>,
+    /// Whether the run deals a flow out to parallel arcs.
+    pub(crate) is_spread: bool,
     /// The files that the run empties before it reads the others.
     pub(crate) emptied: Option<&'a [String]>,
 }
@@ -34,6 +36,7 @@ const NO_TEXTS: Texts<'static> = Texts {
     claim: None,
     certificate: None,
     written_file: None,
+    is_spread: false,
     emptied: None,
 };
 
@@ -46,16 +49,14 @@ impl<'a> Texts<'a> {
             },
             Job::Judge(kind, files) => judge_texts(kind, files),
             Job::Certify(kind, files) => certify_texts(kind, files),
-            Job::Spread(SpreadKind::Max, files) => claim_texts(
-                TextKind::Max,
-                TextKind::Solution,
-                files,
-            ),
-            Job::Spread(SpreadKind::Min, files) => claim_texts(
-                TextKind::Min,
-                TextKind::Solution,
-                files,
-            ),
+            Job::Spread(SpreadKind::Max, files) => Texts {
+                is_spread: true,
+                ..claim_texts(TextKind::Max, TextKind::Solution, files)
+            },
+            Job::Spread(SpreadKind::Min, files) => Texts {
+                is_spread: true,
+                ..claim_texts(TextKind::Min, TextKind::Solution, files)
+            },
             Job::Solve(job, files) => solve_texts(job, files),
         }
     }
