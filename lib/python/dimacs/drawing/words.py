@@ -162,9 +162,14 @@ def _nodes_meanings(network: Network) -> List[str]:
 # ---- for who doesn't see it
 
 
+def _counted(count: int, noun: str) -> str:
+    """A number of things."""
+    return f"{count} {noun}" if count == 1 else f"{count} {noun}s"
+
+
 def _description(network: Network, shown: str, verdict: Sequence[str], notes: Sequence[str]) -> str:
     sentences = [f"{shown}.", *(f"{it}." for it in [*verdict, *notes])]
-    sentences.append(f"The network has {network.node_count} nodes and {network.arc_count} arcs.")
+    sentences.append(f"The network has {_counted(network.node_count, 'node')} and {_counted(network.arc_count, 'arc')}.")
     sentences += [f"{node_words(network, node, it)}." for node, it in network.nodes.items()]
     sentences += [f"{arc_words(network, it)}." for it in network.arcs]
     sentences.append("The verdict is that of dimacs; the drawing isn't proved.")
