@@ -660,12 +660,12 @@ def shards(place):
         assert timeless(table) == timeless(place.table("whole")), table
 
     status, table, err = place.run("--join", "s.1", "s.4")
-    gaps = "rows 2 to 3 are in no table\nrows 6 to 7 are in no table\n"
+    gaps = "numbers 2 to 3 are in no table\nnumbers 6 to 7 are in no table\n"
     assert status == 3 and column(table, "number") == ["1", "4", "5"], table
     assert err == gaps + counted(2, 0, 0, 1, 0, 0, 0).rstrip("\n") + "; 4 in no table\n", err
     place.write("other", place.read("s.1").replace("v max 2", "v max 7"))
     status, table, err = place.run("--join", "s.1", "other", "-o", "joined")
-    assert status == 2 and err == "dimacs-batch: row 5: verdict is v max 7 in other, and v max 2 in s.1\n", err
+    assert status == 2 and err == "dimacs-batch: number 5: verdict is v max 7 in other, and v max 2 in s.1\n", err
     assert not os.path.exists(place.path("joined"))
     place.write("list", place.read("list") + "6.max 0.solution\n")
     place.run("list", "-o", "other")
@@ -795,9 +795,9 @@ def recheck_whole(place, binary):
     counts = "2 agree, 0 differ, 0 not there, 0 not judged; 1 in no table\n"
     none = "0 agree, 0 differ, 0 not there, 0 not judged\n"
     for text, wanted in (
-        ("", none), (lines[0], none), ("".join(lines[:-1]), "row 3 is in no table\n" + counts),
-        (lines[0] + "".join(lines[2:]), "row 1 is in no table\n" + counts),
-        (whole[:-9], "row 3 is in no table\n" + counts),
+        ("", none), (lines[0], none), ("".join(lines[:-1]), "number 3 is in no table\n" + counts),
+        (lines[0] + "".join(lines[2:]), "number 1 is in no table\n" + counts),
+        (whole[:-9], "number 3 is in no table\n" + counts),
     ):
         place.write("cut", text)
         status, _, err = place.run("--recheck", "cut", ".", program=binary)

@@ -13,7 +13,7 @@ def compare(row, other, table, before):
     """Fails if two tables have different rows of one number, and both were judged."""
     for column in COMPARED:
         if row[column] != other[column]:
-            fail(f"row {row['number']}: {column} is {row[column]} in {table}, and {other[column]} in {before}")
+            fail(f"number {row['number']}: {column} is {row[column]} in {table}, and {other[column]} in {before}")
 
 
 def joined(tables):
@@ -49,7 +49,7 @@ def missing(numbers, count):
     found = 0
     for first, last in gaps(numbers, count):
         found += last - first + 1
-        what = f"row {first} is" if first == last else f"rows {first} to {last} are"
+        what = f"number {first} is" if first == last else f"numbers {first} to {last} are"
         say(f"{what} in no table")
     return found
 

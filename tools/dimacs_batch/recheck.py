@@ -194,7 +194,7 @@ def recheck(options):
             numbers.append(int(row["number"]))
             most = max(most, int(row["of"]))
             if why:
-                in_words(print, f"row {row['number']}: {why}")
+                in_words(print, f"number {row['number']}: {why}")
     left = missing(sorted(numbers), most)
     say(", ".join(f"{counts[it]} {it}" for it in WORDS) + (f"; {left} in no table" if left else ""))
     if counts["differ"]:
