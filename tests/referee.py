@@ -12,7 +12,6 @@ import collections
 import concurrent.futures
 import itertools
 import os
-import re
 import subprocess
 import sys
 import tempfile

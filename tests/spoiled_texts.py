@@ -3,7 +3,6 @@
 A text is a list of lines, and a line a list of fields, until it is laid out.
 """
 import collections
-import itertools
 import os
 import random
 import re

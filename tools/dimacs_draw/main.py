@@ -3,7 +3,6 @@ import os
 import sys
 import zlib
 
-from dimacs_batch import ANY_NAMES
 from dimacs_batch.main import drop_output, flush, open_streams
 from dimacs_draw import drawing, fail
 from dimacs_draw.options import options_of

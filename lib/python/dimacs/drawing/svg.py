@@ -9,7 +9,7 @@ from typing import List, Sequence, Set, Tuple
 
 from .colours import PALETTE, arc_colour, arc_dash, arc_width, is_doubled, is_strong, node_colours
 from .layout import Box, Edge, Layout, Point, Sketch, corner
-from .network import INSIDE, WRONG, Arc, Network
+from .network import INSIDE, Arc, Network
 from .words import Said, arc_words, node_words, readable
 
 MARGIN = 22
