@@ -23,8 +23,8 @@ SPOILED = [
     ("@declared dimacs_network/src/network.rt ArcView", "", "MaxValue stands before ArcView, which it uses"),
     ("JudgeKind\n", "SpreadKind\n", "missing: JudgeKind"),
     ("JudgeKind\n", "SpreadKind\n", "not cited: SpreadKind"),
-    ("@kit AllZip :", "@kit OneZip :", "missing in the table of the kit: AllZip"),
-    ("@kit AllZip :", "@kit OneZip :", "not cited of the kit: OneZip"),
+    ("@kit All AllZip ", "@kit All OneZip ", "missing in the table of the kit: AllZip"),
+    ("@kit All AllZip ", "@kit All OneZip ", "not cited of the kit: OneZip"),
 ]
 
 

@@ -10,8 +10,9 @@ own. tools/theorem.md has the text, with these lines between:
     @define NAME..              definitions, one after another
     @says NAME : SENTENCE       the comment of a definition that has none in the sources
     @table NAME                 a definition that has a line for each reason, cut short: each gives the reason's own name
-    @kit NAME : MEANING         a row of the table of what is cited of the kit
-    @adds judge|command|library the files and names of what it cites, and of what wider contracts cite beside that
+    @kit NAME.. : MEANING       a row of the table of what is cited of the kit
+    @files judge                the files of what it cites
+    @adds command|library       the files and names of what these wider contracts cite beside that
 
 tools/believed.py finds what the contract cites. The script ends with 1 if something cited is missing on the page, if
 something there isn't cited, stands twice or before what it uses, or if a definition has neither a comment nor its name
@@ -91,7 +92,11 @@ class Page:
                 cited.setdefault(name, KIT.sub("", module))
         self.wrong += [f"missing in the table of the kit: {it}" for it in sorted(cited.keys() - self.kit.keys())]
         self.wrong += [f"not cited of the kit: {it}" for it in sorted(self.kit.keys() - cited.keys())]
-        rows = [f"| {as_code(name)} | {meaning} | `{cited.get(name, '')}` |" for name, meaning in self.kit.items()]
+        rows = []
+        for meaning, names in itertools.groupby(self.kit, self.kit.get):
+            alike = list(names)
+            modules = dict.fromkeys(f"`{cited.get(it, '')}`" for it in alike)
+            rows.append(f"| {', '.join(map(as_code, alike))} | {meaning} | {', '.join(modules)} |")
         self.add_text("\n".join(["| Name | Meaning | Module |", "|---|---|---|", *rows]))
 
     def adds(self, circle):
@@ -104,6 +109,13 @@ class Page:
                 path = os.path.relpath(self.defined.files[names[0]], f"{ROOT}/docs")
                 items.append(filled(f"- [{module_of(names[0])}]({path}), {lines} line{'s' * (lines > 1)}: {listed}"))
         self.add_text("\n".join(items))
+
+    def files(self, circle):
+        listed = {}
+        for crate, name in sorted({tuple(module_of(it).split(": ")) for it in self.outer[circle]}):
+            listed.setdefault(crate, []).append(f"`{name}`")
+        items = (f"[{it}](../crates/{it}/specs): {', '.join(names)}" for it, names in listed.items())
+        self.add_text("\n".join(filled(f"- {it}") for it in items))
 
     # ---- what they have in common
 
@@ -179,7 +191,7 @@ class Page:
         self.wrong += [f"not cited: {it}" for it in sorted(self.types - types | self.said.keys() - self.shown)]
 
 
-ASKED = {f"@{it.__name__}": it for it in (Page.contract, Page.trait, Page.declared, Page.define, Page.table, Page.adds)}
+ASKED = {f"@{it.__name__}": it for it in (Page.contract, Page.trait, Page.declared, Page.define, Page.table, Page.files, Page.adds)}
 
 
 def item_of(path, kind, name, end=r"^\}"):
@@ -227,8 +239,7 @@ def joined(lines):
         is_flat = all(re.match(r" {2}\S", it) for it in inner)
         return [whole] if is_flat and len(whole) <= WIDTH else [head, *side_by_side(inner)]
     name = head.split()[0]
-    equations = "; ".join(inner)
-    return [head, equations] if len(equations) <= WIDTH and all(it.startswith(f"{name} ") for it in inner) else lines
+    return [head, *side_by_side(inner, f"{name} ")] if all(it.startswith((f"{name} ", "    ")) for it in inner) else lines
 
 
 def carried_on(lines):
@@ -243,9 +254,9 @@ def carried_on(lines):
     return told
 
 
-def side_by_side(lines):
-    """Fields with as many on a line as fit. One that has several lines keeps them."""
-    fields, told = re.split(r"\n(?= {2}\S)", "\n".join(lines)), []
+def side_by_side(lines, start="  "):
+    """Fields or equations, with as many on a line as fit. One that has several lines keeps them."""
+    fields, told = re.split(rf"\n(?={start}\S)", "\n".join(lines)), []
     for field in fields:
         beside = f"{told[-1]}; {field.strip()}" if told else ""
         if beside and "\n" not in beside and len(beside) <= WIDTH:
@@ -324,7 +335,8 @@ def follow(page, paragraph):
     for line in re.sub(r"\n  +", " ", paragraph).split("\n"):
         asked, *words = line.split()
         if asked == "@kit":
-            page.kit[words[0]] = line.split(" : ", 1)[1]
+            names, meaning = line.removeprefix("@kit ").split(" : ", 1)
+            page.kit |= dict.fromkeys(names.split(), meaning)
         elif asked == "@says":
             page.says(words[0], line.split(" : ", 1)[1])
         elif asked in ASKED:
@@ -394,9 +406,12 @@ def html_block(page, kind, lines):
 
 
 def first_cell(page, text):
-    """The first cell of a row. If it is a name of the kit alone, links to the name lead here."""
-    name = text.strip("`")
-    return f'<code id="{anchor(name)}">{name}</code>' if name in page.kit and text == f"`{name}`" else inline(page, text)
+    """The first cell of a row. If it has names of the kit alone, links to them lead here."""
+    names = [it.strip("`") for it in text.split(", ")]
+    spelled = {as_code(it).strip("`") for it in page.kit}
+    if not spelled.issuperset(names):
+        return inline(page, text)
+    return ", ".join(f'<code id="{anchor(it)}">{html.escape(it)}</code>' for it in names)
 
 
 def inline(page, text):

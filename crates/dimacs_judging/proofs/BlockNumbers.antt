@@ -13,9 +13,9 @@ use Rattle.std.proofs.lemmas.List.Sums.{position_or_len_is, fails_before_first, 
 use Rattle.std.proofs.lemmas.Option.{slice_get_past, slice_get-get_or}
 use Rattle.dimacs_network.proofs.Nodes.{get-insert_same, get-insert_other}
 use Rattle.dimacs_claims.specs.Labels.{BlockValue, EachAfter, IsNewSource, label_at, has_source}
-use Rattle.dimacs_judging.specs.Answers.{block_of, distance_from, radius_from, radius_in}
+use Rattle.dimacs_judging.specs.Answers.{block_of, distance_from}
 use Rattle.dimacs_judging.specs.QueryTests.{HasBlock, HasFullBlock}
-use Rattle.dimacs_judging.specs.inside.QueryTests.{AreNumbers}
+use Rattle.dimacs_judging.specs.inside.QueryTests.{AreNumbers, radius_from, radius_in}
 use Rattle.dimacs_claims.proofs.BuilderLemmas.{unlabelled}
 
 -- ---- the first place that passes a test

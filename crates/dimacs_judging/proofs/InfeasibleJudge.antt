@@ -22,7 +22,7 @@ module _ (i : MinValue) (c : CutValue) where
   pub infeasible_passes : AllClear (infeasible_rows i c) → PassesInfeasible i c
   infeasible_passes clear = record { nodes_are = nodes_are i.nodes c.nodes clear.0; violated = set_violated i (members c) clear.1.0 }
 
-  infeasible_clear : PassesInfeasible i c → AllClear (infeasible_rows i c)
+  pub infeasible_clear : PassesInfeasible i c → AllClear (infeasible_rows i c)
   infeasible_clear passes = (nodes_clear i.nodes c.nodes passes.nodes_are, (violated_clear i (members c) passes.violated, tt))
 
   -- the first test that fails is the judge's error

@@ -7,7 +7,8 @@ use Rattle.dimacs_records.specs.declared.records.Record.TheVariants.{SourceQuery
 use Rattle.dimacs_instance.specs.QueryTexts.{QueriesValue, Sources, Pairs, pair_query, query_lines}
 use Rattle.dimacs_judging.specs.declared.verdict.Where.{Where}
 use Rattle.dimacs_judging.specs.declared.verdict.Where.TheVariants.{Node}
-use Rattle.dimacs_judging.specs.QueryTests.{ends_of, listed_row, sources_asked}
+use Rattle.dimacs_judging.specs.QueryTests.{listed_row, sources_asked}
+use Rattle.dimacs_judging.specs.inside.QueryTests.{ends_of}
 use Rattle.dimacs_judging.specs.Tests.{ClearBelow, Clear, FirstOfRow}
 
 module _ (ids : List ℕ) (why : Reason) (fails : ℕ → Type 0) where

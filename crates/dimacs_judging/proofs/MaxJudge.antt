@@ -88,7 +88,7 @@ module _ (i : MaxValue) (s : SolutionValue) (c : CutValue) where
       all_one_way-append (max_claim_rows i s) (certificate_tests x) (claim_one_way i s) (one_test_one_way Certificate NodesDiffer _, cut_one_way i (members c) x)
 
   -- if a flow passes, all tests pass
-  max_clear : IsMax i → (x : List ℤ) → PassesMax i s c x → AllClear (max_rows i s c)
+  pub max_clear : IsMax i → (x : List ℤ) → PassesMax i s c x → AllClear (max_rows i s c)
   max_clear law x passes =
       let y = claimed_flow i.arcs s.entries in
       all_clear-append (max_claim_rows i s) (certificate_tests y) (claim_clear i s law x passes.claim)

@@ -94,7 +94,7 @@ module _ (i : MinValue) (s : SolutionValue) (p : PotentialsValue) where
       all_one_way-append (min_claim_rows i s) (certificate_tests x) (claim_one_way i s) (one_test_one_way Certificate NodesDiffer _, (slack_one_way i.arcs (potential_of p) x, tt))
 
   -- if a flow passes, all tests pass
-  min_clear : (x : List ℤ) → PassesMin i s p x → AllClear (min_rows i s p)
+  pub min_clear : (x : List ℤ) → PassesMin i s p x → AllClear (min_rows i s p)
   min_clear x passes =
       let y = claimed_flow i.arcs s.entries in
       all_clear-append (min_claim_rows i s) (certificate_tests y) (claim_clear i s x passes.claim)

@@ -27,7 +27,7 @@ use Rattle.dimacs_judging.specs.inside.Tests.{TestsRows}
 use Rattle.dimacs_judging.specs.Rows.{one_test, amount_at, flow_row}
 use Rattle.dimacs_network.specs.Arcs.{no_arc, arc_at}
 use Rattle.dimacs_judging.specs.FlowTests.{BoundFails, bound_row, balance_row, cost_through, cost_row, feasible_max_rows, feasible_min_rows, max_demand, min_demand}
-use Rattle.dimacs_judging.specs.CertificateTests.{TightFails, tight_row, cut_rows, SlackFails, slack_row, violated_row}
+use Rattle.dimacs_judging.specs.CertificateTests.{TightFails, cut_rows, SlackFails, slack_row, violated_row}
 
 -- numbers that can't differ are equal
 pub same_number : (a b : ℤ) → (¬ (a ≢ b)) → a ≡ b
@@ -230,7 +230,7 @@ sink_clear : (i : MaxValue) (set : ℕ → Bool) → set i.sink ≡ false → Cl
 sink_clear i set outside = one_clear (places.Node i.sink) reasons.SinkInside (set i.sink ≡ true) (λ within. not_both (set i.sink) within outside)
 
 -- the tests of a cut with the source inside and the sink outside
-pub cut_told : (i : MaxValue) (set : ℕ → Bool) (x : List ℤ) (outcome : Result Unit (Where × Reason)) → set i.source ≡ true → set i.sink ≡ false → TestsRow (tight_row i.arcs set x) outcome → TestsRows (cut_rows i set x) outcome
+pub cut_told : (i : MaxValue) (set : ℕ → Bool) (x : List ℤ) (outcome : Result Unit (Where × Reason)) → set i.source ≡ true → set i.sink ≡ false → TestsRow (flow_row (TightFails set) i.arcs x) outcome → TestsRows (cut_rows i set x) outcome
 cut_told i set x (Ok done) inside outside clear = (source_clear i set inside, (sink_clear i set outside, (clear, tt)))
 cut_told i set x (Err refusal) inside outside first = inr (source_clear i set inside, inr (sink_clear i set outside, inl first))
 

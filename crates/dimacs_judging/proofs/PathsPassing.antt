@@ -37,7 +37,7 @@ paths_pass g q l clear = record {
   labels = labels_hold g.arcs l.blocks clear.1.1.1;
 }
 
-paths_clear : (g : NetworkValue) (q : QueriesValue) (l : LabelsValue) → PassesPaths g q l → AllClear (paths_rows g q l)
+pub paths_clear : (g : NetworkValue) (q : QueriesValue) (l : LabelsValue) → PassesPaths g q l → AllClear (paths_rows g q l)
 paths_clear g q l passes =
     (nodes_clear g.nodes l.nodes passes.nodes, (query_nodes_clear g.nodes q passes.queries, (query_blocks_clear l.blocks q passes.blocks, labels_clear g.arcs l.blocks passes.labels)))
 

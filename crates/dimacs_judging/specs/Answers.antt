@@ -1,9 +1,9 @@
 -- The answers that labels give to queries.
-use Rattle.std.specs.Prelude.{ℕ, ◌≡◌, if◌then◌else◌, List, map, is_some, length, Option, Some, None, ℤ}
+use Rattle.std.specs.Prelude.{ℕ, ◌≡◌, if◌then◌else◌, List, map, is_some, length, Option, None, option_and_then, ℤ}
 use Rattle.std.specs.List.{find}
 use Rattle.dimacs_instance.specs.QueryTexts.{QueriesValue}
 use Rattle.dimacs_instance.specs.QueryTexts as queries
-use Rattle.dimacs_claims.specs.Labels.{BlockValue, label_in, has_source}
+use Rattle.dimacs_claims.specs.Labels.{BlockValue, has_source, label}
 use Rattle.dimacs_judging.specs.declared.verdict.Answer.{Answer}
 use Rattle.dimacs_judging.specs.declared.verdict.Verdict.{Verdict}
 use Rattle.dimacs_judging.specs.declared.verdict.Verdict.TheVariants as verdicts
@@ -14,19 +14,11 @@ block_of blocks source = find (has_source source) blocks
 
 -- the label of a node in the block of another; none without a label or without a block
 abbrev pub distance_from : List BlockValue → ℕ → ℕ → Option ℤ
-distance_from blocks from to = label_in (block_of blocks from) to
+distance_from blocks from to = option_and_then (λ (b : BlockValue). label b to) (block_of blocks from)
 
-abbrev pub radius_in : Option BlockValue → Option ℤ
-radius_in None = None
-radius_in (Some b) = b.radius
-
--- the radius of a node's block; none without a radius or without a block
-abbrev pub radius_from : List BlockValue → ℕ → Option ℤ
-radius_from blocks from = radius_in (block_of blocks from)
-
--- the radius of a node's block, if the other node has no label in it
+-- the radius of a node's block, if it has one and the other node has no label in it
 abbrev pub beyond_from : List BlockValue → ℕ → ℕ → Option ℤ
-beyond_from blocks from to = if is_some (distance_from blocks from to) then None else radius_from blocks from
+beyond_from blocks from to = if is_some (distance_from blocks from to) then None else option_and_then (λ (b : BlockValue). b.radius) (block_of blocks from)
 
 abbrev pub answer_to : List BlockValue → ℕ × ℕ → Answer
 answer_to blocks pair = record {

@@ -19,15 +19,12 @@ use Rattle.dimacs_judging.specs.Tests.{Row}
 abbrev pub TightFails : (ℕ → Bool) → ArcView → ℤ → Reason → Type 0
 TightFails set a x reason = ((reason ≡ NotSaturated) × (leaves set a ≡ true) × (x ≢ a.cap)) ⊎ ((reason ≡ BackFlow) × (enters set a ≡ true) × (x ≢ pos 0))
 
-abbrev pub tight_row : List ArcView → (ℕ → Bool) → List ℤ → Row
-tight_row arcs set x = flow_row (TightFails set) arcs x
-
 -- the tests of a cut, in order
 abbrev pub cut_rows : MaxValue → (ℕ → Bool) → List ℤ → List Row
 cut_rows i set x =
     one_test (Node i.source) SourceOutside (set i.source ≡ false)
     ∷ one_test (Node i.sink) SinkInside (set i.sink ≡ true)
-    ∷ tight_row i.arcs set x ∷ []
+    ∷ flow_row (TightFails set) i.arcs x ∷ []
 
 -- the reduced cost is positive and x isn't the lower bound, or it is negative and x isn't the capacity
 abbrev pub SlackFails : ℤ → ArcView → ℤ → Reason → Type 0

@@ -9,14 +9,10 @@ use Rattle.dimacs_judging.specs.declared.verdict.Where.TheVariants.{Node}
 use Rattle.dimacs_judging.specs.Answers.{block_of}
 use Rattle.dimacs_judging.specs.Tests.{Row}
 
--- the nodes of a pair, FROM before TO
-abbrev pub ends_of : ℕ × ℕ → List ℕ
-ends_of pair = pair.0 ∷ pair.1 ∷ []
-
--- the nodes that queries name, query by query
+-- the nodes that queries name, query by query: of a pair FROM before TO
 abbrev pub nodes_asked : QueriesValue → List ℕ
 nodes_asked (Sources ids) = ids
-nodes_asked (Pairs pairs) = flat_map ends_of pairs
+nodes_asked (Pairs pairs) = flat_map (λ (pair : ℕ × ℕ). pair.0 ∷ pair.1 ∷ []) pairs
 
 -- the source of each query: its node, or FROM
 abbrev pub sources_asked : QueriesValue → List ℕ

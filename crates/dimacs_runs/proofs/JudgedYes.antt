@@ -19,16 +19,20 @@ use Rattle.dimacs_instance.specs.MaxTexts.{SpellsMax}
 use Rattle.dimacs_instance.specs.MinFlows.{IsMin, MinValue}
 use Rattle.dimacs_instance.specs.MinTexts.{SpellsMin}
 use Rattle.dimacs_instance.specs.QueryTexts.{AreIds, AreLawful, Pairs, QueriesValue, Sources, SpellsQueries}
-use Rattle.dimacs_judging.specs.Answers.{answer_to, distance_from, radius_from, radius_in}
+use Rattle.dimacs_judging.specs.Answers.{answer_to, distance_from}
 use Rattle.dimacs_judging.specs.declared.verdict.Answer.{Answer}
 use Rattle.dimacs_judging.specs.InfeasibleJudge.{ShowsNoFlow}
 use Rattle.dimacs_judging.specs.MaxJudge.{ShowsMaximum}
 use Rattle.dimacs_judging.specs.MinJudge.{ShowsLeast}
 use Rattle.dimacs_judging.specs.PathsJudge.{PassesPaths, ShowsDistances}
-use Rattle.dimacs_judging.specs.QueryTests.{HasBlock, HasFullBlock, IsServed, ends_of, sources_asked}
+use Rattle.dimacs_judging.specs.QueryTests.{HasBlock, HasFullBlock, IsServed, sources_asked}
+use Rattle.dimacs_judging.specs.inside.QueryTests.{ends_of, radius_from, radius_in}
 use Rattle.dimacs_judging.specs.inside.Labels.{block_at}
 use Rattle.dimacs_judging.proofs.BlockNumbers.{block_found}
-use Rattle.dimacs_judging.proofs.PathsPassing.{passing_shows}
+use Rattle.dimacs_judging.proofs.InfeasibleJudge.{infeasible_clear}
+use Rattle.dimacs_judging.proofs.MaxJudge.{max_clear}
+use Rattle.dimacs_judging.proofs.MinJudge.{min_clear}
+use Rattle.dimacs_judging.proofs.PathsPassing.{passing_shows, paths_clear}
 use Rattle.dimacs_decide.specs.CertifiedPaths.{AreLabelsOfAll, block_source, sources_of}
 use Rattle.dimacs_runs.specs.declared.jobs.JudgeKind.TheVariants as judges
 use Rattle.dimacs_runs.specs.declared.jobs.JudgeKind.TheVariants.{Max, Min, Infeasible, Paths}
@@ -37,21 +41,22 @@ use Rattle.dimacs_runs.specs.declared.status.Status.TheVariants.{Done}
 use Rattle.dimacs_runs.specs.Judged.{Judged, paths_lines}
 use Rattle.dimacs_runs.specs.Laws.{AskOf, CertifiedLaw, SolvedLaw}
 use Rattle.dimacs_runs.specs.Verdicts.{answer_line, distances_line, infeasible_line, max_line, min_line}
+use Rattle.dimacs_runs.proofs.JudgingLemmas.{least_shown, maximum_shown}
 use Rattle.dimacs_runs.proofs.SolutionTexts.{max_spelled, min_spelled}
 
 -- ---- texts that spell what passes are judged yes
 module _ (instance claim certificate : List ℕ) where
   max_yes : (i : MaxValue) (s : SolutionValue) (c : CutValue) → SpellsMax instance i → SpellsSolution claim s → SpellsCut certificate c → ShowsMaximum i s c → Judged Max instance claim certificate Done (max_line s.value)
-  max_yes i s c spells_i spells_s spells_c shown = inr (i, spells_i, inr (s, spells_s, inr (c, spells_c, (shown, refl))))
+  max_yes i s c spells_i spells_s spells_c shown = inr (i, spells_i, inr (s, spells_s, inr (c, spells_c, (max_clear i s c spells_i.given.1 shown.0 shown.1, maximum_shown i s c shown, refl))))
 
   min_yes : (i : MinValue) (s : SolutionValue) (p : PotentialsValue) → SpellsMin instance i → SpellsSolution claim s → SpellsPotentials certificate p → ShowsLeast i s p → Judged Min instance claim certificate Done (min_line s.value)
-  min_yes i s p spells_i spells_s spells_p shown = inr (i, spells_i, inr (s, spells_s, inr (p, spells_p, (shown, refl))))
+  min_yes i s p spells_i spells_s spells_p shown = inr (i, spells_i, inr (s, spells_s, inr (p, spells_p, (min_clear i s p shown.0 shown.1, least_shown i s p shown, refl))))
 
   set_yes : (i : MinValue) (c : CutValue) → SpellsMin instance i → SpellsCut certificate c → ShowsNoFlow i c → Judged Infeasible instance claim certificate Done infeasible_line
-  set_yes i c spells_i spells_c shown = inr (i, spells_i, inr (c, spells_c, (shown, refl)))
+  set_yes i c spells_i spells_c shown = inr (i, spells_i, inr (c, spells_c, (infeasible_clear i c shown.0, shown.1, refl)))
 
   paths_yes : (g : NetworkValue) (q : QueriesValue) (l : LabelsValue) → SpellsGraph instance g → SpellsQueries claim q → SpellsLabels certificate l → ShowsDistances g q l → Judged Paths instance claim certificate Done (paths_lines l.blocks q)
-  paths_yes g q l spells_g spells_q spells_l shown = inr (g, spells_g, inr (q, spells_q, inr (l, spells_l, (shown, refl))))
+  paths_yes g q l spells_g spells_q spells_l shown = inr (g, spells_g, inr (q, spells_q, inr (l, spells_l, (paths_clear g q l shown.passes, (shown.labels, shown.answers), refl))))
 
 -- ---- solvers
 max_law : (i : MaxValue) (instance : List ℕ) → SpellsMax instance i → IsMax i

@@ -1,5 +1,5 @@
 -- The reports on judged texts.
-use Rattle.std.proofs.Common.{◌≡◌, ℕ, List, [], ◌∷◌, Result, Ok, Err, refl, sym, subst, ap, ◌∙◌, inl, inr}
+use Rattle.std.proofs.Common.{◌≡◌, ℕ, List, [], ◌∷◌, Result, Ok, Err, refl, sym, subst, ap, ◌∙◌}
 use Rattle.dimacs_records.specs.declared.faults.ReadError.{ReadError}
 use Rattle.dimacs_records.specs.declared.reasons.Reason.{Reason}
 use Rattle.dimacs_judging.specs.declared.verdict.JudgeError.{JudgeError}
@@ -8,32 +8,49 @@ use Rattle.dimacs_judging.specs.declared.verdict.Verdict.{Verdict}
 use Rattle.dimacs_judging.specs.declared.verdict.Verdict.TheVariants as verdicts
 use Rattle.dimacs_judging.specs.declared.verdict.Where.{Where}
 use Rattle.dimacs_judging.specs.Answers.{AnswersQueries}
+use Rattle.std.specs.Prelude.{ℤ}
+use Rattle.dimacs_claims.specs.Cuts.{CutValue}
 use Rattle.dimacs_claims.specs.Labels.{BlockValue}
+use Rattle.dimacs_claims.specs.Potentials.{PotentialsValue}
+use Rattle.dimacs_claims.specs.SolutionTexts.{SolutionValue}
 use Rattle.dimacs_claims.specs.SolutionReading.{AnswersAlike}
+use Rattle.dimacs_instance.specs.MaxFlows.{MaxValue}
+use Rattle.dimacs_instance.specs.MinFlows.{MinValue}
 use Rattle.dimacs_instance.specs.QueryTexts as queries
 use Rattle.dimacs_instance.specs.QueryTexts.{QueriesValue}
 use Rattle.std.specs.List.{flat_map}
 use Rattle.dimacs_runs.specs.Judged.{paths_lines}
+use Rattle.dimacs_judging.specs.Claims.{claimed_flow}
+use Rattle.dimacs_judging.specs.MaxJudge.{ShowsMaximum}
+use Rattle.dimacs_judging.specs.MinJudge.{ShowsLeast}
+use Rattle.dimacs_judging.specs.Optimum.{Least, Maximum}
 use Rattle.dimacs_judging.specs.Tests.{Row, Judges}
 use Rattle.dimacs_runs.specs.declared.status.Status.{Status}
 use Rattle.dimacs_runs.specs.declared.status.Status.TheVariants.{Done, Refused, GaveUp}
 use Rattle.dimacs_runs.specs.Judgings.{CountsDevices, VerdictOr}
-use Rattle.dimacs_runs.specs.Runs.{TextSpells}
-use Rattle.dimacs_runs.specs.inside.Judgings.{ReadsIn}
+use Rattle.dimacs_runs.specs.inside.Judgings.{ReadsIn, TextSpells}
 use Rattle.dimacs_runs.specs.Runs.{ReportsAlone}
 use Rattle.dimacs_runs.specs.inside.Outcomes.{MayReport, judge_outcome, outcome_of}
 use Rattle.dimacs_runs.specs.Verdicts.{answer_line, failure_line, sources_line, verdict_lines}
 use Rattle.dimacs_judging.proofs.Firsts.{none_first}
 
-module _ (holds : Type 0) (rows : List Row) (says : Verdict → Type 0) (lines : List ℕ) (same : (verdict : Verdict) → says verdict → verdict_lines verdict ≡ lines) where
+-- ---- what the judges' verdicts show
+pub maximum_shown : (i : MaxValue) (s : SolutionValue) (c : CutValue) → ShowsMaximum i s c → Maximum i (claimed_flow i.arcs s.entries)
+maximum_shown i s c (x, passes, maximum) = subst (λ (y : List ℤ). Maximum i y) passes.claim.carries.amounts maximum
+
+pub least_shown : (i : MinValue) (s : SolutionValue) (p : PotentialsValue) → ShowsLeast i s p → Least i (claimed_flow i.arcs s.entries)
+least_shown i s p (x, passes, least) = subst (λ (y : List ℤ). Least i y) passes.claim.carries.amounts least
+
+-- ---- reports
+module _ (holds claim : Type 0) (shows : holds → claim) (rows : List Row) (says : Verdict → Type 0) (lines : List ℕ) (same : (verdict : Verdict) → says verdict → verdict_lines verdict ≡ lines) where
   abbrev possible : Status → List ℕ → Type 0
-  possible = VerdictOr holds rows lines
+  possible = VerdictOr rows claim lines
 
   yes_alone : (verdict : Verdict) → Judges rows holds says (Ok verdict) → ReportsAlone possible Done (verdict_lines verdict)
-  yes_alone verdict answer = ((answer.1, same verdict answer.2), alone)
+  yes_alone verdict answer = ((answer.0, shows answer.1, same verdict answer.2), alone)
     where
       alone : (s : Status) (other : List ℕ) → possible s other → (s ≡ Done) × (other ≡ verdict_lines verdict)
-      alone Done other h = (refl, h.1 ∙ sym (same verdict answer.2))
+      alone Done other h = (refl, h.2 ∙ sym (same verdict answer.2))
       alone Refused other h = absurd (none_first rows h.0 h.1 answer.0 h.2)
       alone GaveUp other h = absurd h
 
@@ -41,7 +58,7 @@ module _ (holds : Type 0) (rows : List Row) (says : Verdict → Type 0) (lines :
   no_alone place reason answer = ((place, reason, answer.0.0, refl), alone)
     where
       alone : (s : Status) (other : List ℕ) → possible s other → (s ≡ Refused) × (other ≡ failure_line place reason)
-      alone Done other h = absurd (answer.1 h.0)
+      alone Done other h = absurd (none_first rows place reason h.0 answer.0.0)
       alone Refused other h = let same = answer.0.1 h.0 h.1 h.2 in (refl, h.3 ∙ rw (same.0, same.1) refl)
       alone GaveUp other h = absurd h
 

@@ -17,9 +17,9 @@ use Rattle.dimacs_runs.specs.declared.texts_in_turn.ReadFailure.{ReadFailure}
 use Rattle.dimacs_runs.specs.Certified.{uncertified}
 use Rattle.dimacs_runs.specs.Outputs.{MayWrite, WritesAlike, report_of}
 use Rattle.dimacs_runs.specs.Refusals.{refusal_line}
-use Rattle.dimacs_runs.specs.Runs.{ReportsAlone, TextSpells, text_word}
+use Rattle.dimacs_runs.specs.Runs.{ReportsAlone, text_word}
 use Rattle.dimacs_runs.specs.Solved.{report_alone}
-use Rattle.dimacs_runs.specs.inside.Judgings.{ReadsIn, StopsAt}
+use Rattle.dimacs_runs.specs.inside.Judgings.{ReadsIn, StopsAt, TextSpells}
 use Rattle.dimacs_runs.specs.inside.Outcomes.{IfEnds, outcome_texts, reporting, outcome_of, unclaimed_texts, unread_end}
 use Rattle.dimacs_runs.specs.inside.Reports.{report_lines, report_status}
 

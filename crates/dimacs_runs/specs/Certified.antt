@@ -34,7 +34,6 @@ use Rattle.dimacs_runs.specs.declared.status.Status.{Status}
 use Rattle.dimacs_runs.specs.declared.status.Status.TheVariants.{Done, Refused, GaveUp}
 use Rattle.dimacs_runs.specs.Solved.{FaultAloneOr}
 use Rattle.dimacs_runs.specs.Refusals.{refusal_line}
-use Rattle.dimacs_runs.specs.Runs.{text_of}
 use Rattle.dimacs_runs.specs.Verdicts.{distances_line, failure_line, infeasible_line, max_line, min_line}
 
 -- only a report
@@ -109,19 +108,19 @@ CertifiesDistances g d GaveUp out = ⊥
 -- what is written for an instance and a claim
 abbrev pub Certified : JudgeKind → List ℕ → List ℕ → Status → List (List ℕ) → Type 0
 Certified Max instance claim =
-    FaultAloneOr uncertified (text_of kinds.Max GivesMax instance) (λ i.
-    FaultAloneOr uncertified (text_of kinds.Solution GivesSolution claim) (λ s.
+    FaultAloneOr uncertified kinds.Max GivesMax instance (λ i.
+    FaultAloneOr uncertified kinds.Solution GivesSolution claim (λ s.
     CertifiesMaximum i s))
 Certified Min instance claim =
-    FaultAloneOr uncertified (text_of kinds.Min GivesMin instance) (λ i.
-    FaultAloneOr uncertified (text_of kinds.Solution GivesSolution claim) (λ s.
+    FaultAloneOr uncertified kinds.Min GivesMin instance (λ i.
+    FaultAloneOr uncertified kinds.Solution GivesSolution claim (λ s.
     CertifiesLeast i s))
 Certified Infeasible instance claim =
-    FaultAloneOr uncertified (text_of kinds.Min GivesMin instance) (λ i.
+    FaultAloneOr uncertified kinds.Min GivesMin instance (λ i.
     CertifiesInfeasible i)
 Certified Paths instance claim =
-    FaultAloneOr uncertified (text_of kinds.Graph GivesGraph instance) (λ g.
-    FaultAloneOr uncertified (text_of kinds.Distances GivesDistances claim) (λ d.
+    FaultAloneOr uncertified kinds.Graph GivesGraph instance (λ g.
+    FaultAloneOr uncertified kinds.Distances GivesDistances claim (λ d.
     CertifiesDistances g d))
 
 abbrev pub certified_kind : JudgeKind → TextKind

@@ -13,15 +13,18 @@ use Rattle.dimacs_instance.specs.MaxTexts.{GivesMax}
 use Rattle.dimacs_instance.specs.MinTexts.{GivesMin}
 use Rattle.dimacs_instance.specs.QueryTexts.{QueriesValue, GivesQueries, Sources, Pairs}
 use Rattle.dimacs_judging.specs.Answers.{answer_to}
-use Rattle.dimacs_judging.specs.InfeasibleJudge.{ShowsNoFlow, infeasible_rows}
-use Rattle.dimacs_judging.specs.MaxJudge.{ShowsMaximum, max_rows}
-use Rattle.dimacs_judging.specs.MinJudge.{ShowsLeast, min_rows}
-use Rattle.dimacs_judging.specs.PathsJudge.{ShowsDistances, paths_rows}
+use Rattle.dimacs_judging.specs.Claims.{claimed_flow}
+use Rattle.dimacs_judging.specs.InfeasibleJudge.{infeasible_rows}
+use Rattle.dimacs_judging.specs.Labels.{AreDistances}
+use Rattle.dimacs_judging.specs.MaxJudge.{max_rows}
+use Rattle.dimacs_judging.specs.MinJudge.{min_rows}
+use Rattle.dimacs_judging.specs.Optimum.{Least, Maximum, NoFlow}
+use Rattle.dimacs_judging.specs.PathsJudge.{AnswersAreDistances, paths_rows}
 use Rattle.dimacs_runs.specs.declared.jobs.JudgeKind.{JudgeKind}
 use Rattle.dimacs_runs.specs.declared.jobs.JudgeKind.TheVariants.{Max, Min, Infeasible, Paths}
 use Rattle.dimacs_runs.specs.declared.status.Status.{Status}
-use Rattle.dimacs_runs.specs.Judgings.{FaultOr, VerdictOr}
-use Rattle.dimacs_runs.specs.Runs.{text_of}
+use Rattle.dimacs_runs.specs.Judgings.{VerdictOr}
+use Rattle.dimacs_runs.specs.Runs.{FaultOr}
 use Rattle.dimacs_runs.specs.Verdicts.{max_line, min_line, infeasible_line, sources_line, answer_line}
 
 -- the number of sources, or a line for each pair
@@ -32,24 +35,24 @@ paths_lines blocks (Pairs pairs) = flat_map answer_line (map (answer_to blocks) 
 -- the report on the texts: a flow with a cut or with potentials, a set of nodes without a claim, or queries with labels
 abbrev pub Judged : JudgeKind → List ℕ → List ℕ → List ℕ → Status → List ℕ → Type 0
 Judged Max instance claim certificate =
-    FaultOr (text_of kinds.Max GivesMax instance) (λ i.
-    FaultOr (text_of kinds.Solution GivesSolution claim) (λ s.
-    FaultOr (text_of kinds.Cut GivesCut certificate) (λ c.
-    VerdictOr (ShowsMaximum i s c) (max_rows i s c) (max_line s.value))))
+    FaultOr kinds.Max GivesMax instance (λ i.
+    FaultOr kinds.Solution GivesSolution claim (λ s.
+    FaultOr kinds.Cut GivesCut certificate (λ c.
+    VerdictOr (max_rows i s c) (Maximum i (claimed_flow i.arcs s.entries)) (max_line s.value))))
 Judged Min instance claim certificate =
-    FaultOr (text_of kinds.Min GivesMin instance) (λ i.
-    FaultOr (text_of kinds.Solution GivesSolution claim) (λ s.
-    FaultOr (text_of kinds.Potentials GivesPotentials certificate) (λ p.
-    VerdictOr (ShowsLeast i s p) (min_rows i s p) (min_line s.value))))
+    FaultOr kinds.Min GivesMin instance (λ i.
+    FaultOr kinds.Solution GivesSolution claim (λ s.
+    FaultOr kinds.Potentials GivesPotentials certificate (λ p.
+    VerdictOr (min_rows i s p) (Least i (claimed_flow i.arcs s.entries)) (min_line s.value))))
 Judged Infeasible instance claim certificate =
-    FaultOr (text_of kinds.Min GivesMin instance) (λ i.
-    FaultOr (text_of kinds.Cut GivesCut certificate) (λ c.
-    VerdictOr (ShowsNoFlow i c) (infeasible_rows i c) infeasible_line))
+    FaultOr kinds.Min GivesMin instance (λ i.
+    FaultOr kinds.Cut GivesCut certificate (λ c.
+    VerdictOr (infeasible_rows i c) (NoFlow i) infeasible_line))
 Judged Paths instance claim certificate =
-    FaultOr (text_of kinds.Graph GivesGraph instance) (λ g.
-    FaultOr (text_of kinds.Queries GivesQueries claim) (λ q.
-    FaultOr (text_of kinds.Labels GivesLabels certificate) (λ l.
-    VerdictOr (ShowsDistances g q l) (paths_rows g q l) (paths_lines l.blocks q))))
+    FaultOr kinds.Graph GivesGraph instance (λ g.
+    FaultOr kinds.Queries GivesQueries claim (λ q.
+    FaultOr kinds.Labels GivesLabels certificate (λ l.
+    VerdictOr (paths_rows g q l) (AreDistances g.arcs l.blocks × AnswersAreDistances g.arcs l.blocks q) (paths_lines l.blocks q))))
 
 abbrev pub instance_kind : JudgeKind → TextKind
 instance_kind Max = kinds.Max

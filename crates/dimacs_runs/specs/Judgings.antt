@@ -3,26 +3,18 @@ use Rattle.std.specs.Prelude.{ℕ, ◌≡◌, ◌⊎◌, List, [], ◌∷◌, Re
 use Rattle.dimacs_lines.specs.Devices.{one_more}
 use Rattle.dimacs_records.specs.declared.reasons.Reason.{Reason}
 use Rattle.dimacs_judging.specs.declared.verdict.Where.{Where}
-use Rattle.dimacs_judging.specs.Tests.{Row, First}
+use Rattle.dimacs_judging.specs.Tests.{AllClear, Row, First}
 use Rattle.dimacs_runs.specs.declared.status.Status.{Status}
 use Rattle.dimacs_runs.specs.declared.status.Status.TheVariants.{Done, Refused, GaveUp}
 use Rattle.dimacs_runs.specs.declared.status.RunError.{RunError}
 use Rattle.dimacs_runs.specs.declared.status.RunError.TheVariants.{Device, Memory}
-use Rattle.dimacs_runs.specs.Refusals.{refusal_line}
-use Rattle.dimacs_runs.specs.Runs.{TextSpells}
 use Rattle.dimacs_runs.specs.Verdicts.{failure_line}
 
--- the text has a fault, and the report is its line; or it spells a value, and the report follows from that
-abbrev pub FaultOr : {V : Type 0} → TextSpells V → (V → Status → List ℕ → Type 0) → Status → List ℕ → Type 0
-FaultOr text next status out =
-    ((l : ℕ) × (f : ℕ) × (r : Reason) × text.fault l f r × (status ≡ Refused) × (out ≡ refusal_line text.name l f r))
-    ⊎ ((v : _) × text.spells v × next v status out)
-
--- this holds, and the report is the verdict; or the report is the line of the first test that fails
-abbrev pub VerdictOr : Type 0 → List Row → List ℕ → Status → List ℕ → Type 0
-VerdictOr holds rows verdict Done out = holds × (out ≡ verdict)
-VerdictOr holds rows verdict Refused out = (place : Where) × (reason : Reason) × First rows place reason × (out ≡ failure_line place reason)
-VerdictOr holds rows verdict GaveUp out = ⊥
+-- all tests pass, the claim is true, and the report is the verdict; or the report is the line of the first test that fails
+abbrev pub VerdictOr : List Row → Type 0 → List ℕ → Status → List ℕ → Type 0
+VerdictOr rows claim verdict Done out = AllClear rows × claim × (out ≡ verdict)
+VerdictOr rows claim verdict Refused out = (place : Where) × (reason : Reason) × First rows place reason × (out ≡ failure_line place reason)
+VerdictOr rows claim verdict GaveUp out = ⊥
 
 -- one count of faults is one more, and the others are the same
 abbrev pub OneMore : List ℕ → List ℕ → Type 0

@@ -19,7 +19,7 @@ use Rattle.dimacs_instance.specs.MaxTexts.{GivesMax, canonical_max, shown_max}
 use Rattle.dimacs_instance.specs.MinTexts.{GivesMin, canonical_min, shown_min}
 use Rattle.dimacs_instance.specs.QueryTexts.{GivesQueries, canonical_queries, shown_queries}
 use Rattle.dimacs_runs.specs.declared.status.Status.{Status}
-use Rattle.dimacs_runs.specs.declared.status.Status.TheVariants.{Done, Refused, GaveUp}
+use Rattle.dimacs_runs.specs.declared.status.Status.TheVariants.{Done, Refused}
 use Rattle.dimacs_runs.specs.declared.text.TextForm.{TextForm}
 use Rattle.dimacs_runs.specs.declared.text.TextForm.TheVariants.{Canonical, Summary}
 use Rattle.dimacs_runs.specs.Refusals.{refusal_line}
@@ -34,21 +34,15 @@ text_word Labels = codes "certificate"
 text_word Distances = codes "distances"
 text_word instance = codes "instance"
 
--- a text: its word in refusals, the value that it spells, and its fault
-pub record TextSpells (V : Type 0) : Type 1 where
-  pub name : List ℕ
-  pub spells : V → Type 0
-  pub fault : ℕ → ℕ → Reason → Type 0
+-- the bytes have a fault, and the report is its line; or they spell a value, and the report follows from that
+abbrev pub FaultOr : {V : Type 0} → TextKind → (List LineRecord → V → Type 0) → List ℕ → (V → Status → List ℕ → Type 0) → Status → List ℕ → Type 0
+FaultOr kind gives bytes next status out =
+    ((l : ℕ) × (f : ℕ) × (r : Reason) × Fault kind (lines bytes) l f r × (status ≡ Refused) × (out ≡ refusal_line (text_word kind) l f r))
+    ⊎ ((v : _) × SpellsValue kind gives (lines bytes) v × next v status out)
 
--- these bytes as a text of this kind; `gives` relates its records to its value
-abbrev pub text_of : {V : Type 0} → TextKind → (List LineRecord → V → Type 0) → List ℕ → TextSpells V
-text_of kind gives bytes = record { name = text_word kind; spells = SpellsValue kind gives (lines bytes); fault = Fault kind (lines bytes) }
-
--- prints `printed v` if the text spells a value v, otherwise the line of its fault
-abbrev pub PrintsText : {V : Type 0} → TextSpells V → (V → List ℕ) → Status → List ℕ → Type 0
-PrintsText text printed Done out = (v : _) × text.spells v × (out ≡ printed v)
-PrintsText text printed Refused out = (l : ℕ) × (f : ℕ) × (r : Reason) × text.fault l f r × (out ≡ refusal_line text.name l f r)
-PrintsText text printed GaveUp out = ⊥
+-- the value is printed like this
+abbrev pub IsPrinted : {V : Type 0} → (V → List ℕ) → V → Status → List ℕ → Type 0
+IsPrinted printed v status out = (status ≡ Done) × (out ≡ printed v)
 
 -- how a value is printed: as its canonical text, or as the line that describes it
 abbrev pub in_form : {V : Type 0} → TextForm → (V → List ℕ) → (V → List ℕ) → V → List ℕ
@@ -57,15 +51,15 @@ in_form Summary canonical shown = shown
 
 -- what is printed for a text in this form
 abbrev pub Prints : TextForm → TextKind → List ℕ → Status → List ℕ → Type 0
-Prints form Max bytes = PrintsText (text_of Max GivesMax bytes) (in_form form canonical_max shown_max)
-Prints form Min bytes = PrintsText (text_of Min GivesMin bytes) (in_form form canonical_min shown_min)
-Prints form Graph bytes = PrintsText (text_of Graph GivesGraph bytes) (in_form form canonical_graph shown_graph)
-Prints form Queries bytes = PrintsText (text_of Queries GivesQueries bytes) (in_form form canonical_queries shown_queries)
-Prints form Solution bytes = PrintsText (text_of Solution GivesSolution bytes) (in_form form canonical_solution shown_solution)
-Prints form Cut bytes = PrintsText (text_of Cut GivesCut bytes) (in_form form canonical_cut shown_cut)
-Prints form Potentials bytes = PrintsText (text_of Potentials GivesPotentials bytes) (in_form form canonical_potentials shown_potentials)
-Prints form Labels bytes = PrintsText (text_of Labels GivesLabels bytes) (in_form form canonical_labels shown_labels)
-Prints form Distances bytes = PrintsText (text_of Distances GivesDistances bytes) (in_form form canonical_distances shown_distances)
+Prints form Max bytes = FaultOr Max GivesMax bytes (IsPrinted (in_form form canonical_max shown_max))
+Prints form Min bytes = FaultOr Min GivesMin bytes (IsPrinted (in_form form canonical_min shown_min))
+Prints form Graph bytes = FaultOr Graph GivesGraph bytes (IsPrinted (in_form form canonical_graph shown_graph))
+Prints form Queries bytes = FaultOr Queries GivesQueries bytes (IsPrinted (in_form form canonical_queries shown_queries))
+Prints form Solution bytes = FaultOr Solution GivesSolution bytes (IsPrinted (in_form form canonical_solution shown_solution))
+Prints form Cut bytes = FaultOr Cut GivesCut bytes (IsPrinted (in_form form canonical_cut shown_cut))
+Prints form Potentials bytes = FaultOr Potentials GivesPotentials bytes (IsPrinted (in_form form canonical_potentials shown_potentials))
+Prints form Labels bytes = FaultOr Labels GivesLabels bytes (IsPrinted (in_form form canonical_labels shown_labels))
+Prints form Distances bytes = FaultOr Distances GivesDistances bytes (IsPrinted (in_form form canonical_distances shown_distances))
 
 -- this is the only possible outcome
 abbrev pub ReportsAlone : (Status → List ℕ → Type 0) → Status → List ℕ → Type 0

@@ -1,10 +1,14 @@
 -- What solvers write: a claim, its certificate and a report. A text that isn't written is empty here.
 use Rattle.std.specs.Prelude.{ℕ, ◌≡◌, ◌<◌, ◌⊎◌, List, [], ◌∷◌, Option, Some}
 use Rattle.std.specs.List.{All}
+use Rattle.dimacs_lines.specs.Lines.{lines}
 use Rattle.dimacs_records.specs.declared.kinds.TextKind.{TextKind}
 use Rattle.dimacs_records.specs.declared.kinds.TextKind.TheVariants as kinds
 use Rattle.dimacs_records.specs.declared.reasons.Reason.{Reason}
 use Rattle.dimacs_records.specs.declared.reasons.Reason.TheVariants.{NegativeWeight}
+use Rattle.dimacs_records.specs.Faults.{Fault}
+use Rattle.dimacs_records.specs.Readings.{LineRecord}
+use Rattle.dimacs_records.specs.Texts.{SpellsValue}
 use Rattle.dimacs_claims.specs.Cuts.{CutValue, SpellsCut, canonical_cut}
 use Rattle.dimacs_claims.specs.LabelTexts.{canonical_labels}
 use Rattle.dimacs_claims.specs.Labels.{AreLabels, LabelsValue}
@@ -33,18 +37,19 @@ use Rattle.dimacs_runs.specs.declared.status.Status.{Status}
 use Rattle.dimacs_runs.specs.declared.status.Status.TheVariants.{Done, Refused, GaveUp}
 use Rattle.dimacs_runs.specs.Judged.{paths_lines}
 use Rattle.dimacs_runs.specs.Refusals.{refusal_line}
-use Rattle.dimacs_runs.specs.Runs.{TextSpells, text_of}
+use Rattle.dimacs_runs.specs.Runs.{text_word}
 use Rattle.dimacs_runs.specs.Verdicts.{failure_line, gave_up_line, infeasible_line, max_line, min_line}
 
 -- only a report
 abbrev pub report_alone : List ℕ → List (List ℕ)
 report_alone line = [] ∷ [] ∷ line ∷ []
 
--- the text has a fault, and only its line is written; or it spells a value, and the outcome follows from that
-abbrev pub FaultAloneOr : {V : Type 0} → (List ℕ → List (List ℕ)) → TextSpells V → (V → Status → List (List ℕ) → Type 0) → Status → List (List ℕ) → Type 0
-FaultAloneOr alone text next status out =
-    ((l : ℕ) × (f : ℕ) × (r : Reason) × text.fault l f r × (status ≡ Refused) × (out ≡ alone (refusal_line text.name l f r)))
-    ⊎ ((v : _) × text.spells v × next v status out)
+-- the bytes have a fault, and only its line is written; or they spell a value, and the outcome follows from that
+abbrev pub FaultAloneOr : {V : Type 0} → (List ℕ → List (List ℕ)) → TextKind → (List LineRecord → V → Type 0) → List ℕ
+    → (V → Status → List (List ℕ) → Type 0) → Status → List (List ℕ) → Type 0
+FaultAloneOr alone kind gives bytes next status out =
+    ((l : ℕ) × (f : ℕ) × (r : Reason) × Fault kind (lines bytes) l f r × (status ≡ Refused) × (out ≡ alone (refusal_line (text_word kind) l f r)))
+    ⊎ ((v : _) × SpellsValue kind gives (lines bytes) v × next v status out)
 
 -- a solution, a cut that shows it maximum, and the verdict; or none of `limit` flows is maximum
 abbrev pub FindsMaximum : MaxValue → ℕ → Status → List (List ℕ) → Type 0
@@ -77,11 +82,11 @@ FindsPaths g q GaveUp out = ⊥
 
 -- what is written for an instance, and for queries if there are any
 abbrev pub Solved : SolveJob → List ℕ → List ℕ → Status → List (List ℕ) → Type 0
-Solved (Max limit) instance queries = FaultAloneOr report_alone (text_of kinds.Max GivesMax instance) (λ i. FindsMaximum i limit)
-Solved (Min limit) instance queries = FaultAloneOr report_alone (text_of kinds.Min GivesMin instance) (λ i. FindsLeast i limit)
+Solved (Max limit) instance queries = FaultAloneOr report_alone kinds.Max GivesMax instance (λ i. FindsMaximum i limit)
+Solved (Min limit) instance queries = FaultAloneOr report_alone kinds.Min GivesMin instance (λ i. FindsLeast i limit)
 Solved Paths instance queries =
-    FaultAloneOr report_alone (text_of kinds.Graph GivesGraph instance) (λ g.
-    FaultAloneOr report_alone (text_of kinds.Queries GivesQueries queries) (λ q.
+    FaultAloneOr report_alone kinds.Graph GivesGraph instance (λ g.
+    FaultAloneOr report_alone kinds.Queries GivesQueries queries (λ q.
     FindsPaths g q))
 
 -- the bytes of the queries, if there are any

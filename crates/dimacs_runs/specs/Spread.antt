@@ -17,7 +17,6 @@ use Rattle.dimacs_runs.specs.declared.jobs.SpreadKind.TheVariants.{Max, Min}
 use Rattle.dimacs_runs.specs.declared.status.Status.{Status}
 use Rattle.dimacs_runs.specs.declared.status.Status.TheVariants.{Done, Refused, GaveUp}
 use Rattle.dimacs_runs.specs.Certified.{uncertified}
-use Rattle.dimacs_runs.specs.Runs.{text_of}
 use Rattle.dimacs_runs.specs.Solved.{FaultAloneOr}
 use Rattle.dimacs_runs.specs.Verdicts.{failure_line}
 
@@ -44,12 +43,12 @@ SpreadsClaim kind arcs s GaveUp out = ⊥
 -- what is written for an instance and a claimed flow
 abbrev pub Spreads : SpreadKind → List ℕ → List ℕ → Status → List (List ℕ) → Type 0
 Spreads Max instance claim =
-    FaultAloneOr uncertified (text_of kinds.Max GivesMax instance) (λ i.
-    FaultAloneOr uncertified (text_of kinds.Solution GivesSolution claim) (λ s.
+    FaultAloneOr uncertified kinds.Max GivesMax instance (λ i.
+    FaultAloneOr uncertified kinds.Solution GivesSolution claim (λ s.
     SpreadsClaim Max i.arcs s))
 Spreads Min instance claim =
-    FaultAloneOr uncertified (text_of kinds.Min GivesMin instance) (λ i.
-    FaultAloneOr uncertified (text_of kinds.Solution GivesSolution claim) (λ s.
+    FaultAloneOr uncertified kinds.Min GivesMin instance (λ i.
+    FaultAloneOr uncertified kinds.Solution GivesSolution claim (λ s.
     SpreadsClaim Min i.arcs s))
 
 -- the kind of the instance's text

@@ -32,14 +32,11 @@ sources_line count = yes_line (codes "sp" ∷ codes "ss" ∷ decimal count ∷ [
 abbrev pub distances_line : ℕ → List ℕ
 distances_line count = yes_line (codes "sp" ∷ codes "distances" ∷ decimal count ∷ [])
 
--- the words in place of a distance: the target is beyond a radius, or unreachable
-abbrev pub far_words : Option ℤ → List (List ℕ)
-far_words None = codes "unreachable" ∷ []
-far_words (Some radius) = codes "more" ∷ signed_decimal radius ∷ []
-
+-- a distance; or the words for a target that is beyond a radius, or unreachable
 abbrev pub distance_words : Option ℤ → Option ℤ → List (List ℕ)
-distance_words None beyond = far_words beyond
 distance_words (Some distance) beyond = signed_decimal distance ∷ []
+distance_words None (Some radius) = codes "more" ∷ signed_decimal radius ∷ []
+distance_words None None = codes "unreachable" ∷ []
 
 abbrev pub answer_line : Answer → List ℕ
 answer_line a = yes_line (decimal a.from ∷ decimal a.to ∷ distance_words a.distance a.beyond)

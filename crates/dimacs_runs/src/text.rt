@@ -5,8 +5,8 @@ ghost use Rattle.dimacs_runs.specs.declared.status.RunError.TheVariants.{Memory}
 ghost use Rattle.dimacs_runs.specs.declared.text.TextForm.TheVariants.{Canonical, Summary};
 ghost use Rattle.dimacs_runs.specs.Judgings.{CountsDevices};
 ghost use Rattle.dimacs_lines.specs.Puts.{Puts};
-ghost use Rattle.dimacs_runs.specs.Runs.{Reports, PrintsText, Prints, in_form};
-ghost use Rattle.dimacs_runs.specs.inside.Judgings.{text_spells};
+ghost use Rattle.dimacs_runs.specs.Runs.{Reports, IsPrinted, Prints, in_form};
+ghost use Rattle.dimacs_runs.specs.inside.Judgings.{FaultIn, text_spells};
 
 use crate::discard::Discard;
 use crate::early_end::{EarlyEnd, outcome_of};
@@ -104,7 +104,7 @@ fn print<T: Text, S: Source, K: Sink>(
     sink: &mut K,
 ) -> Result<Status, RunError>
     ensures reports { (bytes : List ℕ) → S.coming text.old ≡ Some bytes
-        → Reports (PrintsText (text_spells T.kind T.spells bytes) (in_form form T.canonical T.shown)) result
+        → Reports (FaultIn (text_spells T.kind T.spells bytes) (IsPrinted (in_form form T.canonical T.shown))) result
         (K.seen sink.old).accepted (K.seen sink.new).accepted }
     ensures faults { CountsDevices result (S.faults text.old ∷ (K.seen sink.old).faults ∷ []) (S.faults text.new ∷ (K.seen sink.new).faults ∷ []) }
     ensures nothing_written { S.faults text.new ≢ S.faults text.old → K.seen sink.new ≡ K.seen sink.old }
@@ -142,7 +142,7 @@ fn sum_up<T: Summary, S: Source, K: Sink>(
     sink: &mut K,
 ) -> Result<Status, RunError>
     ensures reports { (bytes : List ℕ) → S.coming text.old ≡ Some bytes
-        → Reports (PrintsText (text_spells T.kind T.spells bytes) T.shown) result (K.seen sink.old).accepted (K.seen sink.new).accepted }
+        → Reports (FaultIn (text_spells T.kind T.spells bytes) (IsPrinted T.shown)) result (K.seen sink.old).accepted (K.seen sink.new).accepted }
     ensures faults { CountsDevices result (S.faults text.old ∷ (K.seen sink.old).faults ∷ []) (S.faults text.new ∷ (K.seen sink.new).faults ∷ []) }
     ensures nothing_written { S.faults text.new ≢ S.faults text.old → K.seen sink.new ≡ K.seen sink.old }
     ensures memory { result ≡ Err Memory → K.seen sink.new ≡ K.seen sink.old }

@@ -18,7 +18,8 @@ use Rattle.dimacs_judging.specs.Labels.{HasWeights, HasTightArc, IsRelaxed, Labe
 use Rattle.dimacs_judging.specs.Laws.{PassingShowsLaw}
 use Rattle.dimacs_judging.specs.PathsJudge.{PassesPaths}
 use Rattle.dimacs_judging.proofs.BlockNumbers.{block_found}
-use Rattle.dimacs_judging.specs.QueryTests.{HasBlock, HasFullBlock, IsServed, ends_of, nodes_asked, sources_asked}
+use Rattle.dimacs_judging.specs.QueryTests.{HasBlock, HasFullBlock, IsServed, nodes_asked, sources_asked}
+use Rattle.dimacs_judging.specs.inside.QueryTests.{ends_of}
 use Rattle.dimacs_solve.specs.declared.adjacency.Adjacency.{Adjacency}
 use Rattle.dimacs_solve.specs.declared.adjacency.WeightedArc.{WeightedArc}
 use Rattle.dimacs_solve.specs.inside.Adjacency.{out, out_arc_to, IsOutArcOf, IsAdjacencyOf}

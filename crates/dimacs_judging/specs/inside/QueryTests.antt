@@ -1,13 +1,26 @@
 -- Inside: the tests of queries: their nodes, and the blocks that answer them.
-use Rattle.std.specs.Prelude.{ℕ, ◌≡◌, List, Result, Ok, Err}
+use Rattle.std.specs.Prelude.{ℕ, ◌≡◌, List, [], ◌∷◌, Option, Result, Ok, Err, ℤ, option_and_then}
 use Rattle.std.specs.List.{position}
 use Rattle.std.specs.Ordering.{nat_cmp}
 use Rattle.std.specs.FinMap.{FinMap, get}
 use Rattle.dimacs_instance.specs.QueryTexts.{QueriesValue}
 use Rattle.dimacs_claims.specs.Labels.{BlockValue, has_source}
 use Rattle.dimacs_judging.specs.declared.verdict.JudgeError.{JudgeError}
+use Rattle.dimacs_judging.specs.Answers.{block_of}
 use Rattle.dimacs_judging.specs.Tests.{Clear, FirstOfRow, Refuses}
 use Rattle.dimacs_judging.specs.QueryTests.{block_row}
+
+-- the nodes of a pair, FROM before TO
+abbrev pub ends_of : ℕ × ℕ → List ℕ
+ends_of pair = pair.0 ∷ pair.1 ∷ []
+
+-- the radius of a block, if there are both
+abbrev pub radius_in : Option BlockValue → Option ℤ
+radius_in block = option_and_then (λ (b : BlockValue). b.radius) block
+
+-- the radius of a node's block; none without a radius or without a block
+abbrev pub radius_from : List BlockValue → ℕ → Option ℤ
+radius_from blocks from = radius_in (block_of blocks from)
 
 -- each source has the number of its first block, from 0; a node without a block has none
 abbrev pub AreNumbers : List BlockValue → FinMap nat_cmp ℕ → Type 0

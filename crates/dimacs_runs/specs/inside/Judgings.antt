@@ -6,10 +6,30 @@ use Rattle.dimacs_records.specs.declared.faults.ReadError.TheVariants as read_er
 use Rattle.dimacs_records.specs.declared.kinds.TextKind.{TextKind}
 use Rattle.dimacs_records.specs.declared.reasons.Reason.{Reason}
 use Rattle.dimacs_records.specs.Faults.{Fault}
-use Rattle.dimacs_records.specs.Texts.{Reads}
+use Rattle.dimacs_records.specs.Readings.{LineRecord}
+use Rattle.dimacs_records.specs.Texts.{Reads, SpellsValue}
 use Rattle.dimacs_runs.specs.declared.texts_in_turn.ReadFailure.{ReadFailure}
+use Rattle.dimacs_runs.specs.declared.status.Status.{Status}
+use Rattle.dimacs_runs.specs.declared.status.Status.TheVariants.{Refused}
 use Rattle.dimacs_runs.specs.Judgings.{OneMore}
-use Rattle.dimacs_runs.specs.Runs.{TextSpells, text_word}
+use Rattle.dimacs_runs.specs.Refusals.{refusal_line}
+use Rattle.dimacs_runs.specs.Runs.{text_word}
+
+-- a text: its word in refusals, the value that it spells, and its fault
+pub record TextSpells (V : Type 0) : Type 1 where
+  pub name : List ℕ
+  pub spells : V → Type 0
+  pub fault : ℕ → ℕ → Reason → Type 0
+
+-- these bytes as a text of this kind; `gives` relates its records to its value
+abbrev pub text_of : {V : Type 0} → TextKind → (List LineRecord → V → Type 0) → List ℕ → TextSpells V
+text_of kind gives bytes = record { name = text_word kind; spells = SpellsValue kind gives (lines bytes); fault = Fault kind (lines bytes) }
+
+-- the text has a fault, and the report is its line; or it spells a value, and the report follows from that
+abbrev pub FaultIn : {V : Type 0} → TextSpells V → (V → Status → List ℕ → Type 0) → Status → List ℕ → Type 0
+FaultIn text next status out =
+    ((l : ℕ) × (f : ℕ) × (r : Reason) × text.fault l f r × (status ≡ Refused) × (out ≡ refusal_line text.name l f r))
+    ⊎ ((v : _) × text.spells v × next v status out)
 
 -- these bytes as a text of this kind, which spells its values like this
 abbrev pub text_spells : {V : Type 0} → TextKind → (List ℕ → V → Type 0) → List ℕ → TextSpells V

@@ -1,8 +1,8 @@
 use Rattle.std.proofs.Common.{Err, inr}
 use Rattle.std.proofs.lemmas.Result.{err_from_is_err_and}
 use Rattle.dimacs_runs.specs.declared.status.Status.TheVariants.{Done}
-use Rattle.dimacs_runs.specs.Runs.{PrintsText, in_form}
-use Rattle.dimacs_runs.specs.inside.Judgings.{text_spells}
+use Rattle.dimacs_runs.specs.Runs.{IsPrinted, in_form}
+use Rattle.dimacs_runs.specs.inside.Judgings.{FaultIn, text_spells}
 use Rattle.dimacs_runs.proofs.WritingLemmas.{report_written}
 use Rattle.dimacs_runs.proofs.ReportLemmas.{unread_printed, value_printed}
 use Rattle.dimacs_runs.proofs.text.print.Goals as goal
@@ -24,5 +24,5 @@ pub returns-in-Err-clause-reports : goal.returns-in-Err-clause-reports
 returns-in-Err-clause-reports g c = λ bytes coming.
     let printed = in_form c.args.form g.T.Text.canonical g.T.Text.shown in
     let text = text_spells g.T.Text.kind g.T.Text.spells bytes in
-    report_written (PrintsText text printed) c.outcome_of-answer.result c.write_outcome.result (g.K.Sink.seen c.args.sink.now) (g.K.Sink.seen c.write_outcome.new.report)
+    report_written (FaultIn text (IsPrinted printed)) c.outcome_of-answer.result c.write_outcome.result (g.K.Sink.seen c.args.sink.now) (g.K.Sink.seen c.write_outcome.new.report)
     (rw c.outcome_of-answer.ensures (unread_printed text printed c.in-Err.unread (Err c.from.result) c.from.ensures (c.in-Err.ensures.reads bytes coming))) c.write_outcome.ensures.ends

@@ -1,8 +1,8 @@
 use Rattle.std.proofs.Common.{Err, inr}
 use Rattle.std.proofs.lemmas.Result.{err_from_is_err_and}
 use Rattle.dimacs_runs.specs.declared.status.Status.TheVariants.{Done}
-use Rattle.dimacs_runs.specs.Runs.{PrintsText}
-use Rattle.dimacs_runs.specs.inside.Judgings.{text_spells}
+use Rattle.dimacs_runs.specs.Runs.{IsPrinted}
+use Rattle.dimacs_runs.specs.inside.Judgings.{FaultIn, text_spells}
 use Rattle.dimacs_runs.proofs.WritingLemmas.{report_written}
 use Rattle.dimacs_runs.proofs.ReportLemmas.{unread_printed, value_printed}
 use Rattle.dimacs_runs.proofs.text.sum_up.Goals as goal
@@ -21,5 +21,5 @@ returns-in_err-show-in-Ok-clause-reports g c = λ bytes coming.
 pub returns-in-Err-clause-reports : goal.returns-in-Err-clause-reports
 returns-in-Err-clause-reports g c = λ bytes coming.
     let text = text_spells g.T.Summary.kind g.T.Summary.spells bytes in
-    report_written (PrintsText text g.T.Summary.shown) c.outcome_of-answer.result c.write_outcome.result (g.K.Sink.seen c.args.sink.now) (g.K.Sink.seen c.write_outcome.new.report)
+    report_written (FaultIn text (IsPrinted g.T.Summary.shown)) c.outcome_of-answer.result c.write_outcome.result (g.K.Sink.seen c.args.sink.now) (g.K.Sink.seen c.write_outcome.new.report)
     (rw c.outcome_of-answer.ensures (unread_printed text g.T.Summary.shown c.in-Err.unread (Err c.from.result) c.from.ensures (c.in-Err.ensures.reads bytes coming))) c.write_outcome.ensures.ends
