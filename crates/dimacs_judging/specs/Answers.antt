@@ -3,7 +3,7 @@ use Rattle.std.specs.Prelude.{ℕ, ◌≡◌, if◌then◌else◌, List, map, is
 use Rattle.std.specs.List.{find}
 use Rattle.dimacs_instance.specs.QueryTexts.{QueriesValue}
 use Rattle.dimacs_instance.specs.QueryTexts as queries
-use Rattle.dimacs_claims.specs.Labels.{BlockValue, has_source, label}
+use Rattle.dimacs_claims.specs.Labels.{BlockValue, has_source, label_in}
 use Rattle.dimacs_judging.specs.declared.verdict.Answer.{Answer}
 use Rattle.dimacs_judging.specs.declared.verdict.Verdict.{Verdict}
 use Rattle.dimacs_judging.specs.declared.verdict.Verdict.TheVariants as verdicts
@@ -14,7 +14,7 @@ block_of blocks source = find (has_source source) blocks
 
 -- the label of a node in the block of another; none without a label or without a block
 abbrev pub distance_from : List BlockValue → ℕ → ℕ → Option ℤ
-distance_from blocks from to = option_and_then (λ (b : BlockValue). label b to) (block_of blocks from)
+distance_from blocks from to = label_in (block_of blocks from) to
 
 -- the radius of a node's block, if it has one and the other node has no label in it
 abbrev pub beyond_from : List BlockValue → ℕ → ℕ → Option ℤ
