@@ -19,7 +19,7 @@ module _ {V : Type 0} (text : TextSpells V) (printed : V → List ℕ) where
   value_printed v read = (inr (v, read.0, (refl, refl)), alone)
     where
       alone : (s : Status) (other : List ℕ) → prints s other → (s ≡ Done) × (other ≡ printed v)
-      alone s other (inl (l, f, r, fault, refused)) = absurd (read.2 l f r fault)
+      alone s other (inl (l, f, r, fault, is, out)) = absurd (read.2 l f r fault)
       alone s other (inr (w, spelled, (is, out))) = (is, out ∙ ap printed (read.1 w spelled))
 
   fault_or_value : (s : Status) (out : List ℕ) → prints s out → FaultLine reporting_way text s out ⊎ ((v : V) × text.spells v)
