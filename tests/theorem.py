@@ -13,9 +13,9 @@ import theorem  # noqa: E402
 
 # What is replaced in the text of the page, by what, and what has to be found wrong.
 SPOILED = [
-    (" Least NoFlow", " Least", "missing: NoFlow"),
-    (" Least NoFlow", " Least NoFlow NoFlow", "twice: NoFlow"),
-    (" Least NoFlow", " Least NoFlow Judges", "not cited: Judges"),
+    (" Least! NoFlow", " Least!", "missing: NoFlow"),
+    (" Least! NoFlow", " Least! NoFlow NoFlow", "twice: NoFlow"),
+    (" Least! NoFlow", " Least! NoFlow Judges", "not cited: Judges"),
     ("@define Row ClearBelow Clear", "@define ClearBelow Row Clear", "ClearBelow stands before Row, which it uses"),
     ("@says Unreachable : there is no walk at all\n", "", "Unreachable has no sentence"),
     ("@says Unreachable :", "@says Beyond :", "said of Beyond, which has a comment or stands above"),

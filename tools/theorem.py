@@ -7,7 +7,7 @@ own. tools/theorem.md has the text, with these lines between:
     @contract FILE FUNCTION     the declaration of a public function, without its body
     @trait FILE NAME            a trait of Rust
     @declared FILE NAME..       types of Rust of one file
-    @define NAME..              definitions, one after another
+    @define NAME..              definitions, one after another; NAME! has its fields or equations on a line each
     @says NAME : SENTENCE       the comment of a definition that has none in the sources
     @table NAME                 a definition that has a line for each reason, cut short: each gives the reason's own name
     @kit NAME.. : MEANING       a row of the table of what is cited of the kit
@@ -56,7 +56,7 @@ class Page:
         self.by_name = {name: (module, name) for module, name in circle}
         names = [name for _, name in circle]
         self.wrong = [f"two of this name: {it}" for it in sorted(set(names)) if names.count(it) > 1]
-        self.shown, self.types, self.kit, self.said = set(), set(), {}, {}
+        self.shown, self.types, self.kit, self.said, self.spread = set(), set(), {}, {}, set()
         self.text, self.parts = "", []
 
     # ---- what each line of the frame asks for
@@ -72,6 +72,8 @@ class Page:
         self.add_code(["\n".join(shortened(item_of(path, "(?:enum|struct)", name)) for name in names)], "rust", names)
 
     def define(self, *names):
+        self.spread |= {it[:-1] for it in names if it.endswith("!")}
+        names = [it.rstrip("!") for it in names]
         self.add_definitions(names, [self.block(it) for it in map(self.place, names) if it])
 
     def table(self, name):
@@ -152,7 +154,7 @@ class Page:
     def add_definitions(self, names, blocks):
         for name in names:
             self.check(name)
-        self.add_code([bare(it) for it in blocks], "text", names)
+        self.add_code([bare(it, name in self.spread) for name, it in zip(names, blocks)], "text", names)
 
     def check(self, name):
         it = self.by_name.get(name)
@@ -210,10 +212,10 @@ def parts_of(block):
     return comments, fused([re.sub(r"^( *)(?:abbrev )?pub ", r"\1", it) for it in block[len(comments) :]])
 
 
-def bare(block):
+def bare(block, is_spread=False):
     """A definition in few lines, with its comment beside the first if it fits."""
     comments, lines = parts_of(block)
-    head, *more = joined(lines)
+    head, *more = lines if is_spread else joined(lines)
     beside = f"{head}  -- {' '.join(it.removeprefix('-- ') for it in comments)}"
     told = [beside] if comments and len(beside) <= WIDTH else [*comments, head]
     return "\n".join([*told, *more])
@@ -239,7 +241,8 @@ def joined(lines):
         is_flat = all(re.match(r" {2}\S", it) for it in inner)
         return [whole] if is_flat and len(whole) <= WIDTH else [head, *side_by_side(inner)]
     name = head.split()[0]
-    return [head, *side_by_side(inner, f"{name} ")] if all(it.startswith((f"{name} ", "    ")) for it in inner) else lines
+    equations = "; ".join(inner)
+    return [head, equations] if len(equations) <= WIDTH and all(it.startswith(f"{name} ") for it in inner) else lines
 
 
 def carried_on(lines):
@@ -254,9 +257,9 @@ def carried_on(lines):
     return told
 
 
-def side_by_side(lines, start="  "):
-    """Fields or equations, with as many on a line as fit. One that has several lines keeps them."""
-    fields, told = re.split(rf"\n(?={start}\S)", "\n".join(lines)), []
+def side_by_side(lines):
+    """Fields with as many on a line as fit. One that has several lines keeps them."""
+    fields, told = re.split(r"\n(?= {2}\S)", "\n".join(lines)), []
     for field in fields:
         beside = f"{told[-1]}; {field.strip()}" if told else ""
         if beside and "\n" not in beside and len(beside) <= WIDTH:

@@ -15,7 +15,7 @@ use Rattle.dimacs_judging.specs.Rows.{arc_row, flow_row, one_test}
 use Rattle.dimacs_network.specs.Arcs.{arc_at}
 use Rattle.dimacs_judging.specs.Tests.{Row}
 
--- an arc leaves the set and carries less than its capacity, or enters it and carries flow
+-- an arc leaves the set and doesn't carry its capacity, or enters it and carries flow
 abbrev pub TightFails : (ℕ → Bool) → ArcView → ℤ → Reason → Type 0
 TightFails set a x reason = ((reason ≡ NotSaturated) × (leaves set a ≡ true) × (x ≢ a.cap)) ⊎ ((reason ≡ BackFlow) × (enters set a ≡ true) × (x ≢ pos 0))
 
@@ -50,8 +50,8 @@ abbrev pub support_row : List ArcView → BlockValue → Row
 support_row arcs b k place reason =
     (k < length b.labels) × (place ≡ Node (get_or b.labels k no_label).id) × (reason ≡ NoTightArc) × (¬ HasTightArc arcs b (get_or b.labels k no_label))
 
--- an arc whose ends have these labels leads from a labelled node to one without a label within the radius, or to a node
--- with too great a label
+-- the tail has label d; the head has no label, although d + weight is within the radius, or a label greater than
+-- d + weight
 abbrev pub RelaxFails : Option ℤ → Option ℤ → Option ℤ → ℤ → Reason → Type 0
 RelaxFails radius tail head weight reason =
     (d : ℤ) × (tail ≡ Some d)

@@ -49,7 +49,7 @@ pub record Carries (arcs : List ArcView) (entries : List Entry) (x : List ℤ) :
   pub each_has_arc : (k : ℕ) → k < length entries → HasArc arcs (take k entries) (entry_at entries k)
   pub amounts : x ≡ claimed_flow arcs entries
 
--- no arc has the ends of the entry; or some do, but as many earlier entries have them
+-- no arc has the ends of the entry; or some do, but at least as many earlier entries have them
 abbrev pub EntryFails : List ArcView → List Entry → Entry → Reason → Type 0
 EntryFails arcs before e reason =
     ((reason ≡ UnknownArc) × (¬ IsKnown arcs e))

@@ -55,7 +55,7 @@ feasible_max_rows i x = feasible_rows i.nodes i.arcs (max_demand i) x
 abbrev pub feasible_min_rows : MinValue → List ℤ → List Row
 feasible_min_rows i x = feasible_rows i.nodes i.arcs (min_demand i) x
 
--- the sum of the costs up to arc k
+-- the sum of the costs up to and with arc k
 abbrev pub cost_through : List ArcView → List ℤ → ℕ → ℤ
 cost_through arcs x k = cost (take (k + 1) arcs) (take (k + 1) x)
 

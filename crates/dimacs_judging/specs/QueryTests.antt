@@ -27,7 +27,7 @@ HasBlock blocks source = Any (λ b. b.source ≡ source) blocks
 abbrev pub HasFullBlock : List BlockValue → ℕ → Type 0
 HasFullBlock blocks source = (b : BlockValue) × (block_of blocks source ≡ Some b) × (b.radius ≡ None)
 
--- a block answers the query: without a radius if all distances from the source are asked for
+-- a block answers the query; one that asks for all distances needs a block without a radius
 abbrev pub IsServed : List BlockValue → QueriesValue → ℕ → Type 0
 IsServed blocks (Sources ids) source = HasFullBlock blocks source
 IsServed blocks (Pairs pairs) source = HasBlock blocks source
