@@ -10,14 +10,14 @@ use Rattle.dimacs_network.specs.Arcs.{JoinsNodes, NetworkValue, arc_at, no_arc}
 use Rattle.dimacs_lines.specs.Limits.{IsNode}
 use Rattle.dimacs_records.specs.declared.reasons.Reason.{Reason}
 use Rattle.dimacs_records.specs.declared.reasons.Reason.TheVariants.{Escapes, NotShortest, NoTightArc}
-use Rattle.dimacs_claims.specs.Labels.{BlockValue, LabelsValue, label, label_in}
+use Rattle.dimacs_claims.specs.Labels.{BlockValue, IsBlock, LabelsValue, label, label_in}
 use Rattle.dimacs_judging.specs.declared.verdict.Where.{Where}
 use Rattle.dimacs_judging.specs.declared.verdict.Where.TheVariants.{Arc, Node}
 use Rattle.dimacs_judging.specs.declared.verdict.JudgeError.{JudgeError}
 use Rattle.dimacs_judging.specs.declared.verdict.JudgeError.TheVariants.{Refused, Memory}
 use Rattle.dimacs_judging.specs.Answers.{block_of}
 use Rattle.dimacs_judging.specs.CertificateTests.{RelaxFails}
-use Rattle.dimacs_judging.specs.Labels.{IsRelaxed, LabelsOk}
+use Rattle.dimacs_judging.specs.Labels.{HasTightArc, IsRelaxed, LabelsOk}
 use Rattle.dimacs_judging.specs.QueryTests.{HasFullBlock}
 use Rattle.dimacs_judging.specs.Tests.{AllClear, Clear, First, FirstOfRow, FirstAlone}
 use Rattle.dimacs_judging.specs.Walks.{Dist, IsDistance, IsWalk, weight}
@@ -63,14 +63,14 @@ arc_holds g s a (Some c) (Some e) reason has t h (d, is, inr far) =
     omega (arith, ints, le, less, same_tail, same_head, weight_append t.walk (a ∷ []), t.weighs)
 
 -- ---- if no arc fails
-abbrev IsRelaxedBy : (ℕ → Option ℤ) → ArcView → Type 0
+abbrev pub IsRelaxedBy : (ℕ → Option ℤ) → ArcView → Type 0
 IsRelaxedBy claim a = (d : ℤ) → claim a.tail ≡ Some d → (e : ℤ) × (claim a.head ≡ Some e) × (e ≤ℤ (d +ℤ a.cost))
 
 relaxed_at : (head : Option ℤ) (d w : ℤ) → ((reason : Reason) → ¬ RelaxFails None (Some d) head w reason) → (e : ℤ) × (head ≡ Some e) × (e ≤ℤ (d +ℤ w))
 relaxed_at None d w off = absurd (off Escapes (d, refl, inl (refl, refl, tt)))
 relaxed_at (Some e) d w off = (e, refl, by_lt_z (d +ℤ w) e (λ l. absurd (off NotShortest (d, refl, inr (refl, (e, refl, l))))) (λ le. le))
 
-all_relaxed : (arcs : List ArcView) (claim : ℕ → Option ℤ) → Clear (claim_row arcs claim) → All (IsRelaxedBy claim) arcs
+pub all_relaxed : (arcs : List ArcView) (claim : ℕ → Option ℤ) → Clear (claim_row arcs claim) → All (IsRelaxedBy claim) arcs
 all_relaxed arcs claim clear = All-from_get_or (IsRelaxedBy claim) arcs no_arc (λ k h d is.
     relaxed_at (claim (arc_at arcs k).head) d (arc_at arcs k).cost (λ reason f. clear k (Arc (k + 1)) reason (h, refl, rw is f)))
 
@@ -96,7 +96,7 @@ module _ (g : List ArcView) (claim : ℕ → Option ℤ) (relaxed : All (IsRelax
       let rest : e ≡ f +ℤ weight walk = omega (arith, ints, exact, heavy) in
       All-cons (IsTight claim) a walk (d, tail, head ∙ ap Some exact) (tight_along walk a.head v f e w.2 head end rest)
 
-some_value : (o : Option ℤ) → IsSome o → (e : ℤ) × (o ≡ Some e)
+pub some_value : (o : Option ℤ) → IsSome o → (e : ℤ) × (o ≡ Some e)
 some_value None some = absurd (let f : false ≡ true = some in cc)
 some_value (Some e) some = (e, refl)
 
@@ -163,6 +163,25 @@ zero_from_clear s claim clear = same_zero s claim (claim s) refl clear
 carried : (g : List ArcView) (s s' v : ℕ) (outcome outcome' radius : Option ℤ) → s ≡ s' → outcome ≡ outcome' → radius ≡ None → IsDistance g s v outcome radius → IsDistance g s' v outcome' None
 carried g s s' v outcome outcome' radius source same none is = rw (← source, ← same, ← none) is
 
+-- labels with the claimed distances, each with a tight arc from its predecessor
+module _ (g : NetworkValue) (s : ℕ) (claim : ℕ → Option ℤ) (b : BlockValue) (joined : All (JoinsNodes g.nodes) g.arcs) (source : b.source ≡ s) (whole : b.radius ≡ None) (lawful : IsBlock g.nodes b)
+    (tight : All (HasTightArc g.arcs b) b.labels) (agrees : (v : ℕ) → IsNode g.nodes v → label b v ≡ claim v) (relaxed : All (IsRelaxedBy claim) g.arcs) where
+  labels_relaxed : All (IsRelaxed b) g.arcs
+  labels_relaxed = All-from_get_or (IsRelaxed b) g.arcs no_arc (λ k h d is.
+      let ends : JoinsNodes g.nodes (arc_at g.arcs k) = All-get_or (JoinsNodes g.nodes) g.arcs k no_arc h joined in
+      let (e, named, le) = All-get_or (IsRelaxedBy claim) g.arcs k no_arc h relaxed d (sym (agrees _ ends.0) ∙ is) in
+      inl (e, agrees _ ends.1 ∙ named, le))
+
+  passes : LabelsOk g.arcs b
+  passes = record { weights = rw whole tt; tight = tight; relaxed = labels_relaxed }
+
+  pub shown : AreDistancesFrom g s claim × IsBlockOf g s claim b
+  shown = (
+    λ v node. carried g.arcs b.source s v (label b v) (claim v) b.radius source (agrees v node) whole (labels_are_distances g.arcs b lawful.preds (stays_near g.nodes b lawful) passes v),
+    record { lawful = lawful; source = source; whole = whole; passes = passes; agrees = agrees },
+  )
+
+-- what a search over tight arcs reached
 module _ (g : NetworkValue) (s : ℕ) (claim : ℕ → Option ℤ) (b : BlockValue) (reached : ℕ → Bool) (joined : All (JoinsNodes g.nodes) g.arcs) (arcs : Clear (claim_row g.arcs claim)) (nodes : Clear (reach_row g s claim)) (source : b.source ≡ s)
     (whole : IsWholeTightTree g.nodes g.arcs claim b reached) where
   is_reached : (v : ℕ) → IsNode g.nodes v → IsSome (claim v) → reached v ≡ true
@@ -182,20 +201,14 @@ module _ (g : NetworkValue) (s : ℕ) (claim : ℕ → Option ℤ) (b : BlockVal
           let t : true ≡ false = sym (is_reached v node (ap is_some f)) ∙ (whole.tree.marked v ∙ ap is_some e) in
           absurd (cc)
 
-  relaxed : All (IsRelaxed b) g.arcs
-  relaxed = All-from_get_or (IsRelaxed b) g.arcs no_arc (λ k h d is.
-      let ends : JoinsNodes g.nodes (arc_at g.arcs k) = All-get_or (JoinsNodes g.nodes) g.arcs k no_arc h joined in
-      let (e, named, le) = All-get_or (IsRelaxedBy claim) g.arcs k no_arc h (all_relaxed g.arcs claim arcs) d (sym (agrees _ ends.0) ∙ is) in
-      inl (e, agrees _ ends.1 ∙ named, le))
-
-  passes : LabelsOk g.arcs b
-  passes = record { weights = rw whole.tree.whole tt; tight = whole.tree.tight_arcs; relaxed = relaxed }
+  shows : AreDistancesFrom g s claim × IsBlockOf g s claim b
+  shows = shown g s claim b joined source whole.tree.whole whole.tree.lawful whole.tree.tight_arcs agrees (all_relaxed g.arcs claim arcs)
 
   pub true_claim : AreDistancesFrom g s claim
-  true_claim v node = carried g.arcs b.source s v (label b v) (claim v) b.radius source (agrees v node) whole.tree.whole (labels_are_distances g.arcs b whole.tree.lawful.preds (stays_near g.nodes b whole.tree.lawful) passes v)
+  true_claim = shows.0
 
   pub made_of : IsBlockOf g s claim b
-  made_of = record { lawful = whole.tree.lawful; source = source; whole = whole.tree.whole; passes = passes; agrees = agrees }
+  made_of = shows.1
 
 -- ---- a single block
 found_alone : (b : BlockValue) (s : ℕ) → b.source ≡ s → block_of (b ∷ []) s ≡ Some b
