@@ -1,5 +1,5 @@
 -- Claimed distances: what shows that they are right, or wrong.
-use Rattle.std.proofs.Common.{◌≡◌, ◌≢◌, inl, inr, ℕ, ◌+◌, ◌≤◌, Bool, true, false, List, [], ◌∷◌, ◌++◌, All, Contains, Option, Some, None, IsSome, is_some, Result, Ok, Err, ℤ, pos, ◌+ℤ◌, ◌≤ℤ◌, refl, sym, ap, subst, ◌∙◌, arith}
+use Rattle.std.proofs.Common.{◌≡◌, ◌≢◌, inl, inr, ℕ, ◌+◌, ◌≤◌, Bool, true, false, List, [], ◌∷◌, ◌++◌, All, Contains, Option, Some, None, IsSome, Result, Ok, Err, ℤ, pos, ◌+ℤ◌, ◌≤ℤ◌, refl, sym, ap, subst, ◌∙◌, arith}
 use Rattle.std.specs.Result.{IsErrAnd}
 use Rattle.std.proofs.lemmas.Bool.{cases_Bool}
 use Rattle.std.proofs.lemmas.Bool.Decides.{eqb_tells}
@@ -27,7 +27,7 @@ use Rattle.dimacs_judging.proofs.LabelsPassing.{stays_near}
 use Rattle.dimacs_judging.proofs.Reasons.{one_relax}
 use Rattle.dimacs_decide.specs.Distances.{AreDistancesFrom, AreLabelsOf, DecidesDistances, IsTight, IsTightlyReached, claim_row, claim_rows, reach_row, source_row}
 use Rattle.dimacs_decide.specs.inside.DistanceBlocks.{DecidesBlock, IsBlockOf}
-use Rattle.dimacs_decide.specs.inside.TightTrees.{IsWholeTightTree}
+use Rattle.dimacs_decide.specs.inside.TightTrees.{IsTightTree, IsWholeTightTree, ReachesAll}
 
 -- ---- walks joined end to end
 walk_append : (g p q : List ArcView) (s u t : ℕ) → IsWalk g s u p → IsWalk g u t q → IsWalk g s t (p ++ q)
@@ -181,34 +181,23 @@ module _ (g : NetworkValue) (s : ℕ) (claim : ℕ → Option ℤ) (b : BlockVal
     record { lawful = lawful; source = source; whole = whole; passes = passes; agrees = agrees },
   )
 
--- what a search over tight arcs reached
-module _ (g : NetworkValue) (s : ℕ) (claim : ℕ → Option ℤ) (b : BlockValue) (reached : ℕ → Bool) (joined : All (JoinsNodes g.nodes) g.arcs) (arcs : Clear (claim_row g.arcs claim)) (nodes : Clear (reach_row g s claim)) (source : b.source ≡ s)
-    (whole : IsWholeTightTree g.nodes g.arcs claim b reached) where
-  is_reached : (v : ℕ) → IsNode g.nodes v → IsSome (claim v) → reached v ≡ true
-  is_reached v node some = elim (cases_Bool (reached v)) [
-    | inl on ↦ on
-    | inr off ↦ absurd (nodes v (Node v) NoTightArc (node, refl, (refl, some, λ walk. let t = whole.closed v (rw source walk) in let f : true ≡ false = sym t ∙ off in cc)))
-  ]
+-- ---- a search over tight arcs
+pub same_option : (mine outcome : Option ℤ) → ((d : ℤ) → mine ≡ Some d → outcome ≡ Some d) → (IsSome outcome → IsSome mine) → mine ≡ outcome
+same_option None None has all = refl
+same_option (Some d) outcome has all = sym (has d refl)
+same_option None (Some c) has all = absurd (let f : false ≡ true = all refl in cc)
 
-  agrees : (v : ℕ) → IsNode g.nodes v → label b v ≡ claim v
-  agrees v node = go (label b v) (claim v) refl refl
-    where
-      go : (mine outcome : Option ℤ) → label b v ≡ mine → claim v ≡ outcome → mine ≡ outcome
-      go None None e f = refl
-      go (Some d) None e f = let h : Some d ≡ None = sym (whole.tree.claimed v d e) ∙ f in absurd (cc)
-      go (Some d) (Some c) e f = sym (whole.tree.claimed v d e) ∙ f
-      go None (Some c) e f =
-          let t : true ≡ false = sym (is_reached v node (ap is_some f)) ∙ (whole.tree.marked v ∙ ap is_some e) in
-          absurd (cc)
+pub reaches_all : (g : NetworkValue) (s : ℕ) (claim : ℕ → Option ℤ) (b : BlockValue) (reached : ℕ → Bool) → Clear (reach_row g s claim) → b.source ≡ s → IsWholeTightTree g.nodes g.arcs claim b reached → ReachesAll g.nodes claim reached
+reaches_all g s claim b reached nodes source whole v node some = elim (cases_Bool (reached v)) [
+  | inl on ↦ on
+  | inr off ↦ absurd (nodes v (Node v) NoTightArc (node, refl, (refl, some, λ walk. let t = whole.closed v (rw source walk) in let f : true ≡ false = sym t ∙ off in cc)))
+]
 
-  shows : AreDistancesFrom g s claim × IsBlockOf g s claim b
-  shows = shown g s claim b joined source whole.tree.whole whole.tree.lawful whole.tree.tight_arcs agrees (all_relaxed g.arcs claim arcs)
-
-  pub true_claim : AreDistancesFrom g s claim
-  true_claim = shows.0
-
-  pub made_of : IsBlockOf g s claim b
-  made_of = shows.1
+pub certified : (g : NetworkValue) (s : ℕ) (claim : ℕ → Option ℤ) (b : BlockValue) (reached : ℕ → Bool) → All (JoinsNodes g.nodes) g.arcs → b.source ≡ s → IsTightTree g.nodes g.arcs claim b reached → ReachesAll g.nodes claim reached
+    → Clear (claim_row g.arcs claim) → AreDistancesFrom g s claim × IsBlockOf g s claim b
+certified g s claim b reached joined source is all arcs =
+    let agrees : (v : ℕ) → IsNode g.nodes v → label b v ≡ claim v = λ v node. same_option (label b v) (claim v) (is.claimed v) (λ some. sym (is.marked v) ∙ all v node some) in
+    shown g s claim b joined source is.whole is.lawful is.tight_arcs agrees (all_relaxed g.arcs claim arcs)
 
 -- ---- a single block
 found_alone : (b : BlockValue) (s : ℕ) → b.source ≡ s → block_of (b ∷ []) s ≡ Some b

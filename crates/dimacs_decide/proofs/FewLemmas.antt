@@ -1,6 +1,6 @@
 -- Blocks that label few nodes.
 use Rattle.std.proofs.Common.{◌≡◌, ◌≢◌, inl, inr, true, false, ℕ, zero, suc, ◌+◌, ◌-◌, ◌<◌, ◌≤◌, Bool, List, [], ◌∷◌, length, get_or, Option, Some, None, is_some, ℤ, refl, sym, ap, subst, ◌∙◌, arith}
-use Rattle.std.specs.Prelude.{IfSome, IsSome}
+use Rattle.std.specs.Prelude.{IfSome}
 use Rattle.std.specs.Option.{ForSome}
 use Rattle.dimacs_records.specs.Ranges.{IsWide}
 use Rattle.std.proofs.lemmas.Bool.{cases_eq, cases_lt, cases_order}

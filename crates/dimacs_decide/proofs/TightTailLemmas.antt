@@ -1,9 +1,8 @@
 -- Tails of tight arcs as predecessors.
-use Rattle.std.proofs.Common.{◌≡◌, ◌≢◌, inl, inr, ℕ, ◌+◌, ◌<◌, ◌≤◌, Bool, true, false, length, get_or, List, [], ◌∷◌, ◌++◌, All, Contains, Option, Some, None, IsSome, is_some, ℤ, pos, ◌+ℤ◌, refl, sym, ap, subst, ◌∙◌, arith, lt-ltb}
+use Rattle.std.proofs.Common.{◌≡◌, ◌≢◌, inl, inr, ℕ, ◌<◌, ◌≤◌, false, length, get_or, List, [], ◌∷◌, ◌++◌, All, Contains, Option, Some, None, is_some, ℤ, ◌+ℤ◌, refl, sym, ap, subst, ◌∙◌, arith, lt-ltb}
 use Rattle.std.proofs.lemmas.Bool.{cases_eq, ne_eqb}
-use Rattle.std.proofs.lemmas.Bool.Decides.{eqb_tells}
 use Rattle.std.proofs.lemmas.List.{append_assoc}
-use Rattle.std.proofs.lemmas.List.Elements.{All-cons, All-contains, All-from_get_or, All-get_or, All-head, All-nil, All-tail}
+use Rattle.std.proofs.lemmas.List.Elements.{All-cons, All-contains, All-from_get_or, All-get_or, All-nil}
 use Rattle.dimacs_lines.specs.Limits.{most_nodes, IsNode}
 use Rattle.dimacs_network.specs.declared.network.ArcView.{ArcView}
 use Rattle.dimacs_network.specs.Arcs.{JoinsNodes, NetworkValue}
@@ -12,15 +11,10 @@ use Rattle.dimacs_claims.specs.Labels.{BlockValue, EachAfter, IsBlock, IsFresh, 
 use Rattle.dimacs_claims.proofs.ByIdLemmas.{distance_in-at, fresh_apart}
 use Rattle.dimacs_records.specs.declared.reasons.Reason.{Reason}
 use Rattle.dimacs_judging.specs.Labels.{HasTightArc}
-use Rattle.dimacs_judging.specs.Tests.{Clear}
 use Rattle.dimacs_judging.specs.inside.Tests.{NamesReason}
-use Rattle.dimacs_judging.specs.Walks.{IsWalk}
-use Rattle.dimacs_decide.specs.Distances.{AreDistancesFrom, IsTight, IsTightlyReached, claim_row, reach_row}
-use Rattle.dimacs_decide.specs.inside.DistanceBlocks.{IsBlockOf}
+use Rattle.dimacs_decide.specs.Distances.{IsTight}
 use Rattle.dimacs_decide.specs.declared.tight_tails.TheConstants.{MARK}
 use Rattle.dimacs_decide.specs.inside.TightTails.{AreTightTails, HasTail, NotesTail, tail_in}
-use Rattle.dimacs_decide.specs.inside.TightTrees.{IsTightTree, IsWholeTightTree, ReachesAll}
-use Rattle.dimacs_decide.proofs.ClaimLemmas.{made_of, true_claim}
 
 -- ---- the arcs
 pub no_fault : (fails : Reason → Type 0) (outcome : Option Reason) → is_some outcome ≡ false → NamesReason fails outcome → (reason : Reason) → ¬ fails reason
@@ -100,34 +94,3 @@ module _ (g : NetworkValue) (claim : ℕ → Option ℤ) (tails : ℕ → ℕ) (
 
   pub all_tight : All (HasTightArc g.arcs b) b.labels
   all_tight = All-from_get_or (HasTightArc g.arcs b) b.labels no_label tight_at
-
--- ---- a search that reaches all nodes
-module _ (g : NetworkValue) (s : ℕ) (claim : ℕ → Option ℤ) (b : BlockValue) (reached : ℕ → Bool) (joined : All (JoinsNodes g.nodes) g.arcs) (source : b.source ≡ s)
-    (is : IsTightTree g.nodes g.arcs claim b reached) (all : ReachesAll g.nodes claim reached) where
-  --   tight arcs lead to nodes with a claim
-  claimed_along : (walk : List ArcView) (u v : ℕ) → IsWalk g.arcs u v walk → All (IsTight claim) walk → IsNode g.nodes u → IsSome (claim u) → IsNode g.nodes v × IsSome (claim v)
-  claimed_along [] u v w tight at some = rw (← w) (at, some)
-  claimed_along (a ∷ walk) u v w tight at some =
-      let ends : JoinsNodes g.nodes a = All-contains (JoinsNodes g.nodes) g.arcs a joined w.0 in
-      let (d, tail, head) = All-head (IsTight claim) a walk tight in
-      claimed_along walk a.head v w.2 (All-tail (IsTight claim) a walk tight) ends.1 (ap is_some head)
-
-  zero : claim b.source ≡ Some (pos 0)
-  zero = is.claimed b.source (pos 0) (elim (eqb_tells b.source b.source) [ inl same ↦ rw same.0 refl | inr apart ↦ absurd (apart.1 refl) ])
-
-  whole : IsWholeTightTree g.nodes g.arcs claim b reached
-  whole = record {
-    tree = is;
-    closed = λ v walk.
-        let (at, some) = claimed_along walk.0 b.source v walk.1 walk.2 is.lawful.source_within (ap is_some zero) in
-        all v at some;
-  }
-
-  clear : Clear (reach_row g s claim)
-  clear v place reason f =
-      let (at, named, fails) = f in
-      let (why, some, apart) = fails in
-      apart (subst (λ u. IsTightlyReached g.arcs u claim v) source (is.walks v (all v at some)))
-
-  pub certified : Clear (claim_row g.arcs claim) → AreDistancesFrom g s claim × IsBlockOf g s claim b
-  certified arcs = (true_claim g s claim b reached joined arcs clear source whole, made_of g s claim b reached joined arcs clear source whole)
