@@ -1,16 +1,20 @@
 -- The distances of a block by node, copied from the last label to the first.
-use Rattle.std.proofs.Common.{◌≡◌, ◌≢◌, inl, inr, ℕ, ◌+◌, ◌<◌, List, drop, length, get_or, Option, None, Some, ℤ, pos, sym, ap, ◌∙◌, ◌∷◌, [], arith}
+use Rattle.std.proofs.Common.{◌≡◌, ◌≢◌, inl, inr, ℕ, zero, suc, ◌+◌, ◌<◌, ◌≤◌, List, drop, length, get_or, Option, None, Some, IsSome, ℤ, pos, sym, ap, subst, ◌∙◌, ◌∷◌, [], arith}
 use Rattle.std.specs.Prelude.{IfSome}
 use Rattle.std.specs.Option.{ForSome}
 use Rattle.std.proofs.lemmas.Bool.{cases_eq}
 use Rattle.std.proofs.lemmas.Bool.Decides.{eqb_tells}
 use Rattle.std.proofs.lemmas.List.{drop_all}
-use Rattle.std.proofs.lemmas.List.Elements.{All-cons, All-nil}
+use Rattle.std.proofs.lemmas.List.Elements.{All-cons, All-get_or, All-nil}
+use Rattle.dimacs_lines.specs.Limits.{IsNode}
 use Rattle.dimacs_records.specs.Ranges.{IsWide}
 use Rattle.dimacs_claims.specs.declared.block.Label.{Label}
-use Rattle.dimacs_claims.specs.Labels.{BlockValue, IsBlock, distance_in, label, no_label}
+use Rattle.dimacs_claims.specs.Labels.{BlockValue, IsBlock, IsLabel, distance_in, label, no_label}
 use Rattle.dimacs_claims.proofs.BlockLemmas.{label_at_wide}
 use Rattle.dimacs_claims.proofs.ByIdLemmas.{distance_in-from, distance_in-past}
+use Rattle.dimacs_decide.specs.inside.TightTrees.{node_at}
+use Rattle.dimacs_decide.proofs.ClaimLemmas.{some_value}
+use Rattle.dimacs_decide.proofs.TightLemmas.{placed}
 
 -- the distances of the labels from a place on
 abbrev pub AreFrom : List Label → ℕ → (ℕ → Option ℤ) → Type 0
@@ -37,3 +41,11 @@ each_wide o wide d is = rw is at wide
 
 pub labels_wide : (nodes : ℕ) (b : BlockValue) (distances : ℕ → Option ℤ) → IsBlock nodes b → ((v : ℕ) → distances v ≡ label b v) → (v : ℕ) → ForSome (distances v) IsWide
 labels_wide nodes b distances is same v = each_wide (distances v) (rw (same v) (label_at_wide nodes (b ∷ []) 0 v (All-cons (IsBlock nodes) b [] is (All-nil (IsBlock nodes)))))
+
+-- only nodes have labels
+pub label_within : (nodes : ℕ) (b : BlockValue) → IsBlock nodes b → (v : ℕ) → IsSome (label b v) → IsNode nodes v
+label_within nodes b is v some = let (d, at) = some_value (label b v) some in from (placed b v d at)
+  where
+    from : ((j : ℕ) × (j ≤ length b.labels) × (node_at b j ≡ v)) → IsNode nodes v
+    from (zero, inside, same) = subst (IsNode nodes) same is.source_within
+    from (suc k, inside, same) = subst (IsNode nodes) same (All-get_or (IsLabel nodes) b.labels k no_label (omega (arith, inside)) is.within).id

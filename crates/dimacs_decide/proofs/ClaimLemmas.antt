@@ -1,5 +1,5 @@
 -- Claimed distances: what shows that they are right, or wrong.
-use Rattle.std.proofs.Common.{◌≡◌, ◌≢◌, inl, inr, ℕ, ◌+◌, ◌≤◌, Bool, true, false, List, [], ◌∷◌, ◌++◌, All, Contains, Option, Some, None, IsSome, is_some, Result, Ok, Err, ℤ, pos, ◌+ℤ◌, ◌≤ℤ◌, refl, sym, ap, subst, ◌∙◌, arith}
+use Rattle.std.proofs.Common.{◌≡◌, ◌≢◌, inl, inr, ℕ, ◌+◌, ◌≤◌, Bool, true, false, List, [], ◌∷◌, ◌++◌, All, Contains, Option, Some, None, IsSome, Result, Ok, Err, ℤ, pos, ◌+ℤ◌, ◌≤ℤ◌, refl, sym, ap, subst, ◌∙◌, arith}
 use Rattle.std.specs.Result.{IsErrAnd}
 use Rattle.std.proofs.lemmas.Bool.{cases_Bool}
 use Rattle.std.proofs.lemmas.Bool.Decides.{eqb_tells}
@@ -10,14 +10,14 @@ use Rattle.dimacs_network.specs.Arcs.{JoinsNodes, NetworkValue, arc_at, no_arc}
 use Rattle.dimacs_lines.specs.Limits.{IsNode}
 use Rattle.dimacs_records.specs.declared.reasons.Reason.{Reason}
 use Rattle.dimacs_records.specs.declared.reasons.Reason.TheVariants.{Escapes, NotShortest, NoTightArc}
-use Rattle.dimacs_claims.specs.Labels.{BlockValue, LabelsValue, label, label_in}
+use Rattle.dimacs_claims.specs.Labels.{BlockValue, IsBlock, LabelsValue, label, label_in}
 use Rattle.dimacs_judging.specs.declared.verdict.Where.{Where}
 use Rattle.dimacs_judging.specs.declared.verdict.Where.TheVariants.{Arc, Node}
 use Rattle.dimacs_judging.specs.declared.verdict.JudgeError.{JudgeError}
 use Rattle.dimacs_judging.specs.declared.verdict.JudgeError.TheVariants.{Refused, Memory}
 use Rattle.dimacs_judging.specs.Answers.{block_of}
 use Rattle.dimacs_judging.specs.CertificateTests.{RelaxFails}
-use Rattle.dimacs_judging.specs.Labels.{IsRelaxed, LabelsOk}
+use Rattle.dimacs_judging.specs.Labels.{HasTightArc, IsRelaxed, LabelsOk}
 use Rattle.dimacs_judging.specs.QueryTests.{HasFullBlock}
 use Rattle.dimacs_judging.specs.Tests.{AllClear, Clear, First, FirstOfRow, FirstAlone}
 use Rattle.dimacs_judging.specs.Walks.{Dist, IsDistance, IsWalk, weight}
@@ -27,7 +27,7 @@ use Rattle.dimacs_judging.proofs.LabelsPassing.{stays_near}
 use Rattle.dimacs_judging.proofs.Reasons.{one_relax}
 use Rattle.dimacs_decide.specs.Distances.{AreDistancesFrom, AreLabelsOf, DecidesDistances, IsTight, IsTightlyReached, claim_row, claim_rows, reach_row, source_row}
 use Rattle.dimacs_decide.specs.inside.DistanceBlocks.{DecidesBlock, IsBlockOf}
-use Rattle.dimacs_decide.specs.inside.TightTrees.{IsWholeTightTree}
+use Rattle.dimacs_decide.specs.inside.TightTrees.{IsTightTree, IsWholeTightTree, ReachesAll}
 
 -- ---- walks joined end to end
 walk_append : (g p q : List ArcView) (s u t : ℕ) → IsWalk g s u p → IsWalk g u t q → IsWalk g s t (p ++ q)
@@ -63,14 +63,14 @@ arc_holds g s a (Some c) (Some e) reason has t h (d, is, inr far) =
     omega (arith, ints, le, less, same_tail, same_head, weight_append t.walk (a ∷ []), t.weighs)
 
 -- ---- if no arc fails
-abbrev IsRelaxedBy : (ℕ → Option ℤ) → ArcView → Type 0
+abbrev pub IsRelaxedBy : (ℕ → Option ℤ) → ArcView → Type 0
 IsRelaxedBy claim a = (d : ℤ) → claim a.tail ≡ Some d → (e : ℤ) × (claim a.head ≡ Some e) × (e ≤ℤ (d +ℤ a.cost))
 
 relaxed_at : (head : Option ℤ) (d w : ℤ) → ((reason : Reason) → ¬ RelaxFails None (Some d) head w reason) → (e : ℤ) × (head ≡ Some e) × (e ≤ℤ (d +ℤ w))
 relaxed_at None d w off = absurd (off Escapes (d, refl, inl (refl, refl, tt)))
 relaxed_at (Some e) d w off = (e, refl, by_lt_z (d +ℤ w) e (λ l. absurd (off NotShortest (d, refl, inr (refl, (e, refl, l))))) (λ le. le))
 
-all_relaxed : (arcs : List ArcView) (claim : ℕ → Option ℤ) → Clear (claim_row arcs claim) → All (IsRelaxedBy claim) arcs
+pub all_relaxed : (arcs : List ArcView) (claim : ℕ → Option ℤ) → Clear (claim_row arcs claim) → All (IsRelaxedBy claim) arcs
 all_relaxed arcs claim clear = All-from_get_or (IsRelaxedBy claim) arcs no_arc (λ k h d is.
     relaxed_at (claim (arc_at arcs k).head) d (arc_at arcs k).cost (λ reason f. clear k (Arc (k + 1)) reason (h, refl, rw is f)))
 
@@ -96,7 +96,7 @@ module _ (g : List ArcView) (claim : ℕ → Option ℤ) (relaxed : All (IsRelax
       let rest : e ≡ f +ℤ weight walk = omega (arith, ints, exact, heavy) in
       All-cons (IsTight claim) a walk (d, tail, head ∙ ap Some exact) (tight_along walk a.head v f e w.2 head end rest)
 
-some_value : (o : Option ℤ) → IsSome o → (e : ℤ) × (o ≡ Some e)
+pub some_value : (o : Option ℤ) → IsSome o → (e : ℤ) × (o ≡ Some e)
 some_value None some = absurd (let f : false ≡ true = some in cc)
 some_value (Some e) some = (e, refl)
 
@@ -163,39 +163,41 @@ zero_from_clear s claim clear = same_zero s claim (claim s) refl clear
 carried : (g : List ArcView) (s s' v : ℕ) (outcome outcome' radius : Option ℤ) → s ≡ s' → outcome ≡ outcome' → radius ≡ None → IsDistance g s v outcome radius → IsDistance g s' v outcome' None
 carried g s s' v outcome outcome' radius source same none is = rw (← source, ← same, ← none) is
 
-module _ (g : NetworkValue) (s : ℕ) (claim : ℕ → Option ℤ) (b : BlockValue) (reached : ℕ → Bool) (joined : All (JoinsNodes g.nodes) g.arcs) (arcs : Clear (claim_row g.arcs claim)) (nodes : Clear (reach_row g s claim)) (source : b.source ≡ s)
-    (whole : IsWholeTightTree g.nodes g.arcs claim b reached) where
-  is_reached : (v : ℕ) → IsNode g.nodes v → IsSome (claim v) → reached v ≡ true
-  is_reached v node some = elim (cases_Bool (reached v)) [
-    | inl on ↦ on
-    | inr off ↦ absurd (nodes v (Node v) NoTightArc (node, refl, (refl, some, λ walk. let t = whole.closed v (rw source walk) in let f : true ≡ false = sym t ∙ off in cc)))
-  ]
-
-  agrees : (v : ℕ) → IsNode g.nodes v → label b v ≡ claim v
-  agrees v node = go (label b v) (claim v) refl refl
-    where
-      go : (mine outcome : Option ℤ) → label b v ≡ mine → claim v ≡ outcome → mine ≡ outcome
-      go None None e f = refl
-      go (Some d) None e f = let h : Some d ≡ None = sym (whole.tree.claimed v d e) ∙ f in absurd (cc)
-      go (Some d) (Some c) e f = sym (whole.tree.claimed v d e) ∙ f
-      go None (Some c) e f =
-          let t : true ≡ false = sym (is_reached v node (ap is_some f)) ∙ (whole.tree.marked v ∙ ap is_some e) in
-          absurd (cc)
-
-  relaxed : All (IsRelaxed b) g.arcs
-  relaxed = All-from_get_or (IsRelaxed b) g.arcs no_arc (λ k h d is.
+-- labels with the claimed distances, each with a tight arc from its predecessor
+module _ (g : NetworkValue) (s : ℕ) (claim : ℕ → Option ℤ) (b : BlockValue) (joined : All (JoinsNodes g.nodes) g.arcs) (source : b.source ≡ s) (whole : b.radius ≡ None) (lawful : IsBlock g.nodes b)
+    (tight : All (HasTightArc g.arcs b) b.labels) (agrees : (v : ℕ) → IsNode g.nodes v → label b v ≡ claim v) (relaxed : All (IsRelaxedBy claim) g.arcs) where
+  labels_relaxed : All (IsRelaxed b) g.arcs
+  labels_relaxed = All-from_get_or (IsRelaxed b) g.arcs no_arc (λ k h d is.
       let ends : JoinsNodes g.nodes (arc_at g.arcs k) = All-get_or (JoinsNodes g.nodes) g.arcs k no_arc h joined in
-      let (e, named, le) = All-get_or (IsRelaxedBy claim) g.arcs k no_arc h (all_relaxed g.arcs claim arcs) d (sym (agrees _ ends.0) ∙ is) in
+      let (e, named, le) = All-get_or (IsRelaxedBy claim) g.arcs k no_arc h relaxed d (sym (agrees _ ends.0) ∙ is) in
       inl (e, agrees _ ends.1 ∙ named, le))
 
   passes : LabelsOk g.arcs b
-  passes = record { weights = rw whole.tree.whole tt; tight = whole.tree.tight_arcs; relaxed = relaxed }
+  passes = record { weights = rw whole tt; tight = tight; relaxed = labels_relaxed }
 
-  pub true_claim : AreDistancesFrom g s claim
-  true_claim v node = carried g.arcs b.source s v (label b v) (claim v) b.radius source (agrees v node) whole.tree.whole (labels_are_distances g.arcs b whole.tree.lawful.preds (stays_near g.nodes b whole.tree.lawful) passes v)
+  pub shown : AreDistancesFrom g s claim × IsBlockOf g s claim b
+  shown = (
+    λ v node. carried g.arcs b.source s v (label b v) (claim v) b.radius source (agrees v node) whole (labels_are_distances g.arcs b lawful.preds (stays_near g.nodes b lawful) passes v),
+    record { lawful = lawful; source = source; whole = whole; passes = passes; agrees = agrees },
+  )
 
-  pub made_of : IsBlockOf g s claim b
-  made_of = record { lawful = whole.tree.lawful; source = source; whole = whole.tree.whole; passes = passes; agrees = agrees }
+-- ---- a search over tight arcs
+pub same_option : (mine outcome : Option ℤ) → ((d : ℤ) → mine ≡ Some d → outcome ≡ Some d) → (IsSome outcome → IsSome mine) → mine ≡ outcome
+same_option None None has all = refl
+same_option (Some d) outcome has all = sym (has d refl)
+same_option None (Some c) has all = absurd (let f : false ≡ true = all refl in cc)
+
+pub reaches_all : (g : NetworkValue) (s : ℕ) (claim : ℕ → Option ℤ) (b : BlockValue) (reached : ℕ → Bool) → Clear (reach_row g s claim) → b.source ≡ s → IsWholeTightTree g.nodes g.arcs claim b reached → ReachesAll g.nodes claim reached
+reaches_all g s claim b reached nodes source whole v node some = elim (cases_Bool (reached v)) [
+  | inl on ↦ on
+  | inr off ↦ absurd (nodes v (Node v) NoTightArc (node, refl, (refl, some, λ walk. let t = whole.closed v (rw source walk) in let f : true ≡ false = sym t ∙ off in cc)))
+]
+
+pub certified : (g : NetworkValue) (s : ℕ) (claim : ℕ → Option ℤ) (b : BlockValue) (reached : ℕ → Bool) → All (JoinsNodes g.nodes) g.arcs → b.source ≡ s → IsTightTree g.nodes g.arcs claim b reached → ReachesAll g.nodes claim reached
+    → Clear (claim_row g.arcs claim) → AreDistancesFrom g s claim × IsBlockOf g s claim b
+certified g s claim b reached joined source is all arcs =
+    let agrees : (v : ℕ) → IsNode g.nodes v → label b v ≡ claim v = λ v node. same_option (label b v) (claim v) (is.claimed v) (λ some. sym (is.marked v) ∙ all v node some) in
+    shown g s claim b joined source is.whole is.lawful is.tight_arcs agrees (all_relaxed g.arcs claim arcs)
 
 -- ---- a single block
 found_alone : (b : BlockValue) (s : ℕ) → b.source ≡ s → block_of (b ∷ []) s ≡ Some b

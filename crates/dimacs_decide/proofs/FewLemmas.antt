@@ -1,6 +1,6 @@
 -- Blocks that label few nodes.
 use Rattle.std.proofs.Common.{◌≡◌, ◌≢◌, inl, inr, true, false, ℕ, zero, suc, ◌+◌, ◌-◌, ◌<◌, ◌≤◌, Bool, List, [], ◌∷◌, length, get_or, Option, Some, None, is_some, ℤ, refl, sym, ap, subst, ◌∙◌, arith}
-use Rattle.std.specs.Prelude.{IfSome, IsSome}
+use Rattle.std.specs.Prelude.{IfSome}
 use Rattle.std.specs.Option.{ForSome}
 use Rattle.dimacs_records.specs.Ranges.{IsWide}
 use Rattle.std.proofs.lemmas.Bool.{cases_eq, cases_lt, cases_order}
@@ -19,6 +19,7 @@ use Rattle.dimacs_judging.specs.Tests.{Clear}
 use Rattle.dimacs_decide.specs.Distances.{claim_row}
 use Rattle.dimacs_decide.specs.inside.FewLabels.{AreNamed, ArcsHoldFrom, ArePlaced, IsUnreached}
 use Rattle.dimacs_decide.specs.inside.TightTrees.{ReachesAll, node_at}
+use Rattle.dimacs_decide.proofs.ClaimLemmas.{some_value}
 use Rattle.dimacs_decide.proofs.TightLemmas.{none_of, placed}
 
 abbrev pub id_at : BlockValue → ℕ → ℕ
@@ -115,12 +116,8 @@ reached_more b reached n v same this are k below = elim (cases_lt k n) [
   | inr last ↦ (let e : k ≡ n = omega (arith, below, last) in ap (λ j. reached (id_at b j)) e ∙ (ap reached (sym same) ∙ this))
 ]
 
-some_label : (o : Option ℤ) → IsSome o → (d : ℤ) × (o ≡ Some d)
-some_label None some = absurd (let f : false ≡ true = some in cc)
-some_label (Some d) some = (d, refl)
-
 pub all_reached : (nodes : ℕ) (b : BlockValue) (reached : ℕ → Bool) (n : ℕ) → reached b.source ≡ true → length b.labels ≤ n → AreReachedFirst b reached n → ReachesAll nodes (label b) reached
-all_reached nodes b reached n source all are v node some = at (placed b v (some_label (label b v) some).0 (some_label (label b v) some).1)
+all_reached nodes b reached n source all are v node some = at (placed b v (some_value (label b v) some).0 (some_value (label b v) some).1)
   where
     at : ((j : ℕ) × (j ≤ length b.labels) × (node_at b j ≡ v)) → reached v ≡ true
     at (zero, inside, same) = ap reached (sym same) ∙ source
@@ -159,7 +156,7 @@ pub none_left : (b : BlockValue) (reached : ℕ → Bool) (n : ℕ) → length b
 none_left b reached n all left v = off_or_on (reached v) (λ on. gone (left v on))
   where
     gone : ((v ≢ b.source) × (is_some (label b v) ≡ true) × ((k : ℕ) → k < n → id_at b k ≢ v)) → ⊥
-    gone (source, some, before) = at (placed b v (some_label (label b v) some).0 (some_label (label b v) some).1)
+    gone (source, some, before) = at (placed b v (some_value (label b v) some).0 (some_value (label b v) some).1)
       where
         at : ((j : ℕ) × (j ≤ length b.labels) × (node_at b j ≡ v)) → ⊥
         at (zero, inside, same) = source (sym same)

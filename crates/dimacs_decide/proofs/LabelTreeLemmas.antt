@@ -9,6 +9,7 @@ use Rattle.dimacs_claims.specs.declared.block.Label.{Label}
 use Rattle.dimacs_claims.specs.Labels.{BlockValue, IsBlock, distance_in, label, with_label}
 use Rattle.dimacs_claims.proofs.BlockLemmas.{each_after_nil, each_after_push}
 use Rattle.dimacs_decide.specs.inside.TightTrees.{absent}
+use Rattle.dimacs_decide.proofs.ClaimLemmas.{same_option}
 use Rattle.dimacs_decide.proofs.CountLemmas.{count_all, one_fewer}
 use Rattle.dimacs_decide.specs.Predecessors.{IsNext, LeadsBack}
 use Rattle.dimacs_decide.specs.inside.LabelTrees.{AreLabelled, AreLabelledBelow, IsLabelTree, Keeps, Places}
@@ -133,12 +134,4 @@ module _ (nodes s : ℕ) (claim : ℕ → Option ℤ) (pred : ℕ → ℕ) (b : 
 
 -- ---- all labels
 pub all_agree : (nodes s : ℕ) (claim : ℕ → Option ℤ) (pred : ℕ → ℕ) (b : BlockValue) (labelled : ℕ → Bool) → IsLabelTree nodes s claim pred b labelled → AreLabelled claim labelled → (v : ℕ) → label b v ≡ claim v
-all_agree nodes s claim pred b labelled is all v = go (label b v) (claim v) refl refl
-  where
-    go : (mine outcome : Option ℤ) → label b v ≡ mine → claim v ≡ outcome → mine ≡ outcome
-    go None None e f = refl
-    go (Some d) None e f = let h : Some d ≡ None = sym (is.claimed v d e) ∙ f in absurd (cc)
-    go (Some d) (Some c) e f = sym (is.claimed v d e) ∙ f
-    go None (Some c) e f =
-        let t : true ≡ false = sym (all v (ap is_some f)) ∙ (is.marked v ∙ ap is_some e) in
-        absurd (cc)
+all_agree nodes s claim pred b labelled is all v = same_option (label b v) (claim v) (is.claimed v) (λ some. sym (is.marked v) ∙ all v some)

@@ -9,7 +9,7 @@ pub mod Heights
 pub mod Raising
 pub mod Residual
 pub mod ResidualCapacities
-pub mod PredecessorTrees
+pub mod TightTails
 pub mod Imbalances
 pub mod LabelTrees
 pub mod TightTrees

@@ -1,6 +1,6 @@
 //! Certifies claimed distances from several sources.
 
-ghost use Rattle.std.specs.Prelude.{◌≡◌, IfOk, IfSome, OnOk};
+ghost use Rattle.std.specs.Prelude.{◌≡◌, ℕ, IfOk, IfSome, IsSome, OnOk};
 ghost use Rattle.dimacs_lines.specs.Limits.{IsNode};
 ghost use Rattle.dimacs_network.specs.AdjacencyLists.{AreAdjacencyLists};
 ghost use Rattle.dimacs_network.specs.declared.adjacency_lists.Side.TheVariants.{Tail};
@@ -14,7 +14,7 @@ use crate::block_claim::{BlockClaim, BlockClaim32};
 use crate::claim::DistanceClaim;
 use crate::distances::decide_block;
 use crate::few_labels::{Tables, few_block, has_few_labels};
-use crate::predecessor_tree::block_by_predecessors;
+use crate::tight_tails::block_by_predecessors;
 use dimacs_claims::{Block, Distances, Labels};
 use dimacs_instance::Graph;
 use dimacs_judging::JudgeError;
@@ -138,6 +138,7 @@ fn certify_block<N: Network, C: DistanceClaim>(
     claim: &C,
 ) -> Result<Block, JudgeError>
     requires source { IsNode graph.now.nodes source }
+    requires within { (v : ℕ) → IsSome (C.claimed claim.now v) → IsNode graph.now.nodes v }
     requires lists { IfSome lists.old (AreAdjacencyLists Tail graph.now.arcs) }
     ensures decides { DecidesBlock graph.now source (C.claimed claim.now) result }
     ensures lists { OnOk result (IfSome lists.new (AreAdjacencyLists Tail graph.now.arcs)) }

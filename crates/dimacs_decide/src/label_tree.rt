@@ -1,6 +1,7 @@
 //! Labels from claimed distances and proposed predecessors, each after the label of its predecessor.
 
-ghost use Rattle.std.specs.Prelude.{◌≡◌, ◌≢◌, ◌≤◌, ◌↔◌, ℕ, ℤ, Bool, All, Option, None, Some, false, true, length, pos, IfErr, IfOk, IfSome, IsSome, IsTrue, OnOk};
+ghost use Rattle.std.specs.Prelude.{◌≡◌, ◌≢◌, ◌≤◌, ◌↔◌, ℕ, ℤ, Bool, All, Option, None, Some, false, true, length, pos};
+ghost use Rattle.std.specs.Prelude.{IfErr, IfOk, IfSome, IsSome, IsTrue, OnOk};
 ghost use Rattle.dimacs_lines.specs.Limits.{most_nodes, IsNode};
 ghost use Rattle.dimacs_records.specs.Ranges.{IsWide};
 ghost use Rattle.dimacs_claims.specs.declared.block.Label.{Label};
@@ -110,13 +111,16 @@ impl<P: Proposal> LabelTree<P> {
     #[inline(always)]
     fn label_from(&mut self, nodes: u32, from: u32) -> Result<bool, Memory>
         requires proposed { IsProposed nodes (P.claimed self.old.proposal) (P.pred self.old.proposal) }
-        requires tree { IsLabelTree nodes self.old.block.source (P.claimed self.old.proposal) (P.pred self.old.proposal) self.old.block (P.labelled self.old.proposal) }
+        requires tree { IsLabelTree nodes self.old.block.source (P.claimed self.old.proposal) (P.pred self.old.proposal)
+            self.old.block (P.labelled self.old.proposal) }
         requires earlier { AreLabelledBelow (P.claimed self.old.proposal) (P.labelled self.old.proposal) from }
         ensures claimed { P.claimed self.new.proposal ≡ P.claimed self.old.proposal }
         ensures pred { P.pred self.new.proposal ≡ P.pred self.old.proposal }
-        ensures tree { OnOk result (IsLabelTree nodes self.old.block.source (P.claimed self.old.proposal) (P.pred self.old.proposal) self.new.block (P.labelled self.new.proposal)) }
+        ensures tree { OnOk result (IsLabelTree nodes self.old.block.source (P.claimed self.old.proposal) (P.pred self.old.proposal)
+            self.new.block (P.labelled self.new.proposal)) }
         ensures keeps { OnOk result (Keeps (P.labelled self.old.proposal) (P.labelled self.new.proposal)) }
-        ensures labelled { IfOk result (Leads (P.pred self.old.proposal) self.old.block.source (P.claimed self.old.proposal) (P.labelled self.new.proposal) from) }
+        ensures labelled { IfOk result (Leads (P.pred self.old.proposal) self.old.block.source (P.claimed self.old.proposal)
+            (P.labelled self.new.proposal) from) }
     {
         let end = self.climb(nodes, from)?;
         if !self.proposal.is_labelled(end) {
@@ -161,13 +165,16 @@ impl<P: Proposal> LabelTree<P> {
     #[inline(always)]
     fn place(&mut self, nodes: u32, node: u32) -> Result<(), Memory>
         requires proposed { IsProposed nodes (P.claimed self.old.proposal) (P.pred self.old.proposal) }
-        requires tree { IsLabelTree nodes self.old.block.source (P.claimed self.old.proposal) (P.pred self.old.proposal) self.old.block (P.labelled self.old.proposal) }
+        requires tree { IsLabelTree nodes self.old.block.source (P.claimed self.old.proposal) (P.pred self.old.proposal)
+            self.old.block (P.labelled self.old.proposal) }
         requires distance { IsSome (P.claimed self.old.proposal node) }
-        requires next { (l : Label) → l.id ≡ node → IsNext self.old.block.source (P.claimed self.old.proposal) (P.pred self.old.proposal) self.old.block.labels l }
+        requires next { (l : Label) → l.id ≡ node
+            → IsNext self.old.block.source (P.claimed self.old.proposal) (P.pred self.old.proposal) self.old.block.labels l }
         requires labelled { P.labelled self.old.proposal (P.pred self.old.proposal node) ≡ true }
         ensures claimed { P.claimed self.new.proposal ≡ P.claimed self.old.proposal }
         ensures pred { P.pred self.new.proposal ≡ P.pred self.old.proposal }
-        ensures tree { OnOk result (IsLabelTree nodes self.old.block.source (P.claimed self.old.proposal) (P.pred self.old.proposal) self.new.block (P.labelled self.new.proposal)) }
+        ensures tree { OnOk result (IsLabelTree nodes self.old.block.source (P.claimed self.old.proposal) (P.pred self.old.proposal)
+            self.new.block (P.labelled self.new.proposal)) }
         ensures placed { OnOk result (Places (P.labelled self.old.proposal) (P.labelled self.new.proposal) node) }
         ensures path { self.new.path ≡ self.old.path }
     {

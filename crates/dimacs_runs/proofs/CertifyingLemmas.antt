@@ -1,5 +1,5 @@
 -- The outcomes of certifying.
-use Rattle.std.proofs.Common.{◌≡◌, ◌≢◌, ◌∙◌, ℕ, ℤ, List, [], ◌∷◌, Ok, Err, refl, sym, subst, ap, inl, inr, ◌⊎◌, length}
+use Rattle.std.proofs.Common.{◌≡◌, ◌≢◌, ◌∙◌, ℕ, ℤ, List, [], ◌∷◌, Ok, Err, refl, sym, subst, ap, inl, inr, length}
 use Rattle.std.specs.Prelude.{codes}
 use Rattle.dimacs_claims.specs.Cuts.{CutValue, SpellsCut, canonical_cut}
 use Rattle.dimacs_claims.specs.Labels.{LabelsValue}

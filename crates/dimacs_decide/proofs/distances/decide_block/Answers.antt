@@ -2,7 +2,7 @@ use Rattle.dimacs_network.specs.Tables.{value_of}
 use Rattle.dimacs_judging.specs.Tests.{Clear}
 use Rattle.dimacs_decide.specs.Distances.{claim_row, reach_row}
 use Rattle.dimacs_decide.specs.inside.TightTrees.{IsWholeTightTree}
-use Rattle.dimacs_decide.proofs.ClaimLemmas.{arc_refuted, made_of, node_refuted, refused, source_refuted, true_claim, zero_from_clear}
+use Rattle.dimacs_decide.proofs.ClaimLemmas.{arc_refuted, certified, node_refuted, reaches_all, refused, source_refuted, zero_from_clear}
 use Rattle.dimacs_decide.proofs.distances.decide_block.Goals as goal
 
 pub returns-in_err-source_holds : goal.returns-in_err-source_holds
@@ -34,6 +34,6 @@ returns g c =
     let arcs : Clear (claim_row value.arcs claim) = rw c.network-network.ensures.arcs at c.in_ok-arcs_hold.ensures in
     let nodes : Clear (reach_row value c.args.source claim) = rw (c.network-network.ensures.nodes, c.network-network.ensures.arcs, c.in_ok-tree.ensures.source) at c.in_ok-nodes_hold.ensures in
     let whole : IsWholeTightTree value.nodes value.arcs claim tree.block (value_of tree.reached) = rw (c.network-network.ensures.nodes, c.network-network.ensures.arcs) at c.in_ok-tree.ensures.tree in
-    let joined = c.network-network.ensures.lawful.joined in
-    let are = true_claim value c.args.source claim tree.block (value_of tree.reached) joined arcs nodes c.in_ok-tree.ensures.source whole in
-    rw c.into_block.ensures (are, made_of value c.args.source claim tree.block (value_of tree.reached) joined arcs nodes c.in_ok-tree.ensures.source whole)
+    let source = c.in_ok-tree.ensures.source in
+    let all = reaches_all value c.args.source claim tree.block (value_of tree.reached) nodes source whole in
+    rw c.into_block.ensures (certified value c.args.source claim tree.block (value_of tree.reached) c.network-network.ensures.lawful.joined source whole.tree all arcs)

@@ -6,7 +6,7 @@ use Rattle.dimacs_network.specs.AdjacencyLists.{IsLast}
 use Rattle.dimacs_network.specs.declared.adjacency_lists.Side.TheVariants.{Tail}
 use Rattle.dimacs_judging.specs.CertificateTests.{RelaxFails}
 use Rattle.dimacs_decide.proofs.FewLemmas.{passed_on}
-use Rattle.dimacs_decide.proofs.PredecessorTreeLemmas.{no_fault}
+use Rattle.dimacs_decide.proofs.TightTailLemmas.{no_fault}
 use Rattle.dimacs_decide.proofs.few_labels.arcs_hold_from.Goals as goal
 
 pub loop-next-init : goal.loop-next-init

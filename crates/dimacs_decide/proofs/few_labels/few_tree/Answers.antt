@@ -5,7 +5,7 @@ use Rattle.dimacs_network.specs.Tables.{value_of}
 use Rattle.dimacs_decide.specs.Distances.{claim_row}
 use Rattle.dimacs_decide.specs.inside.TightTrees.{IsTightTree}
 use Rattle.dimacs_decide.proofs.LightestLemmas.{lightest_clear, lightest_joined, lightest_tree}
-use Rattle.dimacs_decide.proofs.PredecessorTreeLemmas.{certified}
+use Rattle.dimacs_decide.proofs.ClaimLemmas.{certified}
 use Rattle.dimacs_decide.proofs.few_labels.few_tree.Goals as goal
 
 pub tight_tree-requires-clause-joined : goal.tight_tree-requires-clause-joined

@@ -1,8 +1,8 @@
 use Rattle.dimacs_judging.specs.Tests.{ClearBelow}
 use Rattle.dimacs_decide.specs.Distances.{claim_row}
 use Rattle.dimacs_decide.specs.inside.DenseTables.{HasNodes, value_at}
-use Rattle.dimacs_decide.specs.inside.PredecessorTrees.{AreTightTails}
-use Rattle.dimacs_decide.proofs.predecessor_tree.tight_tails.Given as goal
+use Rattle.dimacs_decide.specs.inside.TightTails.{AreTightTails}
+use Rattle.dimacs_decide.proofs.tight_tails.tight_tails.Given as goal
 
 -- the arcs before i
 abbrev pub invariant-loop-i : goal.invariant-loop-i

@@ -5,8 +5,8 @@ use Rattle.dimacs_network.specs.Arcs.{JoinsNodes, arc_at, no_arc}
 use Rattle.dimacs_judging.proofs.RowLemmas.{arc_clear_end, arc_clear_more}
 use Rattle.dimacs_judging.specs.CertificateTests.{RelaxFails}
 use Rattle.dimacs_decide.specs.inside.DenseTables.{value_at}
-use Rattle.dimacs_decide.proofs.PredecessorTreeLemmas.{no_fault, tails_more}
-use Rattle.dimacs_decide.proofs.predecessor_tree.tight_tails.Goals as goal
+use Rattle.dimacs_decide.proofs.TightTailLemmas.{no_fault, tails_more}
+use Rattle.dimacs_decide.proofs.tight_tails.tight_tails.Goals as goal
 
 pub note_tail-requires : goal.note_tail-requires
 note_tail-requires g c =
