@@ -2,23 +2,18 @@
 use Rattle.std.proofs.Common.{◌≡◌, ◌≢◌, inl, inr, ℕ, List, [], ◌∷◌, ◌++◌, All, length, get_or, Option, Some, None, IsSome, ℤ, refl, sym, ap, subst, ◌∙◌, arith}
 use Rattle.std.proofs.lemmas.Bool.Decides.{eqb_tells}
 use Rattle.std.proofs.lemmas.Bool.{cases_eq, ne_eqb}
-use Rattle.std.proofs.lemmas.List.{append_assoc}
-use Rattle.std.proofs.lemmas.List.Elements.{All-cons, All-head, All-nil, All-tail}
+use Rattle.std.proofs.lemmas.List.Elements.{All-head, All-tail}
 use Rattle.dimacs_claims.specs.declared.block.Label.{Label}
 use Rattle.dimacs_lines.specs.Limits.{IsNode}
 use Rattle.dimacs_network.specs.Arcs.{NetworkValue}
-use Rattle.dimacs_claims.specs.Labels.{BlockValue, EachAfter, IsBlock, IsFresh, LabelsValue, distance_in, label, label_in}
+use Rattle.dimacs_claims.specs.Labels.{BlockValue, IsBlock, LabelsValue, distance_in, label, label_in}
 use Rattle.dimacs_judging.specs.Answers.{block_of}
 use Rattle.dimacs_judging.specs.QueryTests.{HasFullBlock}
 use Rattle.dimacs_decide.specs.Distances.{AreLabelsOf}
 use Rattle.dimacs_decide.specs.Predecessors.{NeedsPredecessor}
+use Rattle.dimacs_decide.proofs.TightTailLemmas.{not_source}
 use Rattle.dimacs_arrays.specs.Paths.{AreLabelsBy, pred_by_node}
 use Rattle.dimacs_arrays.specs.inside.PredecessorsOf.{ArePredsOf}
-
--- no label is of the source
-pub not_source : (s : ℕ) (done rest : List Label) → EachAfter (IsFresh s) (done ++ rest) → All (λ (l : Label). l.id ≢ s) rest
-not_source s done [] each = All-nil _
-not_source s done (l ∷ rest) each = All-cons (λ (m : Label). m.id ≢ s) l rest (each done rest l refl).0 (not_source s (done ++ l ∷ []) rest (subst (EachAfter (IsFresh s)) (sym (append_assoc done (l ∷ []) rest)) each))
 
 not_among : (labels : List Label) (v : ℕ) → All (λ (l : Label). l.id ≢ v) labels → distance_in labels v ≡ None
 not_among [] v all = refl

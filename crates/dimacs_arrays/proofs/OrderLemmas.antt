@@ -8,7 +8,6 @@ use Rattle.dimacs_network.specs.Arcs.{JoinsNodes, NetworkValue, arc_at, no_arc}
 use Rattle.dimacs_instance.specs.QueryTexts.{Sources}
 use Rattle.dimacs_claims.specs.declared.block.Label.{Label}
 use Rattle.dimacs_claims.specs.Labels.{BlockValue, IsBlock, IsLabel, IsWithinRadius, LabelsValue, distance_in, label, no_label}
-use Rattle.dimacs_claims.proofs.ByIdLemmas.{distance_in-at, fresh_apart}
 use Rattle.dimacs_judging.specs.Answers.{block_of}
 use Rattle.dimacs_judging.specs.Labels.{HasTightArc, IsReached, IsRelaxed, LabelsOk}
 use Rattle.dimacs_judging.specs.PathsJudge.{PassesPaths}
@@ -16,7 +15,8 @@ use Rattle.dimacs_judging.specs.QueryTests.{HasFullBlock}
 use Rattle.dimacs_decide.specs.Distances.{AreLabelsOf}
 use Rattle.dimacs_arrays.specs.Paths.{AreLabelsBy, ArePredecessors, pred_by_node}
 use Rattle.dimacs_arrays.specs.inside.PredecessorsOf.{ArePredsOf}
-use Rattle.dimacs_arrays.proofs.CertifyPathsLemmas.{labels_by, not_source}
+use Rattle.dimacs_decide.proofs.TightTailLemmas.{not_source, own_label}
+use Rattle.dimacs_arrays.proofs.CertifyPathsLemmas.{labels_by}
 
 -- the label of a distance
 label_at_distance : (ls : List Label) (v : ℕ) (d : ℤ) → distance_in ls v ≡ Some d → (m : Label) × Contains ls m × (m.id ≡ v) × (m.dist ≡ d)
@@ -50,9 +50,7 @@ module _ (g : NetworkValue) (s : ℕ) (claim : ℕ → Option ℤ) (pred : ℕ �
       let l = get_or b'.labels k no_label in
       let lawful : IsLabel g.nodes l = All-get_or (IsLabel g.nodes) b'.labels k no_label inside yours.lawful.within in
       let other : l.id ≢ b'.source = All-get_or (λ (m : Label). m.id ≢ b'.source) b'.labels k no_label inside (not_source b'.source [] b'.labels yours.lawful.fresh) in
-      let named : distance_in b'.labels l.id ≡ Some l.dist = distance_in-at b'.labels (fresh_apart b'.source b'.labels yours.lawful.fresh) k inside in
-      let here : label b' l.id ≡ Some l.dist = rw (ne_eqb b'.source l.id (λ e. other (sym e))) named in
-      let there : label b l.id ≡ Some l.dist = sym (same_label l.id lawful.id) ∙ here in
+      let there : label b l.id ≡ Some l.dist = sym (same_label l.id lawful.id) ∙ own_label g.nodes b' yours.lawful k inside in
       let found : distance_in b.labels l.id ≡ Some l.dist = rw (ne_eqb b.source l.id (λ e. other (sym e ∙ (mine.source ∙ sym yours.source)))) at there in
       let (m, has, id, dist) = label_at_distance b.labels l.id l.dist found in
       let (base, at, h) = All-contains (HasTightArc g.arcs b) b.labels m all has in

@@ -1,37 +1,36 @@
 -- If each distance has a tight arc of positive weight, the distances are right.
-use Rattle.std.proofs.Common.{◌≡◌, ◌≢◌, inl, inr, ℕ, suc, zero, ◌+◌, ◌-◌, ◌^◌, ◌<◌, ◌≤◌, List, [], ◌∷◌, All, length, get_or, Option, Some, None, Ok, IsSome, is_some, ℤ, pos, ◌+ℤ◌, ◌≤ℤ◌, ◌<ℤ◌, refl, sym, ap, subst, ◌∙◌, arith}
+use Rattle.std.proofs.Common.{◌≡◌, ◌≢◌, inl, inr, ℕ, suc, zero, ◌+◌, ◌-◌, ◌^◌, ◌<◌, ◌≤◌, List, [], ◌∷◌, All, length, Option, Some, None, Ok, IsSome, is_some, ℤ, pos, ◌+ℤ◌, ◌≤ℤ◌, ◌<ℤ◌, refl, sym, ap, subst, ◌∙◌, arith}
 use Rattle.std.specs.Prelude.{int_lt, slice_get, slice_set}
-use Rattle.std.proofs.lemmas.Bool.{cases_Bool, cases_eq, cases_order, ne_eqb}
+use Rattle.std.proofs.lemmas.Bool.{cases_Bool, cases_eq, cases_order}
 use Rattle.std.proofs.lemmas.Bool.Decides.{eqb_tells}
 use Rattle.std.proofs.lemmas.Int.{ints}
-use Rattle.std.proofs.lemmas.List.Elements.{All-cons, All-from_get_or, All-get_or, All-nil, Contains-get_or}
+use Rattle.std.proofs.lemmas.List.Elements.{All-cons, All-from_get_or, All-nil, Contains-get_or}
 use Rattle.dimacs_lines.specs.Limits.{most_nodes, IsNode}
 use Rattle.dimacs_records.specs.Ranges.{IsWide}
 use Rattle.dimacs_network.specs.declared.network.ArcView.{ArcView}
 use Rattle.dimacs_network.specs.Arcs.{JoinsNodes, NetworkValue, arc_at, no_arc}
 use Rattle.dimacs_instance.specs.QueryTexts.{Sources}
-use Rattle.dimacs_claims.specs.declared.block.Label.{Label}
-use Rattle.dimacs_claims.specs.Labels.{BlockValue, AreLabels, IsLabel, LabelsValue, distance_in, label, no_label}
+use Rattle.dimacs_claims.specs.Labels.{BlockValue, AreLabels, LabelsValue}
 use Rattle.dimacs_claims.proofs.BlockLemmas.{each_after_nil, labels_push}
 use Rattle.dimacs_judging.specs.declared.verdict.Verdict.TheVariants as verdicts
 use Rattle.dimacs_judging.proofs.Passing.{nodes_clear}
 use Rattle.dimacs_judging.proofs.PathsPassing.{passing_shows}
 use Rattle.dimacs_judging.proofs.QueriesPassing.{query_blocks_clear, query_nodes_clear}
 use Rattle.dimacs_judging.specs.Answers.{block_of}
-use Rattle.dimacs_judging.specs.Labels.{HasTightArc, IsRelaxed, LabelsOk}
+use Rattle.dimacs_judging.specs.Labels.{LabelsOk}
 use Rattle.dimacs_judging.specs.PathsJudge.{PassesPaths, paths_rows}
 use Rattle.dimacs_judging.specs.QueryTests.{HasFullBlock}
 use Rattle.dimacs_judging.specs.Tests.{AllClear}
-use Rattle.dimacs_judging.specs.Walks.{IsDistance}
-use Rattle.dimacs_judging.proofs.Distances.{labels_are_distances}
-use Rattle.dimacs_judging.proofs.LabelsPassing.{labels_clear, stays_near}
-use Rattle.dimacs_claims.proofs.ByIdLemmas.{distance_in-at, fresh_apart}
+use Rattle.dimacs_judging.proofs.LabelsPassing.{labels_clear}
 use Rattle.dimacs_decide.specs.Claims.{claimed_by_node, unless_greatest}
 use Rattle.dimacs_decide.specs.Distances.{AreDistancesFrom}
 use Rattle.dimacs_decide.specs.Predecessors.{NeedsPredecessor}
+use Rattle.dimacs_decide.specs.inside.DistanceBlocks.{IsBlockOf}
+use Rattle.dimacs_decide.specs.inside.TightTails.{AreTightTails}
+use Rattle.dimacs_decide.proofs.ClaimLemmas.{shown}
+use Rattle.dimacs_decide.proofs.TightTailLemmas.{all_tight}
 use Rattle.dimacs_arrays.specs.Paths.{AreLabelsBy, ArePredecessors, JudgesByNode, pred_by_node}
 use Rattle.dimacs_arrays.specs.inside.TightPredecessors.{AreTightPredecessors, AreTightPredecessorsFrom, HasPositiveTightArc, Relaxes, IsPositiveTight}
-use Rattle.dimacs_arrays.proofs.CertifyPathsLemmas.{not_source}
 use Rattle.dimacs_arrays.proofs.DistanceLemmas.{distance_within}
 use Rattle.dimacs_arrays.proofs.PredLemmas.{set_here, set_there}
 use Rattle.dimacs_arrays.proofs.SinkLemmas.{AreNearer, sink_labels}
@@ -124,6 +123,12 @@ module _ (g : NetworkValue) (s : ℕ) (distances : List ℤ) (preds : List ℕ) 
         absurd (free (apart, ap is_some named))
   ]
 
+  tails : AreTightTails g.arcs claim pred
+  tails v some =
+      let (a, has, tail, head, up) = are.tight.tight_arc v some in
+      let (d, tight) = up in
+      (a, has, tail, head, (d, tight.tail, tight.head))
+
   are_nearer : AreNearer g.nodes s claim pred
   are_nearer = record { source = node; at = are.source; inside = inside; wide = wide_claim distances; nearer = nearer; others = others }
 
@@ -131,30 +136,8 @@ module _ (g : NetworkValue) (s : ℕ) (distances : List ℤ) (preds : List ℕ) 
     abbrev b : BlockValue
     b = by.block
 
-    relaxed : All (IsRelaxed b) g.arcs
-    relaxed = All-from_get_or (IsRelaxed b) g.arcs no_arc (λ k h d is.
-        let ends : JoinsNodes g.nodes (arc_at g.arcs k) = All-get_or (JoinsNodes g.nodes) g.arcs k no_arc h joined in
-        let (e, named, le) = All-get_or (Relaxes claim) g.arcs k no_arc h are.tight.relaxed d (sym (by.agrees _ ends.0) ∙ is) in
-        inl (e, by.agrees _ ends.1 ∙ named, le))
-
-    tight_at : (k : ℕ) → k < length b.labels → HasTightArc g.arcs b (get_or b.labels k no_label)
-    tight_at k h =
-        let l = get_or b.labels k no_label in
-        let lawful : IsLabel g.nodes l = All-get_or (IsLabel g.nodes) b.labels k no_label h by.lawful.within in
-        let other : l.id ≢ b.source = All-get_or (λ (m : Label). m.id ≢ b.source) b.labels k no_label h (not_source b.source [] b.labels by.lawful.fresh) in
-        let found : distance_in b.labels l.id ≡ Some l.dist = distance_in-at b.labels (fresh_apart b.source b.labels by.lawful.fresh) k h in
-        let here : label b l.id ≡ Some l.dist = rw (ne_eqb b.source l.id (λ e. other (sym e))) found in
-        let named : claim l.id ≡ Some l.dist = sym (by.agrees l.id lawful.id) ∙ here in
-        let from : l.pred ≡ pred l.id = All-get_or (λ (m : Label). m.pred ≡ pred m.id) b.labels k no_label h by.preds in
-        let (a, has, tail, head, up) = tight_arc l.id l.dist (λ same. other (same ∙ sym by.source)) named in
-        let (e, tight) = up in
-        let both : Some (e +ℤ a.cost) ≡ Some l.dist = sym tight.head ∙ (ap claim head ∙ named) in
-        let adds : e +ℤ a.cost ≡ l.dist = cc in
-        let start : a.tail ≡ l.pred = tail ∙ sym from in
-        (e, by.agrees l.pred lawful.pred ∙ (ap claim (sym start) ∙ tight.tail), record { arc = a; present = has; from = start; to = head; adds = adds })
-
-    passes : LabelsOk g.arcs b
-    passes = record { weights = rw by.whole tt; tight = All-from_get_or (HasTightArc g.arcs b) b.labels no_label tight_at; relaxed = relaxed }
+    shows : AreDistancesFrom g s claim × IsBlockOf g s claim b
+    shows = shown g s claim b joined by.source by.whole by.lawful (all_tight g claim pred b by.lawful by.agrees by.preds tails) by.agrees are.tight.relaxed
 
     found_block : block_of (b ∷ []) s ≡ Some b
     found_block = elim (eqb_tells b.source s) [ inl same ↦ rw same.0 refl | inr apart ↦ absurd (apart.1 by.source) ]
@@ -166,14 +149,11 @@ module _ (g : NetworkValue) (s : ℕ) (distances : List ℤ) (preds : List ℕ) 
           nodes = ap (λ (l : LabelsValue). l.nodes) by.alone;
           queries = All-cons (λ id. id ≤ g.nodes) s [] node.1 (All-nil _);
           blocks = All-cons (HasFullBlock labels.blocks) s [] (b, ap (λ blocks. block_of blocks s) alone ∙ found_block, by.whole) (All-nil _);
-          labels = subst (All (LabelsOk g.arcs)) (sym alone) (All-cons (LabelsOk g.arcs) b [] passes (All-nil _));
+          labels = subst (All (LabelsOk g.arcs)) (sym alone) (All-cons (LabelsOk g.arcs) b [] shows.1.passes (All-nil _));
         }
 
-    carried : (s' v : ℕ) (outcome outcome' radius : Option ℤ) → b.source ≡ s' → outcome ≡ outcome' → radius ≡ None → IsDistance g.arcs b.source v outcome radius → IsDistance g.arcs s' v outcome' None
-    carried s' v outcome outcome' radius source same none is = rw (← source, ← same, ← none) is
-
     pub tight_true : AreDistancesFrom g s claim
-    tight_true v at = carried s v (label b v) (claim v) b.radius by.source (by.agrees v at) by.whole (labels_are_distances g.arcs b by.lawful.preds (stays_near g.nodes b by.lawful) passes v)
+    tight_true = shows.0
 
   --   the distances are right, and the predecessors show it
   pub tight_certified : AreDistancesFrom g s claim × ArePredecessors g s claim preds

@@ -5,8 +5,8 @@ use Rattle.std.proofs.lemmas.List.Elements.{All-get_or}
 use Rattle.dimacs_claims.specs.declared.block.Label.{Label}
 use Rattle.dimacs_claims.specs.Labels.{IsLabel, no_label}
 use Rattle.dimacs_claims.proofs.ByIdLemmas.{fresh_apart}
+use Rattle.dimacs_decide.proofs.TightTailLemmas.{not_source}
 use Rattle.dimacs_arrays.specs.Paths.{FitsArray}
-use Rattle.dimacs_arrays.proofs.CertifyPathsLemmas.{not_source}
 use Rattle.dimacs_arrays.proofs.PredLemmas.{at_place}
 use Rattle.dimacs_arrays.proofs.LabelDistanceLemmas.{reached_all, reached_more}
 use Rattle.dimacs_arrays.proofs.label_distances.distances_of.Goals as goal
