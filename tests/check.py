@@ -1,8 +1,8 @@
 #!/usr/bin/env python3
 """Runs all tests side by side, unproved: tests/check.py [BUILD]
 
-BUILD is the folder of the program and the library that are tested; build/quick if none is given. The test crates run
-by `rt try --test`, which compiles them unproved, with tests of indices, sums and addresses of its own. A test that
+BUILD is the folder of the program and the library that are tested; build/quick if none is given. The test crate runs
+by `rt try --test`, which compiles it unproved, with tests of indices, sums and addresses of its own. A test that
 doesn't end there in a minute, as those of the greatest number of nodes, runs without these, in its crate built as the
 program is. The scripts run over BUILD. A line is printed for each crate and script as it ends, with its output if
 something failed; the last line counts what passed and what failed in all of them.

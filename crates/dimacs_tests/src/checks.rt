@@ -8,17 +8,6 @@ pub fn same<T: PartialEq + Debug + Drop>(rt: &impl Abort, name: &str, actual: T,
     assert_eq!(rt; actual, wanted, "{name}");
 }
 
-/// Asserts it of the case with this number.
-pub fn same_at<T: PartialEq + Debug + Drop>(
-    rt: &impl Abort,
-    name: &str,
-    number: u64,
-    actual: T,
-    wanted: T,
-) {
-    assert_eq!(rt; actual, wanted, "{name} {number}");
-}
-
 /// Asserts a condition.
 pub fn holds(rt: &impl Abort, name: &str, condition: bool) {
     assert!(rt; condition, "{name}");

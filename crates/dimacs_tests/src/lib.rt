@@ -1,12 +1,11 @@
-//! Tests of inner calls, a file for each subject. They test what no contract states: that a call succeeds while memory
-//! lasts, and, by answers worked out by hand, that the contracts mean what was meant. Runs over texts are rows of
-//! tests/rows, made by the program.
+//! Tests of what no run shows: inner calls, a file for each subject, and in `surface` the calls of programs in Rattle.
+//! They test what no contract states: that a call succeeds while memory lasts, and, by answers worked out by hand, that
+//! the contracts mean what was meant. Runs over texts are rows of `tests/rows`, calls over arrays rows of
+//! `lib/test/arrays.c`.
 #![tactic(auto)]
 
 #[cfg(test)]
 mod arguments;
-#[cfg(test)]
-mod arrays;
 #[cfg(test)]
 mod checks;
 #[cfg(test)]
@@ -21,5 +20,7 @@ mod pages;
 mod refused_growths;
 #[cfg(test)]
 mod scan;
+#[cfg(test)]
+mod surface;
 #[cfg(test)]
 mod tables;

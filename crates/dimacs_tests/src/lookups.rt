@@ -1,6 +1,6 @@
 //! Look-ups of distances, with an index and without.
 
-use crate::checks::same_at;
+use crate::checks::same;
 use dimacs_claims::{Distances, read_distances};
 use dimacs_lines::MemorySource;
 use std::process::Abort;
@@ -18,7 +18,7 @@ static DISTANCES: [(usize, u32, Option<i128>); 6] = [
 
 fn has_distances(rt: &impl Abort, distances: &Distances) {
     for &(block, id, dist) in &DISTANCES {
-        same_at(rt, "node", id as u64, distances.distance(block, id), dist);
+        same(rt, "a distance", distances.distance(block, id), dist);
     }
 }
 

@@ -3,7 +3,7 @@
 
 ghost use Rattle.std.specs.Prelude.{◌≡◌, None};
 
-use crate::checks::{holds, same, same_at};
+use crate::checks::{holds, same};
 use dimacs_claims::{
     CutReading, DistancesReading, Entry, LabelsReading, Placed, PotentialsReading, Solution,
     SolutionReading,
@@ -11,6 +11,7 @@ use dimacs_claims::{
 use dimacs_instance::{GraphReading, LawfulQueries, MaxReading, MinReading, QueriesReading};
 use dimacs_lines::{DeviceFault, Sink};
 use dimacs_records::{Reading, TakeError, Text, TextKind, record};
+use std::alloc::Global;
 use std::process::Abort;
 use std::test::Fail;
 
@@ -79,7 +80,7 @@ fn take_at_last<R: Reading>(
     if answer == Err(TakeError::Memory) {
         answer = take_line(reading, kind, number, line);
     }
-    same_at(rt, line, number, answer, Ok(()));
+    same(rt, line, answer, Ok(()));
 }
 
 /// Gives a reading the lines of a text.
@@ -174,20 +175,26 @@ q 2 1
 ";
 
 #[test]
-fn instances_and_queries_come_whole_after_a_refused_growth(rt: HostRuntime) -> Result<(), Fail> {
+fn instances_come_whole_after_a_refused_growth(rt: HostRuntime) -> Result<(), Fail> {
     let alloc = rt.alloc();
     let max = read_lines(&rt, MaxReading::new(alloc), TextKind::Max, MAX);
     is_whole(&rt, max, MAX)?;
     let min = read_lines(&rt, MinReading::new(alloc), TextKind::Min, MIN);
     is_whole(&rt, min, MIN)?;
     let graph = read_lines(&rt, GraphReading::new(alloc), TextKind::Graph, GRAPH);
-    is_whole(&rt, graph, GRAPH)?;
-    for text in [SOURCES, PAIRS] {
-        let reading = QueriesReading::new(alloc);
-        let queries = read_lines(&rt, reading, TextKind::Queries, text);
-        is_whole(&rt, queries.map(LawfulQueries::into_queries), text)?;
-    }
-    Ok(())
+    is_whole(&rt, graph, GRAPH)
+}
+
+fn are_whole(rt: &impl Abort, alloc: Global, text: &str) -> Result<(), Fail> {
+    let reading = QueriesReading::new(alloc);
+    let queries = read_lines(rt, reading, TextKind::Queries, text);
+    is_whole(rt, queries.map(LawfulQueries::into_queries), text)
+}
+
+#[test]
+fn queries_come_whole_after_a_refused_growth(rt: HostRuntime) -> Result<(), Fail> {
+    are_whole(&rt, rt.alloc(), SOURCES)?;
+    are_whole(&rt, rt.alloc(), PAIRS)
 }
 
 static SOLUTION: &str = "\

@@ -1,7 +1,7 @@
 //! The fields of a line, and the numbers that are read in passing.
 
 use crate::checks::same;
-use dimacs_lines::{Fields, NumberFault, Scan, Token};
+use dimacs_lines::{Field, NumberFault, Scan, Token, fields, number, wide};
 
 /// The fields of a line, each with its start and as a 64-bit and a 128-bit number.
 static FIELDS: [(
@@ -29,29 +29,32 @@ static FIELDS: [(
 
 const LINE: &[u8] = b" a\t -12345678 123456789 9223372036854775808\r+7";
 
-/// A token's text, its start, and its numbers.
-type TokenParts<'a> = (
+/// A field's text, its start, and its numbers.
+type Parts<'a> = (
     &'a [u8],
     usize,
     Result<i64, NumberFault>,
     Result<i128, NumberFault>,
 );
 
-fn parts<'a>(token: Token<'a>) -> TokenParts<'a> {
+fn of_token<'a>(token: Token<'a>) -> Parts<'a> {
     let field = token.field;
     (field.text, field.start, token.number(), token.wide())
+}
+
+fn of_field<'a>(field: Field<'a>) -> Parts<'a> {
+    let text = field.text;
+    (text, field.start, number(text), wide(text))
 }
 
 #[test]
 fn tokens_are_the_fields_of_a_line(rt: HostRuntime) {
     let mut scan = Scan::new(LINE);
-    let mut fields = Fields::new(LINE);
-    for &(text, start, number, wide) in &FIELDS {
-        let wanted = Some((text.as_bytes(), start, number, wide));
-        let token = scan.next_token();
-        let field = token.map(|it| it.field);
-        same(&rt, text, fields.next(), field);
-        same(&rt, text, token.map(parts), wanted);
+    let mut fields = fields(LINE);
+    for &(text, start, short, long) in &FIELDS {
+        let wanted = Some((text.as_bytes(), start, short, long));
+        same(&rt, text, scan.next_token().map(of_token), wanted);
+        same(&rt, text, fields.next().map(of_field), wanted);
     }
-    same(&rt, "after the last", scan.next_token().map(parts), None);
+    same(&rt, "after the last", scan.next_token().map(of_token), None);
 }

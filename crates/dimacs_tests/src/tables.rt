@@ -1,4 +1,4 @@
-//! Tables of cases, one a line. ` | ` separates the cells of a line.
+//! Tables of cases, one a line. ` | ` separates the cells of a line, and `;` ends a line of a text in a cell.
 
 use crate::checks::same;
 use std::alloc::{AllocError, Global};
@@ -11,32 +11,26 @@ pub fn rows<'a>(rt: &impl Abort, table: &'a str, count: usize) -> Lines<'a> {
     table.lines()
 }
 
+/// A line with a line end for each `;`.
+pub fn case(alloc: Global, line: &str) -> Result<String, AllocError> {
+    line.replace(alloc, ";", "\n")
+}
+
 /// The first cell, and the rest. The test fails if there is none.
 pub fn cell<'a>(rt: &impl Abort, case: &'a str) -> (&'a str, &'a str) {
     case.split_once(" | ").expect(rt, case)
 }
 
-/// The numbers in a cell, `x` for the greatest 64-bit one, and `-` for none. The test fails at a word that is no such
-/// number.
-pub fn numbers(rt: &impl Abort, alloc: Global, cell: &str) -> Result<Vec<i64>, AllocError> {
-    let mut list = Vec::new(alloc);
-    for word in cell.split_whitespace() {
-        match word {
-            "-" => {}
-            "x" => list.push(i64::MAX)?,
-            word => list.push(word.parse::<i64>().expect(rt, word))?,
-        }
-    }
-    Ok(list)
+/// The number in a cell. The test fails if it is none.
+pub fn number(rt: &impl Abort, cell: &str) -> u64 {
+    cell.parse::<u64>().expect(rt, cell)
 }
 
-/// The IDs in a cell, `-` for none. The test fails at a word that is no 32-bit number.
-pub fn ids(rt: &impl Abort, alloc: Global, cell: &str) -> Result<Vec<u32>, AllocError> {
+/// The numbers in a cell. The test fails at a word that is none.
+pub fn numbers(rt: &impl Abort, alloc: Global, cell: &str) -> Result<Vec<u64>, AllocError> {
     let mut list = Vec::new(alloc);
     for word in cell.split_whitespace() {
-        if word != "-" {
-            list.push(word.parse::<u32>().expect(rt, word))?;
-        }
+        list.push(number(rt, word))?;
     }
     Ok(list)
 }

@@ -3,11 +3,16 @@
 ghost use Rattle.std.specs.Prelude.{◌≡◌, length, IfOk};
 
 use crate::checks::same;
-use dimacs_claims::{Solution, read_cut, read_labels, read_potentials, read_solution};
-use dimacs_instance::{Network, read_graph, read_max, read_min, read_queries};
+use dimacs_claims::{
+    Cut, Labels, Potentials, Solution, read_cut, read_labels, read_potentials, read_solution,
+};
+use dimacs_instance::{
+    ArcView, CapacityArc, ForwardStar, Graph, MaxInstance, MinInstance, Network, WeightArc,
+    read_graph, read_max, read_min, read_queries,
+};
 use dimacs_judge::{
-    Answer, Decision, Flow, JudgeError, Verdict, Where, cut_tests, decide_max, feasible_max,
-    feasible_min, flow_of, judge_max, judge_min, judge_paths, label_tests, slack_tests,
+    Decision, Flow, JudgeError, Verdict, Where, cut_tests, decide_max, feasible_max, feasible_min,
+    flow_of, judge_max, judge_min, judge_paths, label_tests, slack_tests,
 };
 use dimacs_lines::MemorySource;
 use dimacs_records::{ReadError, Reason};
@@ -37,11 +42,20 @@ fn flow_in<N: Network>(alloc: Global, network: &N, text: &[u8]) -> Result<Flow, 
     Ok(flow)
 }
 
+fn max_instance(alloc: Global) -> Result<MaxInstance<ForwardStar<CapacityArc>>, ReadError> {
+    read_max(alloc, &mut MemorySource::new(MAX))
+}
+
+fn cut_of(alloc: Global, text: &[u8]) -> Result<Cut, ReadError> {
+    read_cut(alloc, &mut MemorySource::new(text))
+}
+
 /// The judge's answer to a claim with the cut.
 fn judged_max(alloc: Global, claim: &[u8]) -> Result<Result<Verdict, JudgeError>, Fail> {
-    let instance = read_max(alloc, &mut MemorySource::new(MAX))?;
-    let cut = read_cut(alloc, &mut MemorySource::new(CUT))?;
-    Ok(judge_max(alloc, &instance, &solution(alloc, claim)?, &cut))
+    let solution = solution(alloc, claim)?;
+    let cut = cut_of(alloc, CUT)?;
+    let instance = max_instance(alloc)?;
+    Ok(judge_max(alloc, &instance, &solution, &cut))
 }
 
 #[test]
@@ -57,17 +71,11 @@ fn a_maximum_flow_is_judged_by_a_cut(rt: HostRuntime) -> Result<(), Fail> {
 
 /// Tests that the maximum flow is feasible, and returns the judge's answer to a cut for it.
 fn tests_of_max(alloc: Global, cut: &[u8]) -> Result<Result<(), (Where, Reason)>, Fail> {
-    let instance = read_max(alloc, &mut MemorySource::new(MAX))?;
+    let cut = cut_of(alloc, cut)?;
+    let instance = max_instance(alloc)?;
     let flow = flow_in(alloc, instance.network(), MAXIMUM)?;
     feasible_max(alloc, &instance, &flow)?;
-    if flow.len() != 3 || flow.amount(0) != 2 {
-        return Err(Fail::from("another flow"));
-    }
-    Ok(cut_tests(
-        &instance,
-        &flow,
-        &read_cut(alloc, &mut MemorySource::new(cut))?,
-    ))
+    Ok(cut_tests(&instance, &flow, &cut))
 }
 
 #[test]
@@ -79,34 +87,26 @@ fn a_maximum_flow_is_feasible_and_its_cut_is_tight(rt: HostRuntime) -> Result<()
     Ok(())
 }
 
-/// Decides a flow without a cut: whether the cut has each node, or the amounts of a better flow.
-fn decided(alloc: Global, claim: &[u8]) -> Result<String, Fail> {
-    let instance = read_max(alloc, &mut MemorySource::new(MAX))?;
+/// The decision of a flow without a cut.
+fn decided(alloc: Global, claim: &[u8]) -> Result<Decision, Fail> {
+    let instance = max_instance(alloc)?;
     let flow = flow_in(alloc, instance.network(), claim)?;
     feasible_max(alloc, &instance, &flow)?;
-    let spelled = match decide_max(alloc, &instance, &flow)? {
-        Decision::Optimal(cut) => {
-            format!(in alloc;
-                "cut {:?}",
-                [cut.contains(1), cut.contains(2), cut.contains(3)]
-            )?
-        }
-        Decision::Better(flow) => format!(in alloc; "flow {:?}", flow.amounts())?,
-    };
-    Ok(spelled)
+    Ok(decide_max(alloc, &instance, &flow)?)
 }
 
 #[test]
 fn a_flow_is_decided_without_a_cut(rt: HostRuntime) -> Result<(), Fail> {
-    let cut = decided(rt.alloc(), MAXIMUM)?;
-    same(
-        &rt,
-        "a maximum flow",
-        cut.as_str(),
-        "cut [true, true, false]",
-    );
-    let better = decided(rt.alloc(), b"f 1 2 2\nf 2 3 2\ns 2\n")?;
-    same(&rt, "a smaller flow", better.as_str(), "flow [2, 2, 1]");
+    let Decision::Optimal(cut) = decided(rt.alloc(), MAXIMUM)? else {
+        return Err(Fail::from("the flow is maximum"));
+    };
+    let inside = (cut.contains(1), cut.contains(2), cut.contains(3));
+    same(&rt, "a maximum flow", inside, (true, true, false));
+    let Decision::Better(flow) = decided(rt.alloc(), b"f 1 2 2\nf 2 3 2\ns 2\n")? else {
+        return Err(Fail::from("the flow isn't maximum"));
+    };
+    let wanted = [2, 2, 1].as_slice();
+    same(&rt, "a smaller flow", flow.amounts(), wanted);
     Ok(())
 }
 
@@ -116,51 +116,58 @@ const MIN: &[u8] = b"p min 2 2\nn 1 1\nn 2 -1\na 1 2 0 1 3\na 2 1 0 1 0\n";
 /// A flow of least cost in it.
 const LEAST: &[u8] = b"s 3\nf 1 2 1\n";
 
+fn min_instance(alloc: Global) -> Result<MinInstance<ForwardStar<ArcView>>, ReadError> {
+    read_min(alloc, &mut MemorySource::new(MIN))
+}
+
+fn potentials_of(alloc: Global, text: &[u8]) -> Result<Potentials, ReadError> {
+    read_potentials(alloc, &mut MemorySource::new(text))
+}
+
 /// The judge's answer to it with these potentials.
 fn judged_min(alloc: Global, potentials: &[u8]) -> Result<Result<Verdict, JudgeError>, Fail> {
-    let instance = read_min(alloc, &mut MemorySource::new(MIN))?;
-    let potentials = read_potentials(alloc, &mut MemorySource::new(potentials))?;
+    let potentials = potentials_of(alloc, potentials)?;
     let solution = solution(alloc, LEAST)?;
+    let instance = min_instance(alloc)?;
     Ok(judge_min(alloc, &instance, &solution, &potentials))
 }
 
 /// Tests that the flow of least cost is feasible, and returns the judge's answer to potentials for it.
 fn tests_of_min(alloc: Global, potentials: &[u8]) -> Result<Result<(), (Where, Reason)>, Fail> {
-    let instance = read_min(alloc, &mut MemorySource::new(MIN))?;
+    let potentials = potentials_of(alloc, potentials)?;
+    let instance = min_instance(alloc)?;
     let flow = flow_in(alloc, instance.network(), LEAST)?;
     feasible_min(alloc, &instance, &flow)?;
-    let potentials = read_potentials(alloc, &mut MemorySource::new(potentials))?;
     Ok(slack_tests(&instance, &flow, &potentials))
 }
 
-/// Potentials, and the first arc whose reduced cost fails.
-static POTENTIALS: [(&[u8], Result<(), (Where, Reason)>); 2] = [
-    (b"p pot 2 1\ny 1 3\n", Ok(())),
-    (
-        b"p pot 2 1\ny 1 2\n",
-        Err((Where::Arc(1), Reason::NotTight)),
-    ),
-];
-
 #[test]
 fn a_flow_of_least_cost_is_judged_by_potentials(rt: HostRuntime) -> Result<(), Fail> {
-    for &(potentials, wanted) in &POTENTIALS {
-        same(&rt, "tests", tests_of_min(rt.alloc(), potentials)?, wanted);
-        let judged = judged_min(rt.alloc(), potentials)?;
-        same(&rt, "alike", judged.is_ok(), wanted.is_ok());
-    }
+    let slack = b"p pot 2 1\ny 1 3\n".as_slice();
+    same(&rt, "slack", tests_of_min(rt.alloc(), slack)?, Ok(()));
+    let verdict = judged_min(rt.alloc(), slack)?;
+    same(&rt, "verdict", verdict, Ok(Verdict::Min(3)));
+    let refusal = (Where::Arc(1), Reason::NotTight);
+    let tests = tests_of_min(rt.alloc(), b"p pot 2 1\ny 1 2\n")?;
+    same(&rt, "a potential too small", tests, Err(refusal));
     Ok(())
+}
+
+fn graph(alloc: Global) -> Result<Graph<ForwardStar<WeightArc>>, ReadError> {
+    let text = b"p sp 3 2\na 1 2 5\na 2 1 -5\n";
+    read_graph(alloc, &mut MemorySource::new(text))
+}
+
+fn labels_of(alloc: Global, text: &[u8]) -> Result<Labels, ReadError> {
+    read_labels(alloc, &mut MemorySource::new(text))
 }
 
 /// The judge's answer to labels, and the answers to two queries.
 fn judged_labels(alloc: Global, labels: &[u8]) -> Result<Result<Verdict, JudgeError>, Fail> {
-    let graph = read_graph(
-        alloc,
-        &mut MemorySource::new(b"p sp 3 2\na 1 2 5\na 2 1 -5\n"),
-    )?;
+    let labels = labels_of(alloc, labels)?;
     let text = b"p aux sp p2p 2\nq 1 3\nq 1 2\n";
     let queries = read_queries(alloc, &mut MemorySource::new(text))?;
-    let labels = read_labels(alloc, &mut MemorySource::new(labels))?;
+    let graph = graph(alloc)?;
     if let Err((place, reason)) = label_tests(&graph, &labels) {
         return Ok(Err(JudgeError::Refused(place, reason)));
     }
@@ -176,16 +183,15 @@ fn labels_answer_queries(rt: HostRuntime) -> Result<(), Fail> {
     let Ok(Verdict::Pairs(answers)) = actual else {
         return Err(Fail::from("the labels are distances"));
     };
-    let (from, beyond) = (1, None);
-    for (answer, (to, distance)) in answers.iter().zip([(3, None), (2, Some(5))]) {
-        let wanted = Answer {
-            from,
-            to,
-            distance,
-            beyond,
-        };
-        same(&rt, "an answer", *answer, wanted);
-    }
-    same(&rt, "answers", answers.len(), 2);
+    let [first, second] = answers.as_slice() else {
+        return Err(Fail::from("other answers"));
+    };
+    same(&rt, "the first", (first.to, first.distance), (3, None));
+    same(
+        &rt,
+        "the second",
+        (second.to, second.distance),
+        (2, Some(5)),
+    );
     Ok(())
 }

@@ -68,12 +68,8 @@ pub fn spell_pulls<S: Source>(
     Ok(spelled)
 }
 
-/// Each byte as the character of its number, but only the count of more than 100 bytes.
+/// Each byte as the character of its number.
 pub fn spell_bytes(spelled: &mut String, bytes: &[u8]) -> Result<(), AllocError> {
-    let count = bytes.len();
-    if count > 100 {
-        return write!(spelled, "({count} bytes)");
-    }
     for b in bytes {
         spelled.push(char::from(*b))?;
     }

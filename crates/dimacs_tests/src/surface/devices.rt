@@ -1,10 +1,11 @@
-//! Sources and sinks over memory: their pieces, and their faults in mid-stream.
+//! Sources and sinks over memory and files: their pieces, and their faults in mid-stream.
 
 use crate::checks::same;
-use crate::spelling::spell_pulls;
+use crate::surface::spelling::spell_pulls;
 use crate::tables::{cell, number, numbers, rows};
 use dimacs_lines::{
-    CutSource, DeviceFault, FlakySink, FlakySource, MemorySink, MemorySource, Sink, put_all,
+    CutSource, DeviceFault, FileSink, FlakySink, FlakySource, MemorySink, MemorySource, Sink,
+    put_all,
 };
 use std::alloc::{AllocError, Global};
 use std::process::Abort;
@@ -64,15 +65,15 @@ fn gives(rt: &impl Abort, alloc: Global, line: &str) -> Result<(), Fail> {
     Ok(())
 }
 
-/// Puts of `abcdefg`: name, sizes that are accepted, puts that fail, result, content of the sink.
+/// Puts of `abcdefg`: name, sizes that are accepted, puts that fail, whether all is put, content of the sink.
 static PUTS: &str = "\
-whole |  |  | Ok(()) | abcdefg
-a byte at a time | 1 1 1 1 1 1 1 |  | Ok(()) | abcdefg
-pieces that differ | 3 1 |  | Ok(()) | abcdefg
-a nought, which counts as one | 0 |  | Ok(()) | abcdefg
-a fault at once |  | 1 | Err(DeviceFault) |\x20
-a fault in mid-stream | 3 1 | 3 | Err(DeviceFault) | abcd
-a fault after the last put | 3 1 | 4 | Ok(()) | abcdefg";
+whole |  |  | put | abcdefg
+a byte at a time | 1 1 1 1 1 1 1 |  | put | abcdefg
+pieces that differ | 3 1 |  | put | abcdefg
+a nought, which counts as one | 0 |  | put | abcdefg
+a fault at once |  | 1 | fault |\x20
+a fault in mid-stream | 3 1 | 3 | fault | abcd
+a fault after the last put | 3 1 | 4 | put | abcdefg";
 
 /// Tests a row of `PUTS`.
 fn takes(rt: &impl Abort, alloc: Global, line: &str) -> Result<(), Fail> {
@@ -83,8 +84,8 @@ fn takes(rt: &impl Abort, alloc: Global, line: &str) -> Result<(), Fail> {
     let sizes = sizes(rt, alloc, pieces)?;
     let fails = numbers(rt, alloc, fails)?;
     let mut sink = FlakySink::new(alloc, &sizes, &fails);
-    let actual = format!(in alloc; "{:?}", put_all(&mut sink, b"abcdefg"))?;
-    same(rt, name, actual.as_str(), answer);
+    let put = put_all(&mut sink, b"abcdefg");
+    same(rt, name, put.is_ok(), answer == "put");
     same(rt, name, sink.bytes(), wanted.as_bytes());
     Ok(())
 }
@@ -115,4 +116,15 @@ fn a_sink_in_memory_keeps_what_it_takes(rt: HostRuntime) {
         Err(DeviceFault),
     );
     same(&rt, "nothing to put", put_all(&mut failing, b""), Ok(()));
+}
+
+#[test]
+fn a_file_that_takes_no_more_is_a_fault(rt: HostRuntime) {
+    let mut room = [0u8; 3];
+    let mut sink = FileSink::new(room.as_mut_slice());
+    same(&rt, "a put", sink.put(b"ab"), Ok(2));
+    same(&rt, "a put of which a part fits", sink.put(b"cd"), Ok(1));
+    same(&rt, "a put of nothing", sink.put(b""), Ok(0));
+    let put = sink.put(b"d");
+    same(&rt, "a put of which nothing fits", put, Err(DeviceFault));
 }
