@@ -1,10 +1,22 @@
 //! The meaning of the command's arguments.
 
 use crate::checks::same;
-use crate::tables::{cell, rows};
 use dimacs_runs::{job, request};
 use std::alloc::Global;
+use std::process::Abort;
+use std::str::Lines;
 use std::test::Fail;
+
+/// The `count` lines of a table.
+fn rows<'a>(rt: &impl Abort, table: &'a str, count: usize) -> Lines<'a> {
+    same(rt, "cases of the table", table.lines().count(), count);
+    table.lines()
+}
+
+/// The two cells of a line. The test fails if there is one alone.
+fn cells<'a>(rt: &impl Abort, line: &'a str) -> (&'a str, &'a str) {
+    line.split_once(" | ").expect(rt, line)
+}
 
 /// The arguments of a line, with one blank between them.
 fn arguments(alloc: Global, line: &str) -> Result<Vec<String>, Fail> {
@@ -123,7 +135,7 @@ solve instance solution cut | None";
 #[test]
 fn words_ask_for_jobs(rt: HostRuntime) -> Result<(), Fail> {
     for row in rows(&rt, LINES, 102) {
-        let (line, wanted) = cell(&rt, row);
+        let (line, wanted) = cells(&rt, row);
         let arguments = arguments(rt.alloc(), line)?;
         let actual = format!(in rt.alloc(); "{:?}", job(&arguments))?;
         same(&rt, line, actual.as_str(), wanted);
@@ -188,7 +200,7 @@ explain explain convert gr file | None";
 #[test]
 fn words_ask_for_help_or_runs(rt: HostRuntime) -> Result<(), Fail> {
     for row in rows(&rt, REQUESTS, 49) {
-        let (line, wanted) = cell(&rt, row);
+        let (line, wanted) = cells(&rt, row);
         let arguments = arguments(rt.alloc(), line)?;
         let actual = format!(in rt.alloc(); "{:?}", request(&arguments))?;
         same(&rt, line, actual.as_str(), wanted);

@@ -22,5 +22,3 @@ mod refused_growths;
 mod scan;
 #[cfg(test)]
 mod surface;
-#[cfg(test)]
-mod tables;

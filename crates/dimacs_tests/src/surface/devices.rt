@@ -2,103 +2,111 @@
 
 use crate::checks::same;
 use crate::surface::spelling::spell_pulls;
-use crate::tables::{cell, number, numbers, rows};
 use dimacs_lines::{
     CutSource, DeviceFault, FileSink, FlakySink, FlakySource, MemorySink, MemorySource, Sink,
-    put_all,
+    Source, put_all,
 };
-use std::alloc::{AllocError, Global};
+use std::alloc::Global;
 use std::process::Abort;
 use std::test::Fail;
 
-/// Sources of `abcdefg`: name, which source, sizes of its pieces, pulls that fail, space for each pull, what is read.
-static SOURCES: &str = "\
-room for all | memory |  |  | 9 | abcdefg|
-room for just all | memory |  |  | 7 | abcdefg|
-room for a part | memory |  |  | 3 | abc|def|g|
-room for a byte | memory |  |  | 1 | a|b|c|d|e|f|g|
-no room | memory |  |  | 0 |\x20
-no list | cut |  |  | 9 | abcdefg|
-a short list | cut | 2 |  | 9 | ab|cdefg|
-sizes that differ | cut | 2 1 3 |  | 9 | ab|c|def|g|
-a nought, which counts as one | cut | 0 2 |  | 9 | a|bc|defg|
-a size past the room | cut | 9 2 |  | 3 | abc|de|fg|
-a size past the end | cut | 5 5 5 |  | 9 | abcde|fg|
-no fault | flaky | 2 1 |  | 9 | ab|c|defg|
-a fault at the first pull | flaky | 2 1 | 1 | 9 | fault|ab|c|defg|
-faults in mid-stream | flaky | 2 1 | 2 3 | 9 | ab|fault|fault|c|defg|
-a list out of order | flaky | 2 1 | 4 2 | 9 | ab|fault|c|fault|defg|
-a fault at the end | flaky | 2 1 | 4 | 9 | ab|c|defg|fault|
-a fault after the end | flaky | 2 1 | 5 | 9 | ab|c|defg|
-a fault at pull 0, which there is not | flaky | 2 1 | 0 | 9 | ab|c|defg|";
+/// The bytes of the sources and puts below.
+const BYTES: &[u8] = b"abcdefg";
 
-fn sizes(rt: &impl Abort, alloc: Global, cell: &str) -> Result<Vec<usize>, AllocError> {
-    let mut list = Vec::new(alloc);
-    for word in cell.split_whitespace() {
-        list.push(word.parse::<usize>().expect(rt, word))?;
-    }
-    Ok(list)
-}
+/// The space for each pull, and the pieces of a source in memory.
+static ROOMS: [(usize, &str); 5] = [
+    (9, "abcdefg|"),
+    (7, "abcdefg|"),
+    (3, "abc|def|g|"),
+    (1, "a|b|c|d|e|f|g|"),
+    (0, ""),
+];
 
-/// Tests a row of `SOURCES`.
-fn gives(rt: &impl Abort, alloc: Global, line: &str) -> Result<(), Fail> {
-    let (name, rest) = cell(rt, line);
-    let (which, rest) = cell(rt, rest);
-    let (pieces, rest) = cell(rt, rest);
-    let (fails, rest) = cell(rt, rest);
-    let (room, wanted) = cell(rt, rest);
-    let room = number(rt, room) as usize;
-    let sizes = sizes(rt, alloc, pieces)?;
-    let fails = numbers(rt, alloc, fails)?;
-    let bytes = b"abcdefg".as_slice();
-    let spelled = match which {
-        "memory" => spell_pulls(rt, alloc, &mut MemorySource::new(bytes), room)?,
-        "cut" => spell_pulls(rt, alloc, &mut CutSource::new(bytes, &sizes), room)?,
-        _ => spell_pulls(
-            rt,
-            alloc,
-            &mut FlakySource::new(bytes, &sizes, &fails),
-            room,
-        )?,
-    };
+/// Other sources: name, sizes of pieces, pulls that fail, space for each pull, what is read.
+static SOURCES: [(&str, &[usize], &[u64], usize, &str); 13] = [
+    ("no list", &[], &[], 9, "abcdefg|"),
+    ("a short list", &[2], &[], 9, "ab|cdefg|"),
+    ("sizes that differ", &[2, 1, 3], &[], 9, "ab|c|def|g|"),
+    ("a nought is one", &[0, 2], &[], 9, "a|bc|defg|"),
+    ("a size past the room", &[9, 2], &[], 3, "abc|de|fg|"),
+    ("a size past the end", &[5, 5, 5], &[], 9, "abcde|fg|"),
+    ("a fault at once", &[2, 1], &[1], 9, "fault|ab|c|defg|"),
+    ("faults amid", &[2, 1], &[2, 3], 9, "ab|fault|fault|c|defg|"),
+    ("unordered", &[2, 1], &[4, 2], 9, "ab|fault|c|fault|defg|"),
+    ("a fault at the end", &[2, 1], &[4], 9, "ab|c|defg|fault|"),
+    ("a fault after the end", &[2, 1], &[5], 9, "ab|c|defg|"),
+    ("no pull 0", &[2, 1], &[0], 9, "ab|c|defg|"),
+    ("no fault", &[2, 1], &[], 9, "ab|c|defg|"),
+];
+
+/// Tests what is read from a source.
+fn gives<S: Source>(
+    rt: &impl Abort,
+    alloc: Global,
+    name: &str,
+    source: &mut S,
+    room: usize,
+    wanted: &str,
+) -> Result<(), Fail> {
+    let spelled = spell_pulls(rt, alloc, source, room)?;
     same(rt, name, spelled.as_str(), wanted);
     Ok(())
 }
 
-/// Puts of `abcdefg`: name, sizes that are accepted, puts that fail, whether all is put, content of the sink.
-static PUTS: &str = "\
-whole |  |  | put | abcdefg
-a byte at a time | 1 1 1 1 1 1 1 |  | put | abcdefg
-pieces that differ | 3 1 |  | put | abcdefg
-a nought, which counts as one | 0 |  | put | abcdefg
-a fault at once |  | 1 | fault |\x20
-a fault in mid-stream | 3 1 | 3 | fault | abcd
-a fault after the last put | 3 1 | 4 | put | abcdefg";
-
-/// Tests a row of `PUTS`.
-fn takes(rt: &impl Abort, alloc: Global, line: &str) -> Result<(), Fail> {
-    let (name, rest) = cell(rt, line);
-    let (pieces, rest) = cell(rt, rest);
-    let (fails, rest) = cell(rt, rest);
-    let (answer, wanted) = cell(rt, rest);
-    let sizes = sizes(rt, alloc, pieces)?;
-    let fails = numbers(rt, alloc, fails)?;
-    let mut sink = FlakySink::new(alloc, &sizes, &fails);
-    let put = put_all(&mut sink, b"abcdefg");
-    same(rt, name, put.is_ok(), answer == "put");
-    same(rt, name, sink.bytes(), wanted.as_bytes());
+#[test]
+fn sources_give_pieces(rt: HostRuntime) -> Result<(), Fail> {
+    let alloc = rt.alloc();
+    for &(room, wanted) in &ROOMS {
+        gives(
+            &rt,
+            alloc,
+            "memory",
+            &mut MemorySource::new(BYTES),
+            room,
+            wanted,
+        )?;
+    }
+    for &(name, sizes, fails, room, wanted) in &SOURCES {
+        gives(
+            &rt,
+            alloc,
+            name,
+            &mut FlakySource::new(BYTES, sizes, fails),
+            room,
+            wanted,
+        )?;
+        if fails.is_empty() {
+            gives(
+                &rt,
+                alloc,
+                name,
+                &mut CutSource::new(BYTES, sizes),
+                room,
+                wanted,
+            )?;
+        }
+    }
     Ok(())
 }
 
+/// Puts of `abcdefg`: name, sizes that are accepted, puts that fail, whether all is put, content of the sink.
+static PUTS: [(&str, &[usize], &[u64], bool, &str); 7] = [
+    ("whole", &[], &[], true, "abcdefg"),
+    ("by bytes", &[1, 1, 1, 1, 1, 1, 1], &[], true, "abcdefg"),
+    ("pieces that differ", &[3, 1], &[], true, "abcdefg"),
+    ("a nought is one", &[0], &[], true, "abcdefg"),
+    ("a fault at once", &[], &[1], false, ""),
+    ("a fault amid", &[3, 1], &[3], false, "abcd"),
+    ("a fault after", &[3, 1], &[4], true, "abcdefg"),
+];
+
 #[test]
-fn sources_give_and_sinks_take_pieces(rt: HostRuntime) -> Result<(), Fail> {
-    for line in rows(&rt, SOURCES, 18) {
-        gives(&rt, rt.alloc(), line)?;
+fn sinks_take_pieces(rt: HostRuntime) {
+    for &(name, sizes, fails, all, wanted) in &PUTS {
+        let mut sink = FlakySink::new(rt.alloc(), sizes, fails);
+        same(&rt, name, put_all(&mut sink, BYTES).is_ok(), all);
+        same(&rt, name, sink.bytes(), wanted.as_bytes());
     }
-    for line in rows(&rt, PUTS, 7) {
-        takes(&rt, rt.alloc(), line)?;
-    }
-    Ok(())
 }
 
 #[test]
