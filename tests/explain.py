@@ -59,7 +59,7 @@ CASES = [
     ("BelowLow", "judge-min I S P", {"I": "p min 2 1\na 1 2 1 3 0\n", "S": "s 0\n", "P": "p pot 2 0\n"}, ["I:2: a 1 2 1 3 0", "no entry", "carries 0, less than its LOW, 1"]),
     ("AboveCap", "judge-max I S C", {"S": "s 6\nf 1 2 9\n"}, ["I:4: a 1 2 4", "S:2: f 1 2 9", "arc 1 carries 9, more than its CAP, 4"]),
     ("AboveCap", "judge-max I S C", {"I": "p max 2 2\nn 1 s\nn 2 t\na 1 2 1\na 1 2 3\n", "S": "s 3\nf 1 2 3\n", "C": "p cut 2 1\nu 1\n"}, ["2 arcs lead from 1 to 2", "arc 1 is the first of them", "dimacs spread-max I S OUT"]),
-    ("Balance", "judge-max I S C", {"S": "s 4\nf 1 2 4\n"}, ["0 leaves node 2, 4 enters it: 4 too little leaves\n"]),
+    ("Balance", "judge-max I S C", {"S": "s 4\nf 1 2 4\n"}, ["0 leaves node 2, 4 enters it: 4 too little leaves\nentries out of it: 0\nentries into it: 1\n  S:2: f 1 2 4\n"]),
     ("Balance", "judge-min MI S P", {"S": "s 0\n"}, ["MI:2: n 1 4", "0 leaves node 1, 0 enters it, and it supplies 4: 4 too little leaves\n"]),
     ("CostRange", "judge-min I S P", {"I": f"p min 1 1\na 1 1 0 {HUGE} {HUGE}\n", "S": f"s 0\nf 1 1 {HUGE}\n", "P": "p pot 1 0\n"}, [f"at a COST of {HUGE}"]),
     ("ValueDiffers", "judge-max I S C", {"S": FLOW.replace("s 6", "s 7")}, ["S:1: s 7", "7 is claimed, and the flow has the value 6"]),
@@ -106,7 +106,7 @@ CASES = [
     ("UnknownLine", "convert gr T", {"T": b"BZh91AY\n"}, ["compressed by bzip2: give <(bzcat FILE) in its place"]),
     ("UnknownLine", "convert gr T", {"T": b"\xfd7zXZ\n"}, ["compressed by xz: give <(xzcat FILE) in its place"]),
     ("UnknownLine", "convert gr T", {"T": b"\x28\xb5\x2f\xfd\n"}, ["compressed by zstd: give <(zstdcat FILE) in its place"]),
-    ("Balance", "judge-min MI S P", {"S": "s 0\nf 1 2 4\nf 2 4 3\n"}, ["3 leaves node 2, 4 enters it: 1 too little leaves\n"]),
+    ("Balance", "judge-min MI S P", {"S": "s 0\nf 1 2 4\nf 2 4 3\n"}, ["3 leaves node 2, 4 enters it: 1 too little leaves\nentries out of it: 1\n  S:3: f 2 4 3\nentries into it: 1\n  S:2: f 1 2 4\n"]),
     ("Balance", "judge-min I S P", {"I": "p min 2 1\nn 1 4\nn 2 -3\na 1 2 0 9 0\n", "S": "s 0\nf 1 2 4\n"}, ["I:3: n 2 -3", "0 leaves node 2, 4 enters it, and it takes 3: 1 too little leaves\n"]),
     ("Balance", "judge-min I S P", {"I": "p min 2 1\nn 1 3\nn 2 -3\na 1 2 0 9 0\n", "S": "s 0\nf 1 2 4\n"}, ["I:2: n 1 3", "4 leaves node 1, 0 enters it, and it supplies 3: 1 too much leaves\n"]),
     # Words that are almost numbers, or too long.
