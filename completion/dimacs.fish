@@ -1,6 +1,6 @@
 # Completes the words of dimacs, dimacs-batch and dimacs-draw in fish.
 
-# The words that were typed, without one that has a refusal explained.
+# The words that were typed, without one that has an answer explained.
 function __dimacs_words
     set -l words (commandline -opc)
     if test "$words[2]" = explain
@@ -42,7 +42,7 @@ complete -c dimacs -n '__dimacs_begins' -a solve-min -d 'Write a cheapest flow'
 complete -c dimacs -n '__dimacs_begins' -a solve-paths -d 'Write distances'
 complete -c dimacs -n '__dimacs_begins' -a spread-max -d 'Spread sums over parallel arcs'
 complete -c dimacs -n '__dimacs_begins' -a spread-min -d 'Deals out at least cost'
-complete -c dimacs -n '__dimacs_begins_anew' -a explain -d 'Do it, and explain a refusal'
+complete -c dimacs -n '__dimacs_begins_anew' -a explain -d 'Do it, and explain the answer'
 complete -c dimacs -n '__dimacs_begins_anew' -a help -d 'Print the usage'
 complete -c dimacs -n '__fish_is_first_token' -s h -l help -d 'Print the usage'
 complete -c dimacs -n '__fish_is_first_token' -s V -l version -d 'Print the version'

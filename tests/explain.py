@@ -1,9 +1,10 @@
 #!/usr/bin/env python3
-"""Has refusals explained, one for each reason: tests/explain.py [BINARY]
+"""Has answers explained, a refusal for each reason: tests/explain.py [BINARY [COUNT [SEED]]]
 
-`dimacs explain WORDS ..` has to print first what `dimacs WORDS ..` prints, and to end with its status. After a refusal
-lines follow, of which the case names parts. No clause fixes the text of these lines. BINARY is the built program;
-crates/dimacs/out/dimacs by default.
+`dimacs explain WORDS ..` has to print first what `dimacs WORDS ..` prints, and to end with its status. Lines follow: of
+those after a refusal the case names parts, after a yes it has all, worked out by hand. No clause fixes the text of these
+lines. Then COUNT random instances, 150 by default, are solved, judged and certified, and a second reader has to write
+the same lines. BINARY is the built program; crates/dimacs/out/dimacs by default.
 """
 import os
 import re
@@ -11,6 +12,7 @@ import subprocess
 import sys
 import tempfile
 
+import explained_yes
 from instances import BINARY
 
 MAX = "p max 4 5\nn 1 s\nn 4 t\na 1 2 4\na 1 3 2\na 2 3 2\na 2 4 3\na 3 4 5\n"
@@ -57,7 +59,7 @@ CASES = [
     ("BelowLow", "judge-min I S P", {"I": "p min 2 1\na 1 2 1 3 0\n", "S": "s 0\n", "P": "p pot 2 0\n"}, ["I:2: a 1 2 1 3 0", "no entry", "carries 0, less than its LOW, 1"]),
     ("AboveCap", "judge-max I S C", {"S": "s 6\nf 1 2 9\n"}, ["I:4: a 1 2 4", "S:2: f 1 2 9", "arc 1 carries 9, more than its CAP, 4"]),
     ("AboveCap", "judge-max I S C", {"I": "p max 2 2\nn 1 s\nn 2 t\na 1 2 1\na 1 2 3\n", "S": "s 3\nf 1 2 3\n", "C": "p cut 2 1\nu 1\n"}, ["2 arcs lead from 1 to 2", "arc 1 is the first of them", "dimacs spread-max I S OUT"]),
-    ("Balance", "judge-max I S C", {"S": "s 4\nf 1 2 4\n"}, ["0 leaves node 2, 4 enters it: 4 too little leaves\n"]),
+    ("Balance", "judge-max I S C", {"S": "s 4\nf 1 2 4\n"}, ["0 leaves node 2, 4 enters it: 4 too little leaves\nentries out of it: 0\nentries into it: 1\n  S:2: f 1 2 4\n"]),
     ("Balance", "judge-min MI S P", {"S": "s 0\n"}, ["MI:2: n 1 4", "0 leaves node 1, 0 enters it, and it supplies 4: 4 too little leaves\n"]),
     ("CostRange", "judge-min I S P", {"I": f"p min 1 1\na 1 1 0 {HUGE} {HUGE}\n", "S": f"s 0\nf 1 1 {HUGE}\n", "P": "p pot 1 0\n"}, [f"at a COST of {HUGE}"]),
     ("ValueDiffers", "judge-max I S C", {"S": FLOW.replace("s 6", "s 7")}, ["S:1: s 7", "7 is claimed, and the flow has the value 6"]),
@@ -104,7 +106,7 @@ CASES = [
     ("UnknownLine", "convert gr T", {"T": b"BZh91AY\n"}, ["compressed by bzip2: give <(bzcat FILE) in its place"]),
     ("UnknownLine", "convert gr T", {"T": b"\xfd7zXZ\n"}, ["compressed by xz: give <(xzcat FILE) in its place"]),
     ("UnknownLine", "convert gr T", {"T": b"\x28\xb5\x2f\xfd\n"}, ["compressed by zstd: give <(zstdcat FILE) in its place"]),
-    ("Balance", "judge-min MI S P", {"S": "s 0\nf 1 2 4\nf 2 4 3\n"}, ["3 leaves node 2, 4 enters it: 1 too little leaves\n"]),
+    ("Balance", "judge-min MI S P", {"S": "s 0\nf 1 2 4\nf 2 4 3\n"}, ["3 leaves node 2, 4 enters it: 1 too little leaves\nentries out of it: 1\n  S:3: f 2 4 3\nentries into it: 1\n  S:2: f 1 2 4\n"]),
     ("Balance", "judge-min I S P", {"I": "p min 2 1\nn 1 4\nn 2 -3\na 1 2 0 9 0\n", "S": "s 0\nf 1 2 4\n"}, ["I:3: n 2 -3", "0 leaves node 2, 4 enters it, and it takes 3: 1 too little leaves\n"]),
     ("Balance", "judge-min I S P", {"I": "p min 2 1\nn 1 3\nn 2 -3\na 1 2 0 9 0\n", "S": "s 0\nf 1 2 4\n"}, ["I:2: n 1 3", "4 leaves node 1, 0 enters it, and it supplies 3: 1 too much leaves\n"]),
     # Words that are almost numbers, or too long.
@@ -124,6 +126,126 @@ CASES = [
 LEFT_OUT = {"ParallelArc", "LineLimit"}
 
 
+# Words, texts of this case, and all lines that explain its yes.
+FAR = "p sp 9 9\n" + "".join(f"a {k} {k + 1} {k}\n" for k in range(1, 9)) + "a 1 9 99\n"
+FAR_CLAIM = "p distances 9 1\nt 1 8\n" + "".join(f"d {k + 1} {k * (k + 1) // 2}\n" for k in range(1, 9))
+OUT = NEAR.replace("a 3 4 0", "a 4 3 0")
+YES = [
+    ("judge-max I S C", {}, """\
+on the source's side of the cut, 1 of the 4 nodes: 1
+arcs into it, all empty: 0
+arcs out of it, all full: 2
+  arc 1: 1 -> 2, CAP 4
+  arc 2: 1 -> 3, CAP 2
+4 + 2 = 6, the value of the flow: no flow can carry more across these arcs
+"""),
+    # Arc 2, back into the set, is empty.
+    ("judge-max I S C", {"I": "p max 3 3\nn 1 s\nn 3 t\na 1 2 5\na 3 1 7\na 2 3 2\n", "S": "s 2\nf 1 2 2\nf 2 3 2\n", "C": "p cut 3 2\nu 1\nu 2\n"}, """\
+on the source's side of the cut, 2 of the 3 nodes: 1 2
+arcs into it, all empty: 1
+  arc 2: 3 -> 1, FLOW 0
+arcs out of it, all full: 1
+  arc 3: 2 -> 3, CAP 2
+2, the value of the flow: no flow can carry more across these arcs
+"""),
+    # Eight arcs leave: two of them aren't shown, and carry 7 + 8.
+    ("certify-max I S", {"I": "p max 2 8\nn 1 s\nn 2 t\n" + "".join(f"a 1 2 {k}\n" for k in range(1, 9)), "S": "s 36\n" + "".join(f"f 1 2 {k}\n" for k in range(1, 9))}, """\
+on the source's side of the cut, 1 of the 2 nodes: 1
+arcs into it, all empty: 0
+arcs out of it, all full: 8
+  arc 1: 1 -> 2, CAP 1
+  arc 2: 1 -> 2, CAP 2
+  arc 3: 1 -> 2, CAP 3
+  arc 4: 1 -> 2, CAP 4
+  arc 5: 1 -> 2, CAP 5
+  arc 6: 1 -> 2, CAP 6
+  ..
+1 + 2 + 3 + 4 + 5 + 6 + 15 = 36, the value of the flow: no flow can carry more across these arcs
+"""),
+    ("judge-min MI S P", {"S": LEAST}, f"""\
+FLOW * COST of the arcs, the dearest first:
+  arc 1: 1 -> 2, 2 * 2 = 4
+  arc 2: 1 -> 3, 2 * 2 = 4
+  arc 5: 3 -> 4, 4 * 1 = 4
+  arc 3: 2 -> 3, 2 * 1 = 2
+4 + 4 + 4 + 2 = 14, the cost
+{explained_yes.BOUND}
+{explained_yes.SAME}: 1
+  node 1: 4 * 4
+16
+{explained_yes.LEAST}: 1
+  arc 2: 1 -> 3, r = 2 - 4 + 1 = -1, CAP 2
+-2
+16 - 2 = 14: no flow costs less
+tight arcs, with r = 0, 3 of 5: 1 3 5
+"""),
+    ("judge-min I S P", {"I": f"p min 2 1\nn 1 {2**62}\nn 2 -{2**62}\na 1 2 0 {2**62} 0\n", "S": f"s 0\nf 1 2 {2**62}\n", "P": f"p pot 2 2\ny 1 {10**30}\ny 2 {10**30}\n"}, """\
+FLOW * COST of the arcs, the dearest first:
+0, the cost
+what the potentials add up to doesn't fit 128 bits
+tight arcs, with r = 0, 1 of 1: 1
+"""),
+    ("judge-infeasible I C", {"I": "p min 3 3\nn 1 5\nn 3 -5\na 1 2 0 4 0\na 2 1 1 2 0\na 2 3 0 9 0\n", "C": CUT.replace("4", "3")}, """\
+in the set, 1 of the 3 nodes: 1
+its supply: 5
+arcs out of it: 1
+  arc 1: 1 -> 2, CAP 4
+arcs into it: 1
+  arc 2: 2 -> 1, LOW 1
+these bounds add up to 4 out of it, and 1 into it
+so what leaves it, less what enters it, is at most 3, and would have to be its supply, 5: no flow is feasible
+"""),
+    # Node 1 takes 5, and at most 4 can come.
+    ("certify-infeasible I", {"I": "p min 2 2\nn 1 -5\nn 2 5\na 2 1 0 4 0\na 1 2 1 2 0\n"}, """\
+in the set, 1 of the 2 nodes: 2
+its supply: 5
+arcs out of it: 1
+  arc 1: 2 -> 1, CAP 4
+arcs into it: 1
+  arc 2: 1 -> 2, LOW 1
+these bounds add up to 4 out of it, and 1 into it
+so what leaves it, less what enters it, is at most 3, and would have to be its supply, 5: no flow is feasible
+"""),
+    ("judge-infeasible I C", {"I": "p min 2 2\nn 1 -5\nn 2 5\na 2 1 0 4 0\na 1 2 1 2 0\n", "C": CUT.replace("4", "2")}, """\
+in the set, 1 of the 2 nodes: 1
+its supply: -5
+arcs out of it: 1
+  arc 2: 1 -> 2, LOW 1
+arcs into it: 1
+  arc 1: 2 -> 1, CAP 4
+these bounds add up to 1 out of it, and 4 into it
+so what leaves it, less what enters it, is at least -3, and would have to be its supply, -5: no flow is feasible
+"""),
+    ("judge-paths G Q L", {"G": OUT, "Q": "p aux sp p2p 3\nq 1 3\nq 1 1\nq 1 4\n", "L": "p dist 4 1\nt 1 2\nd 2 5 1\nd 3 9 2\n"}, f"""\
+1 -> 2 -> 3: 5 + 4 = 9
+1: 0
+no walk from 1 to 4: no arc leads from a node with a label to one without
+{explained_yes.SHORTEST}
+"""),
+    ("judge-paths G Q L", {"G": NEAR, "Q": "p aux sp p2p 1\nq 1 3\n", "L": "p dist 4 1\nt 1 1 6\nd 2 5 1\n"}, f"""\
+no walk from 1 to 3 weighs at most 6, the RADIUS: each arc from a node with a label to one without leads past it
+{explained_yes.SHORTEST}
+"""),
+    ("judge-paths G Q L", {"G": OUT, "L": "p dist 4 2\nt 1 2\nd 2 5 1\nd 3 9 2\nt 4 1\nd 3 0 4\n"}, f"""\
+from 1 to the farthest of 2 nodes: 1 -> 2 -> 3: 5 + 4 = 9
+{explained_yes.SHORTEST}
+"""),
+    # Eight arcs: 1 + 2 + 3 + 4 + 5 + 6, then 7 + 8.
+    ("certify-paths G D", {"G": FAR, "D": FAR_CLAIM}, f"""\
+from 1 to the farthest of 8 nodes: 1 -> 2 -> 3 -> 4 -> 5 -> 6 -> 7 -> .. -> 9: 1 + 2 + 3 + 4 + 5 + 6 + 15 = 36
+{explained_yes.SHORTEST}
+"""),
+    ("solve-max I S C", {"I": "p max 3 1\nn 1 s\nn 3 t\na 1 2 5\n"}, """\
+on the source's side of the cut, 2 of the 3 nodes: 1 2
+arcs into it, all empty: 0
+arcs out of it, all full: 0
+0, the value of the flow: no flow can carry more across these arcs
+"""),
+    ("convert cut C", {}, ""),
+    ("spread-max I S O", {}, ""),
+]
+
+
 def run(binary, words, folder):
     return subprocess.run([binary, *words.split()], capture_output=True, cwd=folder, check=False)
 
@@ -131,8 +253,12 @@ def run(binary, words, folder):
 def written(folder, texts):
     """Writes the texts of a case."""
     for name, text in {**TEXTS, **texts}.items():
-        with open(os.path.join(folder, name), "wb") as it:
-            it.write(text if isinstance(text, bytes) else text.encode())
+        write(folder, name, text)
+
+
+def write(folder, name, text):
+    with open(os.path.join(folder, name), "wb") as it:
+        it.write(text if isinstance(text, bytes) else text.encode())
 
 
 def fault_of(binary, case):
@@ -157,6 +283,66 @@ def fault_of(binary, case):
     return None
 
 
+def yes_fault(binary, words, texts, lines):
+    """What is wrong with the explanation of a yes; none if nothing is."""
+    with tempfile.TemporaryDirectory() as folder:
+        written(folder, texts)
+        plain = run(binary, words, folder)
+        written(folder, texts)
+        explained = run(binary, f"explain {words}", folder)
+    if plain.returncode or explained.returncode or explained.stdout.decode() != plain.stdout.decode() + lines:
+        return f"status {explained.returncode}, prints\n{explained.stdout.decode()}"
+    return None
+
+
+def pipe_fault(binary):
+    """What is wrong with a yes about a text that can't be read twice; none if nothing is."""
+    with tempfile.TemporaryDirectory() as folder:
+        written(folder, {})
+        words = ["bash", "-c", f"'{binary}' explain judge-max I <(cat S) C"]
+        ran = subprocess.run(words, capture_output=True, cwd=folder, check=False)
+    wanted = "v max 6\nthe texts can't be read again as they were, so the numbers are left out\n"
+    return None if (ran.returncode, ran.stdout.decode()) == (0, wanted) else f"prints {ran.stdout}"
+
+
+def text_in(folder, name):
+    with open(os.path.join(folder, name), encoding="ascii") as it:
+        return it.read()
+
+
+def reader_faults(binary, count, seed):
+    """What the program explains otherwise than the second reader, in a line for each run."""
+    for kind, instance, queries in explained_yes.seeded(count, seed):
+        with tempfile.TemporaryDirectory() as folder:
+            write(folder, "I", instance)
+            write(folder, "C", queries)
+            yield from texts_faults(binary, folder, kind)
+
+
+def texts_faults(binary, folder, kind):
+    """Solves the instance I, or answers the queries C, then judges and certifies what was written."""
+    first = run(binary, f"explain solve-{kind} I C K", folder).stdout.decode()
+    runs = [(f"solve-{kind} I C K", "K"), (f"judge-{kind} I C K", "K")]
+    reader = {"max": explained_yes.maximum, "min": explained_yes.least, "paths": explained_yes.distances}[kind]
+    if first.startswith("v infeasible"):
+        runs = [(f"solve-{kind} I C K", "K"), ("judge-infeasible I K", "K"), ("certify-infeasible I A", "A"), ("certify-infeasible I", "A")]
+        reader = explained_yes.infeasible
+    elif kind == "paths":
+        write(folder, "D", explained_yes.distances_text(text_in(folder, "K")))
+        write(folder, "N", "")
+        runs += [("certify-paths I D A", "A"), ("certify-paths I D", "A")]
+    else:
+        runs += [(f"certify-{kind} I C A", "A"), (f"certify-{kind} I C", "A")]
+    for words, certificate in runs:
+        plain = run(binary, words, folder).stdout.decode()
+        printed = run(binary, f"explain {words}", folder).stdout.decode()
+        claim = "N" if words.startswith("certify-paths") else "C"
+        names = ["I", certificate] if reader is explained_yes.infeasible else ["I", claim, certificate]
+        texts = [text_in(folder, name) for name in names]
+        lines = "".join(f"{line}\n" for line in reader(*texts))
+        yield None if printed == plain + lines else f"{words}: {texts}\n{printed}instead of\n{plain}{lines}"
+
+
 def reasons():
     """The names of all reasons."""
     source = os.path.join(os.path.dirname(os.path.abspath(__file__)), "../crates/dimacs_records/src/reasons.rt")
@@ -165,14 +351,18 @@ def reasons():
 
 
 def main():
-    binary = os.path.abspath(sys.argv[1] if len(sys.argv) > 1 else BINARY)
+    binary, count, seed = [*sys.argv[1:], *[BINARY, "150", "1"][len(sys.argv) - 1 :]]
+    binary = os.path.abspath(binary)
     passed = failed = 0
-    for case in CASES:
-        fault = fault_of(binary, case)
+    faults = [(f"{case[0]}: explain {case[1]}", fault_of(binary, case)) for case in CASES]
+    faults += [(f"explain {case[0]}", yes_fault(binary, *case)) for case in YES]
+    faults += [("explain with a pipe", pipe_fault(binary))]
+    faults += [("explain", fault) for fault in reader_faults(binary, int(count), int(seed))]
+    for words, fault in faults:
         passed += fault is None
         failed += fault is not None
         if fault:
-            print(f"{case[0]}: explain {case[1]}: {fault}")
+            print(f"{words}: {fault}")
     missing = reasons() - {case[0] for case in CASES} - LEFT_OUT
     if missing:
         failed += 1

@@ -102,7 +102,7 @@ pub static COMMANDS: [Command; 17] = [
         "spread-min INSTANCE SOLUTION OUT",
         "Deals out at least cost",
     ),
-    Command("explain COMMAND FILE...", "Explains a refusal"),
+    Command("explain COMMAND FILE...", "Explains an answer"),
     Command("help [COMMAND]", "Prints the usage"),
 ];
 

@@ -1,9 +1,9 @@
-//! A command, and the explanation of its refusal.
+//! A command, and the explanation of its answer.
 
 ghost use Rattle.std.specs.Prelude.{map};
 ghost use Rattle.std.specs.String.{string_bytes};
 ghost use Rattle.dimacs_runs.specs.Commands.{seen_by};
-ghost use Rattle.dimacs_explain.specs.Explained.{Explains};
+ghost use Rattle.dimacs_explain.specs.Explained.{Explains, FollowedBy};
 
 use crate::better::explain_feasible;
 use crate::distance_tests::explain_distance;
@@ -15,14 +15,15 @@ use crate::refusal::{Refusal, RefusalPlace};
 use crate::reopen::Reopen;
 use crate::texts::{TextFile, Texts};
 use crate::whole_tests::{explain_end, explain_whole};
+use crate::yes::explain_yes;
 use dimacs_lines::{Memory, Sink, put_all};
 use dimacs_records::{End, TextKind};
 use dimacs_runs::{CommandError, Files, Status, job, run_command};
 use std::alloc::Global;
 
-/// Runs the command of these arguments, and, only if it refuses, writes lines that explain the refusal. For these it
-/// reads files again, by `again`. If memory runs out, no explanation is written; if the output fails, at most a part.
-/// The result is the command's all the same.
+/// Runs the command of these arguments, and writes lines that explain its yes or its refusal. For these it reads files
+/// again, by `again`. If memory runs out, no explanation is written; if the output fails, at most a part. The result is
+/// the command's all the same.
 pub fn explain_command<'a, F: Files, A: Reopen, K: Sink>(
     alloc: Global,
     arguments: &'a [String],
@@ -34,31 +35,60 @@ pub fn explain_command<'a, F: Files, A: Reopen, K: Sink>(
         (seen_by (F.seen files.old) (K.seen output.old.sink)) (seen_by (F.seen files.new) (K.seen output.new.sink)) }
 {
     let ended = run_command(alloc, arguments, files, output);
-    if matches!(ended, Some(Ok(Status::Refused)))
-        && let Ok(text) = explanation(alloc, arguments, output.line(), again)
-    {
-        let _ = put_all(output, text.as_bytes());
-    }
+    write_explanation(alloc, arguments, &ended, again, output);
     ended
 }
 
-/// The explanation of the refusal that a command printed; empty if it printed none.
+/// Writes the explanation of the answer that a command printed, if it ended with one.
+fn write_explanation<A: Reopen, K: Sink>(
+    alloc: Global,
+    arguments: &[String],
+    ended: &Option<Result<Status, CommandError<'_>>>,
+    again: &A,
+    output: &mut FirstLine<K>,
+)
+    ensures follows { FollowedBy ended.now (K.seen output.old.sink) (K.seen output.new.sink) }
+{
+    if let Some(Ok(status @ (Status::Done | Status::Refused))) = ended
+        && let Ok(text) = explanation(alloc, arguments, *status, output.line(), again)
+    {
+        let _ = put_all(output, text.as_bytes());
+    }
+}
+
+/// The explanation of an answer that a command printed; empty if there is none.
 fn explanation<A: Reopen>(
     alloc: Global,
     arguments: &[String],
+    status: Status,
     printed: &[u8],
     again: &A,
 ) -> Result<String, Memory> {
     let mut out = String::new(alloc);
-    let (Some(job), Some(refusal)) = (job(arguments), Refusal::read(printed)) else {
+    let Some(job) = job(arguments) else {
         return Ok(out);
     };
-    let texts = Texts::of(job);
-    explain_place(alloc, again, texts, refusal, &mut out)?;
-    for file in texts.emptied.unwrap_or_default() {
-        write_emptied(file.as_str(), &mut out)?;
+    if matches!(status, Status::Done) {
+        explain_yes(alloc, again, job, printed, &mut out)?;
+    } else if let Some(refusal) = Refusal::read(printed) {
+        explain_refusal(alloc, again, Texts::of(job), refusal, &mut out)?;
     }
     Ok(out)
+}
+
+/// Explains a refusal, and names the files that a solver has emptied.
+fn explain_refusal<A: Reopen>(
+    alloc: Global,
+    again: &A,
+    texts: Texts<'_>,
+    refusal: Refusal<'_>,
+    out: &mut String,
+) -> Result<(), Memory> {
+    explain_place(alloc, again, texts, refusal, out)?;
+    for file in texts.emptied.unwrap_or_default() {
+        write_emptied(file.as_str(), out)?;
+    }
+    Ok(())
 }
 
 /// Explains a refusal by its place.

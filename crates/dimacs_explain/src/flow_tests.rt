@@ -7,6 +7,7 @@ use crate::faults::{Fault, cannot_read, ending};
 use crate::lookups::{FoundLine, Wanted, find_line, line_at};
 use crate::path_tests::explain_weight;
 use crate::reopen::Reopen;
+use crate::sums::Sum;
 use crate::texts::{ANY_LINES, TextFile, TextLines, Texts};
 use dimacs_lines::Memory;
 use dimacs_network::ArcView;
@@ -284,11 +285,11 @@ fn write_reduced_cost(
     )
 }
 
-/// The flow out of a node and into it, without loops.
-#[derive(Clone, Copy)]
+/// The entries out of a node and into it, without loops.
+#[derive(Drop)]
 struct NodeFlow {
-    outflow: i128,
-    inflow: i128,
+    out_of: Sum,
+    into: Sum,
 }
 
 /// None if the solution can't be read.
@@ -301,32 +302,38 @@ fn node_flow<F: Reopen>(
     let Some(mut lines) = TextLines::open(alloc, files, solution)? else {
         return Ok(None);
     };
-    let mut sums = NodeFlow {
-        outflow: 0,
-        inflow: 0,
-    };
+    let mut out_of = Sum::new(alloc);
+    let mut into = Sum::new(alloc);
     for _ in 0..ANY_LINES {
-        if lines.next().is_none() {
+        let Some(line) = lines.next() else {
             break;
-        }
+        };
         if let Some(Record::SolutionEntry { tail, head, flow }) = lines.record()
             && tail != head
         {
-            sums.add(node, tail, head, i128::from(flow));
+            let entry = (tail, head, flow);
+            if tail == node {
+                add_entry(&mut out_of, solution.file, line, entry)?;
+            }
+            if head == node {
+                add_entry(&mut into, solution.file, line, entry)?;
+            }
         }
     }
-    Ok(Some(sums))
+    Ok(Some(NodeFlow { out_of, into }))
 }
 
-impl NodeFlow {
-    fn add(&mut self, node: u32, tail: u32, head: u32, flow: i128) {
-        if tail == node {
-            self.outflow = self.outflow.saturating_add(flow);
-        }
-        if head == node {
-            self.inflow = self.inflow.saturating_add(flow);
-        }
+/// Adds an entry on this line.
+fn add_entry(
+    sum: &mut Sum,
+    file: &str,
+    line: u64,
+    (tail, head, flow): (u32, u32, i64),
+) -> Result<(), AllocError> {
+    if sum.shows_next() {
+        writeln!(sum.lines, "  {file}:{line}: f {tail} {head} {flow}")?;
     }
+    sum.add(Some(i128::from(flow)))
 }
 
 /// Explains why the balance of a node is wrong.
@@ -340,9 +347,10 @@ pub(crate) fn explain_balance<F: Reopen>(
     let (Some(instance), Some(solution)) = (texts.instance, texts.claim) else {
         return Ok(());
     };
-    let Some(NodeFlow { outflow, inflow }) = node_flow(alloc, files, solution, node)? else {
+    let Some(NodeFlow { out_of, into }) = node_flow(alloc, files, solution, node)? else {
         return cannot_read(out, solution.file);
     };
+    let (outflow, inflow) = (out_of.sum(), into.sum());
     let supply = i128::from(supply_of(alloc, files, instance, node, out)?);
     let excess = outflow.saturating_sub(inflow).saturating_sub(supply);
     write!(out, "{outflow} leaves node {node}, {inflow} enters it")?;
@@ -357,6 +365,8 @@ pub(crate) fn explain_balance<F: Reopen>(
     } else {
         writeln!(out, ": {} too little leaves", excess.saturating_neg())?;
     }
+    out_of.write_lines("entries out of it", out)?;
+    into.write_lines("entries into it", out)?;
     Ok(())
 }
 
@@ -465,8 +475,9 @@ fn explain_value<F: Reopen>(
         return cannot_read(out, instance.file);
     };
     if let Record::MaxNode { id, .. } = record
-        && let Some(NodeFlow { outflow, inflow }) = node_flow(alloc, files, solution, id)?
+        && let Some(NodeFlow { out_of, into }) = node_flow(alloc, files, solution, id)?
     {
+        let (outflow, inflow) = (out_of.sum(), into.sum());
         let value = outflow.saturating_sub(inflow);
         writeln!(
             out,

@@ -1,0 +1,111 @@
+//! Sums and lists, of which the first items are shown.
+
+use dimacs_claims::Cut;
+use std::alloc::{AllocError, Global};
+
+/// The most items that are shown.
+pub(crate) const SHOWN: u64 = 6;
+
+/// A list of lines, and the sum of a number for each.
+#[derive(Drop)]
+pub(crate) struct Sum {
+    /// The first lines.
+    pub(crate) lines: String,
+    terms: String,
+    pub(crate) count: u64,
+    /// None if a number or a sum didn't fit 128 bits.
+    pub(crate) total: Option<i128>,
+    /// The sum of the numbers after the first ones.
+    rest: i128,
+}
+
+impl Sum {
+    pub(crate) fn new(alloc: Global) -> Sum {
+        Sum {
+            lines: String::new(alloc),
+            terms: String::new(alloc),
+            count: 0,
+            total: Some(0),
+            rest: 0,
+        }
+    }
+
+    /// The sum, or 0 if it didn't fit.
+    pub(crate) fn sum(&self) -> i128 {
+        self.total.unwrap_or(0)
+    }
+
+    /// Whether the next number is shown.
+    pub(crate) fn shows_next(&self) -> bool {
+        self.count < SHOWN
+    }
+
+    /// Adds a number; none is one that doesn't fit.
+    pub(crate) fn add(&mut self, number: Option<i128>) -> Result<(), AllocError> {
+        let shown = self.shows_next();
+        self.count = self.count.saturating_add(1);
+        self.total = plus(self.total, number);
+        let term = number.unwrap_or(0);
+        if shown {
+            return write_term(term, &mut self.terms);
+        }
+        self.rest = self.rest.saturating_add(term);
+        Ok(())
+    }
+
+    /// Writes what the lines are, how many they are, and the first of them.
+    pub(crate) fn write_lines(&self, what: &str, out: &mut String) -> Result<(), AllocError> {
+        writeln!(out, "{what}: {}", self.count)?;
+        out.push_str(self.lines.as_str())?;
+        if self.count > SHOWN {
+            out.push_str("  ..\n")?;
+        }
+        Ok(())
+    }
+
+    /// Writes the numbers and their sum.
+    pub(crate) fn write(&self, out: &mut String) -> Result<(), AllocError> {
+        if self.count > 1 {
+            out.push_str(self.terms.as_str())?;
+            if self.count > SHOWN {
+                write_term(self.rest, out)?;
+            }
+            out.push_str(" = ")?;
+        }
+        write!(out, "{}", self.sum())
+    }
+}
+
+/// The sum of two numbers; none if one isn't there, or the sum doesn't fit 128 bits.
+fn plus(one: Option<i128>, other: Option<i128>) -> Option<i128> {
+    one?.checked_add(other?)
+}
+
+/// Writes a number, with its sign between blanks unless it is the first.
+fn write_term(term: i128, out: &mut String) -> Result<(), AllocError> {
+    if out.is_empty() {
+        write!(out, "{term}")
+    } else if term < 0 {
+        write!(out, " - {}", term.unsigned_abs())
+    } else {
+        write!(out, " + {term}")
+    }
+}
+
+/// Writes the first nodes of a set, and how many it has.
+pub(crate) fn write_set(set: &Cut, out: &mut String) -> Result<(), AllocError> {
+    let count = u64::from(set.len());
+    write!(out, "{count} of the {} nodes:", set.nodes())?;
+    let mut left = SHOWN;
+    for before in 0..set.nodes() {
+        if left == 0 {
+            break;
+        }
+        let id = before.saturating_add(1);
+        if set.contains(id) {
+            write!(out, " {id}")?;
+            left = left.saturating_sub(1);
+        }
+    }
+    out.push_str(if count > SHOWN { " ..\n" } else { "\n" })
+}

@@ -1,0 +1,210 @@
+//! Explains a yes: reads the texts again, judges them again, and writes the numbers that show it.
+
+ghost use Rattle.std.specs.Prelude.{IfSome};
+ghost use Rattle.dimacs_instance.specs.QueryTexts.{AreLawful, asked};
+
+use crate::crossing::{explain_infeasible, explain_maximum};
+use crate::first_line::FirstLine;
+use crate::least_cost::explain_least;
+use crate::reopen::Reopen;
+use crate::routes::explain_distances;
+use dimacs_claims::{read_cut, read_labels, read_potentials, read_solution};
+use dimacs_instance::{Queries, read_plain_graph, read_plain_max, read_plain_min, read_queries};
+use dimacs_judging::{
+    Verdict, flow_of, index_for, judge_infeasible, judge_max, judge_min, judge_paths,
+};
+use dimacs_lines::{Memory, MemorySink, MemorySource, Source};
+use dimacs_runs::{Job, JudgeKind, SolveJob, Status, put_verdict, run_certify};
+use std::alloc::Global;
+
+/// The files with the texts of a yes.
+#[derive(Clone, Copy)]
+struct YesFiles<'a> {
+    kind: JudgeKind,
+    instance: &'a String,
+    /// The instance again, if there is no claim.
+    claim: &'a String,
+    /// None if a certifier dropped it.
+    certificate: Option<&'a String>,
+    /// False if the claim isn't queries.
+    has_queries: bool,
+}
+
+impl<'a> YesFiles<'a> {
+    /// None for a run that makes no claim. `printed` is the first line of its output.
+    fn of(job: Job<'a>, printed: &[u8]) -> Option<YesFiles<'a>> {
+        let (kind, files) = match job {
+            Job::Judge(kind, files) | Job::Certify(kind, files) => (kind, files),
+            Job::Solve(SolveJob::Max(_), files) => (JudgeKind::Max, files),
+            Job::Solve(SolveJob::Min(_), files) => (min_kind(printed), files),
+            Job::Solve(SolveJob::Paths, files) => (JudgeKind::Paths, files),
+            _ => return None,
+        };
+        let (instance, rest) = files.split_first()?;
+        let (claim, certificate) = match kind {
+            JudgeKind::Infeasible => (instance, rest.last()),
+            _ => (rest.first()?, rest.get(1)),
+        };
+        Some(YesFiles {
+            kind,
+            instance,
+            claim,
+            certificate,
+            has_queries: !matches!(job, Job::Certify(..)),
+        })
+    }
+}
+
+/// What `solve-min` has answered with this line.
+fn min_kind(printed: &[u8]) -> JudgeKind {
+    if printed == b"v infeasible".as_slice() {
+        JudgeKind::Infeasible
+    } else {
+        JudgeKind::Min
+    }
+}
+
+/// Explains the yes of a run, if it made a claim.
+pub(crate) fn explain_yes<A: Reopen>(
+    alloc: Global,
+    again: &A,
+    job: Job<'_>,
+    printed: &[u8],
+    out: &mut String,
+) -> Result<(), Memory> {
+    let Some(files) = YesFiles::of(job, printed) else {
+        return Ok(());
+    };
+    match explanation(alloc, again, files, printed) {
+        Some(text) => out.push_str(text.as_str())?,
+        None => out.push_str(
+            "the texts can't be read again as they were, so the numbers are left out\n",
+        )?,
+    }
+    Ok(())
+}
+
+/// None if the texts, read again, don't give the same yes.
+fn explanation<A: Reopen>(
+    alloc: Global,
+    again: &A,
+    files: YesFiles<'_>,
+    printed: &[u8],
+) -> Option<String> {
+    let mut texts = TextsAgain {
+        alloc,
+        printed,
+        instance: again.open(files.instance.as_str())?,
+        claim: again.open(files.claim.as_str())?,
+        has_queries: files.has_queries,
+    };
+    match files.certificate {
+        Some(file) => texts.explain(files.kind, &mut again.open(file.as_str())?),
+        None => {
+            let text = certificate_text(alloc, again, files)?;
+            texts.explain(files.kind, &mut MemorySource::new(text.bytes()))
+        }
+    }
+}
+
+/// The certificate that a certifier dropped, made again.
+fn certificate_text<A: Reopen>(
+    alloc: Global,
+    again: &A,
+    files: YesFiles<'_>,
+) -> Option<MemorySink> {
+    let mut instance = again.open(files.instance.as_str())?;
+    let mut claim = again.open(files.claim.as_str())?;
+    let mut text = MemorySink::new(alloc);
+    let mut report = MemorySink::new(alloc);
+    match run_certify(
+        alloc,
+        files.kind,
+        &mut instance,
+        &mut claim,
+        &mut text,
+        &mut report,
+    ) {
+        Ok(Status::Done) => Some(text),
+        _ => None,
+    }
+}
+
+/// An instance and a claim, to be read again, and the first line that was printed of them.
+#[derive(Drop)]
+struct TextsAgain<'a, P> {
+    alloc: Global,
+    printed: &'a [u8],
+    instance: P,
+    claim: P,
+    has_queries: bool,
+}
+
+impl<'a, P: Source> TextsAgain<'a, P> {
+    /// None if they don't give the same yes with this certificate.
+    fn explain<R: Source>(&mut self, kind: JudgeKind, certificate: &mut R) -> Option<String> {
+        match kind {
+            JudgeKind::Max => self.maximum(certificate),
+            JudgeKind::Min => self.least(certificate),
+            JudgeKind::Infeasible => self.infeasible(certificate),
+            JudgeKind::Paths => self.distances(certificate),
+        }
+    }
+
+    /// Whether a verdict prints the same first line.
+    fn is_same(&self, verdict: &Verdict) -> bool {
+        let mut output = FirstLine::new(MemorySink::new(self.alloc));
+        put_verdict(&mut output, verdict).is_ok() && output.line() == self.printed
+    }
+
+    fn maximum<R: Source>(&mut self, certificate: &mut R) -> Option<String> {
+        let max = read_plain_max(self.alloc, &mut self.instance).ok()?;
+        let solution = read_solution(self.alloc, &mut self.claim).ok()?;
+        let cut = read_cut(self.alloc, certificate).ok()?;
+        let verdict = judge_max(self.alloc, &max, &solution, &cut).ok()?;
+        let mut out = String::new(self.alloc);
+        explain_maximum(self.alloc, max.network(), &cut, &mut out).ok()?;
+        self.is_same(&verdict).then_some(out)
+    }
+
+    fn least<R: Source>(&mut self, certificate: &mut R) -> Option<String> {
+        let min = read_plain_min(self.alloc, &mut self.instance).ok()?;
+        let solution = read_solution(self.alloc, &mut self.claim).ok()?;
+        let potentials = read_potentials(self.alloc, certificate).ok()?;
+        let verdict = judge_min(self.alloc, &min, &solution, &potentials).ok()?;
+        let flow = flow_of(self.alloc, min.network(), &solution).ok()?;
+        let mut out = String::new(self.alloc);
+        explain_least(self.alloc, &min, &flow, &potentials, &mut out).ok()?;
+        self.is_same(&verdict).then_some(out)
+    }
+
+    fn infeasible<R: Source>(&mut self, certificate: &mut R) -> Option<String> {
+        let min = read_plain_min(self.alloc, &mut self.instance).ok()?;
+        let set = read_cut(self.alloc, certificate).ok()?;
+        let verdict = judge_infeasible(&min, &set).ok()?;
+        let mut out = String::new(self.alloc);
+        explain_infeasible(self.alloc, &min, &set, &mut out).ok()?;
+        self.is_same(&verdict).then_some(out)
+    }
+
+    fn distances<R: Source>(&mut self, certificate: &mut R) -> Option<String> {
+        let graph = read_plain_graph(self.alloc, &mut self.instance).ok()?;
+        let mut labels = read_labels(self.alloc, certificate).ok()?;
+        let queries = self.queries()?;
+        index_for(&queries, &mut labels).ok()?;
+        let verdict = judge_paths(self.alloc, &graph, &queries, &labels).ok()?;
+        let mut out = String::new(self.alloc);
+        explain_distances(self.alloc, &queries, &labels, &mut out).ok()?;
+        (!self.has_queries || self.is_same(&verdict)).then_some(out)
+    }
+
+    /// The queries that labels have to answer: none if the claim was certified.
+    fn queries(&mut self) -> Option<Queries>
+        ensures lawful { IfSome result (λ queries. AreLawful (asked queries)) }
+    {
+        if self.has_queries {
+            return read_queries(self.alloc, &mut self.claim).ok();
+        }
+        Some(Queries::Sources(Vec::new(self.alloc)))
+    }
+}
