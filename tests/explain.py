@@ -137,7 +137,7 @@ arcs into it, all empty: 0
 arcs out of it, all full: 2
   arc 1: 1 -> 2, CAP 4
   arc 2: 1 -> 3, CAP 2
-4 + 2 = 6, the value of the flow: no flow can carry more across these arcs
+4 + 2 = 6, the value of the flow: all flow to the sink has to cross these arcs, so none has a greater value
 """),
     # Arc 2, back into the set, is empty.
     ("judge-max I S C", {"I": "p max 3 3\nn 1 s\nn 3 t\na 1 2 5\na 3 1 7\na 2 3 2\n", "S": "s 2\nf 1 2 2\nf 2 3 2\n", "C": "p cut 3 2\nu 1\nu 2\n"}, """\
@@ -146,7 +146,7 @@ arcs into it, all empty: 1
   arc 2: 3 -> 1, FLOW 0
 arcs out of it, all full: 1
   arc 3: 2 -> 3, CAP 2
-2, the value of the flow: no flow can carry more across these arcs
+2, the value of the flow: all flow to the sink has to cross these arcs, so none has a greater value
 """),
     # Eight arcs leave: two of them aren't shown, and carry 7 + 8.
     ("certify-max I S", {"I": "p max 2 8\nn 1 s\nn 2 t\n" + "".join(f"a 1 2 {k}\n" for k in range(1, 9)), "S": "s 36\n" + "".join(f"f 1 2 {k}\n" for k in range(1, 9))}, """\
@@ -159,11 +159,11 @@ arcs out of it, all full: 8
   arc 4: 1 -> 2, CAP 4
   arc 5: 1 -> 2, CAP 5
   arc 6: 1 -> 2, CAP 6
-  ..
-1 + 2 + 3 + 4 + 5 + 6 + 15 = 36, the value of the flow: no flow can carry more across these arcs
+  all others: 15
+1 + 2 + 3 + 4 + 5 + 6 + 15 = 36, the value of the flow: all flow to the sink has to cross these arcs, so none has a greater value
 """),
     ("judge-min MI S P", {"S": LEAST}, f"""\
-FLOW * COST of the arcs, the dearest first:
+FLOW * COST of the arcs, the greatest in size first:
   arc 1: 1 -> 2, 2 * 2 = 4
   arc 2: 1 -> 3, 2 * 2 = 4
   arc 5: 3 -> 4, 4 * 1 = 4
@@ -177,13 +177,13 @@ FLOW * COST of the arcs, the dearest first:
   arc 2: 1 -> 3, r = 2 - 4 + 1 = -1, CAP 2
 -2
 16 - 2 = 14: no flow costs less
-tight arcs, with r = 0, 3 of 5: 1 3 5
+another flow of this cost can differ only on arcs with r = 0, 3 of 5: 1 3 5
 """),
-    ("judge-min I S P", {"I": f"p min 2 1\nn 1 {2**62}\nn 2 -{2**62}\na 1 2 0 {2**62} 0\n", "S": f"s 0\nf 1 2 {2**62}\n", "P": f"p pot 2 2\ny 1 {10**30}\ny 2 {10**30}\n"}, """\
-FLOW * COST of the arcs, the dearest first:
-0, the cost
-what the potentials add up to doesn't fit 128 bits
-tight arcs, with r = 0, 1 of 1: 1
+    ("judge-min I S P", {"I": f"p min 2 1\nn 1 {2**62}\nn 2 -{2**62}\na 1 2 0 {2**62} 0\n", "S": f"s 0\nf 1 2 {2**62}\n", "P": f"p pot 2 2\ny 1 {10**30}\ny 2 {10**30}\n"}, f"""\
+no arc with flow has a COST: the cost is 0
+{explained_yes.BOUND}
+some of these numbers don't fit 128 bits, so they are left out
+another flow of this cost can differ only on arcs with r = 0, 1 of 1: 1
 """),
     ("judge-infeasible I C", {"I": "p min 3 3\nn 1 5\nn 3 -5\na 1 2 0 4 0\na 2 1 1 2 0\na 2 3 0 9 0\n", "C": CUT.replace("4", "3")}, """\
 in the set, 1 of the 3 nodes: 1
@@ -193,7 +193,7 @@ arcs out of it: 1
 arcs into it: 1
   arc 2: 2 -> 1, LOW 1
 these bounds add up to 4 out of it, and 1 into it
-so what leaves it, less what enters it, is at most 3, and would have to be its supply, 5: no flow is feasible
+so what leaves it, less what enters it, is at most 4 - 1 = 3, but has to be its supply, 5: no flow is feasible
 """),
     # Node 1 takes 5, and at most 4 can come.
     ("certify-infeasible I", {"I": "p min 2 2\nn 1 -5\nn 2 5\na 2 1 0 4 0\na 1 2 1 2 0\n"}, """\
@@ -204,7 +204,7 @@ arcs out of it: 1
 arcs into it: 1
   arc 2: 1 -> 2, LOW 1
 these bounds add up to 4 out of it, and 1 into it
-so what leaves it, less what enters it, is at most 3, and would have to be its supply, 5: no flow is feasible
+so what leaves it, less what enters it, is at most 4 - 1 = 3, but has to be its supply, 5: no flow is feasible
 """),
     ("judge-infeasible I C", {"I": "p min 2 2\nn 1 -5\nn 2 5\na 2 1 0 4 0\na 1 2 1 2 0\n", "C": CUT.replace("4", "2")}, """\
 in the set, 1 of the 2 nodes: 1
@@ -214,32 +214,32 @@ arcs out of it: 1
 arcs into it: 1
   arc 1: 2 -> 1, CAP 4
 these bounds add up to 1 out of it, and 4 into it
-so what leaves it, less what enters it, is at least -3, and would have to be its supply, -5: no flow is feasible
+so what leaves it, less what enters it, is at least 1 - 4 = -3, but has to be its supply, -5: no flow is feasible
 """),
     ("judge-paths G Q L", {"G": OUT, "Q": "p aux sp p2p 3\nq 1 3\nq 1 1\nq 1 4\n", "L": "p dist 4 1\nt 1 2\nd 2 5 1\nd 3 9 2\n"}, f"""\
 1 -> 2 -> 3: 5 + 4 = 9
-1: 0
-no walk from 1 to 4: no arc leads from a node with a label to one without
+1 to itself, without an arc: 0
+no walk from 1 to 4: no arc leads out of the nodes that 1 reaches, 3: 1 2 3
 {explained_yes.SHORTEST}
 """),
-    ("judge-paths G Q L", {"G": NEAR, "Q": "p aux sp p2p 1\nq 1 3\n", "L": "p dist 4 1\nt 1 1 6\nd 2 5 1\n"}, f"""\
-no walk from 1 to 3 weighs at most 6, the RADIUS: each arc from a node with a label to one without leads past it
-{explained_yes.SHORTEST}
+    ("judge-paths G Q L", {"G": NEAR, "Q": "p aux sp p2p 1\nq 1 3\n", "L": "p dist 4 1\nt 1 1 6\nd 2 5 1\n"}, """\
+no walk from 1 to 3 weighs at most 6, the RADIUS: each arc from a node with a label to one without leads past it, and no WEIGHT is negative
 """),
     ("judge-paths G Q L", {"G": OUT, "L": "p dist 4 2\nt 1 2\nd 2 5 1\nd 3 9 2\nt 4 1\nd 3 0 4\n"}, f"""\
-from 1 to the farthest of 2 nodes: 1 -> 2 -> 3: 5 + 4 = 9
+the farthest node from 1, of 2 that it reaches: 1 -> 2 -> 3: 5 + 4 = 9
+the other nodes can't be reached: no arc leads to them from these
 {explained_yes.SHORTEST}
 """),
     # Eight arcs: 1 + 2 + 3 + 4 + 5 + 6, then 7 + 8.
     ("certify-paths G D", {"G": FAR, "D": FAR_CLAIM}, f"""\
-from 1 to the farthest of 8 nodes: 1 -> 2 -> 3 -> 4 -> 5 -> 6 -> 7 -> .. -> 9: 1 + 2 + 3 + 4 + 5 + 6 + 15 = 36
+the farthest node from 1, of 8 that it reaches: 1 -> 2 -> 3 -> 4 -> 5 -> 6 -> 7 -> .. -> 9: 1 + 2 + 3 + 4 + 5 + 6 + 15 = 36
 {explained_yes.SHORTEST}
 """),
     ("solve-max I S C", {"I": "p max 3 1\nn 1 s\nn 3 t\na 1 2 5\n"}, """\
 on the source's side of the cut, 2 of the 3 nodes: 1 2
 arcs into it, all empty: 0
 arcs out of it, all full: 0
-0, the value of the flow: no flow can carry more across these arcs
+no flow reaches the sink, so none has a value above 0
 """),
     ("convert cut C", {}, ""),
     ("spread-max I S O", {}, ""),
@@ -301,7 +301,7 @@ def pipe_fault(binary):
         written(folder, {})
         words = ["bash", "-c", f"'{binary}' explain judge-max I <(cat S) C"]
         ran = subprocess.run(words, capture_output=True, cwd=folder, check=False)
-    wanted = "v max 6\nthe texts can't be read again as they were, so the numbers are left out\n"
+    wanted = "v max 6\nthe numbers are left out: a text has changed, can't be read twice, or memory ran out\n"
     return None if (ran.returncode, ran.stdout.decode()) == (0, wanted) else f"prints {ran.stdout}"
 
 

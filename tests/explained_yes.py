@@ -8,11 +8,13 @@ from instances import graph_text, max_text, min_text
 
 SHOWN = 6
 BOUND = (
-    "with potentials y and r = COST - y(TAIL) + y(HEAD), a feasible flow costs the sums of y * SUPPLY and r * FLOW"
+    "with potentials y (0 without a line) and r = COST - y(TAIL) + y(HEAD), a feasible flow costs the sum of "
+    "y * SUPPLY over the nodes plus that of r * FLOW over the arcs"
 )
 SAME = "y * SUPPLY, the same for each flow; nodes where it isn't 0"
 LEAST = "r * FLOW, at least r * LOW if r is above 0, else r * CAP; arcs where that isn't 0"
-SHORTEST = "no walk is shorter: along an arc the label grows by its WEIGHT at most"
+PAST = "each arc from a node with a label to one without leads past it"
+SHORTEST = "no walk is shorter: from the source, whose label is 0, each arc raises the label by its WEIGHT at most"
 
 
 def numbers(line):
@@ -36,9 +38,14 @@ def sum_of(terms):
     return f"{terms[0]}{''.join(signed)} = {total}"
 
 
-def listed(name, all_of_it):
-    """A list's lines: its name and number, and the first six."""
-    return [f"{name}: {len(all_of_it)}", *all_of_it[:SHOWN], *["  .."] * (len(all_of_it) > SHOWN)]
+def listed(name, all_of_it, terms):
+    """A list's lines: its name and number, the first six, and the sum of the other terms."""
+    others = [f"  all others: {sum(terms[SHOWN:])}"] * (len(all_of_it) > SHOWN)
+    return [f"{name}: {len(all_of_it)}", *all_of_it[:SHOWN], *others]
+
+
+def operand(number):
+    return f"({number})" if number < 0 else str(number)
 
 
 def in_set(what, nodes, of):
@@ -82,9 +89,13 @@ def maximum(instance, solution, cut):
     out, into = across(arcs, nodes, lambda k, arc: arc[2], lambda k, arc: flow[k - 1])
     assert all(flow[k - 1] == cap for k, _, cap in out) and all(amount == 0 for *_, amount in into)
     yield in_set("on the source's side of the cut", nodes, lines_of(instance, "p")[0][0])
-    yield from listed("arcs into it, all empty", arc_lines(into, "FLOW"))
-    yield from listed("arcs out of it, all full", arc_lines(out, "CAP"))
-    yield f"{sum_of(cap for *_, cap in out)}, the value of the flow: no flow can carry more across these arcs"
+    yield from listed("arcs into it, all empty", arc_lines(into, "FLOW"), [0] * len(into))
+    caps = [cap for *_, cap in out]
+    yield from listed("arcs out of it, all full", arc_lines(out, "CAP"), caps)
+    if caps:
+        yield f"{sum_of(caps)}, the value of the flow: all flow to the sink has to cross these arcs, so none has a greater value"
+    else:
+        yield "no flow reaches the sink, so none has a value above 0"
     assert lines_of(solution, "s") == [[sum(cap for *_, cap in out)]]
 
 
@@ -105,10 +116,11 @@ def infeasible(instance, cut):
     assert supply > net if limit == "at most" else supply < net
     yield in_set("in the set", nodes, lines_of(instance, "p")[0][0])
     yield f"its supply: {sum_of(supplies)}"
-    yield from listed("arcs out of it", arc_lines(out, words[0]))
-    yield from listed("arcs into it", arc_lines(into, words[1]))
+    yield from listed("arcs out of it", arc_lines(out, words[0]), leaves)
+    yield from listed("arcs into it", arc_lines(into, words[1]), enters)
     yield f"these bounds add up to {sum_of(leaves)} out of it, and {sum_of(enters)} into it"
-    yield f"so what leaves it, less what enters it, is {limit} {net}, and would have to be its supply, {supply}: no flow is feasible"
+    net = f"{sum(leaves)} - {sum(enters)} = {net}"
+    yield f"so what leaves it, less what enters it, is {limit} {net}, but has to be its supply, {supply}: no flow is feasible"
 
 
 def least(instance, solution, potentials):
@@ -117,20 +129,21 @@ def least(instance, solution, potentials):
     flow = flow_of(arcs, solution)
     y = dict(lines_of(potentials, "y"))
     paid = [(flow[k] * arc[4], k) for k, arc in enumerate(arcs) if flow[k] * arc[4]]
-    dearest = sorted(paid, key=lambda each: (-abs(each[0]), each[1]))
-    rest = sum(cost for cost, _ in dearest[SHOWN:])
-    yield "FLOW * COST of the arcs, the dearest first:"
-    for cost, k in dearest[:SHOWN]:
-        yield f"  arc {k + 1}: {arcs[k][0]} -> {arcs[k][1]}, {flow[k]} * {arcs[k][4]} = {cost}"
-    if rest:
-        yield f"  all others: {rest}"
-    terms = [cost for cost, _ in dearest[:SHOWN]]
-    yield sum_of([*terms, *[rest] * bool(rest)]) + ", the cost"
+    greatest = sorted(paid, key=lambda each: (-abs(each[0]), each[1]))
+    if paid:
+        yield "FLOW * COST of the arcs, the greatest in size first:"
+        for cost, k in greatest[:SHOWN]:
+            yield f"  arc {k + 1}: {arcs[k][0]} -> {arcs[k][1]}, {flow[k]} * {operand(arcs[k][4])} = {cost}"
+        if len(paid) > SHOWN:
+            yield f"  all others: {sum(cost for cost, _ in greatest[SHOWN:])}"
+        yield sum_of(cost for cost, _ in greatest) + ", the cost"
+    else:
+        yield "no arc with flow has a COST: the cost is 0"
     yield BOUND
     supplied = [(node, y.get(node, 0), supply) for node, supply in sorted(lines_of(instance, "n"))]
     supplied = [each for each in supplied if each[1] * each[2]]
-    yield from listed(SAME, [f"  node {node}: {potential} * {supply}" for node, potential, supply in supplied])
     fixed = [potential * supply for _, potential, supply in supplied]
+    yield from listed(SAME, [f"  node {node}: {y} * {operand(supply)}" for node, y, supply in supplied], fixed)
     yield sum_of(fixed)
     reduced = [arc[4] - y.get(arc[0], 0) + y.get(arc[1], 0) for arc in arcs]
     lines, bounds = [], []
@@ -138,15 +151,19 @@ def least(instance, solution, potentials):
         word, bound = ("LOW", arc[2]) if reduced[k] > 0 else ("CAP", arc[3])
         if reduced[k] * bound:
             ends = y.get(arc[0], 0), y.get(arc[1], 0)
-            lines.append(f"  arc {k + 1}: {arc[0]} -> {arc[1]}, r = {arc[4]} - {ends[0]} + {ends[1]} = {reduced[k]}, {word} {bound}")
+            r = f"{arc[4]} - {operand(ends[0])} + {operand(ends[1])} = {reduced[k]}"
+            lines.append(f"  arc {k + 1}: {arc[0]} -> {arc[1]}, r = {r}, {word} {bound}")
             bounds.append(reduced[k] * bound)
-    yield from listed(LEAST, lines)
+    yield from listed(LEAST, lines, bounds)
     yield sum_of(bounds)
     yield f"{sum_of([sum(fixed), sum(bounds)])}: no flow costs less"
     assert sum(fixed) + sum(bounds) == sum(cost for cost, _ in paid)
     tight = [k for k, each in enumerate(reduced, 1) if each == 0]
-    first = "".join(f" {k}" for k in tight[:SHOWN])
-    yield f"tight arcs, with r = 0, {len(tight)} of {len(arcs)}:{first}{' ..' * (len(tight) > SHOWN)}"
+    first = "".join(f" {k}" for k in tight[:SHOWN]) + " .." * (len(tight) > SHOWN)
+    if tight:
+        yield f"another flow of this cost can differ only on arcs with r = 0, {len(tight)} of {len(arcs)}:{first}"
+    else:
+        yield "no arc has r = 0: no other flow costs as little"
 
 
 def blocks_of(labels):
@@ -208,27 +225,45 @@ def distances(graph, queries, labels):
         assert {node: dist for node, (dist, _) in by_node.items()} == {
             node: dist for node, dist in right.items() if radius is None or dist <= radius
         }
+    nodes = lines_of(graph, "p")[0][0]
     sources = [line[0] for line in lines_of(queries, "s")]
     pairs = lines_of(queries, "q")
+    has_route = False
     for source, to in pairs[:10]:
         radius, by_node = blocks[source]
-        if to == source or to in by_node:
+        has_route |= to == source or to in by_node
+        if to == source:
+            yield f"{to} to itself, without an arc: 0"
+        elif to in by_node:
             yield route(arcs, source, by_node, to)
         elif radius is None:
-            yield f"no walk from {source} to {to}: no arc leads from a node with a label to one without"
+            reached = [source, *by_node]
+            first = "".join(f" {node}" for node in reached[:SHOWN]) + " .." * (len(reached) > SHOWN)
+            yield f"no walk from {source} to {to}: no arc leads out of the nodes that {source} reaches, {len(reached)}:{first}"
         else:
-            yield f"no walk from {source} to {to} weighs at most {radius}, the RADIUS: each arc from a node with a label to one without leads past it"
+            yield f"no walk from {source} to {to} weighs at most {radius}, the RADIUS: {PAST}, and no WEIGHT is negative"
     for source in sources[:10] if sources or pairs else list(blocks)[:10]:
-        by_node = blocks[source][1]
-        if by_node:
-            most = max(dist for dist, _ in by_node.values())
-            far = next(node for node, (dist, _) in by_node.items() if dist == most)
-            yield f"from {source} to the farthest of {len(by_node)} nodes: {route(arcs, source, by_node, far)}"
-        else:
-            yield f"from {source} no other node has a label"
+        has_route |= bool(blocks[source][1])
+        yield from farthest(arcs, nodes, source, *blocks[source])
     if len(sources or pairs or blocks) > 10:
         yield ".."
-    yield SHORTEST
+    if has_route:
+        yield SHORTEST
+
+
+def farthest(arcs, nodes, source, radius, by_node):
+    """The explanation of a block, by its greatest distance."""
+    within = " that it reaches" if radius is None else f" within {radius}, the RADIUS"
+    if by_node:
+        most = max(dist for dist, _ in by_node.values())
+        far = next(node for node, (dist, _) in by_node.items() if dist == most)
+        yield f"the farthest node from {source}, of {len(by_node)}{within}: {route(arcs, source, by_node, far)}"
+        if radius is None and len(by_node) + 1 < nodes:
+            yield "the other nodes can't be reached: no arc leads to them from these"
+    elif radius is None:
+        yield f"{source} reaches no other node: no arc leads from it to another"
+    else:
+        yield f"no other node is within {radius}, the RADIUS, of {source}: each arc from it to another leads past it"
 
 
 def random_arcs(rng, nodes, most):

@@ -73,8 +73,18 @@ pub(crate) fn explain_maximum<N: Network>(
     write_set(cut, out)?;
     entering.write_lines("arcs into it, all empty", out)?;
     leaving.write_lines("arcs out of it, all full", out)?;
+    write_value(&leaving, out)
+}
+
+/// Writes the value of a maximum flow: the sum over the arcs out of the source's side.
+fn write_value(leaving: &Sum, out: &mut String) -> Result<(), AllocError> {
+    if leaving.count == 0 {
+        return out.push_str("no flow reaches the sink, so none has a value above 0\n");
+    }
     leaving.write(out)?;
-    out.push_str(", the value of the flow: no flow can carry more across these arcs\n")
+    out.push_str(
+        ", the value of the flow: all flow to the sink has to cross these arcs, so none has a greater value\n",
+    )
 }
 
 /// Explains by a violated set that no flow is feasible.
@@ -133,7 +143,9 @@ impl Crossing {
         self.entering.write(out)?;
         writeln!(
             out,
-            " into it\nso what leaves it, less what enters it, is {limit} {}, and would have to be its supply, {supply}: no flow is feasible",
+            " into it\nso what leaves it, less what enters it, is {limit} {} - {} = {}, but has to be its supply, {supply}: no flow is feasible",
+            self.leaving.sum(),
+            self.entering.sum(),
             self.net()
         )
     }

@@ -1,6 +1,6 @@
 //! Why a flow costs least: by the potentials, each feasible flow costs at least as much.
 
-use crate::sums::{SHOWN, Sum};
+use crate::sums::{SHOWN, Sum, write_operand};
 use dimacs_claims::Potentials;
 use dimacs_instance::MinInstance;
 use dimacs_judging::Flow;
@@ -28,35 +28,34 @@ fn arc_cost(arc: ArcView, flow: &Flow, index: usize) -> i128 {
     i128::from(amount).saturating_mul(i128::from(arc.cost))
 }
 
-/// Writes the cost as a sum, the dearest arcs first.
+/// Writes the cost as a sum, the arcs whose cost is greatest in size first.
 fn write_cost<N: Network>(
     alloc: Global,
     network: &N,
     flow: &Flow,
     out: &mut String,
 ) -> Result<(), AllocError> {
-    let mut dearest = [(0i128, 0u32); 6];
+    let mut greatest = [(0i128, 0u32); 6];
     let mut rest = 0i128;
+    let mut count = 0u64;
     for i in 0..network.arcs() {
         let cost = arc_cost(network.arc(i), flow, i as usize);
-        rest = rest.saturating_add(keep_dear(&mut dearest, (cost, i)));
+        rest = rest.saturating_add(keep_great(&mut greatest, (cost, i)));
+        count = count.saturating_add(u64::from(cost != 0));
     }
-    out.push_str("FLOW * COST of the arcs, the dearest first:\n")?;
+    if count == 0 {
+        return out.push_str("no arc with flow has a COST: the cost is 0\n");
+    }
+    out.push_str("FLOW * COST of the arcs, the greatest in size first:\n")?;
     let mut sum = Sum::new(alloc);
-    for (cost, i) in dearest {
+    for (cost, i) in greatest {
         if cost != 0 && i < network.arcs() {
-            let arc = network.arc(i);
-            let count = i.saturating_add(1);
             let amount = flow.amounts().get(i as usize).copied().unwrap_or(0);
-            writeln!(
-                out,
-                "  arc {count}: {} -> {}, {amount} * {} = {cost}",
-                arc.tail, arc.head, arc.cost
-            )?;
+            write_product(network.arc(i), i, amount, cost, out)?;
             sum.add(Some(cost))?;
         }
     }
-    if rest != 0 {
+    if count > SHOWN {
         writeln!(out, "  all others: {rest}")?;
         sum.add(Some(rest))?;
     }
@@ -64,11 +63,29 @@ fn write_cost<N: Network>(
     out.push_str(", the cost\n")
 }
 
+/// Writes what the flow of the arc with this index costs.
+fn write_product(
+    arc: ArcView,
+    index: u32,
+    amount: i64,
+    cost: i128,
+    out: &mut String,
+) -> Result<(), AllocError> {
+    let count = index.saturating_add(1);
+    write!(
+        out,
+        "  arc {count}: {} -> {}, {amount} * ",
+        arc.tail, arc.head
+    )?;
+    write_operand(i128::from(arc.cost), out)?;
+    writeln!(out, " = {cost}")
+}
+
 /// Keeps the costs of greatest size, with the indices of their arcs. Returns the one that is left out.
-fn keep_dear(dearest: &mut [(i128, u32)], cost: (i128, u32)) -> i128 {
+fn keep_great(greatest: &mut [(i128, u32)], cost: (i128, u32)) -> i128 {
     let mut left = cost;
-    for place in dearest {
-        if is_dearer(left, *place) {
+    for place in greatest {
+        if is_greater(left, *place) {
             let kept = *place;
             *place = left;
             left = kept;
@@ -78,7 +95,7 @@ fn keep_dear(dearest: &mut [(i128, u32)], cost: (i128, u32)) -> i128 {
 }
 
 /// Whether a cost is greater in size, or as great and of an earlier arc.
-fn is_dearer(one: (i128, u32), other: (i128, u32)) -> bool {
+fn is_greater(one: (i128, u32), other: (i128, u32)) -> bool {
     let (size, other_size) = (one.0.unsigned_abs(), other.0.unsigned_abs());
     size > other_size || size == other_size && one.1 < other.1
 }
@@ -95,7 +112,9 @@ fn supply_sum<N: Network>(
         let (y, supply) = (potentials.of(id), i128::from(instance.supply(id)));
         if y != 0 && supply != 0 {
             if sum.shows_next() {
-                writeln!(sum.lines, "  node {id}: {y} * {supply}")?;
+                write!(sum.lines, "  node {id}: {y} * ")?;
+                write_operand(supply, &mut sum.lines)?;
+                sum.lines.push('\n')?;
             }
             sum.add(y.checked_mul(supply))?;
         }
@@ -128,18 +147,32 @@ fn reduced_sum<N: Network>(
         };
         if reduced != 0 && bound != 0 {
             if sum.shows_next() {
-                let count = i.saturating_add(1);
-                let (y, other) = (potentials.of(arc.tail), potentials.of(arc.head));
-                writeln!(
-                    sum.lines,
-                    "  arc {count}: {} -> {}, r = {} - {y} + {other} = {reduced}, {name} {bound}",
-                    arc.tail, arc.head, arc.cost
-                )?;
+                write_reduced(arc, i, potentials, &mut sum.lines)?;
+                writeln!(sum.lines, ", {name} {bound}")?;
             }
             sum.add(reduced.checked_mul(i128::from(bound)))?;
         }
     }
     Ok(sum)
+}
+
+/// Writes the reduced cost of the arc with this index.
+fn write_reduced(
+    arc: ArcView,
+    index: u32,
+    potentials: &Potentials,
+    out: &mut String,
+) -> Result<(), AllocError> {
+    let count = index.saturating_add(1);
+    write!(
+        out,
+        "  arc {count}: {} -> {}, r = {} - ",
+        arc.tail, arc.head, arc.cost
+    )?;
+    write_operand(potentials.of(arc.tail), out)?;
+    out.push_str(" + ")?;
+    write_operand(potentials.of(arc.head), out)?;
+    write!(out, " = {}", reduced_cost(potentials, arc))
 }
 
 /// Writes what each feasible flow costs at least.
@@ -152,12 +185,12 @@ fn write_bound(
     let mut bound = Sum::new(alloc);
     bound.add(fixed.total)?;
     bound.add(least.total)?;
-    if bound.total.is_none() {
-        return out.push_str("what the potentials add up to doesn't fit 128 bits\n");
-    }
     out.push_str(
-        "with potentials y and r = COST - y(TAIL) + y(HEAD), a feasible flow costs the sums of y * SUPPLY and r * FLOW\n",
+        "with potentials y (0 without a line) and r = COST - y(TAIL) + y(HEAD), a feasible flow costs the sum of y * SUPPLY over the nodes plus that of r * FLOW over the arcs\n",
     )?;
+    if bound.total.is_none() {
+        return out.push_str("some of these numbers don't fit 128 bits, so they are left out\n");
+    }
     fixed.write_lines(
         "y * SUPPLY, the same for each flow; nodes where it isn't 0",
         out,
@@ -173,7 +206,8 @@ fn write_bound(
     out.push_str(": no flow costs less\n")
 }
 
-/// Writes how many arcs are tight, and the first of them.
+/// Writes on how many arcs another flow of this cost can differ, and the first of them: the others carry the bound at
+/// which their reduced cost is paid least.
 fn write_tight<N: Network>(
     alloc: Global,
     network: &N,
@@ -190,10 +224,13 @@ fn write_tight<N: Network>(
             }
         }
     }
+    if count == 0 {
+        return out.push_str("no arc has r = 0: no other flow costs as little\n");
+    }
     let end = if count > SHOWN { " .." } else { "" };
     writeln!(
         out,
-        "tight arcs, with r = 0, {count} of {}:{}{end}",
+        "another flow of this cost can differ only on arcs with r = 0, {count} of {}:{}{end}",
         network.arcs(),
         list.as_str()
     )

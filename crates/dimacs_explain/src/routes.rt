@@ -10,6 +10,9 @@ use std::alloc::{AllocError, Global};
 /// The most routes that are shown.
 const ROUTES: usize = 10;
 
+/// The most nodes that are shown beside a source that reaches them.
+const REACHED: usize = 5;
+
 /// Explains distances by labels that pass the judge's tests: of each pair that is asked for, of the farthest node from
 /// each source that is, or, without queries, of the farthest in each block.
 pub(crate) fn explain_distances(
@@ -18,21 +21,23 @@ pub(crate) fn explain_distances(
     labels: &Labels,
     out: &mut String,
 ) -> Result<(), Memory> {
-    match queries {
-        Queries::Pairs(pairs) => write_pairs(alloc, pairs, labels, out)?,
-        Queries::Sources(ids) => write_sources(alloc, ids, labels, out)?,
-    }
     let mut count = queries.len();
-    if count == 0 {
-        count = labels.blocks().len();
-        for block in labels.blocks().iter().take(ROUTES) {
-            write_farthest(alloc, block, out)?;
+    let has_route = match queries {
+        Queries::Pairs(pairs) if count > 0 => write_pairs(alloc, pairs, labels, out)?,
+        Queries::Sources(ids) if count > 0 => write_sources(alloc, ids, labels, out)?,
+        _ => {
+            count = labels.blocks().len();
+            write_blocks(alloc, labels, out)?
         }
-    }
+    };
     if count > ROUTES {
         out.push_str("..\n")?;
     }
-    out.push_str("no walk is shorter: along an arc the label grows by its WEIGHT at most\n")?;
+    if has_route {
+        out.push_str(
+            "no walk is shorter: from the source, whose label is 0, each arc raises the label by its WEIGHT at most\n",
+        )?;
+    }
     Ok(())
 }
 
@@ -43,56 +48,97 @@ fn block_from(labels: &Labels, source: u32) -> Option<&Block> {
         .find(|block| block.source() == source)
 }
 
+/// Explains the first pairs. Returns whether there is a route for one of them.
 fn write_pairs(
     alloc: Global,
     pairs: &[(u32, u32)],
     labels: &Labels,
     out: &mut String,
-) -> Result<(), Memory> {
+) -> Result<bool, Memory> {
+    let mut has_route = false;
     for (from, to) in pairs.iter().take(ROUTES) {
         if let Some(block) = block_from(labels, *from) {
-            write_pair(alloc, block, *to, out)?;
+            has_route |= write_pair(alloc, block, *to, out)?;
         }
     }
-    Ok(())
+    Ok(has_route)
 }
 
+/// Explains the blocks of the first sources. Returns whether there is a route in one of them.
 fn write_sources(
     alloc: Global,
     ids: &[u32],
     labels: &Labels,
     out: &mut String,
-) -> Result<(), Memory> {
+) -> Result<bool, Memory> {
+    let mut has_route = false;
     for id in ids.iter().take(ROUTES) {
         if let Some(block) = block_from(labels, *id) {
-            write_farthest(alloc, block, out)?;
+            has_route |= write_farthest(alloc, block, labels.nodes(), out)?;
         }
     }
-    Ok(())
+    Ok(has_route)
 }
 
-/// Writes the route to a node, or why there is none.
-fn write_pair(alloc: Global, block: &Block, to: u32, out: &mut String) -> Result<(), Memory> {
+/// Explains the first blocks. Returns whether there is a route in one of them.
+fn write_blocks(alloc: Global, labels: &Labels, out: &mut String) -> Result<bool, Memory> {
+    let mut has_route = false;
+    for block in labels.blocks().iter().take(ROUTES) {
+        has_route |= write_farthest(alloc, block, labels.nodes(), out)?;
+    }
+    Ok(has_route)
+}
+
+/// Writes the route to a node, or why there is none. Returns whether there is one.
+fn write_pair(alloc: Global, block: &Block, to: u32, out: &mut String) -> Result<bool, Memory> {
+    if to == block.source() {
+        writeln!(out, "{to} to itself, without an arc: 0")?;
+        return Ok(true);
+    }
     let route = route_to(alloc, block, to)?;
-    if !route.is_empty() || to == block.source() {
-        return Ok(write_route(alloc, block.source(), &route, out)?);
+    if !route.is_empty() {
+        write_route(alloc, block.source(), &route, out)?;
+        return Ok(true);
     }
     write!(out, "no walk from {} to {to}", block.source())?;
     match block.radius() {
-        None => out.push_str(": no arc leads from a node with a label to one without\n")?,
+        None => write_reached(block, out)?,
         Some(radius) => writeln!(
             out,
-            " weighs at most {radius}, the RADIUS: each arc from a node with a label to one without leads past it"
+            " weighs at most {radius}, the RADIUS: each arc from a node with a label to one without leads past it, and no WEIGHT is negative"
         )?,
     }
-    Ok(())
+    Ok(false)
 }
 
-/// Writes the route to the node with the greatest label.
-fn write_farthest(alloc: Global, block: &Block, out: &mut String) -> Result<(), Memory> {
+/// Writes the first nodes that the source reaches.
+fn write_reached(block: &Block, out: &mut String) -> Result<(), AllocError> {
+    let count = block.labels().len().saturating_add(1);
+    let source = block.source();
+    write!(
+        out,
+        ": no arc leads out of the nodes that {source} reaches, {count}: {source}"
+    )?;
+    for label in block.labels().into_iter().take(REACHED) {
+        write!(out, " {}", label.id)?;
+    }
+    out.push_str(if block.labels().len() > REACHED {
+        " ..\n"
+    } else {
+        "\n"
+    })
+}
+
+/// Writes the route to the node with the greatest label. Returns whether there is one.
+fn write_farthest(
+    alloc: Global,
+    block: &Block,
+    nodes: u32,
+    out: &mut String,
+) -> Result<bool, Memory> {
     let Some(first) = block.labels().first() else {
-        writeln!(out, "from {} no other node has a label", block.source())?;
-        return Ok(());
+        write_alone(block, out)?;
+        return Ok(false);
     };
     let mut farthest = first;
     for label in block.labels() {
@@ -100,14 +146,33 @@ fn write_farthest(alloc: Global, block: &Block, out: &mut String) -> Result<(), 
             farthest = label;
         }
     }
-    write!(
-        out,
-        "from {} to the farthest of {} nodes: ",
-        block.source(),
-        block.labels().len()
-    )?;
+    let count = block.labels().len();
+    write!(out, "the farthest node from {}, of {count}", block.source())?;
+    match block.radius() {
+        None => out.push_str(" that it reaches: ")?,
+        Some(radius) => write!(out, " within {radius}, the RADIUS: ")?,
+    }
     let route = route_to(alloc, block, farthest.id)?;
-    Ok(write_route(alloc, block.source(), &route, out)?)
+    write_route(alloc, block.source(), &route, out)?;
+    if block.radius().is_none() && count.saturating_add(1) < nodes as usize {
+        out.push_str("the other nodes can't be reached: no arc leads to them from these\n")?;
+    }
+    Ok(true)
+}
+
+/// Writes that no node but the source has a label.
+fn write_alone(block: &Block, out: &mut String) -> Result<(), AllocError> {
+    let source = block.source();
+    match block.radius() {
+        None => writeln!(
+            out,
+            "{source} reaches no other node: no arc leads from it to another"
+        ),
+        Some(radius) => writeln!(
+            out,
+            "no other node is within {radius}, the RADIUS, of {source}: each arc from it to another leads past it"
+        ),
+    }
 }
 
 /// The labels on the route to a node, from the source's successor on.

@@ -15,8 +15,8 @@ pub(crate) struct Sum {
     pub(crate) count: u64,
     /// None if a number or a sum didn't fit 128 bits.
     pub(crate) total: Option<i128>,
-    /// The sum of the numbers after the first ones.
-    rest: i128,
+    /// The sum of the numbers after the first ones; none if it didn't fit.
+    rest: Option<i128>,
 }
 
 impl Sum {
@@ -26,7 +26,7 @@ impl Sum {
             terms: String::new(alloc),
             count: 0,
             total: Some(0),
-            rest: 0,
+            rest: Some(0),
         }
     }
 
@@ -45,11 +45,13 @@ impl Sum {
         let shown = self.shows_next();
         self.count = self.count.saturating_add(1);
         self.total = plus(self.total, number);
-        let term = number.unwrap_or(0);
         if shown {
-            return write_term(term, &mut self.terms);
+            return write_term(number.unwrap_or(0), &mut self.terms);
         }
-        self.rest = self.rest.saturating_add(term);
+        self.rest = plus(self.rest, number);
+        if self.rest.is_none() {
+            self.total = None;
+        }
         Ok(())
     }
 
@@ -58,7 +60,7 @@ impl Sum {
         writeln!(out, "{what}: {}", self.count)?;
         out.push_str(self.lines.as_str())?;
         if self.count > SHOWN {
-            out.push_str("  ..\n")?;
+            writeln!(out, "  all others: {}", self.rest.unwrap_or(0))?;
         }
         Ok(())
     }
@@ -68,7 +70,7 @@ impl Sum {
         if self.count > 1 {
             out.push_str(self.terms.as_str())?;
             if self.count > SHOWN {
-                write_term(self.rest, out)?;
+                write_term(self.rest.unwrap_or(0), out)?;
             }
             out.push_str(" = ")?;
         }
@@ -89,6 +91,15 @@ fn write_term(term: i128, out: &mut String) -> Result<(), AllocError> {
         write!(out, " - {}", term.unsigned_abs())
     } else {
         write!(out, " + {term}")
+    }
+}
+
+/// Writes a number after an operator: in brackets if it is negative.
+pub(crate) fn write_operand(number: i128, out: &mut String) -> Result<(), AllocError> {
+    if number < 0 {
+        write!(out, "({number})")
+    } else {
+        write!(out, "{number}")
     }
 }
 

@@ -78,7 +78,7 @@ pub(crate) fn explain_yes<A: Reopen>(
     match explanation(alloc, again, files, printed) {
         Some(text) => out.push_str(text.as_str())?,
         None => out.push_str(
-            "the texts can't be read again as they were, so the numbers are left out\n",
+            "the numbers are left out: a text has changed, can't be read twice, or memory ran out\n",
         )?,
     }
     Ok(())
