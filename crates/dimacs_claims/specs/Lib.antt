@@ -10,3 +10,4 @@ pub mod PotentialsReading
 pub mod SolutionReading
 pub mod SolutionTexts
 pub mod inside
+pub mod ShortDistances

@@ -1,9 +1,10 @@
 //! The labels of a block, stored compactly.
 
-ghost use Rattle.std.specs.Prelude.{◌≡◌, ◌<◌, ◌++◌, ◌∷◌, [], ◌↔◌, length, slice_get, slice_index_or, IsTrue, OnOk, OnErr};
+ghost use Rattle.std.specs.Prelude.{◌≡◌, ◌<◌, ◌++◌, ◌∷◌, [], ◌↔◌, All, length, slice_get, slice_index_or, IsTrue, OnOk, OnErr};
 ghost use Rattle.dimacs_network.specs.Lists.{items_left};
 ghost use Rattle.dimacs_claims.specs.Labels.{no_label};
-ghost use Rattle.dimacs_claims.specs.LabelLists.{label_of_32, label_of_64};
+ghost use Rattle.dimacs_claims.specs.ShortDistances.{IsShort};
+ghost use Rattle.dimacs_claims.specs.declared.block.Label.{Label};
 
 use crate::block::Label;
 use dimacs_lines::Memory;
@@ -11,8 +12,8 @@ use dimacs_network::{ListIter, ShortForm, WideningList};
 use std::alloc::Global;
 use std::marker::Model;
 
-/// Labels in the order in which they were added. A label takes 12 bytes while all distances fit into 32 bits, 16 while
-/// they fit into 64, otherwise 32.
+/// Labels in the order in which they were added. A label takes 12 bytes while all distances are below the greatest
+/// number of 32 bits, 16 while they fit into 64, otherwise 32.
 #[derive(Drop)]
 pub struct LabelList {
     labels: WideningList<Label32, WideningList<Label64, Vec<Label>>>,
@@ -51,6 +52,13 @@ impl LabelList {
         ensures { result ≡ length self.now }
     {
         self.labels.len()
+    }
+
+    /// Whether all labels take 12 bytes. Then all distances are below the greatest number of 32 bits.
+    pub fn is_short(&self) -> bool
+        ensures { IsTrue result → All (λ (l : Label). IsShort l.dist) self.now }
+    {
+        self.labels.is_short()
     }
 
     /// Whether there is no label.
@@ -106,15 +114,19 @@ impl<'a> IntoIterator for &'a LabelList {
     }
 }
 
-/// A label whose distance fits into 32 bits.
+/// A label whose distance fits into 32 bits, and isn't the greatest number of them.
 #[derive(Clone, Copy)]
 pub struct Label32 {
     dist: i32,
     id: u32,
     pred: u32,
+    ghost short: { IsShort dist },
 }
 
 impl ShortForm for Label32 {
+    ghost use Rattle.dimacs_claims.specs.Labels.{no_label};
+    ghost use Rattle.dimacs_claims.specs.LabelLists.{label_of_32};
+
     type Long = Label;
 
     ghost widened = { label_of_32 };
@@ -125,6 +137,9 @@ impl ShortForm for Label32 {
     fn narrow(label: Label) -> Option<Label32> {
         let Label { id, pred, .. } = label;
         let dist = i32::try_from(label.dist).ok()?;
+        if dist == i32::MAX {
+            return None;
+        }
         Some(Label32 { dist, id, pred })
     }
 
@@ -148,6 +163,9 @@ pub struct Label64 {
 }
 
 impl ShortForm for Label64 {
+    ghost use Rattle.dimacs_claims.specs.Labels.{no_label};
+    ghost use Rattle.dimacs_claims.specs.LabelLists.{label_of_64};
+
     type Long = Label;
 
     ghost widened = { label_of_64 };

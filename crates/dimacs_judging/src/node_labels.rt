@@ -1,6 +1,6 @@
 //! Judging labels with tables: all arcs are relaxed for each block, or those that leave its nodes.
 
-ghost use Rattle.std.specs.Prelude.{◌≡◌, ◌<◌, ◌≤◌, ◌↔◌, ℕ, List, All, IfOk, IfSome, OnOk, IsTrue};
+ghost use Rattle.std.specs.Prelude.{◌≡◌, ◌<◌, ◌≤◌, ◌^◌, ◌-◌, ◌↔◌, ℕ, pos, neg_ℤ, List, All, IfOk, IfSome, OnOk, IsTrue};
 ghost use Rattle.std.specs.Result.{result_err};
 ghost use Rattle.dimacs_lines.specs.Limits.{most_nodes};
 ghost use Rattle.dimacs_network.specs.declared.network.ArcView.{ArcView};
@@ -25,6 +25,9 @@ use dimacs_lines::Memory;
 use dimacs_network::{ArcView, Network, NodeTable, Slot};
 use dimacs_records::Reason;
 use std::alloc::Global;
+
+/// A table is cleared whole if a block labels at least one node of so many that have a slot.
+const MANY: usize = 8;
 
 /// Tables of labels for 32-bit, 64-bit and 128-bit distances. The narrowest that holds all distances of a block is
 /// used. Between blocks no node has a label.
@@ -131,24 +134,22 @@ fn labelled_block_holds<N: Network>(
     ensures unlabelled { OnOk result (AllUnlabelled tables.new) }
 {
     let labels = block.labels();
-    if lie_within(labels, i64::from(i32::MIN), i64::from(i32::MAX)) {
+    if labels.is_short() {
         return block_holds_by(network, block, lightest, &mut tables.bits32);
     }
-    if lie_within(labels, i64::MIN, i64::MAX) {
+    if fit_64_bits(labels) {
         return block_holds_by(network, block, lightest, &mut tables.bits64);
     }
     block_holds_by(network, block, lightest, &mut tables.bits128)
 }
 
-/// Whether all distances are from `low` up to `end`, without `end`.
-fn lie_within(labels: &LabelList, low: i64, end: i64) -> bool
-    ensures { IsTrue result → All (λ (l : Label). Fits low end l.dist) labels.now }
+/// Whether a table of 64-bit distances holds these.
+fn fit_64_bits(labels: &LabelList) -> bool
+    ensures { IsTrue result → All (λ (l : Label). Fits (neg_ℤ (pos (2 ^ 63))) (pos (2 ^ 63 - 1)) l.dist) labels.now }
 {
-    let low = i128::from(low);
-    let end = i128::from(end);
     for i in 0..labels.len() {
         let dist = labels.at(i).dist;
-        if dist < low || end <= dist {
+        if dist < i128::from(i64::MIN) || i128::from(i64::MAX) <= dist {
             return false;
         }
     }
@@ -194,8 +195,22 @@ fn set_labels<D: Distance>(
     Ok(())
 }
 
-/// Clears the block's entries. Their memory stays for the next block.
+/// Clears the block's entries: one by one, or the whole table if they are many. Their memory stays for the next block.
 fn clear_labels<D: Distance>(
+    block: &Block,
+    node_labels: &mut NodeTable<NodeLabel<D>>,
+) -> Result<(), Memory>
+    requires { (arcs : List ArcView) × IsLabelled D.value arcs block.now node_labels.old }
+    ensures { OnOk result (AreUnlabelled D.value node_labels.new) }
+{
+    if node_labels.slots() / MANY <= block.labels().len() {
+        node_labels.clear();
+        return Ok(());
+    }
+    clear_each(block, node_labels)
+}
+
+fn clear_each<D: Distance>(
     block: &Block,
     node_labels: &mut NodeTable<NodeLabel<D>>,
 ) -> Result<(), Memory>

@@ -41,6 +41,10 @@ module _ {T : Type 0} (blank : T) where
   unfolding slot_value
   slot_value-past directory slots id past = get_or_past slots (place_of directory id) blank past
 
+  pub slot_value-blank : (directory : List ℕ) (slots : List T) → ((place : ℕ) → get_or slots place blank ≡ blank) → (id : ℕ) → slot_value blank directory slots id ≡ blank
+  unfolding slot_value
+  slot_value-blank directory slots all id = all (place_of directory id)
+
   -- the value on a page that isn't allocated
   pub slot_value-no_page : (directory : List ℕ) (slots : List T) (id : ℕ) → IsDirectory directory (length slots) → number_of directory id ≡ NO_PAGE → slot_value blank directory slots id ≡ blank
   unfolding place_of

@@ -1,6 +1,6 @@
 //! A value for each node, blank until it is set.
 
-ghost use Rattle.std.specs.Prelude.{◌≡◌, ◌≢◌, ◌<◌, ◌≤◌, ◌+◌, ◌/◌, ℕ, length, max, IfOk, IsOk, MatchOption, OnOk, OnErr};
+ghost use Rattle.std.specs.Prelude.{◌≡◌, ◌≢◌, ◌<◌, ◌≤◌, ◌+◌, ◌/◌, ℕ, length, max, slice_index_or, IfOk, IsOk, MatchOption, OnOk, OnErr};
 ghost use Rattle.dimacs_network.specs.Slots.{place_of};
 ghost use Rattle.dimacs_network.specs.inside.Slots.{IsDirectory, SameNumbers};
 
@@ -119,6 +119,23 @@ impl<T: Copy> NodeTable<T> {
         self.slots[place] = value;
     }
 
+    /// The number of slots, 64 for each page.
+    pub fn slots(&self) -> usize
+        ensures { result ≡ slots_in self.now }
+    {
+        self.slots.len()
+    }
+
+    /// Makes all values blank. Their slots stay.
+    pub fn clear(&mut self)
+        ensures values { (id : ℕ) → value_of self.new id ≡ blank_of self.old }
+        ensures same_blank { blank_of self.new ≡ blank_of self.old }
+        ensures slots_stay { (id : ℕ) → HasSlot self.old id → HasSlot self.new id }
+        ensures no_memory { (reach_of self.new ≡ reach_of self.old) × (slots_in self.new ≡ slots_in self.old) }
+    {
+        fill(&mut self.slots, self.blank);
+    }
+
     /// An ID greater than all that were set; at most 2^32.
     pub fn end(&self) -> usize
         ensures within { result ≤ 4294967296 }
@@ -184,4 +201,14 @@ fn extend_directory(directory: &mut Vec<u32>, id: u32) -> Result<(), Memory>
         directory.resize(count, NO_PAGE)?;
     }
     Ok(())
+}
+
+/// Sets all items to one value.
+fn fill<T: Copy>(items: &mut [T], value: T)
+    ensures all { (i : ℕ) → slice_index_or items.new i value ≡ value }
+    ensures same_length { length items.new ≡ length items.old }
+{
+    for i in 0..items.len() {
+        items[i] = value;
+    }
 }

@@ -162,6 +162,13 @@ impl<S: ShortForm, L: Items<S::Long>> WideningList<S, L> {
         }
     }
 
+    /// Whether all items are in their short form.
+    pub fn is_short(&self) -> bool
+        ensures { IsTrue result → (short : List S) × (self.now ≡ map S.widened short) }
+    {
+        self.long.len() == 0
+    }
+
     /// Whether the list is empty.
     pub fn is_empty(&self) -> bool
         ensures { IsTrue result ↔ (self.now ≡ []) }

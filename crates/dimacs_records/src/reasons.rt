@@ -36,7 +36,7 @@ pub enum Reason {
     EndMissing,
     /// A bound is negative, or CAP is less than LOW.
     BoundOrder,
-    /// No longer used.
+    /// Never given.
     ParallelArc,
     /// There are more lines than declared, or more labels in a block.
     TooMany,
@@ -46,7 +46,7 @@ pub enum Reason {
     SolutionMissing,
     /// A solution has an earlier value.
     SolutionTwice,
-    /// The predecessor has no earlier label in the block.
+    /// The predecessor isn't the source, and has no earlier label in the block.
     PredUnknown,
     /// The text has more than `MAX_LINES` lines.
     LineLimit,
@@ -72,7 +72,7 @@ pub enum Reason {
     SourceOutside,
     /// The sink is in the cut.
     SinkInside,
-    /// The arc leaves the cut and carries less than CAP.
+    /// The arc leaves the cut and doesn't carry CAP.
     NotSaturated,
     /// The arc enters the cut and carries flow.
     BackFlow,
@@ -86,7 +86,7 @@ pub enum Reason {
     BlockMissing,
     /// No arc from the predecessor gives the label its distance; or no chain of tight arcs leads to the node.
     NoTightArc,
-    /// The arc leads from a labelled node to one without a label.
+    /// The arc leads from a labelled node to one without a label, not beyond the RADIUS.
     Escapes,
     /// The arc gives a shorter distance than claimed.
     NotShortest,

@@ -1,6 +1,6 @@
 use Rattle.dimacs_judging.specs.inside.NodeLabels.{DefaultsToNone, entries}
 use Rattle.dimacs_judging.proofs.NodeLabelLemmas.{AreUnlabelledBut}
-use Rattle.dimacs_judging.proofs.node_labels.clear_labels.Given as goal
+use Rattle.dimacs_judging.proofs.node_labels.clear_each.Given as goal
 
 abbrev pub invariant-loop-i : goal.invariant-loop-i
 invariant-loop-i g l = record {

@@ -3,7 +3,7 @@ use Rattle.dimacs_claims.specs.declared.block.Label.{Label}
 use Rattle.dimacs_claims.specs.Labels.{no_label}
 use Rattle.dimacs_judging.specs.inside.NodeLabels.{entries, entry_of}
 use Rattle.dimacs_judging.proofs.NodeLabelLemmas.{unlabelled_all, defaults_still, unlabelled_more, unlabelled_source}
-use Rattle.dimacs_judging.proofs.node_labels.clear_labels.Goals as goal
+use Rattle.dimacs_judging.proofs.node_labels.clear_each.Goals as goal
 
 pub loop-i-init : goal.loop-i-init
 loop-i-init g c =
