@@ -27,6 +27,9 @@ ASKED = "p aux sp ss 1\ns 1\n"
 PAIRS = "p aux sp p2p 2\nq 1 2\nq 1 4\n"
 HUGE = 9 * 10**18
 
+# Of a pipe that gives more MB nothing is kept.
+MOST_KEPT = 64
+
 # The texts that commands name; a case gives others in their place.
 TEXTS = {"I": MAX, "S": FLOW, "C": CUT, "MI": MIN, "MS": LEAST, "P": POT, "G": CYCLE, "Q": ASKED}
 
@@ -295,14 +298,17 @@ def yes_fault(binary, words, texts, lines):
     return None
 
 
-def pipe_fault(binary):
-    """What is wrong with a yes about a text that can't be read twice; none if nothing is."""
+def pipe_fault(binary, comments):
+    """What is wrong with a yes about a text of a pipe, after so many MB of comments; none if nothing is."""
     with tempfile.TemporaryDirectory() as folder:
         written(folder, {})
-        words = ["bash", "-c", f"'{binary}' explain judge-max I <(cat S) C"]
+        text = f"yes c | head -c {comments}000000; cat S"
+        words = ["bash", "-c", f"'{binary}' explain judge-max I <({text}) C"]
         ran = subprocess.run(words, capture_output=True, cwd=folder, check=False)
-    wanted = "v max 6\nthe numbers are left out: a text has changed, can't be read twice, or memory ran out\n"
-    return None if (ran.returncode, ran.stdout.decode()) == (0, wanted) else f"prints {ran.stdout}"
+        wanted = run(binary, "explain judge-max I S C", folder).stdout
+    if comments > MOST_KEPT:
+        wanted = b"v max 6\nthe numbers are left out: a text has changed, can't be read twice, or memory ran out\n"
+    return None if (ran.returncode, ran.stdout) == (0, wanted) else f"prints {ran.stdout}"
 
 
 def text_in(folder, name):
@@ -356,7 +362,7 @@ def main():
     passed = failed = 0
     faults = [(f"{case[0]}: explain {case[1]}", fault_of(binary, case)) for case in CASES]
     faults += [(f"explain {case[0]}", yes_fault(binary, *case)) for case in YES]
-    faults += [("explain with a pipe", pipe_fault(binary))]
+    faults += [(f"explain with a pipe, {size} MB", pipe_fault(binary, size)) for size in (0, 60, 70)]
     faults += [("explain", fault) for fault in reader_faults(binary, int(count), int(seed))]
     for words, fault in faults:
         passed += fault is None

@@ -643,7 +643,7 @@ def run_closed(runs, words, closed, status, error):
 
 
 def explain_pipe(runs):
-    """Explains a refusal of what a pipe gave, which is empty the second time. Yields what is wrong."""
+    """Explains a refusal of what a pipe gave, which is empty the second time: its line is shown. Yields what is wrong."""
     os.mkfifo(runs.path("pipe"))
     threading.Thread(target=runs.write, args=("pipe", "p sp 1 1\ne 1 1 0\n")).start()
     words = [runs.binary, *"explain show gr pipe".split()]
@@ -653,7 +653,7 @@ def explain_pipe(runs):
     except subprocess.TimeoutExpired:
         yield "dimacs explain show gr pipe: doesn't end"
         return
-    if ran.returncode != 1 or not ran.stdout.startswith("x instance 2 1 UnknownLine\n"):
+    if ran.returncode != 1 or not ran.stdout.startswith("x instance 2 1 UnknownLine\npipe:2: e 1 1 0\n"):
         yield f"dimacs explain show gr pipe: status {ran.returncode}, prints {ran.stdout!r}"
 
 

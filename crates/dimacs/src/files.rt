@@ -5,11 +5,13 @@ ghost use Rattle.std.specs.IoError.{error_kind};
 ghost use Rattle.dimacs_lines.specs.Devices.{one_more};
 ghost use Rattle.dimacs_runs.specs.Judgings.{CountsDevices};
 
+use crate::kept::{Again, KeptTexts, ReadFile};
+use dimacs_explain::Reopen;
 use dimacs_lines::{FileSink, FileSource};
 use dimacs_runs::{Files, RunError};
 use std::fs::File;
-use std::io;
 use std::io::ErrorKind;
+use std::{fs, io};
 
 /// The operating system's files, by name. The contracts promise nothing about their content.
 #[derive(Drop)]
@@ -18,15 +20,26 @@ pub struct SystemFiles<'a> {
     faults: u64,
     /// Why the last file that failed did.
     reason: Option<io::Error>,
+    /// The texts that can't be read twice, if they are kept.
+    kept: Option<KeptTexts>,
 }
 
 impl<'a> SystemFiles<'a> {
-    /// No file has failed yet.
+    /// No file has failed yet. No text is kept.
     pub fn new(rt: &'a HostRuntime) -> SystemFiles<'a> {
         SystemFiles {
             rt,
             faults: 0,
             reason: None,
+            kept: None,
+        }
+    }
+
+    /// The same, but texts that can't be read twice are kept while they are read, to be read again.
+    pub fn that_keep(rt: &'a HostRuntime) -> SystemFiles<'a> {
+        SystemFiles {
+            kept: Some(KeptTexts::new(rt.alloc())),
+            ..SystemFiles::new(rt)
         }
     }
 
@@ -65,7 +78,7 @@ impl<'a> SystemFiles<'a> {
 }
 
 impl<'a> Files for SystemFiles<'a> {
-    type Input = FileSource<File>;
+    type Input = ReadFile;
 
     type Output = FileSink<File>;
 
@@ -75,9 +88,11 @@ impl<'a> Files for SystemFiles<'a> {
 
     ghost seen = { λ s. record { done = None; faults = s.faults } };
 
-    fn open(&mut self, name: &str) -> Result<FileSource<File>, RunError> {
+    fn open(&mut self, name: &str) -> Result<ReadFile, RunError> {
+        let is_kept = self.kept.is_some() && !is_regular(self.rt, name);
         match File::open(self.rt, name) {
-            Ok(file) => Ok(FileSource::new(file)),
+            Ok(file) if is_kept => Ok(ReadFile::that_is_kept(file, self.rt.alloc())),
+            Ok(file) => Ok(ReadFile::new(file)),
             Err(error) => Err(self.refuse(error)),
         }
     }
@@ -89,11 +104,38 @@ impl<'a> Files for SystemFiles<'a> {
         }
     }
 
-    fn close_input(&mut self, _name: &str, file: FileSource<File>) -> bool {
-        self.count(file.faults(), file.reason())
+    fn close_input(&mut self, name: &str, file: ReadFile) -> bool {
+        let failed = self.count(file.faults(), file.reason());
+        if let Some(kept) = &mut self.kept {
+            kept.add(name, file);
+        }
+        failed
     }
 
     fn close_output(&mut self, _name: &str, file: FileSink<File>) -> bool {
         self.count(file.faults(), file.reason())
+    }
+}
+
+/// Regular files are opened again: a pipe is empty the second time, and opening it may block for ever.
+impl<'a> Reopen for SystemFiles<'a> {
+    type Input = Again;
+
+    fn open(&self, name: &str) -> Option<Again> {
+        if let Some(text) = self.kept.as_ref().and_then(|kept| kept.text(name)) {
+            return Some(text);
+        }
+        if !is_regular(self.rt, name) {
+            return None;
+        }
+        let file = File::open(self.rt, name).ok()?;
+        Some(Again::File(FileSource::new(file)))
+    }
+}
+
+fn is_regular(rt: &HostRuntime, name: &str) -> bool {
+    match fs::metadata(rt, name) {
+        Ok(found) => found.is_file(),
+        Err(_) => false,
     }
 }

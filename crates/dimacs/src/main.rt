@@ -5,13 +5,12 @@
 #![tactic(auto)]
 
 mod files;
+mod kept;
 mod misuse;
-mod regular_files;
 mod usage;
 
 use crate::files::SystemFiles;
 use crate::misuse::{complaint_of, complaint_of_bytes};
-use crate::regular_files::RegularFiles;
 use crate::usage::Command;
 use dimacs_explain::{FirstLine, explain_command};
 use dimacs_lines::{FileSink, Sink, put_all};
@@ -52,7 +51,10 @@ fn run(rt: &HostRuntime, arguments: &[String]) -> u8 {
     let Some(wanted) = request(arguments) else {
         return refuse(rt, complaint_of(rt.alloc(), arguments));
     };
-    let mut files = SystemFiles::new(rt);
+    let mut files = match wanted {
+        Request::Explain(_) => SystemFiles::that_keep(rt),
+        _ => SystemFiles::new(rt),
+    };
     let mut output = FirstLine::new(FileSink::new(io::writer(rt)));
     let ended = match wanted {
         Request::Help => Some(print(usage::of_all(rt.alloc()), &mut output)),
@@ -61,8 +63,7 @@ fn run(rt: &HostRuntime, arguments: &[String]) -> u8 {
         Request::Run(_) => run_command(rt.alloc(), arguments, &mut files, &mut output),
         Request::Explain(_) => {
             let command = arguments.get(1..).unwrap_or_default();
-            let again = RegularFiles::new(rt);
-            explain_command(rt.alloc(), command, &mut files, &again, &mut output)
+            explain_command(rt.alloc(), command, &mut files, &mut output)
         }
     };
     let status = command_status(&ended);

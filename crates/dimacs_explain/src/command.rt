@@ -22,20 +22,19 @@ use dimacs_runs::{CommandError, Files, Status, job, run_command};
 use std::alloc::Global;
 
 /// Runs the command of these arguments, and writes lines that explain its yes or its refusal. For these it reads files
-/// again, by `again`. If memory runs out, no explanation is written; if the output fails, at most a part. The result is
+/// again, by `Reopen`. If memory runs out, no explanation is written; if the output fails, at most a part. The result is
 /// the command's all the same.
-pub fn explain_command<'a, F: Files, A: Reopen, K: Sink>(
+pub fn explain_command<'a, F: Files + Reopen, K: Sink>(
     alloc: Global,
     arguments: &'a [String],
     files: &mut F,
-    again: &A,
     output: &mut FirstLine<K>,
 ) -> Option<Result<Status, CommandError<'a>>>
     ensures explains { Explains (map string_bytes arguments.now) (F.holds files.old) F.empty result
         (seen_by (F.seen files.old) (K.seen output.old.sink)) (seen_by (F.seen files.new) (K.seen output.new.sink)) }
 {
     let ended = run_command(alloc, arguments, files, output);
-    write_explanation(alloc, arguments, &ended, again, output);
+    write_explanation(alloc, arguments, &ended, files, output);
     ended
 }
 
