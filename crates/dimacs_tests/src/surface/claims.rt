@@ -170,6 +170,7 @@ fn has_labels(rt: &impl Abort, block: &Block) {
     );
     same(rt, "after the last", labels.get(2), None);
     holds(rt, "some", !labels.is_empty());
+    holds(rt, "short", labels.is_short());
     let mut last = 0;
     for label in labels {
         last = label.id;
