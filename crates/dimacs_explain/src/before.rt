@@ -1,103 +1,87 @@
 //! The lines before a fault.
 
+use crate::lookups::declared;
 use dimacs_records::{End, Record};
 
 /// What explanations need of the lines before a fault.
 #[derive(Clone, Copy)]
 pub(crate) struct Before {
     pub(crate) lines: u64,
-    pub(crate) problem: Option<ProblemLine>,
+    /// The problem line, NODES and the count that it declares.
+    pub(crate) problem_line: u64,
+    pub(crate) nodes: u32,
+    pub(crate) count: u32,
     /// How many arcs, queries, nodes of a set, potentials or blocks there are.
     pub(crate) counted: u64,
     pub(crate) source_line: Option<u64>,
     pub(crate) sink_line: Option<u64>,
-    pub(crate) value_line: Option<u64>,
-    /// The last block.
-    pub(crate) block: Option<BlockBefore>,
-}
-
-/// What a problem line declares.
-#[derive(Clone, Copy)]
-pub(crate) struct ProblemLine {
-    pub(crate) line: u64,
-    /// NODES, if the kind has it.
-    pub(crate) nodes: Option<u32>,
-    pub(crate) count: u32,
-}
-
-/// A block of labels or distances.
-#[derive(Clone, Copy)]
-pub(crate) struct BlockBefore {
-    pub(crate) line: u64,
+    pub(crate) value_line: u64,
+    /// The last block: its line, source, RADIUS, and how many labels it declares and has.
+    pub(crate) block_line: u64,
     pub(crate) source: u32,
-    pub(crate) declared: u32,
     pub(crate) radius: Option<i128>,
-    pub(crate) counted: u64,
+    pub(crate) labels: u32,
+    pub(crate) labelled: u64,
 }
 
-/// Before the first line.
+/// Before the first line. What isn't there has 0.
 pub(crate) const NOTHING_BEFORE: Before = Before {
     lines: 0,
-    problem: None,
+    problem_line: 0,
+    nodes: 0,
+    count: 0,
     counted: 0,
     source_line: None,
     sink_line: None,
-    value_line: None,
-    block: None,
+    value_line: 0,
+    block_line: 0,
+    source: 0,
+    radius: None,
+    labels: 0,
+    labelled: 0,
 };
 
 impl Before {
     /// Adds a line.
     pub(crate) fn add(&mut self, line: u64, record: Record) {
         match record {
-            Record::MaxProblem { nodes, arcs }
-            | Record::MinProblem { nodes, arcs }
-            | Record::GraphProblem { nodes, arcs } => self.declare(line, Some(nodes), arcs),
-            Record::CutProblem { nodes, count } | Record::PotentialsProblem { nodes, count } => {
-                self.declare(line, Some(nodes), count);
-            }
-            Record::LabelsProblem { nodes, blocks } | Record::DistancesProblem { nodes, blocks } =>
-                {
-                    self.declare(line, Some(nodes), blocks);
-                }
-            Record::QueriesProblem { count, .. } => self.declare(line, None, count),
             Record::MaxNode { end, .. } => match end {
                 End::Source => self.source_line = Some(line),
                 End::Sink => self.sink_line = Some(line),
             },
-            Record::MinNode { .. } => (),
-            Record::SolutionValue { .. } => self.value_line = Some(line),
-            Record::SolutionEntry { .. } => (),
+            Record::MinNode { .. } | Record::SolutionEntry { .. } => (),
+            Record::SolutionValue { .. } => self.value_line = line,
             Record::LabelsBlock {
                 source,
                 count,
                 radius,
-            } => self.begin(line, source, count, radius),
-            Record::DistancesBlock { source, count } => self.begin(line, source, count, None),
-            Record::LabelsNode { .. } | Record::DistancesNode { .. } => self.add_label(),
-            _ => self.counted = self.counted.saturating_add(1),
+            } => {
+                self.begin(line, source, count);
+                self.radius = radius;
+            }
+            Record::DistancesBlock { source, count } => self.begin(line, source, count),
+            Record::LabelsNode { .. } | Record::DistancesNode { .. } => {
+                self.labelled = self.labelled.saturating_add(1);
+            }
+            record => self.declare_or_count(line, record),
         }
     }
 
-    fn declare(&mut self, line: u64, nodes: Option<u32>, count: u32) {
-        self.problem = Some(ProblemLine { line, nodes, count });
-    }
-
-    fn begin(&mut self, line: u64, source: u32, declared: u32, radius: Option<i128>) {
+    fn begin(&mut self, line: u64, source: u32, labels: u32) {
         self.counted = self.counted.saturating_add(1);
-        self.block = Some(BlockBefore {
-            line,
-            source,
-            declared,
-            radius,
-            counted: 0,
-        });
+        self.block_line = line;
+        self.source = source;
+        self.labels = labels;
+        self.labelled = 0;
     }
 
-    /// Counts a label of the last block.
-    fn add_label(&mut self) {
-        if let Some(block) = &mut self.block {
-            block.counted = block.counted.saturating_add(1);
-        }
+    fn declare_or_count(&mut self, line: u64, record: Record) {
+        let Some(declared) = declared(record) else {
+            self.counted = self.counted.saturating_add(1);
+            return;
+        };
+        self.problem_line = line;
+        self.nodes = declared.nodes.unwrap_or(0);
+        self.count = declared.count;
     }
 }

@@ -1,5 +1,6 @@
 //! What crosses the border of a set: a tight cut shows that a flow is maximum, a violated set that none is feasible.
 
+use crate::sentence::fill;
 use crate::sums::{Sum, write_set};
 use dimacs_claims::Cut;
 use dimacs_instance::MinInstance;
@@ -50,15 +51,19 @@ fn add_arc(sum: &mut Sum, index: u32, arc: ArcView, bound: Bound) -> Result<(), 
         Bound::Low => ("LOW", arc.low),
         Bound::Nothing => ("FLOW", 0),
     };
-    if sum.shows_next() {
-        let count = index.saturating_add(1);
-        writeln!(
-            sum.lines,
-            "  arc {count}: {} -> {}, {name} {number}",
-            arc.tail, arc.head
-        )?;
-    }
-    sum.add(Some(i128::from(number)))
+    let count = index.saturating_add(1);
+    let values = [
+        count.into(),
+        arc.tail.into(),
+        arc.head.into(),
+        name.into(),
+        number.into(),
+    ];
+    sum.add_line(
+        "  arc {}: {} -> {}, {} {}\n",
+        &values,
+        Some(i128::from(number)),
+    )
 }
 
 /// Explains a maximum flow by a cut that is tight for it.
@@ -141,12 +146,17 @@ impl Crossing {
         self.leaving.write(out)?;
         out.push_str(" out of it, and ")?;
         self.entering.write(out)?;
-        writeln!(
+        let (leaving, entering) = (self.leaving.sum(), self.entering.sum());
+        fill(
             out,
-            " into it\nso what leaves it, less what enters it, is {limit} {} - {} = {}, but has to be its supply, {supply}: no flow is feasible",
-            self.leaving.sum(),
-            self.entering.sum(),
-            self.net()
+            " into it\nso what leaves it, less what enters it, is {} {} - {} = {}, but has to be its supply, {}: no flow is feasible\n",
+            &[
+                limit.into(),
+                leaving.into(),
+                entering.into(),
+                self.net().into(),
+                supply.into(),
+            ],
         )
     }
 }

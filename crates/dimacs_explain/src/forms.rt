@@ -17,14 +17,6 @@ pub(crate) fn kind_words(kind: TextKind) -> &'static str {
     }
 }
 
-/// Whether the words of a kind are many.
-pub(crate) fn is_plural(kind: TextKind) -> bool {
-    matches!(
-        kind,
-        TextKind::Queries | TextKind::Potentials | TextKind::Labels | TextKind::Distances
-    )
-}
-
 pub(crate) fn forms(kind: TextKind) -> &'static [&'static str] {
     match kind {
         TextKind::Max => &["p max NODES ARCS", "n ID s|t", "a TAIL HEAD CAP"],
@@ -44,17 +36,17 @@ pub(crate) fn forms(kind: TextKind) -> &'static [&'static str] {
 }
 
 /// The form of lines that begin with this letter.
-pub(crate) fn form_of(kind: TextKind, letter: &str) -> Option<&'static str> {
+pub(crate) fn form_of(kind: TextKind, letter: &[u8]) -> Option<&'static str> {
     forms(kind)
         .iter()
         .copied()
-        .find(|form| form.split(' ').next() == Some(letter))
+        .find(|form| field_name(form, 1).as_bytes() == letter)
 }
 
-/// The name of a field of a form, from 1.
+/// The name of a field of a form, from 1. The one after the last is a RADIUS.
 pub(crate) fn field_name(form: &'static str, field: u64) -> &'static str {
     let place = usize::try_from(field.saturating_sub(1)).unwrap_or(usize::MAX);
-    form.split(' ').nth(place).unwrap_or("the field")
+    form.split(' ').nth(place).unwrap_or("RADIUS")
 }
 
 /// The range of a field.

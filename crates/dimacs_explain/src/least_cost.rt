@@ -1,6 +1,7 @@
 //! Why a flow costs least: by the potentials, each feasible flow costs at least as much.
 
-use crate::sums::{SHOWN, Sum, write_operand};
+use crate::sentence::{Value, fill};
+use crate::sums::{SHOWN, Sum};
 use dimacs_claims::Potentials;
 use dimacs_instance::MinInstance;
 use dimacs_judging::Flow;
@@ -56,7 +57,7 @@ fn write_cost<N: Network>(
         }
     }
     if count > SHOWN {
-        writeln!(out, "  all others: {rest}")?;
+        fill(out, "  all others: {}\n", &[rest.into()])?;
         sum.add(Some(rest))?;
     }
     sum.write(out)?;
@@ -71,14 +72,20 @@ fn write_product(
     cost: i128,
     out: &mut String,
 ) -> Result<(), AllocError> {
+    let price = Value::Operand(i128::from(arc.cost));
     let count = index.saturating_add(1);
-    write!(
+    fill(
         out,
-        "  arc {count}: {} -> {}, {amount} * ",
-        arc.tail, arc.head
-    )?;
-    write_operand(i128::from(arc.cost), out)?;
-    writeln!(out, " = {cost}")
+        "  arc {}: {} -> {}, {} * {} = {}\n",
+        &[
+            count.into(),
+            arc.tail.into(),
+            arc.head.into(),
+            amount.into(),
+            price,
+            cost.into(),
+        ],
+    )
 }
 
 /// Keeps the costs of greatest size, with the indices of their arcs. Returns the one that is left out.
@@ -111,23 +118,18 @@ fn supply_sum<N: Network>(
         let id = before.saturating_add(1);
         let (y, supply) = (potentials.of(id), i128::from(instance.supply(id)));
         if y != 0 && supply != 0 {
-            if sum.shows_next() {
-                write!(sum.lines, "  node {id}: {y} * ")?;
-                write_operand(supply, &mut sum.lines)?;
-                sum.lines.push('\n')?;
-            }
-            sum.add(y.checked_mul(supply))?;
+            let values = [id.into(), y.into(), Value::Operand(supply)];
+            sum.add_line("  node {}: {} * {}\n", &values, y.checked_mul(supply))?;
         }
     }
     Ok(sum)
 }
 
-/// The reduced cost of an arc.
-fn reduced_cost(potentials: &Potentials, arc: ArcView) -> i128 {
-    let from = potentials.of(arc.tail);
+/// The reduced cost of an arc whose ends have these potentials.
+pub(crate) fn reduced_cost(arc: ArcView, tail: i128, head: i128) -> i128 {
     i128::from(arc.cost)
-        .saturating_sub(from)
-        .saturating_add(potentials.of(arc.head))
+        .saturating_sub(tail)
+        .saturating_add(head)
 }
 
 /// The sum of a reduced cost times the bound at which that is least, over the arcs.
@@ -138,41 +140,50 @@ fn reduced_sum<N: Network>(
 ) -> Result<Sum, AllocError> {
     let mut sum = Sum::new(alloc);
     for i in 0..network.arcs() {
-        let arc = network.arc(i);
-        let reduced = reduced_cost(potentials, arc);
-        let (name, bound) = if reduced > 0 {
-            ("LOW", arc.low)
-        } else {
-            ("CAP", arc.cap)
-        };
-        if reduced != 0 && bound != 0 {
-            if sum.shows_next() {
-                write_reduced(arc, i, potentials, &mut sum.lines)?;
-                writeln!(sum.lines, ", {name} {bound}")?;
-            }
-            sum.add(reduced.checked_mul(i128::from(bound)))?;
-        }
+        add_reduced(&mut sum, network.arc(i), i, potentials)?;
     }
     Ok(sum)
 }
 
-/// Writes the reduced cost of the arc with this index.
-fn write_reduced(
+/// Adds the term of the arc with this index, if it isn't 0.
+fn add_reduced(
+    sum: &mut Sum,
     arc: ArcView,
     index: u32,
     potentials: &Potentials,
-    out: &mut String,
 ) -> Result<(), AllocError> {
-    let count = index.saturating_add(1);
-    write!(
-        out,
-        "  arc {count}: {} -> {}, r = {} - ",
-        arc.tail, arc.head, arc.cost
-    )?;
-    write_operand(potentials.of(arc.tail), out)?;
-    out.push_str(" + ")?;
-    write_operand(potentials.of(arc.head), out)?;
-    write!(out, " = {}", reduced_cost(potentials, arc))
+    let (tail, head) = (potentials.of(arc.tail), potentials.of(arc.head));
+    let reduced = reduced_cost(arc, tail, head);
+    let (name, bound) = paid_bound(arc, reduced);
+    if reduced == 0 || bound == 0 {
+        return Ok(());
+    }
+    let values = [
+        index.saturating_add(1).into(),
+        arc.tail.into(),
+        arc.head.into(),
+        arc.cost.into(),
+        Value::Operand(tail),
+        Value::Operand(head),
+        reduced.into(),
+        name.into(),
+        bound.into(),
+    ];
+    let term = reduced.checked_mul(i128::from(bound));
+    sum.add_line(
+        "  arc {}: {} -> {}, r = {} - {} + {} = {}, {} {}\n",
+        &values,
+        term,
+    )
+}
+
+/// The bound at which a reduced cost is paid least.
+pub(crate) fn paid_bound(arc: ArcView, reduced: i128) -> (&'static str, i64) {
+    if reduced > 0 {
+        ("LOW", arc.low)
+    } else {
+        ("CAP", arc.cap)
+    }
 }
 
 /// Writes what each feasible flow costs at least.
@@ -217,10 +228,11 @@ fn write_tight<N: Network>(
     let mut list = String::new(alloc);
     let mut count = 0u64;
     for i in 0..network.arcs() {
-        if reduced_cost(potentials, network.arc(i)) == 0 {
+        let arc = network.arc(i);
+        if reduced_cost(arc, potentials.of(arc.tail), potentials.of(arc.head)) == 0 {
             count = count.saturating_add(1);
             if count <= SHOWN {
-                write!(list, " {}", i.saturating_add(1))?;
+                fill(&mut list, " {}", &[i.saturating_add(1).into()])?;
             }
         }
     }
@@ -228,10 +240,14 @@ fn write_tight<N: Network>(
         return out.push_str("no arc has r = 0: no other flow costs as little\n");
     }
     let end = if count > SHOWN { " .." } else { "" };
-    writeln!(
+    fill(
         out,
-        "another flow of this cost can differ only on arcs with r = 0, {count} of {}:{}{end}",
-        network.arcs(),
-        list.as_str()
+        "another flow of this cost can differ only on arcs with r = 0, {} of {}:{}{}\n",
+        &[
+            count.into(),
+            network.arcs().into(),
+            list.as_str().into(),
+            end.into(),
+        ],
     )
 }

@@ -2,29 +2,31 @@
 //! test compares, or those that show a yes. Nothing is proved about the content of these lines.
 #![tactic(auto)]
 
-mod arcs;
 mod before;
-mod better;
+mod blocks;
 mod command;
 mod costs;
 mod crossing;
-mod distance_tests;
+mod entries;
 mod faults;
 mod first_line;
-mod flow_tests;
+mod flows;
 mod forms;
 mod least_cost;
+mod lines;
 mod lookups;
 mod numbers;
 mod oddities;
-mod path_tests;
+mod page;
+mod paths;
 mod quote;
 mod refusal;
+mod refusals;
 mod reopen;
 mod routes;
+mod sentence;
 mod sums;
 mod texts;
-mod whole_tests;
 mod yes;
 
 pub use command::explain_command;

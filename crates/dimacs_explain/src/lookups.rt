@@ -1,27 +1,42 @@
-//! Finds single lines of texts.
+//! What is looked for in texts, and what records name and declare.
 
-use crate::quote::Quote;
-use crate::reopen::Reopen;
-use crate::texts::{ANY_LINES, TextFile, TextLines};
-use dimacs_lines::Memory;
-use dimacs_records::{End, Record};
-use std::alloc::Global;
+use dimacs_network::ArcView;
+use dimacs_records::{Declared, End, Record};
 
-#[derive(Drop)]
-pub(crate) struct FoundLine {
-    pub(crate) record: Record,
-    pub(crate) quote: Quote,
+/// What a line names as its own.
+#[derive(Clone, Copy)]
+pub(crate) enum Named {
+    Node(u32),
+    /// A node with its label or distance in a block.
+    Label(u32),
 }
 
-/// What to look for.
+impl Named {
+    /// Whether a line names this. That of a block names its source, which has a label by that.
+    fn is_of(self, record: Record) -> bool {
+        match (self, name_in(record)) {
+            (Named::Node(wanted), Some(Named::Node(id))) => id == wanted,
+            (Named::Label(wanted), Some(Named::Node(id) | Named::Label(id))) => id == wanted,
+            _ => false,
+        }
+    }
+}
+
+/// The line to look for.
 #[derive(Clone, Copy)]
 pub(crate) enum Wanted {
     Problem,
     Value,
-    /// A line of an instance, a set or potentials about this node.
-    Node(u32),
+    /// The line with this number, with a field that is marked, from 1; 0 marks none.
+    Line { number: u64, field: u64 },
+    /// A line that names this, from a line on.
+    Name { named: Named, from: u64 },
     /// The line of the source, or of the sink.
     End(End),
+    /// The arc with this number, from 1.
+    Arc(u32),
+    /// The entry with these ends after others with them.
+    Entry { tail: u32, head: u32, before: u64 },
     /// A query from this node.
     Query(u32),
     /// A query that names this node.
@@ -29,83 +44,121 @@ pub(crate) enum Wanted {
 }
 
 impl Wanted {
-    fn is(self, record: Record) -> bool {
-        match (self, record) {
-            (Wanted::Value, Record::SolutionValue { .. }) => true,
-            (Wanted::Problem, record) => nodes_of(record).is_some(),
-            (Wanted::End(wanted), Record::MaxNode { end, .. }) => end == wanted,
-            (Wanted::Node(node), Record::MaxNode { id, .. })
-            | (Wanted::Node(node), Record::MinNode { id, .. })
-            | (Wanted::Node(node), Record::CutNode { id })
-            | (Wanted::Node(node), Record::PotentialsNode { id, .. })
-            | (Wanted::Query(node), Record::SourceQuery { id })
-            | (Wanted::QueryNaming(node), Record::SourceQuery { id }) => id == node,
-            (Wanted::Query(node), Record::PairQuery { from, .. }) => from == node,
-            (Wanted::QueryNaming(node), Record::PairQuery { from, to }) => from == node
-                || to == node,
-            _ => false,
+    /// The line of a node of an instance, a set or potentials.
+    pub(crate) fn node(id: u32) -> Wanted {
+        Wanted::Name {
+            named: Named::Node(id),
+            from: 0,
+        }
+    }
+
+    /// Whether a line is of the kind that is wanted.
+    pub(crate) fn is(self, line: u64, record: Record) -> bool {
+        match self {
+            Wanted::Problem => matches!(declared(record), Some(Declared { nodes: Some(_), .. })),
+            Wanted::Value => matches!(record, Record::SolutionValue { .. }),
+            Wanted::Line { number, .. } => line == number,
+            Wanted::Name {
+                named: wanted,
+                from,
+            } => line >= from && wanted.is_of(record),
+            Wanted::End(wanted) => matches!(record, Record::MaxNode { end, .. } if end == wanted),
+            Wanted::Arc(_) => arc_of(record).is_some(),
+            Wanted::Entry { tail, head, .. } => is_entry(record, tail, head),
+            Wanted::Query(node) => matches!(query_ends(record), Some((from, _)) if from == node),
+            Wanted::QueryNaming(node) => {
+                matches!(query_ends(record), Some((from, to)) if from == node || to == node)
+            }
+        }
+    }
+
+    /// How many such lines come before it.
+    pub(crate) fn before(self) -> u64 {
+        match self {
+            Wanted::Arc(number) => u64::from(number).saturating_sub(1),
+            Wanted::Entry { before, .. } => before,
+            _ => 0,
+        }
+    }
+
+    /// The field that is marked.
+    pub(crate) fn field(self) -> u64 {
+        match self {
+            Wanted::Line { field, .. } => field,
+            _ => 0,
         }
     }
 }
 
-/// The NODES of a problem line.
-pub(crate) fn nodes_of(record: Record) -> Option<u32> {
+/// What a line names as its own.
+pub(crate) fn name_in(record: Record) -> Option<Named> {
     match record {
-        Record::MaxProblem { nodes, .. }
-        | Record::MinProblem { nodes, .. }
-        | Record::GraphProblem { nodes, .. }
-        | Record::CutProblem { nodes, .. }
-        | Record::PotentialsProblem { nodes, .. }
-        | Record::LabelsProblem { nodes, .. }
-        | Record::DistancesProblem { nodes, .. } => Some(nodes),
+        Record::MaxNode { id, .. }
+        | Record::MinNode { id, .. }
+        | Record::CutNode { id }
+        | Record::PotentialsNode { id, .. }
+        | Record::LabelsBlock { source: id, .. }
+        | Record::DistancesBlock { source: id, .. } => Some(Named::Node(id)),
+        Record::LabelsNode { id, .. } | Record::DistancesNode { id, .. } => Some(Named::Label(id)),
         _ => None,
     }
 }
 
-/// The first such line.
-pub(crate) fn find_line<F: Reopen>(
-    alloc: Global,
-    files: &F,
-    text: TextFile<'_>,
-    wanted: Wanted,
-) -> Result<Option<FoundLine>, Memory> {
-    let Some(mut lines) = TextLines::open(alloc, files, text)? else {
-        return Ok(None);
-    };
-    for _ in 0..ANY_LINES {
-        let Some(line) = lines.next() else {
-            break;
-        };
-        let Some(record) = lines.record() else {
-            continue;
-        };
-        if wanted.is(record) {
-            let quote = Quote::new(alloc, line, lines.bytes(), 0)?;
-            return Ok(Some(FoundLine { record, quote }));
+/// What a problem line declares.
+pub(crate) fn declared(record: Record) -> Option<Declared> {
+    let (nodes, count) = match record {
+        Record::MaxProblem { nodes, arcs: count }
+        | Record::MinProblem { nodes, arcs: count }
+        | Record::GraphProblem { nodes, arcs: count }
+        | Record::CutProblem { nodes, count }
+        | Record::PotentialsProblem { nodes, count }
+        | Record::LabelsProblem {
+            nodes,
+            blocks: count,
         }
-    }
-    Ok(None)
+        | Record::DistancesProblem {
+            nodes,
+            blocks: count,
+        } => (Some(nodes), count),
+        Record::QueriesProblem { count, .. } => (None, count),
+        _ => return None,
+    };
+    Some(Declared { nodes, count })
 }
 
-/// The line with this number, if it has a record. The quote marks `field`, from 1; 0 marks none.
-pub(crate) fn line_at<F: Reopen>(
-    alloc: Global,
-    files: &F,
-    text: TextFile<'_>,
-    number: u64,
-    field: u64,
-) -> Result<Option<FoundLine>, Memory> {
-    let Some(mut lines) = TextLines::open(alloc, files, text)? else {
-        return Ok(None);
+/// The arc of an arc line.
+pub(crate) fn arc_of(record: Record) -> Option<ArcView> {
+    let (tail, head, low, cap, cost) = match record {
+        Record::MaxArc { tail, head, cap } => (tail, head, 0, cap, 0),
+        Record::MinArc {
+            tail,
+            head,
+            low,
+            cap,
+            cost,
+        } => (tail, head, low, cap, cost),
+        Record::GraphArc { tail, head, weight } => (tail, head, 0, 0, weight),
+        _ => return None,
     };
-    for _ in 0..ANY_LINES {
-        let Some(line) = lines.next() else {
-            break;
-        };
-        if line == number {
-            let quote = Quote::new(alloc, line, lines.bytes(), field)?;
-            return Ok(lines.record().map(|record| FoundLine { record, quote }));
-        }
+    Some(ArcView {
+        tail,
+        head,
+        low,
+        cap,
+        cost,
+    })
+}
+
+/// Whether a line is an entry with these ends.
+pub(crate) fn is_entry(record: Record, from: u32, to: u32) -> bool {
+    matches!(record, Record::SolutionEntry { tail, head, .. } if tail == from && head == to)
+}
+
+/// The ends of a query; of one for all nodes, its source alone.
+fn query_ends(record: Record) -> Option<(u32, u32)> {
+    match record {
+        Record::SourceQuery { id } => Some((id, id)),
+        Record::PairQuery { from, to } => Some((from, to)),
+        _ => None,
     }
-    Ok(None)
 }

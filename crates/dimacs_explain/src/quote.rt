@@ -1,6 +1,7 @@
 //! Quotes of lines.
 
-use dimacs_lines::{Memory, fields};
+use crate::sentence::fill;
+use dimacs_lines::{Field, fields};
 use std::alloc::{AllocError, Global};
 
 /// The most bytes of a line that a quote shows, around the field in question.
@@ -9,55 +10,40 @@ const SHOWN: usize = 100;
 /// How many of them come before the field.
 const BEFORE: usize = 40;
 
-#[derive(Drop)]
-pub(crate) struct Quote {
-    pub(crate) line: u64,
-    text: String,
-    /// The place and length of the mark below the text.
-    mark: Option<(usize, usize)>,
+/// Quotes a line after the name of its file and its number, and marks a field, from 1; 0 marks none.
+pub(crate) fn quote(
+    alloc: Global,
+    file: &str,
+    line: u64,
+    bytes: &[u8],
+    field: u64,
+) -> Result<String, AllocError> {
+    let marked = field_at(bytes, field);
+    let (start, length) = marked.map_or((0, 0), |field| (field.start, field.text.len()));
+    let from = start.saturating_sub(BEFORE);
+    let end = bytes.len().min(from.saturating_add(SHOWN));
+    let stop = end.min(start.saturating_add(length));
+    let mut text = String::new(alloc);
+    fill(&mut text, "{}:{}: ", &[file.into(), line.into()])?;
+    text.push_str(if from > 0 { ".." } else { "" })?;
+    escape(&mut text, bytes.get(from..start).unwrap_or(&[]))?;
+    let begin = text.len();
+    escape(&mut text, bytes.get(start..stop).unwrap_or(&[]))?;
+    let width = text.len().saturating_sub(begin);
+    escape(&mut text, bytes.get(stop..end).unwrap_or(&[]))?;
+    text.push_str(if end < bytes.len() { "..\n" } else { "\n" })?;
+    if marked.is_some() {
+        repeat(&mut text, ' ', begin)?;
+        repeat(&mut text, '^', width.max(1))?;
+        text.push('\n')?;
+    }
+    Ok(text)
 }
 
-impl Quote {
-    /// Quotes a line, and marks a field, from 1; 0 marks none.
-    pub(crate) fn new(alloc: Global, line: u64, bytes: &[u8], field: u64) -> Result<Quote, Memory> {
-        let found = if field == 0 {
-            None
-        } else {
-            fields(bytes).nth(usize::try_from(field - 1).unwrap_or(usize::MAX))
-        };
-        let start = found.map_or(0, |field| field.start);
-        let from = start.saturating_sub(BEFORE);
-        let mut text = String::new(alloc);
-        if from > 0 {
-            text.push_str("..")?;
-        }
-        escape(&mut text, bytes.get(from..start).unwrap_or(&[]))?;
-        let begin = text.len();
-        let end = bytes.len().min(from.saturating_add(SHOWN));
-        let length = found.map_or(0, |field| field.text.len());
-        let stop = end.min(start.saturating_add(length));
-        escape(&mut text, bytes.get(start..stop).unwrap_or(&[]))?;
-        let mark = found.map(|_| (begin, text.len().saturating_sub(begin).max(1)));
-        escape(&mut text, bytes.get(stop..end).unwrap_or(&[]))?;
-        if end < bytes.len() {
-            text.push_str("..")?;
-        }
-        Ok(Quote { line, text, mark })
-    }
-
-    /// Writes the quote after the name of its file and the line's number.
-    pub(crate) fn show(&self, out: &mut String, file: &str) -> Result<(), AllocError> {
-        let before = out.len();
-        write!(out, "{file}:{}: ", self.line)?;
-        let indent = out.len().saturating_sub(before);
-        writeln!(out, "{}", self.text.as_str())?;
-        if let Some((begin, length)) = self.mark {
-            repeat(out, ' ', indent.saturating_add(begin))?;
-            repeat(out, '^', length)?;
-            out.push('\n')?;
-        }
-        Ok(())
-    }
+/// A field of a line, from 1.
+pub(crate) fn field_at(line: &[u8], field: u64) -> Option<Field<'_>> {
+    let place = usize::try_from(field.checked_sub(1)?).ok()?;
+    fields(line).nth(place)
 }
 
 fn repeat(out: &mut String, what: char, times: usize) -> Result<(), AllocError> {

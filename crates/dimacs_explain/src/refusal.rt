@@ -26,29 +26,21 @@ pub(crate) struct Refusal<'a> {
 impl<'a> Refusal<'a> {
     /// Parses a line of output; none if it is no refusal.
     pub(crate) fn read(line: &'a [u8]) -> Option<Refusal<'a>> {
-        let line = str::from_utf8(line).ok()?;
-        let (what, rest) = line.strip_prefix("x ")?.split_once(' ')?;
-        match what {
-            "arc" => {
-                let (number, reason) = rest.split_once(' ')?;
-                let place = RefusalPlace::Arc(number.parse().ok()?);
-                Some(Refusal { place, reason })
-            }
-            "node" => {
-                let (number, reason) = rest.split_once(' ')?;
-                let place = RefusalPlace::Node(number.parse().ok()?);
-                Some(Refusal { place, reason })
-            }
+        let (what, rest) = str::from_utf8(line)
+            .ok()?
+            .strip_prefix("x ")?
+            .split_once(' ')?;
+        let (number, rest) = rest.split_once(' ')?;
+        let (place, reason) = match what {
+            "arc" => (RefusalPlace::Arc(number.parse().ok()?), rest),
+            "node" => (RefusalPlace::Node(number.parse().ok()?), rest),
             name => {
-                let (line, rest) = rest.split_once(' ')?;
                 let (field, reason) = rest.split_once(' ')?;
-                let place = RefusalPlace::Text {
-                    name,
-                    line: line.parse().ok()?,
-                    field: field.parse().ok()?,
-                };
-                Some(Refusal { place, reason })
+                let line = number.parse().ok()?;
+                let field = field.parse().ok()?;
+                (RefusalPlace::Text { name, line, field }, reason)
             }
-        }
+        };
+        Some(Refusal { place, reason })
     }
 }

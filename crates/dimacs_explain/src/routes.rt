@@ -1,5 +1,6 @@
 //! Why distances are right: a route for each, with its weights.
 
+use crate::sentence::fill;
 use crate::sums::{SHOWN, Sum};
 use dimacs_claims::{Block, Label, Labels};
 use dimacs_instance::Queries;
@@ -92,7 +93,7 @@ fn write_blocks(alloc: Global, labels: &Labels, out: &mut String) -> Result<bool
 /// Writes the route to a node, or why there is none. Returns whether there is one.
 fn write_pair(alloc: Global, block: &Block, to: u32, out: &mut String) -> Result<bool, Memory> {
     if to == block.source() {
-        writeln!(out, "{to} to itself, without an arc: 0")?;
+        fill(out, "{} to itself, without an arc: 0\n", &[to.into()])?;
         return Ok(true);
     }
     let route = route_to(alloc, block, to)?;
@@ -100,12 +101,17 @@ fn write_pair(alloc: Global, block: &Block, to: u32, out: &mut String) -> Result
         write_route(alloc, block.source(), &route, out)?;
         return Ok(true);
     }
-    write!(out, "no walk from {} to {to}", block.source())?;
+    fill(
+        out,
+        "no walk from {} to {}",
+        &[block.source().into(), to.into()],
+    )?;
     match block.radius() {
         None => write_reached(block, out)?,
-        Some(radius) => writeln!(
+        Some(radius) => fill(
             out,
-            " weighs at most {radius}, the RADIUS: each arc from a node with a label to one without leads past it, and no WEIGHT is negative"
+            " weighs at most {}, the RADIUS: each arc from a node with a label to one without leads past it, and no WEIGHT is negative\n",
+            &[radius.into()],
         )?,
     }
     Ok(false)
@@ -113,14 +119,16 @@ fn write_pair(alloc: Global, block: &Block, to: u32, out: &mut String) -> Result
 
 /// Writes the first nodes that the source reaches.
 fn write_reached(block: &Block, out: &mut String) -> Result<(), AllocError> {
-    let count = block.labels().len().saturating_add(1);
+    let count = block.labels().len().saturating_add(1) as u64;
     let source = block.source();
-    write!(
+    let values = [source.into(), count.into(), source.into()];
+    fill(
         out,
-        ": no arc leads out of the nodes that {source} reaches, {count}: {source}"
+        ": no arc leads out of the nodes that {} reaches, {}: {}",
+        &values,
     )?;
     for label in block.labels().into_iter().take(REACHED) {
-        write!(out, " {}", label.id)?;
+        fill(out, " {}", &[label.id.into()])?;
     }
     out.push_str(if block.labels().len() > REACHED {
         " ..\n"
@@ -147,10 +155,11 @@ fn write_farthest(
         }
     }
     let count = block.labels().len();
-    write!(out, "the farthest node from {}, of {count}", block.source())?;
+    let values = [block.source().into(), (count as u64).into()];
+    fill(out, "the farthest node from {}, of {}", &values)?;
     match block.radius() {
         None => out.push_str(" that it reaches: ")?,
-        Some(radius) => write!(out, " within {radius}, the RADIUS: ")?,
+        Some(radius) => fill(out, " within {}, the RADIUS: ", &[radius.into()])?,
     }
     let route = route_to(alloc, block, farthest.id)?;
     write_route(alloc, block.source(), &route, out)?;
@@ -164,13 +173,15 @@ fn write_farthest(
 fn write_alone(block: &Block, out: &mut String) -> Result<(), AllocError> {
     let source = block.source();
     match block.radius() {
-        None => writeln!(
+        None => fill(
             out,
-            "{source} reaches no other node: no arc leads from it to another"
+            "{} reaches no other node: no arc leads from it to another\n",
+            &[source.into()],
         ),
-        Some(radius) => writeln!(
+        Some(radius) => fill(
             out,
-            "no other node is within {radius}, the RADIUS, of {source}: each arc from it to another leads past it"
+            "no other node is within {}, the RADIUS, of {}: each arc from it to another leads past it\n",
+            &[radius.into(), source.into()],
         ),
     }
 }
@@ -203,11 +214,11 @@ fn write_route(
 ) -> Result<(), AllocError> {
     let mut weights = Sum::new(alloc);
     let mut before = 0i128;
-    write!(out, "{source}")?;
+    fill(out, "{}", &[source.into()])?;
     let last = route.len().saturating_sub(1);
     for (k, label) in route.iter().enumerate() {
         if weights.shows_next() || k == last {
-            write!(out, " -> {}", label.id)?;
+            fill(out, " -> {}", &[label.id.into()])?;
         } else if weights.count == SHOWN {
             out.push_str(" -> ..")?;
         }

@@ -1,5 +1,6 @@
 //! Sums and lists, of which the first items are shown.
 
+use crate::sentence::{Value, fill};
 use dimacs_claims::Cut;
 use std::alloc::{AllocError, Global};
 
@@ -10,7 +11,7 @@ pub(crate) const SHOWN: u64 = 6;
 #[derive(Drop)]
 pub(crate) struct Sum {
     /// The first lines.
-    pub(crate) lines: String,
+    lines: String,
     terms: String,
     pub(crate) count: u64,
     /// None if a number or a sum didn't fit 128 bits.
@@ -55,12 +56,25 @@ impl Sum {
         Ok(())
     }
 
+    /// Adds a number with its line, a sentence with these values.
+    pub(crate) fn add_line(
+        &mut self,
+        sentence: &str,
+        values: &[Value<'_>],
+        number: Option<i128>,
+    ) -> Result<(), AllocError> {
+        if self.shows_next() {
+            fill(&mut self.lines, sentence, values)?;
+        }
+        self.add(number)
+    }
+
     /// Writes what the lines are, how many they are, and the first of them.
     pub(crate) fn write_lines(&self, what: &str, out: &mut String) -> Result<(), AllocError> {
-        writeln!(out, "{what}: {}", self.count)?;
+        fill(out, "{}: {}\n", &[what.into(), self.count.into()])?;
         out.push_str(self.lines.as_str())?;
         if self.count > SHOWN {
-            writeln!(out, "  all others: {}", self.rest.unwrap_or(0))?;
+            fill(out, "  all others: {}\n", &[self.rest.unwrap_or(0).into()])?;
         }
         Ok(())
     }
@@ -74,7 +88,7 @@ impl Sum {
             }
             out.push_str(" = ")?;
         }
-        write!(out, "{}", self.sum())
+        fill(out, "{}", &[self.sum().into()])
     }
 }
 
@@ -86,27 +100,22 @@ fn plus(one: Option<i128>, other: Option<i128>) -> Option<i128> {
 /// Writes a number, with its sign between blanks unless it is the first.
 fn write_term(term: i128, out: &mut String) -> Result<(), AllocError> {
     if out.is_empty() {
-        write!(out, "{term}")
+        fill(out, "{}", &[term.into()])
     } else if term < 0 {
         write!(out, " - {}", term.unsigned_abs())
     } else {
-        write!(out, " + {term}")
-    }
-}
-
-/// Writes a number after an operator: in brackets if it is negative.
-pub(crate) fn write_operand(number: i128, out: &mut String) -> Result<(), AllocError> {
-    if number < 0 {
-        write!(out, "({number})")
-    } else {
-        write!(out, "{number}")
+        fill(out, " + {}", &[term.into()])
     }
 }
 
 /// Writes the first nodes of a set, and how many it has.
 pub(crate) fn write_set(set: &Cut, out: &mut String) -> Result<(), AllocError> {
     let count = u64::from(set.len());
-    write!(out, "{count} of the {} nodes:", set.nodes())?;
+    fill(
+        out,
+        "{} of the {} nodes:",
+        &[count.into(), set.nodes().into()],
+    )?;
     let mut left = SHOWN;
     for before in 0..set.nodes() {
         if left == 0 {
@@ -114,7 +123,7 @@ pub(crate) fn write_set(set: &Cut, out: &mut String) -> Result<(), AllocError> {
         }
         let id = before.saturating_add(1);
         if set.contains(id) {
-            write!(out, " {id}")?;
+            fill(out, " {}", &[id.into()])?;
             left = left.saturating_sub(1);
         }
     }

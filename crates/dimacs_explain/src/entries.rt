@@ -1,0 +1,196 @@
+//! What is found out from the arcs of an instance and the entries of a solution.
+
+use crate::lines::Tally;
+use crate::lookups::{arc_of, is_entry};
+use crate::sentence::Value;
+use crate::sums::Sum;
+use dimacs_claims::Cut;
+use dimacs_network::ArcView;
+use dimacs_records::Record;
+use std::alloc::{AllocError, Global};
+
+/// The arcs from one node to another.
+#[derive(Clone, Copy)]
+pub(crate) struct Parallel {
+    tail: u32,
+    head: u32,
+    /// How many they are, and how many of them come before the arc with this number.
+    pub(crate) all: u64,
+    pub(crate) before: u64,
+    number: u64,
+    /// The number of the first.
+    pub(crate) first: u64,
+    /// The sums of their bounds.
+    pub(crate) low: i128,
+    pub(crate) cap: i128,
+    /// How many arcs were seen.
+    seen: u64,
+}
+
+impl Parallel {
+    /// Before the first arc. `number` is that of an arc, from 1, or 0.
+    pub(crate) fn new(tail: u32, head: u32, number: u64) -> Parallel {
+        Parallel {
+            tail,
+            head,
+            all: 0,
+            before: 0,
+            number,
+            first: 0,
+            low: 0,
+            cap: 0,
+            seen: 0,
+        }
+    }
+
+    fn add_arc(&mut self, arc: ArcView) {
+        self.seen = self.seen.saturating_add(1);
+        if arc.tail != self.tail || arc.head != self.head {
+            return;
+        }
+        if self.all == 0 {
+            self.first = self.seen;
+        }
+        self.all = self.all.saturating_add(1);
+        self.low = self.low.saturating_add(i128::from(arc.low));
+        self.cap = self.cap.saturating_add(i128::from(arc.cap));
+        if self.seen < self.number {
+            self.before = self.before.saturating_add(1);
+        }
+    }
+}
+
+impl Tally for Parallel {
+    fn add(&mut self, _: u64, record: Record) -> Result<(), AllocError> {
+        if let Some(arc) = arc_of(record) {
+            self.add_arc(arc);
+        }
+        Ok(())
+    }
+}
+
+/// The sum of the entries with these ends.
+#[derive(Drop)]
+pub(crate) struct EntrySum {
+    tail: u32,
+    head: u32,
+    pub(crate) sum: i128,
+}
+
+impl EntrySum {
+    /// Before the first entry.
+    pub(crate) fn new(tail: u32, head: u32) -> EntrySum {
+        EntrySum { tail, head, sum: 0 }
+    }
+}
+
+impl Tally for EntrySum {
+    fn add(&mut self, _: u64, record: Record) -> Result<(), AllocError> {
+        if let Record::SolutionEntry { flow, .. } = record
+            && is_entry(record, self.tail, self.head)
+        {
+            self.sum = self.sum.saturating_add(i128::from(flow));
+        }
+        Ok(())
+    }
+}
+
+/// The entries out of a node and into it, without loops.
+#[derive(Drop)]
+pub(crate) struct NodeFlow<'a> {
+    file: &'a str,
+    node: u32,
+    pub(crate) out_of: Sum,
+    pub(crate) into: Sum,
+}
+
+impl<'a> NodeFlow<'a> {
+    /// Before the first entry of this file.
+    pub(crate) fn new(alloc: Global, file: &'a str, node: u32) -> NodeFlow<'a> {
+        NodeFlow {
+            file,
+            node,
+            out_of: Sum::new(alloc),
+            into: Sum::new(alloc),
+        }
+    }
+}
+
+impl<'a> Tally for NodeFlow<'a> {
+    fn add(&mut self, line: u64, record: Record) -> Result<(), AllocError> {
+        if let Record::SolutionEntry { tail, head, flow } = record
+            && tail != head
+        {
+            let file = self.file;
+            let values = [
+                file.into(),
+                line.into(),
+                tail.into(),
+                head.into(),
+                flow.into(),
+            ];
+            if tail == self.node {
+                add_entry(&mut self.out_of, &values, flow)?;
+            }
+            if head == self.node {
+                add_entry(&mut self.into, &values, flow)?;
+            }
+        }
+        Ok(())
+    }
+}
+
+fn add_entry(sum: &mut Sum, values: &[Value<'_>], flow: i64) -> Result<(), AllocError> {
+    sum.add_line("  {}:{}: f {} {} {}\n", values, Some(i128::from(flow)))
+}
+
+/// The supply of a set, and the bounds of the net flow out of it.
+#[derive(Drop)]
+pub(crate) struct SetSums<'a> {
+    set: &'a Cut,
+    pub(crate) supply: i128,
+    pub(crate) low: i128,
+    pub(crate) high: i128,
+}
+
+impl<'a> SetSums<'a> {
+    /// Before the first line of an instance.
+    pub(crate) fn new(set: &'a Cut) -> SetSums<'a> {
+        SetSums {
+            set,
+            supply: 0,
+            low: 0,
+            high: 0,
+        }
+    }
+
+    /// Adds an arc, if it leaves or enters the set.
+    fn add_arc(&mut self, arc: ArcView) {
+        let (low, cap) = (i128::from(arc.low), i128::from(arc.cap));
+        match (self.set.contains(arc.tail), self.set.contains(arc.head)) {
+            (true, false) => {
+                self.high = self.high.saturating_add(cap);
+                self.low = self.low.saturating_add(low);
+            }
+            (false, true) => {
+                self.high = self.high.saturating_sub(low);
+                self.low = self.low.saturating_sub(cap);
+            }
+            _ => (),
+        }
+    }
+}
+
+impl<'a> Tally for SetSums<'a> {
+    fn add(&mut self, _: u64, record: Record) -> Result<(), AllocError> {
+        if let Record::MinNode { id, supply } = record
+            && self.set.contains(id)
+        {
+            self.supply = self.supply.saturating_add(i128::from(supply));
+        }
+        if let Some(arc) = arc_of(record) {
+            self.add_arc(arc);
+        }
+        Ok(())
+    }
+}

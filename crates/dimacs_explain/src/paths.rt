@@ -1,0 +1,216 @@
+//! Explains the tests of labels, distances and queries.
+
+use crate::blocks::{
+    ArcsInto, Tested, Unreached, failing_ends, unreached_distance, unreached_label,
+};
+use crate::lookups::{Named, Wanted};
+use crate::page::{Page, Stop};
+use crate::reopen::Reopen;
+use crate::texts::TextFile;
+use dimacs_claims::{Labels, read_distances, read_labels};
+use dimacs_network::ArcView;
+use dimacs_records::TextKind;
+
+/// The most sources of blocks that are listed.
+const SHOWN_SOURCES: usize = 5;
+
+impl<'a, A: Reopen> Page<'a, A> {
+    fn read_tested(&self, text: TextFile<'a>) -> Result<Tested, Stop<'a>> {
+        let Some(mut source) = self.again.open(text.file) else {
+            return Err(Stop::Unread(text.file));
+        };
+        if text.kind == TextKind::Distances {
+            return match read_distances(self.alloc, &mut source) {
+                Ok(distances) => Ok(Tested::Distances(distances)),
+                Err(_) => Err(Stop::Memory),
+            };
+        }
+        match read_labels(self.alloc, &mut source) {
+            Ok(labels) => Ok(Tested::Labels(labels)),
+            Err(_) => Err(Stop::Memory),
+        }
+    }
+
+    /// The line of the block from this source.
+    fn block_line(&self, text: TextFile<'a>, source: u32) -> Result<u64, Stop<'a>> {
+        match self.find(text, Wanted::node(source))? {
+            Some(found) => Ok(found.line),
+            None => Err(Stop::Unread(text.file)),
+        }
+    }
+
+    /// Explains why the test of a graph's arc failed.
+    pub(crate) fn explain_weight(
+        &mut self,
+        number: u32,
+        arc: ArcView,
+        reason: &str,
+    ) -> Result<(), Stop<'a>> {
+        if reason == "NegativeWeight" {
+            return self.write(
+                "arc {} has the WEIGHT {}, below 0: solve-paths takes no such graph, and a block with a RADIUS has none\n",
+                &[number.into(), arc.cost.into()],
+            );
+        }
+        let text = self.texts.tested()?;
+        let tested = self.read_tested(text)?;
+        let Some(ends) = failing_ends(tested.labels(), arc) else {
+            return Err(Stop::Unread(text.file));
+        };
+        let line = self.block_line(text, ends.source)?;
+        let values = [text.file.into(), line.into(), ends.source.into()];
+        self.write("{}:{}: the block from source {}\n", &values)?;
+        self.write_leads(number, arc, ends.tail, ends.sum)?;
+        let name = match text.kind {
+            TextKind::Distances => "distance",
+            _ => "label",
+        };
+        match ends.head {
+            Some(head) => self.write("; its {} is {}\n", &[name.into(), head.into()]),
+            None => self.write("; it has no {}\n", &[name.into()]),
+        }
+    }
+
+    /// Writes how near an arc leads, from a tail at this distance.
+    fn write_leads(
+        &mut self,
+        number: u32,
+        arc: ArcView,
+        dist: i128,
+        sum: i128,
+    ) -> Result<(), Stop<'a>> {
+        let values = [
+            number.into(),
+            arc.tail.into(),
+            dist.into(),
+            arc.cost.into(),
+            arc.head.into(),
+            sum.into(),
+        ];
+        self.write(
+            "arc {} leads from {}, at {}, with the WEIGHT {}, to {}, which is then no farther than {}",
+            &values,
+        )
+    }
+
+    /// Explains why a label has no tight arc, or no walk has a claimed distance.
+    pub(crate) fn explain_unreached(&mut self, node: u32) -> Result<(), Stop<'a>> {
+        let (graph, text) = (self.texts.instance()?, self.texts.tested()?);
+        let mut arcs = ArcsInto::new(self.alloc, node);
+        self.tally(graph, &mut arcs)?;
+        let mut tested = self.read_tested(text)?;
+        tested.index()?;
+        match text.kind {
+            TextKind::Distances => self.explain_distance(text, tested.labels(), &arcs, node),
+            _ => self.explain_label(text, tested.labels(), &arcs),
+        }
+    }
+
+    /// Explains why no walk has the claimed distance of a node.
+    fn explain_distance(
+        &mut self,
+        text: TextFile<'a>,
+        labels: &Labels,
+        arcs: &ArcsInto,
+        node: u32,
+    ) -> Result<(), Stop<'a>> {
+        let Some(unreached) = unreached_distance(labels, arcs) else {
+            return self.write(
+                "the arcs that lead to the distance of node {} come from nodes that no walk from the source reaches at theirs\n",
+                &[node.into()],
+            );
+        };
+        self.quote_unreached(text, unreached)?;
+        self.write(
+            " no arc leads to node {} at {}: ",
+            &[node.into(), unreached.label.dist.into()],
+        )?;
+        match unreached.least {
+            Some(least) => self.write("the nearest leads there at {}\n", &[least.into()]),
+            None => self.write("none comes from a node that has a distance\n", &[]),
+        }
+    }
+
+    /// Explains why a label has no tight arc.
+    fn explain_label(
+        &mut self,
+        text: TextFile<'a>,
+        labels: &Labels,
+        arcs: &ArcsInto,
+    ) -> Result<(), Stop<'a>> {
+        let Some(unreached) = unreached_label(labels, arcs) else {
+            return Err(Stop::Unread(text.file));
+        };
+        self.quote_unreached(text, unreached)?;
+        self.write_label(unreached, arcs.lightest(unreached.label.pred))
+    }
+
+    /// Quotes a label, and names its block.
+    fn quote_unreached(
+        &mut self,
+        text: TextFile<'a>,
+        unreached: Unreached,
+    ) -> Result<(), Stop<'a>> {
+        let from = self.block_line(text, unreached.source)?;
+        let named = Named::Label(unreached.label.id);
+        self.quote_there(text, Wanted::Name { named, from })?;
+        let values = [unreached.source.into(), from.into()];
+        self.write("in the block from source {} (line {})", &values)
+    }
+
+    /// Compares a label with that of its PRED, and names the lightest arc from there.
+    fn write_label(&mut self, unreached: Unreached, lightest: Option<i64>) -> Result<(), Stop<'a>> {
+        let Unreached { label, before, .. } = unreached;
+        let (node, pred, dist) = (label.id, label.pred, label.dist);
+        let weight = dist.saturating_sub(before);
+        self.write(
+            " node {} is at {}, and its PRED, {}, at {}: ",
+            &[node.into(), dist.into(), pred.into(), before.into()],
+        )?;
+        let ends = [pred.into(), node.into(), weight.into()];
+        self.write("no arc from {} to {} has the WEIGHT {}\n", &ends)?;
+        match lightest {
+            Some(weight) => {
+                let values = [pred.into(), node.into(), weight.into()];
+                self.write(
+                    "the lightest arc from {} to {} has the WEIGHT {}\n",
+                    &values,
+                )
+            }
+            None => self.write("no arc leads from {} to {}\n", &[pred.into(), node.into()]),
+        }
+    }
+
+    /// Explains why a node of a query is none of the graph.
+    pub(crate) fn explain_query_node(&mut self, node: u32) -> Result<(), Stop<'a>> {
+        let (graph, queries) = (self.texts.instance()?, self.texts.claim()?);
+        self.quote_there(queries, Wanted::QueryNaming(node))?;
+        self.quote(graph, Wanted::Problem)?;
+        self.write("node {} is above the NODES of the graph\n", &[node.into()])
+    }
+
+    /// Explains why no block answers a query.
+    pub(crate) fn explain_query(&mut self, node: u32) -> Result<(), Stop<'a>> {
+        let queries = self.texts.claim()?;
+        self.quote_there(queries, Wanted::Query(node))?;
+        let text = self.texts.certificate()?;
+        let tested = self.read_tested(text)?;
+        self.write(
+            "{} has no block from source {} that serves the query; its blocks are from",
+            &[text.file.into(), node.into()],
+        )?;
+        self.list_sources(tested.labels())
+    }
+
+    fn list_sources(&mut self, labels: &Labels) -> Result<(), Stop<'a>> {
+        let blocks = labels.blocks();
+        for block in blocks.iter().take(SHOWN_SOURCES) {
+            self.write(" {}", &[block.source().into()])?;
+            if block.radius().is_some() {
+                self.out
+                    .push_str(" (up to a RADIUS, which serves no ss query)")?;
+            }
+        }
+        self.write("; {} in all\n", &[(blocks.len() as u64).into()])
+    }
+}
