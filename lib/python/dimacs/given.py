@@ -241,6 +241,9 @@ class Given:
         """An array as whole numbers."""
         return self._buffers[kind.name].listed(kind.items)
 
+    def has(self, kind: Array) -> bool:
+        return kind in self._raw
+
     def number(self, name: str) -> int:
         return self._single(name, IDS)
 
@@ -288,18 +291,25 @@ class Given:
         ids = numpy.frombuffer(ctypes.string_at(buffer.address, buffer.length * kind.items.width), kind.items.code)
         return list(numpy.flatnonzero(ids == node).tolist())
 
+    def units(self) -> Any:
+        """The scales of amounts and costs, if numbers aren't whole."""
+        return self._units
+
     def amount(self, unit: str, number: int) -> Any:
         """A number of this unit, in the user's numbers."""
         return self._units.of(unit).shown(number) if self._units else number
 
     @contextmanager
-    def named(self) -> Iterator[None]:
-        """Exceptions raised inside name arcs and nodes as the caller does, with the numbers that were compared."""
+    def named(self, asked: Any = None) -> Iterator[None]:
+        """Exceptions raised inside name arcs and nodes as the caller does, with the numbers that were compared, and keep what
+        was asked."""
         try:
             yield
         except (Refused, PastLimit) as it:
             from .compared import compared
+            from .explained import refused
 
+            refused(it, asked)
             it.numbers = {**it.numbers, **compared(self, it)}
             if it.arc is not None:
                 it.arc = self.names.arc(it.arc - 1)
