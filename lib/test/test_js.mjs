@@ -189,6 +189,40 @@ const CASES = {
             throws(() => new Texts(new Library(module)).show("cut", bytes(CUT)), dimacs.OutOfMemory);
         }
     },
+    "answers over texts are explained": () => {
+        // The lines were worked out by hand, in tests/explain.py.
+        const maximum = [
+            "v max 6",
+            "on the source's side of the cut, 1 of the 4 nodes: 1",
+            "arcs into it, all empty: 0",
+            "arcs out of it, all full: 2",
+            "  arc 1: 1 -> 2, CAP 4",
+            "  arc 2: 1 -> 3, CAP 2",
+            "4 + 2 = 6, the value of the flow: all flow to the sink has to cross these arcs, so none has a greater value\n",
+        ].join("\n");
+        const yes = [dimacs.judgeMax(MAX, FLOW, CUT), dimacs.certifyMax(bytes(MAX), FLOW), dimacs.solveMax(MAX)];
+        for (const it of yes) assert.equal(it.explain(), maximum);
+        const balance = [
+            "x node 2 Balance",
+            "0 leaves node 2, 4 enters it: 4 too little leaves",
+            "entries out of it: 0",
+            "entries into it: 1",
+            "  solution:2: f 1 2 4\n",
+        ].join("\n");
+        assert.equal(thrown(() => dimacs.judgeMax(MAX, "s 4\nf 1 2 4\n", CUT)).explain(), balance);
+        const better = thrown(() => dimacs.certifyMax(MAX, "s 0\n")).explain();
+        assert.match(better, /\nbetter:1: s 6\nthis flow is feasible, and has 6 more than the 0 that is claimed\n$/);
+        assert.match(thrown(() => dimacs.certifyInfeasible(MIN)).explain(), /^x instance 0 0 Feasible\n.*\nflow:1: s /);
+        const unmet = /: no flow is feasible\n$/;
+        assert.match(thrown(() => dimacs.solveMin(SHORT)).explain(), unmet);
+        assert.match(dimacs.certifyInfeasible(SHORT).explain(), unmet);
+        assert.match(dimacs.solvePaths(GRAPH, PAIRS).explain(), /\n1 -> 2 -> 3: 5 \+ 4 = 9\n/);
+        const number = "WEIGHT is a whole number, digits with a sign or without, and not `1.0`";
+        assert.ok(thrown(() => dimacs.convert("gr", "p sp 1 1\na 1 1 1.0\n")).explain().includes(number));
+        assert.ok(thrown(() => dimacs.spreadMax(MAX, "s 0\nf 4 3 2\n")).explain().includes("arc 5 leads from 3 to 4"));
+        assert.ok(!thrown(() => dimacs.solveMax("p max 1 1\nn 1 s\nn 2 t\n")).explain().includes("is empty"));
+        throws(() => dimacs.solveMaxArrays(IN_MAX).explain(), TypeError);
+    },
     "what is said of the module": () => {
         assert.match(dimacs.version, /^\d+\.\d+\.\d+/);
         assert.equal(typeof dimacs.proved, "boolean");

@@ -189,6 +189,8 @@ class AskedOfArrays(Asked):
 
     def _is_same(self, first: str) -> bool:
         """Whether texts are refused as the arrays were: for the same arc or node, or as a whole."""
+        if not first.startswith("x "):
+            return False
         mine, found = (library.refusal(it.encode("ascii")) for it in (str(self.printed), first))
         return (mine.reason, mine.arc, mine.node) == (found.reason, found.arc, found.node)
 
@@ -208,10 +210,10 @@ class AskedOfArrays(Asked):
     def _record(self, line: int, words: list[str], instance: str) -> str:
         letter, *rest = words
         if letter == "a":
-            kinds = {"CAP": (MAX,), "LOW CAP COST": (MIN,)}
-            named = next((it for it, forms in kinds.items() if self._given.form in forms), "WEIGHT").split()
+            named = {MAX: ["CAP"], MIN: ["LOW", "CAP", "COST"]}.get(self._given.form, ["WEIGHT"])
             numbers = ", ".join(f"{name} {it}" for name, it in zip(named, rest[2:]))
-            return f"arc {line - instance[: instance.find(chr(10) + 'a')].count(chr(10)) - 1}: {rest[0]} -> {rest[1]}, {numbers}"
+            before = instance.partition("\na ")[0].count("\n") + 1
+            return f"arc {line - before}: {rest[0]} -> {rest[1]}, {numbers}"
         if letter == "f":
             return f"arc {line - 1}: {rest[0]} -> {rest[1]}, FLOW {rest[2]}"
         if letter == "n":
