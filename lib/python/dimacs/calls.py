@@ -21,7 +21,8 @@ def _asked(call: str, given: Given) -> AskedOfArrays:
 
 def _shown_by(given: Given, kind: str, **found: Room) -> AskedOfArrays:
     """The call by which the judge answers yes too, over what was found."""
-    return AskedOfArrays(f"judge_{kind}", given, **{name: room.items() for name, room in found.items()})
+    given.forget()
+    return AskedOfArrays(f"judge_{kind}", given, **found)
 
 
 def judge(function: Callable[..., int], given: Given) -> Verdict:
@@ -35,6 +36,7 @@ def judge(function: Callable[..., int], given: Given) -> Verdict:
         if found.kind == "infeasible" and given.limitless() and not _is_violated(given, given.column(INSIDE)):
             raise Refused("NotViolated", text="certificate", line=0, field=0)
     value = given.value(found.value) if found.kind in ("max", "min") else found.value
+    given.forget()
     shown: Verdict = kept(Verdict(found.kind, value), asked)
     return shown
 
@@ -55,7 +57,7 @@ def certify(function: Callable[..., int], given: Given, came: Any, *handed: Arra
         if not no.is_about_value():
             raise no
         flows = rooms[1].items()
-        asked.add(better=flows)
+        asked.add(better=rooms[1])
         values = {"value": given.value_of(given.column(FLOWS)), "better_value": given.value_of(flows)}
         numbers = {name: given.value(it) for name, it in values.items()}
         better = given.shown(FLOWS, rooms[1], came)
@@ -69,7 +71,7 @@ def certify_infeasible(given: Given, came: Any) -> Certified:
         inside, flows = rooms = [given.room(INSIDE), given.room(FLOWS)]
         status, _ = library.call_with_rooms(library.certify_infeasible_arrays, words, rooms)
         if status == library.REFUSED:
-            asked.add(better=flows.items())
+            asked.add(better=flows)
             raise Feasible(given.shown(FLOWS, flows, came))
         answer = Certified(None, _found_set(given, inside, came))
         shown: Certified = kept(answer, _shown_by(given, "infeasible", inside=inside))

@@ -8,7 +8,7 @@ from typing import Any, Iterator, Sequence
 
 from . import library
 from .answers import Explainable, Placed
-from .buffers import UNLIMITED, bytes_of
+from .buffers import UNLIMITED, Room, bytes_of
 from .given import CAPS, COSTS, DISTANCES, FLOWS, HEADS, INSIDE, LOWS, MAX, MIN, POTENTIALS, PREDECESSORS, SUPPLIES, TAILS
 from .given import WEIGHTS, Array, Given, Names
 
@@ -139,7 +139,7 @@ _ARCS = re.compile(r"\barc (\d+)")
 class AskedOfArrays(Asked):
     """A call over arrays. It keeps them alive: what it explains is what they hold by then."""
 
-    def __init__(self, call: str, given: Given, **more: Sequence[int]) -> None:
+    def __init__(self, call: str, given: Given, **more: Room) -> None:
         super().__init__(call)
         self._given, self._more = given, more
         self.printed: str | None = None
@@ -148,12 +148,12 @@ class AskedOfArrays(Asked):
     def kind(self) -> str:
         return self._call.partition("_")[2]
 
-    def add(self, **more: Sequence[int]) -> None:
+    def add(self, **more: Room) -> None:
         """Adds what was handed out."""
         self._more.update(more)
 
     def _column(self, kind: Array) -> Any:
-        return self._more[kind.name] if kind.name in self._more else self._given.column(kind)
+        return self._more[kind.name].items() if kind.name in self._more else self._given.column(kind)
 
     def _text(self, name: str) -> str:
         given, kind = self._given, self.kind
@@ -164,7 +164,7 @@ class AskedOfArrays(Asked):
         elif name == "solution":
             lines = _solution(given, self._column(FLOWS))
         elif name == "better":
-            lines = _solution(given, self._more[name])
+            lines = _solution(given, self._more[name].items())
         elif name == "distances":
             lines = _labels(given, "distances", self._column(DISTANCES), None)
         elif kind == "paths":
@@ -176,6 +176,13 @@ class AskedOfArrays(Asked):
         return "".join(f"{it}\n" for it in lines)
 
     def lines(self) -> list[str]:
+        self._given.words()
+        try:
+            return self._told()
+        finally:
+            self._given.forget()
+
+    def _told(self) -> list[str]:
         names = _NAMES[self._call].split()
         if not self._call.startswith("judge"):
             names = [*names[: _READ.get(self._call, 2)], *(it for it in self._more if it == "better")]

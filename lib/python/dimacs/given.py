@@ -143,6 +143,10 @@ class Given:
         self._test_limitless()
         return words
 
+    def forget(self) -> None:
+        """Drops what words() made of the arguments; it makes the same again."""
+        self._buffers = {}
+
     def _single(self, name: str, items: Items) -> int:
         number = number_of(self._singles[name], items, name)
         return number + 1 - self.names.base if name in ("source", "sink") else number
@@ -316,6 +320,7 @@ class Given:
             if it.node is not None:
                 is_node = 0 < it.node <= self.number("nodes")
                 it.node = self.names.node(it.node - 1) if is_node else it.node - 1 + self.names.base
+            self.forget()
             raise
 
 
