@@ -225,6 +225,9 @@ explain spread-max examples/pipes.max examples/pipes.solution out
 explain show gr missing
 """
 
+# Names with blanks.
+SPREAD_OUT = ["explain", "certify-max", "examples/pipes.max", "examples/pipes-careless.solution", "one \tname"]
+
 # What is run with an output that is full.
 FULL = ["help", "--version", "help help", "help show", "frobnicate", "show gr examples/road.gr", "show gr missing"]
 
@@ -255,7 +258,8 @@ def compare_commands(tests, name, words, likened=lambda text: text):
         wanted, found = ((status, likened(out), likened(told), files) for status, out, told, files in ran)
         tests.add(f"{name} {arguments}", int(found == wanted), int(found != wanted), f"{found}\nand not {wanted}")
 
-    for it in [*over_examples[::every], *special, *map(str.split, helped), *wrong, ["show", "gr", "two\nlines"]]:
+    words_alone = [*map(str.split, helped), *wrong, ["show", "gr", "two\nlines"], SPREAD_OUT]
+    for it in [*over_examples[::every], *special, *words_alone]:
         compare(it)
     with open("/dev/full", "wb") as full:
         for it, output in itertools.product(FULL, ("stdout", "stderr")):
