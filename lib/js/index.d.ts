@@ -59,11 +59,11 @@ export interface Pair {
     distance: bigint | Beyond | null;
 }
 
-/** An answer, which keeps the texts that it was asked of. */
+/** An answer, which keeps the texts or arrays that it was asked of. */
 export interface Explainable {
     /**
      * The lines that `dimacs explain` prints: the printed line, and what the test compared, or what shows the yes. The
-     * command runs once more over the same texts. It throws a TypeError for an answer over arrays.
+     * command runs once more, over the same texts, or over texts made of the arrays, of which no line is quoted.
      */
     explain(): string;
 }
