@@ -14,6 +14,7 @@ from test_arrays import DISTANCES, ENDS, GRAPH, POTENTIALS, PREDECESSORS
 from test_arrays import LEAST as LEAST_FLOW
 from test_arrays import MAX as PIPES
 from test_arrays import MIN as SHIPS
+from test_arrays import pandas
 from test_networkx import networkx, pipes
 from test_texts import CLAIMED, CUT, FLOW, LEAST, MAX, MIN, PAIRS, POT, SOURCE
 from test_texts import GRAPH as ROADS
@@ -227,6 +228,15 @@ class Graphs(Explained):
         nodes = "nodes by number: 1 is 'spring', 2 is 'mill', 3 is 'farm', 4 is 'fort'"
         arcs = "arcs by number: 1 is ('spring', 'mill'), 3 is ('mill', 'farm'), 4 is ('mill', 'fort')"
         self.assertEqual(lines[-2:], [nodes, arcs])
+
+
+@unittest.skipUnless(pandas, "pandas isn't there")
+class Frames(Explained):
+    def test_yes(self):
+        table = {"from": list("11223"), "to": list("23344"), "tons": PIPES[-1]}
+        network = dimacs.from_frame(pandas.DataFrame(table, index=list("abcde")), "from", "to", capacity="tons")
+        names = "nodes by number: 1 is '1', 2 is '2', 3 is '3'\narcs by number: 1 is 'a', 2 is 'b'\n"
+        self.assertEqual(network.solve_max("1", "4").explain(), MAXIMUM + names)
 
 
 if __name__ == "__main__":
