@@ -1,5 +1,5 @@
 -- The report of a command over texts in memory, and what follows it.
-use Rattle.std.proofs.Common.{◌≡◌, ◌∙◌, ◌++◌, ◌⊎◌, ℕ, List, [], ◌∷◌, Option, None, Some, Ok, ap, append-nil, inl, inr, map, refl, subst, sym}
+use Rattle.std.proofs.Common.{◌≡◌, ◌∙◌, ◌++◌, ℕ, List, [], ◌∷◌, Option, None, Some, Ok, ap, append-nil, inl, inr, map, refl, subst, sym}
 use Rattle.std.proofs.lemmas.Bool.{false≢true}
 use Rattle.dimacs_lines.specs.Devices.{Written, after_piece}
 use Rattle.dimacs_runs.specs.declared.jobs.Job.{Job}

@@ -1,6 +1,6 @@
 //! Explaining what a command answers over texts in memory.
 
-ghost use Rattle.std.specs.Prelude.{◌≡◌, ◌∷◌, [], IfOk, List, map};
+ghost use Rattle.std.specs.Prelude.{◌≡◌, ◌∷◌, [], IfOk, map};
 ghost use Rattle.std.specs.String.{string_bytes};
 ghost use Rattle.dimacs_c.specs.Calls.{handed};
 ghost use Rattle.dimacs_c.specs.Explained.{AnswersCommand, file_words, words};
