@@ -2,12 +2,16 @@
 tests/explain.py and docs/JUDGING.md were."""
 
 import copy
+import os
 import pickle
+import subprocess
+import tempfile
 import unittest
 from decimal import Decimal
 from pathlib import Path
 
 import dimacs
+from dimacs import library
 from test_arrays import CUT as SIDE
 from test_arrays import DEAR as DEAR_FLOW
 from test_arrays import DISTANCES, ENDS, GRAPH, POTENTIALS, PREDECESSORS
@@ -18,6 +22,14 @@ from test_arrays import pandas
 from test_networkx import networkx, pipes
 from test_texts import CLAIMED, CUT, FLOW, LEAST, MAX, MIN, PAIRS, POT, SOURCE
 from test_texts import GRAPH as ROADS
+
+try:
+    import explain as cases  # tests/explain.py
+except ImportError:
+    cases = None
+
+#: The program, beside the library.
+PROGRAM = Path(os.environ.get("DIMACS_LIBRARY", "")).parent / "dimacs"
 
 EXAMPLES = Path(__file__).resolve().parents[2] / "examples"
 
@@ -237,6 +249,45 @@ class Frames(Explained):
         network = dimacs.from_frame(pandas.DataFrame(table, index=list("abcde")), "from", "to", capacity="tons")
         names = "nodes by number: 1 is '1', 2 is '2', 3 is '3'\narcs by number: 1 is 'a', 2 is 'b'\n"
         self.assertEqual(network.solve_max("1", "4").explain(), MAXIMUM + names)
+
+
+def files_of(words):
+    """The names of a command's files, and how many of them it reads."""
+    verb, *files = words
+    if verb in ("convert", "show"):
+        return files[1:], 1
+    what, kind = verb.split("-")
+    counts = {"judge": len(files), "solve": 2 if kind == "paths" else 1}
+    return files, counts.get(what, 1 if kind == "infeasible" else 2)
+
+
+def read(place, name):
+    path = Path(place) / name
+    return path.read_bytes() if path.exists() else b""
+
+
+@unittest.skipUnless(cases and PROGRAM.is_file(), "the program isn't there, or its cases")
+class Program(unittest.TestCase):
+    """The program over files, and the library over texts with their names: all cases of tests/explain.py."""
+
+    def test_same_lines(self):
+        for words, own in [*((it[1], it[2]) for it in cases.CASES), *((it[0], it[1]) for it in cases.YES)]:
+            names, count = files_of(words.split())
+            if len(set(names)) == len(names):
+                with self.subTest(words):
+                    self.compare(words, names, count, {**cases.TEXTS, **own})
+
+    def compare(self, words, names, count, texts):
+        with tempfile.TemporaryDirectory() as place:
+            for name, text in texts.items():
+                (Path(place) / name).write_bytes(text if isinstance(text, bytes) else text.encode())
+            before = [read(place, it) for it in names]
+            called = [PROGRAM.resolve(), "explain", *words.split()]
+            ran = subprocess.run(called, cwd=place, capture_output=True, check=False)
+            after = [read(place, it) for it in names]
+        given = [*before[:count], *after[count:], b"", b"", b""][:3]
+        arguments = [word for it in (words.encode(), *given) for word in (it, len(it))]
+        self.assertEqual(library.call(library.explain(), *arguments), (ran.returncode, ran.stdout))
 
 
 if __name__ == "__main__":
