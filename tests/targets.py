@@ -210,7 +210,23 @@ solve-max --limit --limit 5
 solve-max examples/pipes.max out cut --limit --limit 5
 judge-max --limit 5
 certify-max
+explain
+explain explain
+explain convert gr examples/road-faulty.gr
+explain judge-max examples/pipes.max examples/pipes.solution examples/pipes.cut
+explain judge-infeasible examples/shortage.min examples/shortage.cut
+explain judge-paths examples/road.gr examples/road.query examples/road.dist
+explain certify-max examples/pipes.max examples/pipes-careless.solution
+explain certify-max examples/pipes.max examples/pipes-careless.solution out
+explain certify-paths examples/road.gr examples/road-near.distances out
+explain solve-min examples/freight.min out pot
+explain solve-max examples/road.gr out cut
+explain spread-max examples/pipes.max examples/pipes.solution out
+explain show gr missing
 """
+
+# Names with blanks.
+SPREAD_OUT = ["explain", "certify-max", "examples/pipes.max", "examples/pipes-careless.solution", "one \tname"]
 
 # What is run with an output that is full.
 FULL = ["help", "--version", "help help", "help show", "frobnicate", "show gr examples/road.gr", "show gr missing"]
@@ -234,15 +250,16 @@ def compare_commands(tests, name, words, likened=lambda text: text):
     over_examples = runs_over_examples()
     every = 1 if tests.is_all else max(1, len(over_examples) // 40)
     special = [line.split() for line in SPECIAL.split("\n")[1:-1]]
-    helped = ["--help", "-h", "--version", "-V", "help", *(f"help {it}" for it in usage.usages() if it != "explain")]
-    wrong = [it for it, _, _ in usage.WRONG if it[0] != "explain"]
+    helped = ["--help", "-h", "--version", "-V", "help", *(f"help {it}" for it in usage.usages())]
+    wrong = [it for it, _, _ in usage.WRONG]
 
     def compare(arguments, **outputs):
         ran = [outcome([*it, *arguments], tests.room, **outputs) for it in ([f"{tests.build}/dimacs"], words)]
         wanted, found = ((status, likened(out), likened(told), files) for status, out, told, files in ran)
         tests.add(f"{name} {arguments}", int(found == wanted), int(found != wanted), f"{found}\nand not {wanted}")
 
-    for it in [*over_examples[::every], *special, *map(str.split, helped), *wrong, ["show", "gr", "two\nlines"]]:
+    words_alone = [*map(str.split, helped), *wrong, ["show", "gr", "two\nlines"], SPREAD_OUT]
+    for it in [*over_examples[::every], *special, *words_alone]:
         compare(it)
     with open("/dev/full", "wb") as full:
         for it, output in itertools.product(FULL, ("stdout", "stderr")):
@@ -250,10 +267,9 @@ def compare_commands(tests, name, words, likened=lambda text: text):
 
 
 def in_words_of_node(text):
-    """Node says in its own words why the system failed a file, and its command doesn't explain."""
+    """Node says in its own words why the system failed a file."""
     text = re.sub(rb"(: cannot be \w+): .*", rb"\1", text)
-    text = re.sub(rb"^compiled to WebAssembly, .*\n", b"", text, flags=re.MULTILINE)
-    return re.sub(rb"^ +explain .*\n", b"", text, flags=re.MULTILINE)
+    return re.sub(rb"^compiled to WebAssembly, .*\n", b"", text, flags=re.MULTILINE)
 
 
 def test_command(tests):
@@ -261,11 +277,6 @@ def test_command(tests):
         return
     command = ["node", f"{tests.build}/npm/package/cli.js"]
     compare_commands(tests, "npx dimacs", command, in_words_of_node)
-    said = b"explain isn't here, where the code is compiled to WebAssembly: the program for Linux has it\n"
-    wanted = 2, b"", b"dimacs: usage\n" + said + outcome([*command, "help"], tests.room)[1], {}
-    for words in (["explain"], ["help", "explain"], ["explain", "show", "gr", "examples/road.gr"]):
-        found = outcome([*command, *words], tests.room)
-        tests.add(f"npx dimacs {words}", int(found == wanted), int(found != wanted), f"{found}")
     for module in ("/dev/null", f"{tests.room}/missing"):
         environment = {**os.environ, "DIMACS_WASM": module}
         ran = run(*command, "show", "gr", f"{TOP}/examples/road.gr", env=environment)

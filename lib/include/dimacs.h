@@ -135,6 +135,18 @@ uint32_t dimacs_convert(uint32_t kind, const uint8_t *text, size_t length, uint8
 /* Hands out a line that describes a text of this kind, or the line of its fault. */
 uint32_t dimacs_show(uint32_t kind, const uint8_t *text, size_t length, uint8_t *out, size_t room, size_t *needed);
 
+/* Runs a command over texts, and hands out what `dimacs explain` prints: what the command prints, then lines that explain
+ * it. `command` is the command as it is typed, without `dimacs explain`, such as `judge-max instance solution cut`. Its
+ * words that name files are names of `first`, `second` and `third`, in order: the lines quote them. They should differ,
+ * since a name that stands twice has its first text. A command with fewer files doesn't read the other texts. What it
+ * writes to a file is dropped. The lines after a yes read the texts of a claim and of a certificate that it writes: give
+ * what it wrote, or name no file for a certifier, which then certifies twice. Returns what the command would, or
+ * DIMACS_MISUSED if the words aren't a command with its files, as `explain`, `help` and `--version` aren't. If memory
+ * runs out after the command's own lines, some or all of the lines after them are missing. */
+uint32_t dimacs_explain(const uint8_t *command, size_t command_length, const uint8_t *first, size_t first_length,
+                        const uint8_t *second, size_t second_length, const uint8_t *third, size_t third_length,
+                        uint8_t *out, size_t room, size_t *needed);
+
 /* ---- Arrays in memory ----
  *
  * Nodes and arcs are numbered from 1. The k-th items of the arrays by arc describe the k-th arc, and the k-th item

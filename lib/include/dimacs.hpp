@@ -887,6 +887,25 @@ inline Answer<std::string, Refused> show(Text kind, std::string_view text) {
     return detail::make_text(dimacs_show, kind, text);
 }
 
+// The lines that `dimacs explain` prints for a command over texts: its own, then what explains them. The words that
+// name files are names of the texts, in order, as "judge-max instance solution cut". For texts that the command writes,
+// give what it wrote. Throws std::invalid_argument if the words aren't a command with its files.
+inline std::string explain(std::string_view command, std::string_view first, std::string_view second = {},
+                           std::string_view third = {}) {
+    using detail::bytes;
+    detail::TextRoom lines(16 * detail::line_room);
+    const auto call = [&](auto... rooms) {
+        return dimacs_explain(bytes(command), command.size(), bytes(first), first.size(), bytes(second), second.size(),
+                              bytes(third), third.size(), rooms...);
+    };
+    try {
+        detail::call_for_texts(call, lines);
+    } catch (const WrongLength &) {
+        throw std::invalid_argument("no command with its files: " + std::string(command));
+    }
+    return lines.take();
+}
+
 // ---- Arrays in memory ----
 
 // Judges that a flow, by arc, is maximum, by the cut of the nodes whose byte in `inside` isn't 0. Refused for the

@@ -1,4 +1,5 @@
 // What calls return, and what they throw.
+import {explanationOf} from "./explained.js";
 import {DONE, GAVE_UP, MISUSED} from "./library.js";
 
 /** The distance of a node that isn't reached. Its predecessor is 0. */
@@ -18,6 +19,10 @@ export class Verdict {
         this.value = value;
         this.pairs = pairs;
     }
+
+    explain() {
+        return explanationOf(this);
+    }
 }
 
 /** A yes, with a certificate by which the judge answers yes too. */
@@ -25,6 +30,10 @@ export class Certified {
     constructor(value, certificate) {
         this.value = value;
         this.certificate = certificate;
+    }
+
+    explain() {
+        return explanationOf(this);
     }
 
     get inside() {
@@ -69,6 +78,10 @@ export class Refused extends Error {
         super(message);
         this.name = new.target.name;
         Object.assign(this, NOWHERE, place, {reason});
+    }
+
+    explain() {
+        return explanationOf(this);
     }
 }
 

@@ -1,6 +1,8 @@
 // The calls over arrays. Nodes and arcs are numbered from 1: the first items of tails, heads, caps and so on belong to
 // arc 1, those of supplies, inside, distances and so on to node 1.
-import {Certified, Infeasible, Solved, linesOf, throwRefused, throwUndecided, verdict} from "./answers.js";
+import {Certified, Feasible, Infeasible, NotOptimal, Refused, Solved} from "./answers.js";
+import {linesOf, throwRefused, throwUndecided, verdict} from "./answers.js";
+import {AskedOfArrays, kept} from "./explained.js";
 import {InArrays, LIMIT, LINE, Room} from "./library.js";
 import {library} from "./loaded.js";
 import {DISTANCES, IDS, MARKS, NUMBERS, limitOf} from "./numbers.js";
@@ -41,6 +43,7 @@ class Given {
         this.counts = {nodes, arcs: made[0][1].length};
         made.forEach((it) => this.#testLength(...it));
         this.words = [new InArrays([nodes, ...ends], made.map(([, it]) => it))];
+        this.asked = new AskedOfArrays(form, {nodes, source: ends[0], sink: ends[1]}, Object.fromEntries(made));
     }
 
     /** The library tests lengths too, but doesn't report which one is wrong. */
@@ -53,7 +56,13 @@ class Given {
         const it = ARRAYS[name][0].all(numbers, name);
         this.#testLength(name, it);
         this.words.push(it);
+        this.asked = this.asked.with({[name]: it});
         return this;
+    }
+
+    addSource(source) {
+        this.asked.numbers.source = source;
+        return this.addWord(source);
     }
 
     addWord(word) {
@@ -77,30 +86,52 @@ function ask(name, given, ...handed) {
     return {status, lines, arrays};
 }
 
+/** What a call answers or refuses, kept with what it was asked of, and by the name of the judge that says the same. */
+function keeping(name, given, lines, handed, call) {
+    const kind = name.split("_")[1];
+    try {
+        const answer = call();
+        return kept(answer, `judge-${kind}`, given.asked.with(handed), null);
+    } catch (why) {
+        if (why instanceof Infeasible) kept(why, "judge-infeasible", given.asked.with({inside: why.inside}), null);
+        else if (why instanceof Refused) {
+            const better = why instanceof NotOptimal ? why.better : why instanceof Feasible ? why.flow : null;
+            kept(why, name.replace("_", "-"), better ? given.asked.with({better}) : given.asked, lines[0]);
+        }
+        throw why;
+    }
+}
+
 function judge(name, given) {
     const {status, lines} = ask(name, given);
-    throwRefused(status, lines);
-    return verdict(lines);
+    return keeping(name, given, lines, {}, () => {
+        throwRefused(status, lines);
+        return verdict(lines);
+    });
 }
 
 function certify(name, given, ...handed) {
     const {status, lines, arrays: [certificate, flow]} = ask(name, given, ...handed);
-    throwRefused(status, lines, () => flow);
-    const {kind, value} = verdict(lines);
-    return new Certified(kind === "max" || kind === "min" ? value : null, certificate);
+    return keeping(name, given, lines, {[handed[0]]: certificate}, () => {
+        throwRefused(status, lines, () => flow);
+        const {kind, value} = verdict(lines);
+        return new Certified(kind === "max" || kind === "min" ? value : null, certificate);
+    });
 }
 
 function solve(name, given, ...handed) {
     const {status, lines, arrays: [solution, certificate, inside]} = ask(name, given, ...handed);
-    throwRefused(status, lines);
-    const {kind, value} = verdict(lines);
-    if (kind === "infeasible") throw new Infeasible(inside);
-    return new Solved(kind === "sp" ? null : value, solution, certificate);
+    return keeping(name, given, lines, {[handed[0]]: solution, [handed[1]]: certificate}, () => {
+        throwRefused(status, lines);
+        const {kind, value} = verdict(lines);
+        if (kind === "infeasible") throw new Infeasible(inside);
+        return new Solved(kind === "sp" ? null : value, solution, certificate);
+    });
 }
 
 const ofMax = (instance) => new Given("max", instance);
 const ofMin = (instance) => new Given("min", instance);
-const ofGraph = (graph, source) => new Given("graph", graph).addWord(IDS.one(source, "source"));
+const ofGraph = (graph, source) => new Given("graph", graph).addSource(IDS.one(source, "source"));
 
 export const judgeMaxArrays = (instance, flows, inside) =>
     judge("judge_max", ofMax(instance).addArray("flows", flows).addArray("inside", inside));

@@ -55,8 +55,14 @@ function limitIn(word) {
     return limit >= 0n && limit <= GREATEST_LIMIT ? limit : null;
 }
 
-/** The run that arguments ask for, or null. */
-function jobOf([verb, ...rest]) {
+/** The run that arguments ask for, or null; `explains` has the words of a command that is explained. */
+function jobOf(words) {
+    if (words[0] !== "explain") return runOf(words);
+    const job = runOf(words.slice(1));
+    return job && {...job, explains: words.slice(1)};
+}
+
+function runOf([verb, ...rest]) {
     if (Object.hasOwn(ONE_FILE, verb ?? "")) {
         const [kind, ...files] = rest;
         return files.length === 1 && Object.hasOwn(TEXTS, kind) ? {what: verb, kind, reads: files, writes: []} : null;
@@ -125,9 +131,9 @@ function isOfEarlier({handed: [line]}, {what, kind}, count) {
 function answered(texts, job, names, files) {
     const {read, failure} = readTexts(names, files);
     if (failure && read.length === 0) throw failure;
-    const given = answer(texts, job, [...read, ...Array(names.length - read.length).fill(NONE)]);
+    const all = [...read, ...Array(names.length - read.length).fill(NONE)], given = answer(texts, job, all);
     if (failure && !isOfEarlier(given, job, read.length)) throw failure;
-    return given;
+    return {...given, read: all};
 }
 
 function open(name, call, flags) {
@@ -138,22 +144,39 @@ function write(name, file, text) {
     attempt(name, "written", () => writeAll(file, text));
 }
 
+/** The texts that an answer has for files. */
+function madeOf({what, kind}, handed) {
+    return what === "solve" && kind === "paths" ? handed.slice(2) : handed.slice(1);
+}
+
 /** Writes the texts that an answer has for files. A solver's files are open, those of the others are created now. */
-function writeTexts({what, kind, writes}, handed, created) {
-    const made = what === "solve" && kind === "paths" ? handed.slice(2) : handed.slice(1);
+function writeTexts(job, handed, created) {
+    const {what, writes} = job, made = madeOf(job, handed);
     for (const [i, name] of writes.entries()) {
         if (what === "solve") write(name, created[i], made[i]);
         else if (made[i].length) write(name, open(name, "created", "w"), made[i]);
     }
 }
 
+/** What stands for the blanks in a file's name, where blanks separate words: no line has it otherwise. */
+const BLANKS = [" ", "\t", "\r"], STAND_INS = ["\u0001", "\u0002", "\u0003"];
+
+const replaced = (text, from, to) => from.reduce((made, it, i) => made.replaceAll(it, to[i]), text);
+
+/** The lines of an answer, and those that explain it, over the texts that were read and those that were made. */
+function explained(texts, {explains}, read, made) {
+    const words = explains.map((it) => replaced(it, BLANKS, STAND_INS)).join(" ");
+    const {handed: [lines]} = texts.explain(Buffer.from(words), ...[...read, ...made, NONE, NONE].slice(0, 3));
+    return replaced(Buffer.from(lines).toString(), STAND_INS, BLANKS);
+}
+
 function run(texts, job) {
     const files = job.reads.map((name) => open(name, "opened", "r"));
     const created = job.what === "solve" ? job.writes.map((name) => open(name, "created", "w")) : [];
-    const {status, handed} = answered(texts, job, job.reads, files);
+    const {status, handed, read} = answered(texts, job, job.reads, files);
     files.forEach((it) => closeSync(it));
     writeTexts(job, handed, created);
-    print(handed[0]);
+    print(job.explains ? explained(texts, job, read, madeOf(job, handed)) : handed[0]);
     return status;
 }
 

@@ -59,18 +59,29 @@ export interface Pair {
     distance: bigint | Beyond | null;
 }
 
+/** An answer, which keeps the texts or arrays that it was asked of. */
+export interface Explainable {
+    /**
+     * The lines that `dimacs explain` prints: the printed line, and what the test compared, or what shows the yes. The
+     * command runs once more, over the same texts, or over texts made of the arrays, of which no line is quoted.
+     */
+    explain(): string;
+}
+
 /**
  * A yes. `kind` is "max", "min", "infeasible", "sp" (all distances from so many sources) or "pairs"; `value` the value
  * of the flow, its cost, or the number of sources; `pairs` the answers to queries for pairs.
  */
-export class Verdict {
+export class Verdict implements Explainable {
+    explain(): string;
     readonly kind: "max" | "min" | "infeasible" | "sp" | "pairs";
     readonly value: bigint | null;
     readonly pairs: Pair[];
 }
 
 /** A yes, with a certificate by which the judge answers yes too. `value` is null if the claim has neither. */
-export class Certified<Certificate, Value = bigint> {
+export class Certified<Certificate, Value = bigint> implements Explainable {
+    explain(): string;
     readonly value: Value;
     readonly certificate: Certificate;
     /** The certificate, by the name that fits it. */
@@ -92,7 +103,8 @@ export class Solved<Solution, Certificate, Value = bigint> extends Certified<Cer
  * "distances" or "certificate"), line and field, from 1; field 0 is the whole line. A test has the number of an arc or of
  * a node. What doesn't apply is null. `reason` is the command's word.
  */
-export class Refused extends Error {
+export class Refused extends Error implements Explainable {
+    explain(): string;
     readonly reason: string;
     readonly text: string | null;
     readonly line: number | null;

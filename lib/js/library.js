@@ -206,4 +206,9 @@ export class Texts {
     show(kind, text) {
         return this.#call("dimacs_show", [TEXTS[kind], text], LINE);
     }
+
+    /** The words of a command, and the texts that its files stand for. */
+    explain(command, first, second, third) {
+        return this.#call("dimacs_explain", [command, first, second, third], 16 * LINE);
+    }
 }

@@ -4,8 +4,6 @@ import {TEXTS} from "./library.js";
 /** How the words of a command that has a limit end. */
 const LIMIT = " [--limit N]";
 
-const NO_EXPLAIN = "explain isn't here, where the code is compiled to WebAssembly: the program for Linux has it";
-
 /** A command, by its usage text: in the words for its arguments, those in brackets may be left out. */
 class Command {
     constructor(name, usage) {
@@ -49,10 +47,18 @@ function misuseOf(commands, words) {
     if (words.length === 0) return {line: ""};
     if (!words.every(isText)) return {line: "an argument isn't UTF-8"};
     if (["--help", "-h", "--version", "-V"].includes(first)) return {line: `${first} comes alone`};
+    if (first === "explain") return explainMisuse(commands, rest);
     const name = first === "help" && rest.length === 1 ? rest[0] : first, command = commands.get(name);
-    if (name === "explain") return {line: NO_EXPLAIN};
     if (!command) return {line: unknown("command", name, [...commands.keys()])};
     return {line: commandMisuse(command, rest), command};
+}
+
+/** What is wrong with the arguments after `explain`. */
+function explainMisuse(commands, words) {
+    const [name] = words, command = commands.get("explain");
+    if (words.length === 0) return {line: "explain takes a command and its files", command};
+    const runs = !["explain", "help"].includes(name);
+    return runs ? misuseOf(commands, words) : {line: `explain takes a command that runs, and ${name} doesn't`, command};
 }
 
 function commandMisuse(command, words) {

@@ -1,23 +1,14 @@
 // The calls over texts in memory. A text is a string, or bytes: a typed array, a DataView or an ArrayBuffer.
-import {Certified, Infeasible, Solved, linesOf, throwRefused, throwUndecided, verdict} from "./answers.js";
-import {LIMIT, TEXTS} from "./library.js";
+import {Certified, Feasible, Infeasible, NotOptimal, Refused, Solved} from "./answers.js";
+import {linesOf, throwRefused, throwUndecided, verdict} from "./answers.js";
+import {bytesOf, inFormOf} from "./bytes.js";
+import {kept} from "./explained.js";
+import {DONE, LIMIT, TEXTS} from "./library.js";
 import {texts} from "./loaded.js";
 import {limitOf} from "./numbers.js";
 
-const ENCODER = new TextEncoder(), DECODER = new TextDecoder("latin1");
+/** In place of a text that a call doesn't read. */
 const NONE = new Uint8Array(0);
-
-/** The bytes of a text. A letter beyond ASCII becomes bytes that no text has. */
-function bytesOf(text) {
-    if (typeof text === "string") return ENCODER.encode(text);
-    if (ArrayBuffer.isView(text)) return new Uint8Array(text.buffer, text.byteOffset, text.byteLength);
-    if (text instanceof ArrayBuffer) return new Uint8Array(text);
-    throw new TypeError("a text is a string, a typed array or an ArrayBuffer");
-}
-
-function inFormOf(came, bytes) {
-    return typeof came === "string" ? DECODER.decode(bytes) : bytes;
-}
 
 /** The printed lines of a call, and what else it handed out; throws what leaves the claim undecided. */
 function decided({status, handed: [printed, ...more]}) {
@@ -26,10 +17,30 @@ function decided({status, handed: [printed, ...more]}) {
     return {status, lines, more};
 }
 
-function judge(kind, instance, claim, certificate) {
-    const {status, lines} = decided(texts.judge(kind, bytesOf(instance), bytesOf(claim), bytesOf(certificate)));
-    throwRefused(status, lines);
-    return verdict(lines);
+/** What a call answers or refuses, kept with what it was asked of, and what it shows. */
+function asked(command, given, call) {
+    const read = given.filter((it) => it !== NONE);
+    try {
+        const answer = call(), shown = answer instanceof Certified ? [answer.certificate] : [];
+        return kept(answer, command, [...read, ...shown], "certificate");
+    } catch (why) {
+        if (why instanceof Refused) keepRefused(why, command, read);
+        throw why;
+    }
+}
+
+function keepRefused(no, command, read) {
+    if (no instanceof Infeasible) return kept(no, command, [read[0], NONE, no.certificate], "certificate");
+    const shown = no instanceof NotOptimal ? "better" : no instanceof Feasible ? "flow" : null;
+    return kept(no, command, shown && no[shown] !== null ? [...read, no[shown]] : read, shown ?? "certificate");
+}
+
+function judge(kind, ...given) {
+    return asked(`judge-${kind}`, given, () => {
+        const {status, lines} = decided(texts.judge(kind, ...given.map(bytesOf)));
+        throwRefused(status, lines);
+        return verdict(lines);
+    });
 }
 
 export const judgeMax = (instance, solution, cut) => judge("max", instance, solution, cut);
@@ -39,10 +50,12 @@ export const judgePaths = (graph, queries, labels) => judge("paths", graph, quer
 
 /** A better flow has the form of the claim, and a certificate that of the instance. */
 function certify(kind, instance, claim, formOfFlow = claim) {
-    const {status, lines, more: [shown]} = decided(texts.certify(kind, bytesOf(instance), bytesOf(claim)));
-    throwRefused(status, lines, () => (shown.length ? inFormOf(formOfFlow, shown) : null));
-    const hasValue = kind === "max" || kind === "min";
-    return new Certified(hasValue ? verdict(lines).value : null, inFormOf(instance, shown));
+    return asked(`certify-${kind}`, [instance, claim], () => {
+        const {status, lines, more: [shown]} = decided(texts.certify(kind, bytesOf(instance), bytesOf(claim)));
+        throwRefused(status, lines, () => (shown.length ? inFormOf(formOfFlow, shown) : null));
+        const hasValue = kind === "max" || kind === "min";
+        return new Certified(hasValue ? verdict(lines).value : null, inFormOf(instance, shown));
+    });
 }
 
 export const certifyMax = (instance, solution) => certify("max", instance, solution);
@@ -52,8 +65,13 @@ export const certifyPaths = (graph, distances) => certify("paths", graph, distan
 
 function spread(kind, instance, solution) {
     const {status, lines, more: [made]} = decided(texts.spread(kind, bytesOf(instance), bytesOf(solution)));
-    throwRefused(status, lines);
+    refusing(`spread-${kind}`, [instance, solution], status, lines);
     return inFormOf(solution, made);
+}
+
+/** Throws the refusal of a call that hands out a text alone. */
+function refusing(command, given, status, lines) {
+    if (status !== DONE) asked(command, given, () => throwRefused(status, lines));
 }
 
 export const spreadMax = (instance, solution) => spread("max", instance, solution);
@@ -61,26 +79,27 @@ export const spreadMin = (instance, solution) => spread("min", instance, solutio
 
 function solve(kind, instance, queries, limit) {
     const answer = decided(texts.solve(kind, bytesOf(instance), bytesOf(queries), limitOf(limit)));
-    throwRefused(answer.status, answer.lines);
-    const found = verdict(answer.lines), [solution, certificate] = answer.more.map((it) => inFormOf(instance, it));
-    if (found.kind === "infeasible") throw new Infeasible(certificate);
-    return new Solved(found.value, kind === "paths" ? found.pairs : solution, certificate);
+    const [solution, certificate] = answer.more.map((it) => inFormOf(instance, it));
+    const given = [instance, kind === "paths" ? queries : answer.status === DONE ? solution : NONE];
+    return asked(`solve-${kind}`, given, () => {
+        throwRefused(answer.status, answer.lines);
+        const found = verdict(answer.lines), value = kind === "paths" ? null : found.value;
+        if (found.kind === "infeasible") throw new Infeasible(certificate);
+        return new Solved(value, kind === "paths" ? found.pairs : solution, certificate);
+    });
 }
 
 export const solveMax = (instance, limit = LIMIT) => solve("max", instance, NONE, limit);
 export const solveMin = (instance, limit = LIMIT) => solve("min", instance, NONE, limit);
 
-export function solvePaths(graph, queries) {
-    const {solution, certificate} = solve("paths", graph, queries, LIMIT);
-    return new Solved(null, solution, certificate);
-}
+export const solvePaths = (graph, queries) => solve("paths", graph, queries, LIMIT);
 
 function printed(call, kind, text) {
     if (!Object.hasOwn(TEXTS, kind)) {
         throw new RangeError(`${kind} is no kind of text: these are ${Object.keys(TEXTS).join(", ")}`);
     }
     const {status, handed: [out]} = texts[call](kind, bytesOf(text));
-    throwRefused(status, linesOf(out));
+    refusing(`${call} ${kind}`, [text], status, linesOf(out));
     return inFormOf(text, out);
 }
 

@@ -45,6 +45,19 @@ static const std::string dist = "p dist 4 1\nt 1 1\nd 2 5 1\n";
 static const std::string surplus = "p min 2 1\nn 1 1\na 1 2 0 5 1\n";
 static const std::string both = "p cut 2 2\nu 1\nu 2\n";
 
+static void explains_texts() {
+    const std::string balance = dimacs::explain("judge-max I S C", max, "s 4\nf 1 2 4\n", cut);
+    is("a refusal explained", balance,
+       "x node 2 Balance\n0 leaves node 2, 4 enters it: 4 too little leaves\nentries out of it: 0\n"
+       "entries into it: 1\n  S:2: f 1 2 4\n");
+    const std::string yes = dimacs::explain("judge-max I S C", max, flow, cut);
+    check_that("a yes explained", yes.rfind("v max 6\non the source's side of the cut, 1 of the 4 nodes: 1\n", 0) == 0);
+    is("a single text", dimacs::explain("show cut C", cut), "i cut 4 1\n");
+    throws<std::invalid_argument>(
+        "no command", [] { dimacs::explain("judge-max I S", max, flow, cut); },
+        "no command with its files: judge-max I S");
+}
+
 static void judges_texts() {
     is("maximum", dimacs::judge_max(max, flow, cut).value().value.str(), "6");
     is("least", dimacs::judge_min(min, least, pot).value().value.str(), "14");
@@ -353,6 +366,7 @@ static void takes_what_has_items() {
 }
 
 int main() {
+    explains_texts();
     judges_texts();
     certifies_texts();
     certifies_whole_claims();

@@ -95,6 +95,11 @@ static uint32_t solve_paths(void) { return solve(DIMACS_PATHS, graph, 9); }
 static uint32_t give_up(void) { return solve(DIMACS_MAX, max, 1); }
 static uint32_t convert(void) { return dimacs_convert(DIMACS_TEXT_MIN, TEXT(min), OUT); }
 static uint32_t show(void) { return dimacs_show(DIMACS_TEXT_POT, TEXT(pot), OUT); }
+static uint32_t explain(const char *command, const char *claim) {
+    return dimacs_explain(TEXT(command), TEXT(max), TEXT(claim), TEXT(cut), OUT);
+}
+static uint32_t explain_yes(void) { return explain("judge-max I S C", flow); }
+static uint32_t explain_no(void) { return explain("judge-max I S C", slow); }
 
 static uint32_t judge_max_arrays(void) { return dimacs_judge_max_arrays(&max_arrays, flows, 5, inside, 4, OUT); }
 static uint32_t judge_min_arrays(void) { return dimacs_judge_min_arrays(&min_arrays, least_flows, 5, potentials, 4, OUT); }
@@ -160,6 +165,8 @@ static const struct {
     {"give up", give_up, 5},
     {"convert", convert, 0},
     {"show", show, 0},
+    {"explain a yes", explain_yes, 0},
+    {"explain a no", explain_no, 1},
     {"judge max in arrays", judge_max_arrays, 0},
     {"judge min in arrays", judge_min_arrays, 0},
     {"judge a set in arrays", judge_infeasible_arrays, 1},
@@ -195,6 +202,12 @@ static int is_nothing(const Handed *it) {
     return !memcmp(it, &nothing, sizeof nothing);
 }
 
+/* Whether the command's own line is handed out, as it has to be before any that explains it. */
+static int has_line(const Handed *it, const Handed *whole) {
+    size_t length = (size_t)((const char *)memchr(whole->out, '\n', sizeof whole->out) - (const char *)whole->out) + 1;
+    return it->needed >= length && !memcmp(it->out, whole->out, length);
+}
+
 /* Calls with nothing refused, and then with each growth refused in turn until a call meets no refusal. Spreading
    hands out no line if it has a solution to show. */
 static void refuse_each(const char *name, uint32_t (*call)(void), uint32_t wanted) {
@@ -208,7 +221,8 @@ static void refuse_each(const char *name, uint32_t (*call)(void), uint32_t wante
         uint32_t status = call();
         int is_same = status == wanted && !memcmp(&to, &whole, sizeof to);
         int is_none = status == DIMACS_NO_MEMORY && is_nothing(&to);
-        check_that(name, is_same || (is_none && asked >= refused));
+        int is_line = (call == explain_yes || call == explain_no) && status == wanted && has_line(&to, &whole);
+        check_that(name, is_same || ((is_none || is_line) && asked >= refused));
         check_that("what was taken is given back", held == 0);
         if (asked < refused) {
             check_that("with no growth refused it is done", is_same);

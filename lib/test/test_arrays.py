@@ -212,7 +212,8 @@ class Certifies(unittest.TestCase):
                 call(*words)
             it = caught.exception
             again = pickle.loads(pickle.dumps(it))
-            self.assertEqual((type(again), str(again), vars(again)), (type(it), str(it), vars(it)))
+            kept = vars(it) | {"_asked": None} if isinstance(it, dimacs.Refused) else vars(it)
+            self.assertEqual((type(again), str(again), vars(again)), (type(it), str(it), kept))
 
 
 def answering(status, line, *counts):

@@ -189,6 +189,66 @@ const CASES = {
             throws(() => new Texts(new Library(module)).show("cut", bytes(CUT)), dimacs.OutOfMemory);
         }
     },
+    "answers over texts are explained": () => {
+        // The lines were worked out by hand, in tests/explain.py.
+        const maximum = [
+            "v max 6",
+            "on the source's side of the cut, 1 of the 4 nodes: 1",
+            "arcs into it, all empty: 0",
+            "arcs out of it, all full: 2",
+            "  arc 1: 1 -> 2, CAP 4",
+            "  arc 2: 1 -> 3, CAP 2",
+            "4 + 2 = 6, the value of the flow: all flow to the sink has to cross these arcs, so none has a greater value\n",
+        ].join("\n");
+        const yes = [dimacs.judgeMax(MAX, FLOW, CUT), dimacs.certifyMax(bytes(MAX), FLOW), dimacs.solveMax(MAX)];
+        for (const it of yes) assert.equal(it.explain(), maximum);
+        const balance = [
+            "x node 2 Balance",
+            "0 leaves node 2, 4 enters it: 4 too little leaves",
+            "entries out of it: 0",
+            "entries into it: 1",
+            "  solution:2: f 1 2 4\n",
+        ].join("\n");
+        assert.equal(thrown(() => dimacs.judgeMax(MAX, "s 4\nf 1 2 4\n", CUT)).explain(), balance);
+        const better = thrown(() => dimacs.certifyMax(MAX, "s 0\n")).explain();
+        assert.match(better, /\nbetter:1: s 6\nthis flow is feasible, and has 6 more than the 0 that is claimed\n$/);
+        assert.match(thrown(() => dimacs.certifyInfeasible(MIN)).explain(), /^x instance 0 0 Feasible\n.*\nflow:1: s /);
+        const unmet = /: no flow is feasible\n$/;
+        assert.match(thrown(() => dimacs.solveMin(SHORT)).explain(), unmet);
+        assert.match(dimacs.certifyInfeasible(SHORT).explain(), unmet);
+        assert.match(dimacs.solvePaths(GRAPH, PAIRS).explain(), /\n1 -> 2 -> 3: 5 \+ 4 = 9\n/);
+        const number = "WEIGHT is a whole number, digits with a sign or without, and not `1.0`";
+        assert.ok(thrown(() => dimacs.convert("gr", "p sp 1 1\na 1 1 1.0\n")).explain().includes(number));
+        const back = thrown(() => dimacs.spreadMax(MAX, "s 0\nf 4 3 2\n"));
+        assert.ok(back.explain().includes("arc 5 leads from 3 to 4"));
+        assert.ok(!thrown(() => dimacs.solveMax("p max 1 1\nn 1 s\nn 2 t\n")).explain().includes("is empty"));
+    },
+    "answers over arrays are explained": () => {
+        const maximum = dimacs.judgeMax(MAX, FLOW, CUT).explain(), least = dimacs.judgeMin(MIN, LEAST, POT).explain();
+        const flows = [4, 2, 1, 3, 3], cheap = [2, 2, 2, 0, 4];
+        const yes = [dimacs.judgeMaxArrays(IN_MAX, flows, [1, 0, 0, 0]), dimacs.certifyMaxArrays(IN_MAX, flows)];
+        for (const it of [...yes, dimacs.solveMaxArrays(IN_MAX)]) assert.equal(it.explain(), maximum);
+        assert.equal(dimacs.judgeMinArrays(IN_MIN, cheap, [4, 2, 1, 0]).explain(), least);
+        const unmet = dimacs.certifyInfeasible(SHORT).explain();
+        assert.equal(dimacs.certifyInfeasibleArrays(IN_SHORT).explain(), unmet);
+        assert.equal(thrown(() => dimacs.solveMinArrays(IN_SHORT)).explain(), unmet);
+        const far = /^v sp ss 1\nthe farthest node from 1, of 2 that it reaches: 1 -> 2 -> 3: 5 \+ 4 = 9\n/;
+        assert.match(dimacs.solvePathsArrays(IN_GRAPH, 1).explain(), far);
+        const distances = [0, 5, 9, Infinity];
+        assert.match(dimacs.certifyPathsArrays(IN_GRAPH, 1, distances).explain(), far);
+        const balance = thrown(() => dimacs.certifyMaxArrays(IN_MAX, [4, 0, 0, 0, 0])).explain().split("\n");
+        assert.equal(balance[1], "0 leaves node 2, 4 enters it: 4 too little leaves");
+        assert.deepEqual(balance.slice(-3), ["entries into it: 1", "  arc 1: 1 -> 2, FLOW 4", ""]);
+        const better = thrown(() => dimacs.certifyMaxArrays(IN_MAX, [0, 2, 0, 0, 2])).explain();
+        const by = /^x solution 0 0 NotMaximum\nthis flow is feasible, and has \d more than the 2 that is claimed\n$/;
+        assert.match(better, by);
+        const weights = [5, -4, 0], negative = thrown(() => dimacs.solvePathsArrays({...IN_GRAPH, weights}, 1));
+        assert.match(negative.explain(), /^x arc 2 NegativeWeight\narc 2: 2 -> 3, WEIGHT -4\n/);
+        // A text can't say that the source is at 1.
+        const late = thrown(() => dimacs.judgePathsArrays(IN_GRAPH, 1, [1, 5, 9, Infinity], [0, 1, 2, 0]));
+        assert.equal(late.explain(), "x node 1 NotShortest\n");
+        throws(() => new dimacs.Verdict("max", 6n).explain(), TypeError);
+    },
     "what is said of the module": () => {
         assert.match(dimacs.version, /^\d+\.\d+\.\d+/);
         assert.equal(typeof dimacs.proved, "boolean");

@@ -256,6 +256,72 @@ static void spreads(void) {
     check_that("no kind to spread", status == 2 && needed == 0 && shown_needed == 0);
 }
 
+/* Commands over texts, and the whole of what explains them, as tests/explain.py has it worked out by hand. */
+static const struct {
+    const char *command, *first, *second, *third;
+    uint32_t status;
+    const char *output;
+} explained[] = {
+    {"judge-max instance solution cut", max, flow, cut, 0,
+     "v max 6\n"
+     "on the source's side of the cut, 1 of the 4 nodes: 1\n"
+     "arcs into it, all empty: 0\n"
+     "arcs out of it, all full: 2\n"
+     "  arc 1: 1 -> 2, CAP 4\n"
+     "  arc 2: 1 -> 3, CAP 2\n"
+     "4 + 2 = 6, the value of the flow: all flow to the sink has to cross these arcs, so none has a greater value\n"},
+    {" judge-max\t I S  C", max, "s 4\nf 1 2 4\n", cut, 1,
+     "x node 2 Balance\n"
+     "0 leaves node 2, 4 enters it: 4 too little leaves\n"
+     "entries out of it: 0\n"
+     "entries into it: 1\n"
+     "  S:2: f 1 2 4\n"},
+    {"certify-max I S better", max, "s 0\n", "s 6\n", 1,
+     "x solution 1 2 NotMaximum\n"
+     "S:1: s 0\n"
+     "       ^\n"
+     "better:1: s 6\n"
+     "this flow is feasible, and has 6 more than the 0 that is claimed\n"},
+    {"judge-infeasible I C", surplus, both, "?", 0,
+     "v infeasible\n"
+     "in the set, 2 of the 2 nodes: 1 2\n"
+     "its supply: 1\n"
+     "arcs out of it: 0\n"
+     "arcs into it: 0\n"
+     "these bounds add up to 0 out of it, and 0 into it\n"
+     "so what leaves it, less what enters it, is at most 0 - 0 = 0, but has to be its supply, 1: no flow is feasible\n"},
+    {"show cut a", cut, "?", "?", 0, "i cut 4 1\n"},
+    {"convert cut a", cut, "?", "?", 0, cut},
+    {"spread-max I S O", max, flow, "?", 0, ""},
+    {"solve-max I S C --limit 0", max, flow, cut, 5, "g limit\n"},
+    {"solve-max I S C --limit", max, flow, cut, 2, ""},
+    {"judge-max I S", max, flow, cut, 2, ""},
+    {"judge_max I S C", max, flow, cut, 2, ""},
+    {"explain judge-max I S C", max, flow, cut, 2, ""},
+    {"help", max, flow, cut, 2, ""},
+    {"judge-max \xff S C", max, flow, cut, 0, NULL},
+    {"", max, flow, cut, 2, ""},
+};
+
+static void explains(void) {
+    static uint8_t lines[800];
+    for (size_t k = 0; k < sizeof explained / sizeof *explained; k++) {
+        const char *name = *explained[k].command ? explained[k].command : "no command";
+        needed = 99;
+        uint32_t status = dimacs_explain(TEXT(explained[k].command), TEXT(explained[k].first), TEXT(explained[k].second),
+                                         TEXT(explained[k].third), lines, sizeof lines, &needed);
+        if (explained[k].output) {
+            check(name, status, lines, needed, explained[k].status, explained[k].output);
+        } else {
+            check_that(name, status == explained[k].status && begins(lines, needed, "v max 6\n"));
+        }
+    }
+    uint32_t status = dimacs_explain(TEXT("judge-max a a a"), TEXT(max), TEXT(flow), TEXT(cut), lines, 9, &needed);
+    check_that("a name that stands twice has its first text", status == 1 && !memcmp(lines, "x solutio", 9) && needed > 9);
+    status = dimacs_explain(NULL, 0, NULL, 0, NULL, 0, NULL, 0, NULL, 0, &needed);
+    check_that("nothing at all", status == 2 && needed == 0);
+}
+
 int main(void) {
     judges();
     certifies();
@@ -265,5 +331,6 @@ int main(void) {
     converts_and_shows();
     keeps_to_the_room();
     reads_any_bytes();
+    explains();
     return count();
 }

@@ -132,6 +132,14 @@ static void solve_texts(Output *output) {
     free(solution);
 }
 
+static void explain_texts(Output *output, const char *claim) {
+    size_t needed = 0;
+    uint32_t status = dimacs_explain(TEXT("judge-max I S C"), TEXT(max), TEXT(claim), TEXT(cut), ROOM, &needed);
+    add(output, status, needed);
+    status = dimacs_explain(TEXT("certify-min I S"), TEXT(min), TEXT(least), NULL, 0, ROOM, &needed);
+    add(output, status, needed);
+}
+
 static void call_all(Output *output, const char *claim, int64_t first) {
     size_t needed = 0, shown = 0;
     uint8_t line[100];
@@ -149,6 +157,7 @@ static void call_all(Output *output, const char *claim, int64_t first) {
     status = dimacs_certify(DIMACS_MIN, TEXT(min), TEXT(least), line, sizeof line, &needed, ROOM, &shown);
     add(output, status, shown);
     solve_texts(output);
+    explain_texts(output, claim);
     call_over_arrays(output, first);
 }
 

@@ -15,14 +15,9 @@ def printed(*words):
     return ran.stdout if ran.returncode == 0 else None
 
 
-def without_explain(text):
-    """The command in node doesn't explain refusals."""
-    return re.sub(r"^ +explain .*\n", "", text, flags=re.MULTILINE)
-
-
 def main():
     program, out = sys.argv[1:]
-    texts = {"": without_explain(printed(program, "help"))}
+    texts = {"": printed(program, "help")}
     for name in re.findall(r"^ +([a-z]+-?[a-z]*) [A-Z[]", texts[""], re.MULTILINE):
         texts[name] = printed(program, "help", name)
     with open(out, "w", encoding="utf-8") as it:

@@ -1,4 +1,5 @@
 pub mod Arrays
 pub mod Calls
+pub mod Explained
 pub mod Kinds
 pub mod inside

@@ -7,12 +7,14 @@
 
 mod answer;
 mod certify;
+mod explain;
 mod infeasible;
 mod judge;
 mod kinds;
 mod lines;
 mod max;
 mod min;
+mod named_texts;
 mod paths;
 mod solve;
 mod spread;

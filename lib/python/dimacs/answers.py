@@ -34,8 +34,34 @@ class Pair(NamedTuple):
     distance: int | Beyond | None
 
 
+class Explainable:
+    """An answer that keeps what it was asked of: its texts or arrays live as long."""
+
+    _asked: Any = None
+
+    def explain(self) -> str:
+        r"""The lines that `dimacs explain` prints: the printed line, and what the test compared or what shows the yes.
+
+        The command runs once more, over the same texts, or over texts made of the arrays or the graph, whose nodes and arcs
+        the lines then name by numbers, with a line that says which is which. No call proves more than the first line. Raises
+        ValueError if the answer was pickled since.
+
+        >>> import dimacs
+        >>> print(dimacs.judge_max_arrays(2, 1, 2, [1], [2], [4], [4], [True, False]).explain(), end="")
+        v max 4
+        on the source's side of the cut, 1 of the 2 nodes: 1
+        arcs into it, all empty: 0
+        arcs out of it, all full: 1
+          arc 1: 1 -> 2, CAP 4
+        4, the value of the flow: all flow to the sink has to cross these arcs, so none has a greater value
+        """
+        if self._asked is None:
+            raise ValueError("this answer doesn't keep what it was asked of")
+        return str(self._asked.explain())
+
+
 @dataclass(frozen=True)
-class Verdict:
+class Verdict(Explainable):
     """A yes.
 
     kind is "max", "min", "infeasible", "sp" (all distances from so many sources) or "pairs"; value the value of the
@@ -54,7 +80,12 @@ class Verdict:
         return True
 
 
-class Certified(NamedTuple):
+class _Certified(NamedTuple):
+    value: Any
+    certificate: Any
+
+
+class Certified(_Certified, Explainable):
     """A yes, with a certificate by which the judge answers yes too.
 
     value is the value of the flow, or its cost; None if the claim has neither. The certificate is the text of a cut, of
@@ -64,9 +95,6 @@ class Certified(NamedTuple):
     >>> import dimacs
     >>> value, inside = dimacs.certify_max_arrays(3, 1, 3, [1, 2], [2, 3], [5, 4], [4, 4])
     """
-
-    value: Any
-    certificate: Any
 
     @property
     def inside(self) -> Any:
@@ -84,7 +112,13 @@ class Certified(NamedTuple):
         return self.certificate
 
 
-class Solved(NamedTuple):
+class _Solved(NamedTuple):
+    value: Any
+    solution: Any
+    certificate: Any
+
+
+class Solved(_Solved, Explainable):
     """An answer, which was judged before it was returned.
 
     value is the value of the flow, or its cost; None if there is neither. The solution is a text; over arrays the
@@ -94,10 +128,6 @@ class Solved(NamedTuple):
     >>> import dimacs
     >>> value, flows, inside = dimacs.solve_max_arrays(3, 1, 3, [1, 2], [2, 3], [5, 4])
     """
-
-    value: Any
-    solution: Any
-    certificate: Any
 
     @property
     def flows(self) -> Any:
@@ -208,12 +238,12 @@ class Placed(Exception):
     def __repr__(self) -> str:
         fields = [repr(self.reason)]
         for name, it in vars(self).items():
-            if name != "reason" and it not in (None, {}):
+            if name not in ("reason", "_asked") and it not in (None, {}):
                 fields.append(f"{name}={it!r}" if name in self._PLACES else f"{name}={reprlib.repr(it)}")
         return f"{type(self).__name__}({', '.join(fields)})"
 
 
-class Refused(Placed):
+class Refused(Placed, Explainable):
     """A no: the fault of a text, or the first test that fails.
 
     A fault has its text ("instance", "query", "solution", "distances" or "certificate"), line and field, from 1; field 0 is

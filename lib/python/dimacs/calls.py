@@ -8,35 +8,56 @@ from typing import Any, Callable
 from . import library
 from .answers import UNREACHED, Certified, Feasible, GaveUp, Infeasible, NotOptimal, Refused, Solved, Unbounded, Verdict
 from .buffers import Room
+from .explained import AskedOfArrays, kept
 from .given import COSTS, DISTANCES, FLOWS, GRAPH, HEADS, INSIDE, MAX, MIN, POTENTIALS, PREDECESSORS, SUPPLIES, TAILS
 from .given import Array, Given
 
 
+def _asked(call: str, given: Given) -> AskedOfArrays:
+    """A call, without what it hands out."""
+    kinds = {MAX: "max", MIN: "infeasible" if given.has(INSIDE) else "min", GRAPH: "paths"}
+    return AskedOfArrays(f"{call}_{kinds[given.form]}", given)
+
+
+def _shown_by(given: Given, kind: str, **found: Room) -> AskedOfArrays:
+    """The call by which the judge answers yes too, over what was found."""
+    given.forget()
+    return AskedOfArrays(f"judge_{kind}", given, **found)
+
+
 def judge(function: Callable[..., int], given: Given) -> Verdict:
     words = given.words()
-    with given.named():
+    asked = _asked("judge", given)
+    with given.named(asked):
         status, line = library.call(function, *words)
         if status == library.REFUSED:
             raise library.refusal(line)
         found = library.verdict(line)
         if found.kind == "infeasible" and given.limitless() and not _is_violated(given, given.column(INSIDE)):
             raise Refused("NotViolated", text="certificate", line=0, field=0)
-    return Verdict(found.kind, given.value(found.value) if found.kind in ("max", "min") else found.value)
+    value = given.value(found.value) if found.kind in ("max", "min") else found.value
+    given.forget()
+    shown: Verdict = kept(Verdict(found.kind, value), asked)
+    return shown
 
 
 def certify(function: Callable[..., int], given: Given, came: Any, *handed: Array) -> Certified:
     """Makes a call that certifies. It hands out the certificate, then a better flow."""
     words = given.words()
-    with given.named():
+    asked = _asked("certify", given)
+    with given.named(asked):
         rooms = [given.room(kind) for kind in handed]
         status, line = library.call_with_rooms(function, words, rooms)
         if status == library.DONE:
             value = None if given.form is GRAPH else given.value(library.verdict(line).value)
-            return Certified(value, given.shown(handed[0], rooms[0], came))
+            answer = Certified(value, given.shown(handed[0], rooms[0], came))
+            shown: Certified = kept(answer, _shown_by(given, asked.kind, **{handed[0].name: rooms[0]}))
+            return shown
         no = library.refusal(line)
         if not no.is_about_value():
             raise no
         flows = rooms[1].items()
+        asked.add(better=rooms[1])
         values = {"value": given.value_of(given.column(FLOWS)), "better_value": given.value_of(flows)}
         numbers = {name: given.value(it) for name, it in values.items()}
         better = given.shown(FLOWS, rooms[1], came)
@@ -45,12 +66,16 @@ def certify(function: Callable[..., int], given: Given, came: Any, *handed: Arra
 
 def certify_infeasible(given: Given, came: Any) -> Certified:
     words = given.words()
-    with given.named():
+    asked = AskedOfArrays("certify_infeasible", given)
+    with given.named(asked):
         inside, flows = rooms = [given.room(INSIDE), given.room(FLOWS)]
         status, _ = library.call_with_rooms(library.certify_infeasible_arrays, words, rooms)
         if status == library.REFUSED:
+            asked.add(better=flows)
             raise Feasible(given.shown(FLOWS, flows, came))
-        return Certified(None, _found_set(given, inside, came))
+        answer = Certified(None, _found_set(given, inside, came))
+        shown: Certified = kept(answer, _shown_by(given, "infeasible", inside=inside))
+        return shown
 
 
 def solve_max(given: Given, came: Any) -> Solved:
@@ -59,20 +84,24 @@ def solve_max(given: Given, came: Any) -> Solved:
     if any(inside.items()[tail - 1] and not inside.items()[head - 1] for tail, head in _limitless_ends(given)):
         _test_bounded_max(given)
         raise GaveUp("the capacities have a sum that is out of range")
-    return Solved(given.value(found.value), given.shown(FLOWS, flows, came), given.shown(INSIDE, inside, came))
+    answer = Solved(given.value(found.value), given.shown(FLOWS, flows, came), given.shown(INSIDE, inside, came))
+    shown: Solved = kept(answer, _shown_by(given, "max", flows=flows, inside=inside))
+    return shown
 
 
 def solve_min(given: Given, came: Any) -> Solved:
     words, handed = given.words(), (FLOWS, POTENTIALS, INSIDE)
     found, (flows, prices, inside) = _solve_bounded(library.solve_min_arrays, given, words, _test_bounded_min, *handed)
     if found.kind == "infeasible":
-        raise Infeasible(_found_set(given, inside, came))
+        raise kept(Infeasible(_found_set(given, inside, came)), _shown_by(given, "infeasible", inside=inside))
     costs, potentials = given.column(COSTS), prices.items()
     for arc, (tail, head) in zip(given.limitless(), _limitless_ends(given)):
         if costs[arc] - potentials[tail - 1] + potentials[head - 1] < 0:
             _test_bounded_min(given)
             raise GaveUp("the capacities and supplies have a sum that is out of range")
-    return Solved(given.value(found.value), given.shown(FLOWS, flows, came), given.shown(POTENTIALS, prices, came))
+    answer = Solved(given.value(found.value), given.shown(FLOWS, flows, came), given.shown(POTENTIALS, prices, came))
+    shown: Solved = kept(answer, _shown_by(given, "min", flows=flows, potentials=prices))
+    return shown
 
 
 def _solve_bounded(
@@ -100,11 +129,13 @@ def _has_flow(given: Given, instance: list[Any]) -> bool:
 
 def solve_paths(given: Given, came: Any) -> Solved:
     _, (distances, before) = _solve(library.solve_paths_arrays, given, given.words(), DISTANCES, PREDECESSORS)
-    return Solved(None, given.shown(DISTANCES, distances, came), given.shown(PREDECESSORS, before, came))
+    answer = Solved(None, given.shown(DISTANCES, distances, came), given.shown(PREDECESSORS, before, came))
+    shown: Solved = kept(answer, _shown_by(given, "paths", distances=distances, predecessors=before))
+    return shown
 
 
 def _solve(function: Callable[..., int], given: Given, words: list[Any], *handed: Array) -> tuple[Verdict, list[Room]]:
-    with given.named():
+    with given.named(_asked("solve", given)):
         rooms = [given.room(kind) for kind in handed]
         status, line = library.call_with_rooms(function, words, rooms)
         if status == library.REFUSED:

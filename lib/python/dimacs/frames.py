@@ -11,15 +11,22 @@ import pandas as pd
 from pandas.api.types import is_hashable
 
 from . import calls, library
-from .answers import Feasible, Infeasible, NotOptimal
+from .answers import Certified, Explainable, Feasible, Infeasible, NotOptimal, Solved
 from .buffers import LIMIT, LIMITS
+from .explained import like
 from .given import DISTANCES, FLOWS, GRAPH, INSIDE, MAX, MIN, POTENTIALS, PREDECESSORS, Given, Names
 
 
 __all__ = ["Frame", "FrameAnswer", "from_frame"]
 
 
-class FrameAnswer(NamedTuple):
+class _FrameAnswer(NamedTuple):
+    value: Any
+    edges: pd.DataFrame | None
+    nodes: pd.DataFrame
+
+
+class FrameAnswer(_FrameAnswer, Explainable):
     """An answer, which was judged: its value or cost, None for distances; a DataFrame of edges on the index of the frame, with
     its two columns of ends and "flow", None for distances; and a DataFrame by node, with what shows it: "inside",
     "potential", or "distance" and "predecessor".
@@ -35,10 +42,6 @@ class FrameAnswer(NamedTuple):
     >>> answer.nodes["inside"].to_dict()
     {'mine': True, 'port': True, 'town': False}
     """
-
-    value: Any
-    edges: pd.DataFrame | None
-    nodes: pd.DataFrame
 
     @property
     def flows(self) -> pd.Series:
@@ -204,9 +207,10 @@ class Frame:
     def _by_edge(self, flows: Any) -> pd.Series:
         return _column_of(flows, self.edges.index).rename("flow")
 
-    def _answer(self, value: Any, flows: Any, **columns: Any) -> FrameAnswer:
+    def _answer(self, found: Certified | Solved, flows: Any, **columns: Any) -> FrameAnswer:
         edges = self.edges[self._named].assign(flow=self._by_edge(flows)) if flows is not None else None
-        return FrameAnswer(value, edges, self._by_node(**columns))
+        answer: FrameAnswer = like(FrameAnswer(found.value, edges, self._by_node(**columns)), found)
+        return answer
 
     def _by_node(self, **columns: Any) -> pd.DataFrame:
         index = pd.Index(self.nodes, name="node", tupleize_cols=False)
@@ -231,22 +235,23 @@ class Frame:
         """A maximum flow, and which nodes are on the source's side of a cut that shows it. Raises as solve_max_arrays,
         and ValueError if the frame has a column of lower bounds."""
         with self._shown():
-            value, flows, inside = calls.solve_max(self._max(source, sink).add_number("limit", limit, LIMITS), [])
-        return self._answer(value, flows, inside=inside)
+            found = calls.solve_max(self._max(source, sink).add_number("limit", limit, LIMITS), [])
+        return self._answer(found, found.flows, inside=found.inside)
 
     def solve_min(self, limit: int = LIMIT) -> FrameAnswer:
         """A flow of least cost, and potentials that show it. Raises as solve_min_arrays."""
         with self._shown():
-            cost, flows, prices = calls.solve_min(self._min().add_number("limit", limit, LIMITS), [])
-        return self._answer(cost, flows, potential=prices)
+            found = calls.solve_min(self._min().add_number("limit", limit, LIMITS), [])
+        return self._answer(found, found.flows, potential=found.potentials)
 
     def solve_paths(self, source: Any) -> FrameAnswer:
         """The distances from a node, by the column of costs, and predecessors; inf and None of a node that isn't reached:
         these columns have the dtype object then, in which distances stay ints."""
-        _, found, before = calls.solve_paths(self._paths(source), [])
+        found = calls.solve_paths(self._paths(source), [])
+        before = found.predecessors
         reached = [it != 0 or self.nodes[place] == source for place, it in enumerate(before)]
-        distances = [it if is_reached else math.inf for it, is_reached in zip(found, reached)]
-        return self._answer(None, None, distance=distances, predecessor=self._before(before))
+        distances = [it if is_reached else math.inf for it, is_reached in zip(found.distances, reached)]
+        return self._answer(found, None, distance=distances, predecessor=self._before(before))
 
     def _before(self, numbers: Any) -> list[Any]:
         return [self.nodes[it - 1] if it else None for it in numbers]
@@ -257,22 +262,22 @@ class Frame:
         flows = self._flows(flows)
         claim = self._max(source, sink).add(FLOWS, flows)
         with self._shown():
-            value, inside = calls.certify(library.certify_max_arrays, claim, [], INSIDE, FLOWS)
-        return self._answer(value, flows, inside=inside)
+            found = calls.certify(library.certify_max_arrays, claim, [], INSIDE, FLOWS)
+        return self._answer(found, flows, inside=found.inside)
 
     def certify_min(self, flows: Any) -> FrameAnswer:
         """Decides whether flows, a column or a Series, cost least. Raises as certify_min_arrays."""
         flows = self._flows(flows)
         claim = self._min().add(FLOWS, flows)
         with self._shown():
-            cost, prices = calls.certify(library.certify_min_arrays, claim, [], POTENTIALS, FLOWS)
-        return self._answer(cost, flows, potential=prices)
+            found = calls.certify(library.certify_min_arrays, claim, [], POTENTIALS, FLOWS)
+        return self._answer(found, flows, potential=found.potentials)
 
     def certify_infeasible(self) -> FrameAnswer:
         """Decides whether no flow meets the supplies. Raises Feasible with flows if one does."""
         with self._shown():
-            inside = calls.certify_infeasible(self._min(), []).inside
-        return self._answer(None, None, inside=inside)
+            found = calls.certify_infeasible(self._min(), [])
+        return self._answer(found, None, inside=found.inside)
 
     def certify_paths(self, source: Any, distances: Any) -> FrameAnswer:
         """Decides whether these are the distances from a node: a dict or Series by node, without those that aren't reached,
@@ -281,10 +286,9 @@ class Frame:
         for node in claimed:
             self._number(node)
         by_node = [claimed.get(node, math.inf) for node in self.nodes]
-        before = calls.certify(
-            library.certify_paths_arrays, self._paths(source).add(DISTANCES, by_node), [], PREDECESSORS
-        )
-        return self._answer(None, None, distance=by_node, predecessor=self._before(before.predecessors))
+        claim = self._paths(source).add(DISTANCES, by_node)
+        found = calls.certify(library.certify_paths_arrays, claim, [], PREDECESSORS)
+        return self._answer(found, None, distance=by_node, predecessor=self._before(found.predecessors))
 
 
 def from_frame(

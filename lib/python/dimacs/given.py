@@ -143,6 +143,10 @@ class Given:
         self._test_limitless()
         return words
 
+    def forget(self) -> None:
+        """Drops what words() made of the arguments; it makes the same again."""
+        self._buffers = {}
+
     def _single(self, name: str, items: Items) -> int:
         number = number_of(self._singles[name], items, name)
         return number + 1 - self.names.base if name in ("source", "sink") else number
@@ -241,6 +245,9 @@ class Given:
         """An array as whole numbers."""
         return self._buffers[kind.name].listed(kind.items)
 
+    def has(self, kind: Array) -> bool:
+        return kind in self._raw
+
     def number(self, name: str) -> int:
         return self._single(name, IDS)
 
@@ -288,24 +295,32 @@ class Given:
         ids = numpy.frombuffer(ctypes.string_at(buffer.address, buffer.length * kind.items.width), kind.items.code)
         return list(numpy.flatnonzero(ids == node).tolist())
 
+    def units(self) -> Any:
+        """The scales of amounts and costs, if numbers aren't whole."""
+        return self._units
+
     def amount(self, unit: str, number: int) -> Any:
         """A number of this unit, in the user's numbers."""
         return self._units.of(unit).shown(number) if self._units else number
 
     @contextmanager
-    def named(self) -> Iterator[None]:
-        """Exceptions raised inside name arcs and nodes as the caller does, with the numbers that were compared."""
+    def named(self, asked: Any = None) -> Iterator[None]:
+        """Exceptions raised inside name arcs and nodes as the caller does, with the numbers that were compared, and keep what
+        was asked."""
         try:
             yield
         except (Refused, PastLimit) as it:
             from .compared import compared
+            from .explained import refused
 
+            refused(it, asked)
             it.numbers = {**it.numbers, **compared(self, it)}
             if it.arc is not None:
                 it.arc = self.names.arc(it.arc - 1)
             if it.node is not None:
                 is_node = 0 < it.node <= self.number("nodes")
                 it.node = self.names.node(it.node - 1) if is_node else it.node - 1 + self.names.base
+            self.forget()
             raise
 
 

@@ -19,6 +19,7 @@ from typing import Any, Iterator, Sequence
 from . import calls, library
 from .answers import Certified, Feasible, Infeasible, NotOptimal, Solved, Unbounded, Verdict
 from .buffers import LIMIT, LIMITS, is_bool, unlabelled
+from .explained import like
 from .given import DISTANCES, FLOWS, GRAPH, INSIDE, MAX, MIN, POTENTIALS, PREDECESSORS, Given, Names
 
 #: What numbers are of, by the names of arrays.
@@ -210,7 +211,9 @@ def judge_networkx_min(graph: Any, flow: Any, potentials: Any = None, *, scale: 
     0
     """
     if potentials is None:
-        return Verdict("min", certify_networkx_min(graph, flow, scale=scale).value)
+        certified = certify_networkx_min(graph, flow, scale=scale)
+        answer: Verdict = like(Verdict("min", certified.value), certified)
+        return answer
     given = _Graph(graph, scale)
     prices = given.by_node(potentials, 0, "potentials")
     return calls.judge(library.judge_min_arrays, given.min().add(FLOWS, given.flows(flow)).add(POTENTIALS, prices))
@@ -234,8 +237,9 @@ def certify_networkx_max(graph: Any, source: Any, sink: Any, flow: Any, *, scale
     given = _Graph(graph, scale)
     with given.shown():
         claim = given.max(source, sink).add(FLOWS, given.flows(flow))
-        value, inside = calls.certify(library.certify_max_arrays, claim, [], INSIDE, FLOWS)
-    return Certified(value, given.nodes_inside(inside))
+        found = calls.certify(library.certify_max_arrays, claim, [], INSIDE, FLOWS)
+    answer: Certified = like(Certified(found.value, given.nodes_inside(found.inside)), found)
+    return answer
 
 
 def certify_networkx_min(graph: Any, flow: Any, *, scale: Any = None) -> Certified:
@@ -256,8 +260,9 @@ def certify_networkx_min(graph: Any, flow: Any, *, scale: Any = None) -> Certifi
     given = _Graph(graph, scale)
     with given.shown():
         claim = given.min().add(FLOWS, given.flows(flow))
-        cost, potentials = calls.certify(library.certify_min_arrays, claim, [], POTENTIALS, FLOWS)
-    return Certified(cost, given.by_name(potentials))
+        found = calls.certify(library.certify_min_arrays, claim, [], POTENTIALS, FLOWS)
+    answer: Certified = like(Certified(found.value, given.by_name(found.potentials)), found)
+    return answer
 
 
 def certify_networkx_infeasible(graph: Any, *, scale: Any = None) -> Certified:
@@ -276,8 +281,9 @@ def certify_networkx_infeasible(graph: Any, *, scale: Any = None) -> Certified:
     """
     given = _Graph(graph, scale)
     with given.shown():
-        inside = calls.certify_infeasible(given.min(), []).inside
-    return Certified(None, given.nodes_inside(inside))
+        found = calls.certify_infeasible(given.min(), [])
+    answer: Certified = like(Certified(None, given.nodes_inside(found.inside)), found)
+    return answer
 
 
 def certify_networkx_paths(graph: Any, source: Any, distances: Any, *, scale: Any = None) -> Certified:
@@ -294,8 +300,9 @@ def certify_networkx_paths(graph: Any, source: Any, distances: Any, *, scale: An
     """
     given = _Graph(graph, scale)
     claim = given.paths(source).add(DISTANCES, given.by_node(distances, math.inf, "distances"))
-    predecessors = calls.certify(library.certify_paths_arrays, claim, [], PREDECESSORS).predecessors
-    return Certified(None, given.predecessors(source, predecessors))
+    found = calls.certify(library.certify_paths_arrays, claim, [], PREDECESSORS)
+    answer: Certified = like(Certified(None, given.predecessors(source, found.predecessors)), found)
+    return answer
 
 
 def solve_networkx_max(graph: Any, source: Any, sink: Any, limit: int = LIMIT, *, scale: Any = None) -> Solved:
@@ -312,8 +319,10 @@ def solve_networkx_max(graph: Any, source: Any, sink: Any, limit: int = LIMIT, *
     """
     given = _Graph(graph, scale)
     with given.shown():
-        value, flows, inside = calls.solve_max(given.max(source, sink).add_number("limit", limit, LIMITS), [])
-    return Solved(value, given.flow_dict(flows), given.nodes_inside(inside))
+        found = calls.solve_max(given.max(source, sink).add_number("limit", limit, LIMITS), [])
+    value, flows, inside = found
+    answer: Solved = like(Solved(value, given.flow_dict(flows), given.nodes_inside(inside)), found)
+    return answer
 
 
 def solve_networkx_min(graph: Any, limit: int = LIMIT, *, scale: Any = None) -> Solved:
@@ -332,8 +341,10 @@ def solve_networkx_min(graph: Any, limit: int = LIMIT, *, scale: Any = None) -> 
     """
     given = _Graph(graph, scale)
     with given.shown():
-        cost, flows, potentials = calls.solve_min(given.min().add_number("limit", limit, LIMITS), [])
-    return Solved(cost, given.flow_dict(flows), given.by_name(potentials))
+        found = calls.solve_min(given.min().add_number("limit", limit, LIMITS), [])
+    cost, flows, potentials = found
+    answer: Solved = like(Solved(cost, given.flow_dict(flows), given.by_name(potentials)), found)
+    return answer
 
 
 def solve_networkx_paths(graph: Any, source: Any, *, scale: Any = None) -> Solved:
@@ -345,6 +356,8 @@ def solve_networkx_paths(graph: Any, source: Any, *, scale: Any = None) -> Solve
     {'a': 0, 'b': 1, 'c': 2}
     """
     given = _Graph(graph, scale)
-    _, distances, predecessors = calls.solve_paths(given.paths(source), [])
-    found = given.predecessors(source, predecessors)
-    return Solved(None, {node: it for node, it in zip(given.nodes, distances) if node in found}, found)
+    solved = calls.solve_paths(given.paths(source), [])
+    found = given.predecessors(source, solved.predecessors)
+    distances = {node: it for node, it in zip(given.nodes, solved.distances) if node in found}
+    answer: Solved = like(Solved(None, distances, found), solved)
+    return answer

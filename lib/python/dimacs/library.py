@@ -91,6 +91,12 @@ solve = _export("dimacs_solve", _number, texts=2, more=[_limit], rooms=3)
 convert = _export("dimacs_convert", _number, texts=1)
 show = _export("dimacs_show", _number, texts=1)
 
+
+def explain() -> Callable[..., int]:
+    """A library of version 0.1.0 has no such call."""
+    return _export("dimacs_explain", texts=4)
+
+
 judge_max_arrays = _export("dimacs_judge_max_arrays", _address, texts=2)
 judge_min_arrays = _export("dimacs_judge_min_arrays", _address, texts=2)
 judge_infeasible_arrays = _export("dimacs_judge_infeasible_arrays", _address, texts=1)

@@ -10,8 +10,12 @@ from typing import Any, Iterator, Union
 from . import library
 from .answers import Certified, Feasible, Infeasible, NotOptimal, Refused, Solved, Verdict
 from .buffers import LIMIT, LIMITS, Buffer, bytes_of, number_of
+from .explained import Asked, kept
 
 Text = Union[bytes, str, bytearray, memoryview, "os.PathLike[str]"]
+
+#: In place of a text that a call doesn't read.
+_NO_TEXT = b""
 
 KINDS = {"max": 0, "min": 1, "infeasible": 2, "paths": 3}
 _TEXTS = {"max": 0, "min": 1, "gr": 2, "query": 3, "solution": 4, "cut": 5, "pot": 6, "dist": 7, "distances": 8}
@@ -21,14 +25,28 @@ _TEXTS = {"max": 0, "min": 1, "gr": 2, "query": 3, "solution": 4, "cut": 5, "pot
 def _read(call: str, *texts: Text) -> Iterator[list[Buffer]]:
     """The bytes of texts. If one is refused that names a file, an exception raised inside says so."""
     try:
-        yield [bytes_of(it, call) for it in texts]
+        yield [bytes_of(it, call.split()[0]) for it in texts]
     except Refused as it:
+        kept(it, _asked(call, it, *texts))
         if it.text is None or it.line != 1:
             raise
         for text in texts:
             if isinstance(text, str) and "\n" not in text and os.path.isfile(text):
-                raise ValueError(f"{call} takes texts, and {text!r} names a file: pass pathlib.Path({text!r})") from it
+                raise ValueError(f"{call.split()[0]} takes texts, and {text!r} names a file: pass pathlib.Path({text!r})") from it
         raise
+
+
+def _asked(call: str, no: Refused, *texts: Text) -> Asked:
+    """What a refusal was asked of, and what it shows."""
+    name, _, kind = call.partition(" ")
+    if kind:
+        return Asked.of_text(name, kind, *texts)
+    read = [it for it in texts if it is not _NO_TEXT]
+    for exception, shown in ((NotOptimal, "better"), (Feasible, "flow")):
+        found = getattr(no, shown) if isinstance(no, exception) else None
+        if found is not None:
+            return Asked(call, *read, found, shown=shown)
+    return Asked(call, *read)
 
 
 def _words(texts: list[Buffer]) -> list[Any]:
@@ -40,7 +58,9 @@ def _judge(kind: str, instance: Text, claim: Text, certificate: Text) -> Verdict
         status, output = library.call(library.judge, KINDS[kind], *_words(texts))
         if status == library.REFUSED:
             raise library.refusal(output)
-    return library.verdict(output)
+    read = [it for it in (instance, claim, certificate) if it is not _NO_TEXT]
+    found: Verdict = kept(library.verdict(output), Asked(f"judge_{kind}", *read))
+    return found
 
 
 def judge_max(instance: Text, solution: Text, cut: Text) -> Verdict:
@@ -67,7 +87,7 @@ def judge_infeasible(instance: Text, cut: Text) -> Verdict:
     >>> judge_infeasible("p min 2 1\nn 1 3\nn 2 -3\na 1 2 0 2 7\n", "p cut 2 1\nu 1\n").kind
     'infeasible'
     """
-    return _judge("infeasible", instance, b"", cut)
+    return _judge("infeasible", instance, _NO_TEXT, cut)
 
 
 def judge_paths(graph: Text, queries: Text, labels: Text) -> Verdict:
@@ -90,7 +110,9 @@ def _certify(kind: str, instance: Text, claim: Text) -> Certified:
         if status == library.REFUSED:
             raise _refusal(library.refusal(line), instance, claim, shown)
     value = library.verdict(line).value if kind in ("max", "min") else None
-    return Certified(value, _in_form_of(instance, shown))
+    read = [it for it in (instance, claim) if it is not _NO_TEXT]
+    found: Certified = kept(Certified(value, _in_form_of(instance, shown)), Asked(f"certify_{kind}", *read, shown))
+    return found
 
 
 def _refusal(no: Refused, instance: Text, claim: Text, shown: bytes) -> Refused:
@@ -142,7 +164,7 @@ def certify_infeasible(instance: Text) -> Certified:
     >>> certify_infeasible("p min 2 1\nn 1 3\nn 2 -3\na 1 2 0 2 7\n").certificate
     'p cut 2 1\nu 1\n'
     """
-    return _certify("infeasible", instance, b"")
+    return _certify("infeasible", instance, _NO_TEXT)
 
 
 def certify_paths(graph: Text, distances: Text) -> Certified:
@@ -201,10 +223,14 @@ def _solve(kind: str, instance: Text, queries: Text, limit: int) -> Solved:
     shown = _in_form_of(instance, certificate)
     found = library.verdict(output)
     if found.kind == "infeasible":
-        raise Infeasible(shown)
+        raise kept(Infeasible(shown), Asked(f"solve_{kind}", instance, b"", shown))
     if kind == "paths":
-        return Solved(None, found.pairs, shown)
-    return Solved(found.value, _in_form_of(instance, solution), shown)
+        answer = kept(Solved(None, found.pairs, shown), Asked("solve_paths", instance, queries, certificate))
+    else:
+        answer = Solved(found.value, _in_form_of(instance, solution), shown)
+        kept(answer, Asked(f"solve_{kind}", instance, solution, certificate))
+    made: Solved = answer
+    return made
 
 
 def solve_max(instance: Text, limit: int = LIMIT) -> Solved:
@@ -215,7 +241,7 @@ def solve_max(instance: Text, limit: int = LIMIT) -> Solved:
     >>> solve_max("p max 2 1\nn 1 s\nn 2 t\na 1 2 3\n")
     Solved(value=3, solution='s 3\nf 1 2 3\n', certificate='p cut 2 1\nu 1\n')
     """
-    return _solve("max", instance, b"", limit)
+    return _solve("max", instance, _NO_TEXT, limit)
 
 
 def solve_min(instance: Text, limit: int = LIMIT) -> Solved:
@@ -227,7 +253,7 @@ def solve_min(instance: Text, limit: int = LIMIT) -> Solved:
     >>> solve_min("p min 2 1\nn 1 3\nn 2 -3\na 1 2 0 5 7\n").value
     21
     """
-    return _solve("min", instance, b"", limit)
+    return _solve("min", instance, _NO_TEXT, limit)
 
 
 def solve_paths(graph: Text, queries: Text) -> Solved:
@@ -244,7 +270,7 @@ def solve_paths(graph: Text, queries: Text) -> Solved:
 def _printed(call: str, function: Any, kind: str, text: Text) -> Any:
     if kind not in _TEXTS:
         raise ValueError(f"{kind!r} is no kind of text: these are {', '.join(_TEXTS)}")
-    with _read(call, text) as texts:
+    with _read(f"{call} {kind}", text) as texts:
         rooms = [library.LINE + texts[0].length]
         status, (printed,) = library.call_for_texts(function, _TEXTS[kind], *_words(texts), rooms=rooms)
         if status == library.REFUSED:

@@ -61,6 +61,8 @@ pub enum Error<Flow, Set> {
     PastLimit(Refused),
     /// An array has a wrong length. Nothing was judged.
     WrongLength,
+    /// The words that are to be explained aren't a command with its files.
+    NoCommand,
     /// Out of memory: the claim is undecided.
     OutOfMemory,
     /// The library answers this, which the crate doesn't know: another version of it was linked. The claim is undecided.
@@ -77,6 +79,7 @@ impl<Flow, Set> fmt::Display for Error<Flow, Set> {
             Error::GaveUp => out.write_str("a limit was reached"),
             Error::PastLimit(refused) => write!(out, "a number is past its limit: {refused}"),
             Error::WrongLength => out.write_str("an array has another length than it has to have"),
+            Error::NoCommand => out.write_str("the words aren't a command with its files"),
             Error::OutOfMemory => out.write_str("there was not enough memory"),
             Error::UnknownAnswer(answer) => write!(out, "libdimacs answers what the crate doesn't know: {answer}"),
         }

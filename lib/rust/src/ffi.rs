@@ -124,6 +124,20 @@ extern "C" {
     pub fn dimacs_show(kind: u32, text: *const u8, length: usize, out: *mut u8, room: usize, needed: *mut usize)
         -> u32;
 
+    pub fn dimacs_explain(
+        command: *const u8,
+        command_length: usize,
+        first: *const u8,
+        first_length: usize,
+        second: *const u8,
+        second_length: usize,
+        third: *const u8,
+        third_length: usize,
+        out: *mut u8,
+        room: usize,
+        needed: *mut usize,
+    ) -> u32;
+
     pub fn dimacs_judge_max_arrays(
         instance: *const Max,
         flows: *const i64,

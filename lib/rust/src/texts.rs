@@ -5,7 +5,7 @@
 //! [`Error::OutOfMemory`], and [`Error::UnknownAnswer`]. Its documentation names the other variants that it returns.
 
 use crate::error::NoAnswer;
-use crate::ffi::{self, DONE, GAVE_UP, NO_MEMORY, REFUSED};
+use crate::ffi::{self, DONE, GAVE_UP, MISUSED, NO_MEMORY, REFUSED};
 use crate::rooms::{Room, LINE};
 use crate::words::{is_feasible, is_infeasible, is_not_optimal, known, refused, unknown_status, value, words};
 
@@ -482,6 +482,50 @@ pub fn show(kind: Kind, text: impl AsRef<[u8]>) -> Result<String, Error> {
             unsafe { ffi::dimacs_show(kind as u32, text.as_ptr(), text.len(), out.at(), out.room(), out.needed()) };
         if grow([&mut out])? {
             return lines_of(status, out);
+        }
+    }
+}
+
+/// The lines that `dimacs explain` prints for a command over texts: its own, after a refusal too, then what explains
+/// them. The words that name files are names of the texts, in order; a text that isn't read may be empty. For those that
+/// the command writes, give what it wrote. [`Error::NoCommand`] if the words aren't a command with its files.
+///
+/// ```
+/// # use dimacs::texts::explain;
+/// let pipe = "p max 2 1\nn 1 s\nn 2 t\na 1 2 7\n";
+/// let lines = explain("judge-max pipe flow cut", pipe, "s 8\nf 1 2 8\n", "p cut 2 1\nu 1\n").unwrap();
+/// assert!(lines.starts_with("x arc 1 AboveCap\npipe:4: a 1 2 7\n"));
+/// ```
+pub fn explain(
+    command: &str,
+    first: impl AsRef<[u8]>,
+    second: impl AsRef<[u8]>,
+    third: impl AsRef<[u8]>,
+) -> Result<String, Error> {
+    let [first, second, third] = [first.as_ref(), second.as_ref(), third.as_ref()];
+    let mut lines = Room::new(16 * LINE)?;
+    loop {
+        let status = unsafe {
+            ffi::dimacs_explain(
+                command.as_ptr(),
+                command.len(),
+                first.as_ptr(),
+                first.len(),
+                second.as_ptr(),
+                second.len(),
+                third.as_ptr(),
+                third.len(),
+                lines.at(),
+                lines.room(),
+                lines.needed(),
+            )
+        };
+        if grow([&mut lines])? {
+            return match status {
+                REFUSED | GAVE_UP => Ok(lines.text()?),
+                MISUSED => Err(Error::NoCommand),
+                _ => lines_of(status, lines),
+            };
         }
     }
 }

@@ -92,3 +92,17 @@ fn each_kind_is_itself() {
         assert_eq!(texts::convert(kind, text).as_deref(), Ok(text), "{kind:?}");
     }
 }
+
+#[test]
+fn answers_are_explained() {
+    let max = "p max 4 5\nn 1 s\nn 4 t\na 1 2 4\na 1 3 2\na 2 3 2\na 2 4 3\na 3 4 5\n";
+    let cut = "p cut 4 1\nu 1\n";
+    let lines = texts::explain("judge-max I S C", max, "s 4\nf 1 2 4\n", cut).unwrap();
+    let entries = "entries out of it: 0\nentries into it: 1\n  S:2: f 1 2 4\n";
+    assert_eq!(lines, format!("x node 2 Balance\n0 leaves node 2, 4 enters it: 4 too little leaves\n{entries}"));
+    let flow = "s 6\nf 1 2 4\nf 1 3 2\nf 2 3 1\nf 2 4 3\nf 3 4 3\n";
+    let yes = texts::explain("judge-max I S C", max, flow, cut).unwrap();
+    assert!(yes.starts_with("v max 6\non the source's side of the cut, 1 of the 4 nodes: 1\n"));
+    assert_eq!(texts::explain("solve-max I S C --limit 0", max, "", "").as_deref(), Ok("g limit\n"));
+    assert_eq!(texts::explain("judge-max I S", max, flow, cut), Err(Error::NoCommand));
+}

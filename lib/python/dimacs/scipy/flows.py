@@ -126,15 +126,15 @@ def certify_maximum_flow(csgraph: Any, source: int, sink: int, flow: Any) -> Cer
     given = _Network(csgraph, source, sink)
     given.tails, given.heads, given.caps, flows = _by_pair(given, getattr(flow, "flow", flow))
     try:
-        value, inside = calls.certify(library.certify_max_arrays, given.given().add(FLOWS, flows), flows, INSIDE, FLOWS)
+        found = calls.certify(library.certify_max_arrays, given.given().add(FLOWS, flows), flows, INSIDE, FLOWS)
     except NotOptimal as it:
         it.better = given.matrix(it.better)
         raise
-    claimed = value_of(getattr(flow, "flow_value", value), "flow_value")
-    if claimed != value:
-        numbers = {"claimed": claimed, "value": value}
+    claimed = value_of(getattr(flow, "flow_value", found.value), "flow_value")
+    if claimed != found.value:
+        numbers = {"claimed": claimed, "value": found.value}
         raise Refused("ValueDiffers", text="solution", line=0, field=0, numbers=numbers)
-    return Certified(value, inside)
+    return found
 
 
 def _by_pair(given: _Network, flow: Any) -> tuple[Any, Any, Any, Any]:

@@ -1,0 +1,267 @@
+"""What explains an answer: the command that gives it, run once more over the same texts or arrays. The printed line is proved
+to be the answer's; the lines after it aren't."""
+
+from __future__ import annotations
+
+import re
+from typing import Any, Iterator, Sequence
+
+from . import library
+from .answers import Explainable, Placed
+from .buffers import UNLIMITED, Room, bytes_of
+from .given import CAPS, COSTS, DISTANCES, FLOWS, HEADS, INSIDE, LOWS, MAX, MIN, POTENTIALS, PREDECESSORS, SUPPLIES, TAILS
+from .given import WEIGHTS, Array, Given, Names
+
+#: The names of a call's texts, which the lines quote: those that refusals have for them.
+_NAMES = {
+    "judge_max": "instance solution certificate",
+    "judge_min": "instance solution certificate",
+    "judge_infeasible": "instance certificate",
+    "judge_paths": "instance query certificate",
+    "certify_max": "instance solution certificate",
+    "certify_min": "instance solution certificate",
+    "certify_infeasible": "instance certificate",
+    "certify_paths": "instance distances certificate",
+    "solve_max": "instance solution certificate",
+    "solve_min": "instance solution certificate",
+    "solve_paths": "instance query certificate",
+    "spread_max": "instance solution spread",
+    "spread_min": "instance solution spread",
+}
+
+#: The names of single texts, by their kinds.
+_KINDS = {"query": "query", "solution": "solution", "distances": "distances"}
+_KINDS |= dict.fromkeys(("max", "min", "gr"), "instance") | dict.fromkeys(("cut", "pot", "dist"), "certificate")
+
+#: How many texts a certifier reads, or a solver; 2 if it isn't here.
+_READ = {"certify_infeasible": 1}
+
+
+def kept(answer: Any, asked: Any) -> Any:
+    """An answer with what it was asked of."""
+    object.__setattr__(answer, "_asked", asked)
+    return answer
+
+
+def like(answer: Any, old: Explainable) -> Any:
+    """An answer in another form."""
+    return kept(answer, old._asked)
+
+
+def _explanation(command: str, texts: Sequence[Any]) -> list[str]:
+    words = [bytes_of(command.encode("ascii")), *map(bytes_of, [*texts, b"", b"", b""][:3])]
+    _, lines = library.call(library.explain(), *(word for it in words for word in it.words()))
+    return lines.decode("ascii").splitlines()
+
+
+def _forgotten() -> None:
+    """In place of what a pickled answer was asked of."""
+
+
+class Asked:
+    """A call over texts: these, then what it hands out. It keeps them alive."""
+
+    def __init__(self, call: str, *texts: Any, shown: str = "certificate") -> None:
+        self._call, self._texts, self._shown = call, texts, shown
+
+    @classmethod
+    def of_text(cls, call: str, kind: str, text: Any) -> Asked:
+        return cls(f"{call} {kind} {_KINDS[kind]}", text)
+
+    def __reduce__(self) -> Any:
+        return _forgotten, ()
+
+    def command(self) -> str:
+        """The command, and the names of its texts. A certifier that shows nothing writes nothing."""
+        if self._call not in _NAMES:
+            return self._call
+        names = _NAMES[self._call].replace("certificate", self._shown).split()
+        if self._call.startswith("certify"):
+            names = names[: len(self._texts)]
+        return " ".join([self._call.replace("_", "-"), *names])
+
+    def lines(self) -> list[str]:
+        lines = _explanation(self.command(), self._texts)
+        # Nothing was written here: a run of the command empties its files.
+        return [it for it in lines if " is empty: a solve run creates" not in it]
+
+    def explain(self) -> str:
+        return "".join(f"{it}\n" for it in self.lines())
+
+
+# ---- arrays
+
+
+def _instance(given: Given) -> Iterator[str]:
+    ends = given.column(TAILS), given.column(HEADS)
+    if given.form is MAX:
+        yield f"p max {given.number('nodes')} {len(ends[0])}"
+        yield f"n {given.number('source')} s"
+        yield f"n {given.number('sink')} t"
+        numbers = [given.column(CAPS)]
+    elif given.form is MIN:
+        yield f"p min {given.number('nodes')} {len(ends[0])}"
+        yield from (f"n {node} {it}" for node, it in enumerate(given.column(SUPPLIES), 1) if it)
+        numbers = [given.column(it) for it in (LOWS, CAPS, COSTS)]
+    else:
+        yield f"p sp {given.number('nodes')} {len(ends[0])}"
+        numbers = [given.column(WEIGHTS)]
+    yield from (f"a {' '.join(map(str, it))}" for it in zip(*ends, *numbers))
+
+
+def _solution(given: Given, flows: Sequence[int]) -> Iterator[str]:
+    yield f"s {given.value_of(flows)}"
+    yield from (f"f {tail} {head} {it}" for tail, head, it in zip(given.column(TAILS), given.column(HEADS), flows))
+
+
+def _by_node(kind: str, letter: str, values: Sequence[Any]) -> Iterator[str]:
+    found = [f"{letter} {node}{'' if letter == 'u' else f' {it}'}" for node, it in enumerate(values, 1) if it]
+    return iter([f"p {kind} {len(values)} {len(found)}", *found])
+
+
+def _labels(given: Given, kind: str, distances: Sequence[int], before: Sequence[int] | None) -> Iterator[str]:
+    source = given.number("source")
+    found = [f"d {node} {it}" for node, it in enumerate(distances, 1) if it < UNLIMITED and node != source]
+    if before is not None:
+        found = [f"{it} {before[int(it.split()[1]) - 1]}" for it in found]
+    return iter([f"p {kind} {len(distances)} 1", f"t {source} {len(found)}", *found])
+
+
+_RECORD = re.compile(r"^( *)(\w+):(\d+): (.*)$")
+_MARK = re.compile(r"^ +\^+$")
+
+#: Where lines have nodes and arcs.
+_NODES = re.compile(r"\b(?:nodes?:?|source|from|to|predecessor|PRED,|inside|sink,) (\d+)|y\((\d+)\)|(\d+(?: -> \d+)+)")
+_LISTED = re.compile(r"nodes: ([\d ]+)")
+_ARCS = re.compile(r"\barc (\d+)")
+
+
+class AskedOfArrays(Asked):
+    """A call over arrays. It keeps them alive: what it explains is what they hold by then."""
+
+    def __init__(self, call: str, given: Given, **more: Room) -> None:
+        super().__init__(call)
+        self._given, self._more = given, more
+        self.printed: str | None = None
+
+    @property
+    def kind(self) -> str:
+        return self._call.partition("_")[2]
+
+    def add(self, **more: Room) -> None:
+        """Adds what was handed out."""
+        self._more.update(more)
+
+    def _column(self, kind: Array) -> Any:
+        return self._more[kind.name].items() if kind.name in self._more else self._given.column(kind)
+
+    def _text(self, name: str) -> str:
+        given, kind = self._given, self.kind
+        if name == "instance":
+            lines = _instance(given)
+        elif name == "query":
+            lines = iter(["p aux sp ss 1", f"s {given.number('source')}"])
+        elif name == "solution":
+            lines = _solution(given, self._column(FLOWS))
+        elif name == "better":
+            lines = _solution(given, self._more[name].items())
+        elif name == "distances":
+            lines = _labels(given, "distances", self._column(DISTANCES), None)
+        elif kind == "paths":
+            lines = _labels(given, "dist", self._column(DISTANCES), self._column(PREDECESSORS))
+        elif kind == "min":
+            lines = _by_node("pot", "y", self._column(POTENTIALS))
+        else:
+            lines = _by_node("cut", "u", self._column(INSIDE))
+        return "".join(f"{it}\n" for it in lines)
+
+    def lines(self) -> list[str]:
+        self._given.words()
+        try:
+            return self._told()
+        finally:
+            self._given.forget()
+
+    def _told(self) -> list[str]:
+        names = _NAMES[self._call].split()
+        if not self._call.startswith("judge"):
+            names = [*names[: _READ.get(self._call, 2)], *(it for it in self._more if it == "better")]
+        texts = [self._text(it) for it in names]
+        written = ["certificate"] if self._call == "solve_paths" else []
+        first, *more = _explanation(" ".join([self._call.replace("_", "-"), *names, *written]), texts)
+        if self.printed is not None and not self._is_same(first):
+            return [self.printed]
+        retold = [it for line in more for it in self._retold(line, texts)]
+        return [self.printed or first, *retold, *self._notes(retold)]
+
+    def _is_same(self, first: str) -> bool:
+        """Whether texts are refused as the arrays were: for the same arc or node, or as a whole."""
+        if not first.startswith("x "):
+            return False
+        mine, found = (library.refusal(it.encode("ascii")) for it in (str(self.printed), first))
+        return (mine.reason, mine.arc, mine.node) == (found.reason, found.arc, found.node)
+
+    # ---- without the texts, which the caller never saw
+
+    def _retold(self, line: str, texts: list[str]) -> Iterator[str]:
+        line = re.sub(r" \(line \d+\)", "", line)
+        found = _RECORD.match(line)
+        if found:
+            indent, name, number, record = found.groups()
+            words = self._record(int(number), record.split(), texts[0])
+            if words:
+                yield indent + words
+        elif not _MARK.match(line) and "dimacs spread-" not in line and " is empty: " not in line:
+            yield line.replace(str(UNLIMITED), "inf") if self._given.limitless() else line
+
+    def _record(self, line: int, words: list[str], instance: str) -> str:
+        letter, *rest = words
+        if letter == "a":
+            named = {MAX: ["CAP"], MIN: ["LOW", "CAP", "COST"]}.get(self._given.form, ["WEIGHT"])
+            numbers = ", ".join(f"{name} {it}" for name, it in zip(named, rest[2:]))
+            before = instance.partition("\na ")[0].count("\n") + 1
+            return f"arc {line - before}: {rest[0]} -> {rest[1]}, {numbers}"
+        if letter == "f":
+            return f"arc {line - 1}: {rest[0]} -> {rest[1]}, FLOW {rest[2]}"
+        if letter == "n":
+            ends = {"s": "the source", "t": "the sink"}
+            return f"node {rest[0]}: {ends.get(rest[1], f'SUPPLY {rest[1]}')}"
+        if letter == "y":
+            return f"node {rest[0]}: potential {rest[1]}"
+        if letter == "u":
+            return f"node {rest[0]}: inside"
+        if letter == "d":
+            return f"node {rest[0]}: distance {rest[1]}" + (f", predecessor {rest[2]}" if rest[2:] else "")
+        return " ".join(words) if letter == "the" else ""
+
+    def _notes(self, lines: list[str]) -> Iterator[str]:
+        """What numbers in these lines are for the caller."""
+        names, units = self._given.names, self._given.units()
+        if units:
+            amount, cost = (it.shown(1) for it in units)
+            yield f"amounts are multiples of {amount} here, costs and distances of {cost}"
+        if type(names) is not Names:
+            nodes = _numbers(lines, (_NODES, _LISTED), self._given.number("nodes"))
+            yield from _named("node", nodes, names.node)
+            yield from _named("arc", _numbers(lines, (_ARCS,), self._given.count(TAILS)), names.arc)
+        elif names.base == 0:
+            yield "nodes and arcs are numbered from 1 here, and from 0 in the arrays"
+
+
+def _numbers(lines: list[str], forms: Sequence[re.Pattern[str]], most: int) -> list[int]:
+    """The numbers of nodes or arcs in lines, which are at most `most`."""
+    words = [it for line in lines for form in forms for found in form.finditer(line) for it in found.groups() if it]
+    numbers = {int(number) for it in words for number in re.findall(r"\d+", it)}
+    return sorted(it for it in numbers if 0 < it <= most)
+
+
+def _named(what: str, numbers: list[int], name: Any) -> Iterator[str]:
+    if numbers:
+        yield f"{what}s by number: " + ", ".join(f"{it} is {name(it - 1)!r}" for it in numbers)
+
+
+def refused(it: Placed, asked: AskedOfArrays | None) -> None:
+    """Keeps what was asked with a refusal, before its arc or node is named."""
+    if asked is not None and isinstance(it, Explainable):
+        asked.printed = it.printed
+        kept(it, asked)

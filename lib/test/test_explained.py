@@ -1,0 +1,294 @@
+"""What explains answers, from Python: over texts, arrays and graphs. The lines were worked out by hand, as those of
+tests/explain.py and docs/JUDGING.md were."""
+
+import copy
+import os
+import pickle
+import subprocess
+import tempfile
+import unittest
+from decimal import Decimal
+from pathlib import Path
+
+import dimacs
+from dimacs import library
+from test_arrays import CUT as SIDE
+from test_arrays import DEAR as DEAR_FLOW
+from test_arrays import DISTANCES, ENDS, GRAPH, POTENTIALS, PREDECESSORS
+from test_arrays import LEAST as LEAST_FLOW
+from test_arrays import MAX as PIPES
+from test_arrays import MIN as SHIPS
+from test_arrays import pandas
+from test_networkx import networkx, pipes
+from test_texts import CLAIMED, CUT, FLOW, LEAST, MAX, MIN, PAIRS, POT, SOURCE
+from test_texts import GRAPH as ROADS
+
+try:
+    import explain as cases  # tests/explain.py
+except ImportError:
+    cases = None
+
+#: The program, beside the library.
+PROGRAM = Path(os.environ.get("DIMACS_LIBRARY", "")).parent / "dimacs"
+
+EXAMPLES = Path(__file__).resolve().parents[2] / "examples"
+
+MAXIMUM = """\
+v max 6
+on the source's side of the cut, 1 of the 4 nodes: 1
+arcs into it, all empty: 0
+arcs out of it, all full: 2
+  arc 1: 1 -> 2, CAP 4
+  arc 2: 1 -> 3, CAP 2
+4 + 2 = 6, the value of the flow: all flow to the sink has to cross these arcs, so none has a greater value
+"""
+
+# The same for the pipes of docs/JUDGING.md.
+OF_PIPES = """\
+v max 12
+on the source's side of the cut, 3 of the 5 nodes: 1 2 3
+arcs into it, all empty: 1
+  arc 6: 4 -> 3, FLOW 0
+arcs out of it, all full: 2
+  arc 4: 2 -> 4, CAP 4
+  arc 5: 3 -> 5, CAP 8
+4 + 8 = 12, the value of the flow: all flow to the sink has to cross these arcs, so none has a greater value
+"""
+
+BOUND = (
+    "with potentials y (0 without a line) and r = COST - y(TAIL) + y(HEAD), a feasible flow costs the sum of "
+    "y * SUPPLY over the nodes plus that of r * FLOW over the arcs"
+)
+CHEAPEST = f"""\
+v min 14
+FLOW * COST of the arcs, the greatest in size first:
+  arc 1: 1 -> 2, 2 * 2 = 4
+  arc 2: 1 -> 3, 2 * 2 = 4
+  arc 5: 3 -> 4, 4 * 1 = 4
+  arc 3: 2 -> 3, 2 * 1 = 2
+4 + 4 + 4 + 2 = 14, the cost
+{BOUND}
+y * SUPPLY, the same for each flow; nodes where it isn't 0: 1
+  node 1: 4 * 4
+16
+r * FLOW, at least r * LOW if r is above 0, else r * CAP; arcs where that isn't 0: 1
+  arc 2: 1 -> 3, r = 2 - 4 + 1 = -1, CAP 2
+-2
+16 - 2 = 14: no flow costs less
+another flow of this cost can differ only on arcs with r = 0, 3 of 5: 1 3 5
+"""
+
+UNMET = """\
+v infeasible
+in the set, 2 of the 2 nodes: 1 2
+its supply: 1
+arcs out of it: 0
+arcs into it: 0
+these bounds add up to 0 out of it, and 0 into it
+so what leaves it, less what enters it, is at most 0 - 0 = 0, but has to be its supply, 1: no flow is feasible
+"""
+SURPLUS = "p min 2 1\nn 1 1\na 1 2 0 5 1\n"
+IN_SURPLUS = (2, [1], [2], [0], [5], [1], [1, 0])
+
+BALANCE = """\
+x node 2 Balance
+0 leaves node 2, 4 enters it: 4 too little leaves
+entries out of it: 0
+entries into it: 1
+"""
+
+FAULT = """\
+x instance 12 4 BadNumber
+instance:12: a 3 4  500.5
+                    ^^^^^
+WEIGHT is a whole number, digits with a sign or without, and not `500.5`
+"""
+
+
+class Explained(unittest.TestCase):
+    def refused(self, call, *words, **how):
+        with self.assertRaises(dimacs.Refused) as caught:
+            call(*words, **how)
+        return caught.exception.explain()
+
+
+class Texts(Explained):
+    def test_yes(self):
+        self.assertEqual(dimacs.judge_max(MAX, FLOW, CUT).explain(), MAXIMUM)
+        self.assertEqual(dimacs.certify_max(MAX.encode(), FLOW).explain(), MAXIMUM)
+        self.assertEqual(dimacs.solve_max(MAX).explain(), MAXIMUM)
+        self.assertEqual(dimacs.judge_min(MIN, LEAST, POT).explain(), CHEAPEST)
+        self.assertEqual(dimacs.certify_infeasible(SURPLUS).explain(), UNMET)
+        self.assertEqual(dimacs.judge_infeasible(SURPLUS, "p cut 2 2\nu 1\nu 2\n").explain(), UNMET)
+
+    def test_files(self):
+        texts = [EXAMPLES / f"pipes.{ending}" for ending in ("max", "solution", "cut")]
+        self.assertEqual(dimacs.judge_max(*texts).explain(), OF_PIPES)
+        self.assertEqual(self.refused(dimacs.convert, "gr", EXAMPLES / "road-faulty.gr"), FAULT)
+
+    def test_routes(self):
+        solved = dimacs.solve_paths(ROADS, PAIRS)
+        for answer in (solved, dimacs.judge_paths(ROADS, PAIRS, solved.certificate)):
+            self.assertEqual(answer.explain().splitlines()[:3], ["v 1 2 5", "v 1 4 unreachable", "1 -> 2: 5"])
+        far = "the farthest node from 1, of 1 that it reaches: 1 -> 2: 5"
+        self.assertEqual(dimacs.solve_paths(ROADS, SOURCE).explain().splitlines()[1], far)
+        self.assertEqual(dimacs.certify_paths(ROADS, CLAIMED).explain().splitlines()[1], far)
+
+    def test_refusals(self):
+        entry = "  solution:2: f 1 2 4\n"
+        self.assertEqual(self.refused(dimacs.judge_max, MAX, "s 4\nf 1 2 4\n", CUT), BALANCE + entry)
+        more = self.refused(dimacs.certify_max, MAX, "s 0\n")
+        self.assertIn("\nbetter:1: s 6\nthis flow is feasible, and has 6 more than the 0 that is claimed\n", more)
+        flow = self.refused(dimacs.certify_infeasible, MIN).splitlines()
+        self.assertEqual((flow[0], flow[2][:9]), ("x instance 0 0 Feasible", "flow:1: s"))
+        self.assertEqual(self.refused(dimacs.solve_min, SURPLUS), UNMET)
+        unknown = self.refused(dimacs.spread_max, MAX, "s 0\nf 4 3 2\n").splitlines()
+        self.assertEqual(unknown[2:], ["instance has no arc from 4 to 3", "arc 5 leads from 3 to 4"])
+        # A solver here empties no files.
+        ends = self.refused(dimacs.solve_max, "p max 1 1\nn 1 s\nn 2 t\n")
+        self.assertNotIn("is empty", ends)
+        self.assertIn("node 2 is above the 1 nodes that line 1 declares", ends)
+
+    def test_what_is_kept(self):
+        text = bytearray(MAX.encode())
+        answer = dimacs.judge_max(text, FLOW, CUT)
+        text[-2:] = b"6\n"  # the last arc's capacity, which no line names
+        self.assertEqual(answer.explain(), MAXIMUM)
+        text[:] = b""
+        self.assertEqual(answer.explain().splitlines()[0], "x instance 1 0 ProblemMissing")
+        for again in (pickle.loads(pickle.dumps(answer)), copy.deepcopy(answer)):
+            self.assertEqual(again, answer)
+            self.assertRaises(ValueError, again.explain)
+        self.assertRaises(ValueError, dimacs.Verdict("max", 6).explain)
+
+
+class Arrays(Explained):
+    def test_yes(self):
+        for answer in (
+            dimacs.judge_max_arrays(*PIPES, [4, 2, 1, 3, 3], SIDE),
+            dimacs.certify_max_arrays(*PIPES, [4, 2, 1, 3, 3]),
+            dimacs.solve_max_arrays(*PIPES),
+        ):
+            self.assertEqual(answer.explain(), MAXIMUM)
+        self.assertEqual(dimacs.judge_min_arrays(*SHIPS, LEAST_FLOW, POTENTIALS).explain(), CHEAPEST)
+        self.assertEqual(dimacs.certify_infeasible_arrays(*IN_SURPLUS).explain(), UNMET)
+        self.assertEqual(self.refused(dimacs.solve_min_arrays, *IN_SURPLUS), UNMET)
+        far = "the farthest node from 1, of 1 that it reaches: 1 -> 2: 5"
+        for answer in (
+            dimacs.judge_paths_arrays(*GRAPH, 1, DISTANCES, PREDECESSORS),
+            dimacs.certify_paths_arrays(*GRAPH, 1, DISTANCES),
+            dimacs.solve_paths_arrays(*GRAPH, 1),
+        ):
+            self.assertEqual(answer.explain().splitlines()[:2], ["v sp ss 1", far])
+
+    def test_refusals(self):
+        # Each arc has an entry: two leave the node.
+        leave = "entries out of it: 2\n  arc 3: 2 -> 3, FLOW 0\n  arc 4: 2 -> 4, FLOW 0\n"
+        entries = f"{BALANCE}  arc 1: 1 -> 2, FLOW 4\n".replace("entries out of it: 0\n", leave)
+        self.assertEqual(self.refused(dimacs.certify_max_arrays, *PIPES, [4, 0, 0, 0, 0]), entries)
+        above = self.refused(dimacs.judge_max_arrays, *PIPES, [9, 2, 1, 3, 3], SIDE).splitlines()
+        self.assertEqual(above[0], "x arc 1 AboveCap")
+        self.assertEqual(above[-1], "arc 1 carries 9, more than its CAP, 4")
+        self.assertIn("arc 1: 1 -> 2, FLOW 9", above)
+        less = self.refused(dimacs.certify_min_arrays, *SHIPS, DEAR_FLOW).splitlines()
+        is_less = "this flow is feasible, and costs 1 less than the 15 that is claimed"
+        self.assertEqual(less, ["x solution 0 0 NotLeast", is_less])
+        loose = self.refused(dimacs.judge_paths_arrays, *GRAPH, 1, [0, 4, *DISTANCES[2:]], PREDECESSORS).splitlines()
+        self.assertEqual(loose[:2], ["x node 2 NoTightArc", "node 2: distance 4, predecessor 1"])
+        negative = self.refused(dimacs.solve_paths_arrays, 2, [1], [2], [-4], 1).splitlines()
+        self.assertEqual(negative[:2], ["x arc 1 NegativeWeight", "arc 1: 1 -> 2, WEIGHT -4"])
+
+    def test_what_no_text_says(self):
+        """The source's distance isn't in a text: the refusal alone is left."""
+        lines = self.refused(dimacs.judge_paths_arrays, *GRAPH, 1, [1, 5, *DISTANCES[2:]], PREDECESSORS)
+        self.assertEqual(lines, "x node 1 NotShortest\n")
+
+    def test_units_and_bases(self):
+        tens = [Decimal(it) / 10 for it in PIPES[-1]]
+        scaled = dimacs.solve_max_arrays(*PIPES[:-1], tens, scale=10).explain()
+        self.assertEqual(scaled, f"{MAXIMUM}amounts are multiples of 1/10 here, costs and distances of 1/10\n")
+        ends = [[it - 1 for it in ids] for ids in ENDS]
+        from_0 = dimacs.solve_max_arrays(4, 0, 3, *ends, PIPES[-1], base=0).explain()
+        self.assertEqual(from_0, f"{MAXIMUM}nodes and arcs are numbered from 1 here, and from 0 in the arrays\n")
+
+    def test_no_limit(self):
+        wide = (2, 1, 2, [1], [2], [float("inf")])
+        lines = self.refused(dimacs.judge_max_arrays, *wide, [3], [True, False])
+        self.assertIn("carries 3 of its CAP, inf\n", lines)
+
+
+@unittest.skipUnless(networkx, "networkx isn't there")
+class Graphs(Explained):
+    NAMES = "nodes by number: 1 is 'spring', 2 is 'mill', 3 is 'farm', 4 is 'fort', 5 is 'town'\n"
+    ARCS = "arcs by number: 4 is ('mill', 'fort'), 5 is ('farm', 'town'), 6 is ('fort', 'farm')\n"
+
+    def test_yes(self):
+        graph = pipes()
+        value, flow = networkx.maximum_flow(graph, "spring", "town")
+        self.assertEqual(value, 12)
+        for answer in (
+            dimacs.certify_networkx_max(graph, "spring", "town", flow),
+            dimacs.judge_networkx_max(graph, "spring", "town", flow, {"spring", "mill", "farm"}),
+            dimacs.solve_networkx_max(graph, "spring", "town"),
+        ):
+            self.assertEqual(answer.explain(), OF_PIPES + self.NAMES + self.ARCS)
+
+    def test_refusal(self):
+        flow = {"spring": {"mill": 4}}
+        lines = self.refused(dimacs.certify_networkx_max, pipes(), "spring", "town", flow).splitlines()
+        self.assertEqual(lines[:2], ["x node 2 Balance", "0 leaves node 2, 4 enters it: 4 too little leaves"])
+        nodes = "nodes by number: 1 is 'spring', 2 is 'mill', 3 is 'farm', 4 is 'fort'"
+        arcs = "arcs by number: 1 is ('spring', 'mill'), 3 is ('mill', 'farm'), 4 is ('mill', 'fort')"
+        self.assertEqual(lines[-2:], [nodes, arcs])
+
+
+@unittest.skipUnless(pandas, "pandas isn't there")
+class Frames(Explained):
+    def test_yes(self):
+        table = {"from": list("11223"), "to": list("23344"), "tons": PIPES[-1]}
+        network = dimacs.from_frame(pandas.DataFrame(table, index=list("abcde")), "from", "to", capacity="tons")
+        names = "nodes by number: 1 is '1', 2 is '2', 3 is '3'\narcs by number: 1 is 'a', 2 is 'b'\n"
+        self.assertEqual(network.solve_max("1", "4").explain(), MAXIMUM + names)
+
+
+def files_of(words):
+    """The names of a command's files, and how many of them it reads."""
+    verb, *files = words
+    if verb in ("convert", "show"):
+        return files[1:], 1
+    what, kind = verb.split("-")
+    counts = {"judge": len(files), "solve": 2 if kind == "paths" else 1}
+    return files, counts.get(what, 1 if kind == "infeasible" else 2)
+
+
+def read(place, name):
+    path = Path(place) / name
+    return path.read_bytes() if path.exists() else b""
+
+
+@unittest.skipUnless(cases and PROGRAM.is_file(), "the program isn't there, or its cases")
+class Program(unittest.TestCase):
+    """The program over files, and the library over texts with their names: all cases of tests/explain.py."""
+
+    def test_same_lines(self):
+        for words, own in [*((it[1], it[2]) for it in cases.CASES), *((it[0], it[1]) for it in cases.YES)]:
+            names, count = files_of(words.split())
+            if len(set(names)) == len(names):
+                with self.subTest(words):
+                    self.compare(words, names, count, {**cases.TEXTS, **own})
+
+    def compare(self, words, names, count, texts):
+        with tempfile.TemporaryDirectory() as place:
+            for name, text in texts.items():
+                (Path(place) / name).write_bytes(text if isinstance(text, bytes) else text.encode())
+            before = [read(place, it) for it in names]
+            called = [PROGRAM.resolve(), "explain", *words.split()]
+            ran = subprocess.run(called, cwd=place, capture_output=True, check=False)
+            after = [read(place, it) for it in names]
+        given = [*before[:count], *after[count:], b"", b"", b""][:3]
+        arguments = [word for it in (words.encode(), *given) for word in (it, len(it))]
+        self.assertEqual(library.call(library.explain(), *arguments), (ran.returncode, ran.stdout))
+
+
+if __name__ == "__main__":
+    unittest.main()
