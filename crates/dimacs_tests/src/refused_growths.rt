@@ -121,6 +121,18 @@ fn is_whole<T: Text>(rt: &impl Abort, value: Option<T>, text: &str) -> Result<()
     Ok(())
 }
 
+/// Tests that the value of a reading of a text, if there is one, is written as this text.
+fn comes_whole<T: Text, R: Reading<Value = T>>(
+    rt: &impl Abort,
+    reading: R,
+    kind: TextKind,
+    text: &str,
+) -> Result<(), Fail>
+    requires { R.kind reading ≡ kind }
+{
+    is_whole(rt, read_lines(rt, reading, kind, text), text)
+}
+
 static MAX: &str = "\
 p max 70000 5
 n 1 s
@@ -177,12 +189,9 @@ q 2 1
 #[test]
 fn instances_come_whole_after_a_refused_growth(rt: HostRuntime) -> Result<(), Fail> {
     let alloc = rt.alloc();
-    let max = read_lines(&rt, MaxReading::new(alloc), TextKind::Max, MAX);
-    is_whole(&rt, max, MAX)?;
-    let min = read_lines(&rt, MinReading::new(alloc), TextKind::Min, MIN);
-    is_whole(&rt, min, MIN)?;
-    let graph = read_lines(&rt, GraphReading::new(alloc), TextKind::Graph, GRAPH);
-    is_whole(&rt, graph, GRAPH)
+    comes_whole(&rt, MaxReading::new(alloc), TextKind::Max, MAX)?;
+    comes_whole(&rt, MinReading::new(alloc), TextKind::Min, MIN)?;
+    comes_whole(&rt, GraphReading::new(alloc), TextKind::Graph, GRAPH)
 }
 
 fn are_whole(rt: &impl Abort, alloc: Global, text: &str) -> Result<(), Fail> {
@@ -272,14 +281,18 @@ fn claims_and_certificates_come_whole_after_a_refused_growth(rt: HostRuntime) ->
     let reading = SolutionReading::new(Vec::new(alloc));
     let placed = read_lines(&rt, reading, TextKind::Solution, SOLUTION);
     is_whole(&rt, placed.map(solution), SOLUTION)?;
-    let cut = read_lines(&rt, CutReading::new(alloc), TextKind::Cut, CUT);
-    is_whole(&rt, cut, CUT)?;
-    let reading = PotentialsReading::new(alloc);
-    let potentials = read_lines(&rt, reading, TextKind::Potentials, POTENTIALS);
-    is_whole(&rt, potentials, POTENTIALS)?;
-    let labels = read_lines(&rt, LabelsReading::new(alloc), TextKind::Labels, LABELS);
-    is_whole(&rt, labels, LABELS)?;
-    let reading = DistancesReading::new(alloc);
-    let distances = read_lines(&rt, reading, TextKind::Distances, DISTANCES);
-    is_whole(&rt, distances, DISTANCES)
+    comes_whole(&rt, CutReading::new(alloc), TextKind::Cut, CUT)?;
+    comes_whole(
+        &rt,
+        PotentialsReading::new(alloc),
+        TextKind::Potentials,
+        POTENTIALS,
+    )?;
+    comes_whole(&rt, LabelsReading::new(alloc), TextKind::Labels, LABELS)?;
+    comes_whole(
+        &rt,
+        DistancesReading::new(alloc),
+        TextKind::Distances,
+        DISTANCES,
+    )
 }

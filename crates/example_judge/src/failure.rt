@@ -34,22 +34,15 @@ impl Failure {
     /// Prints a refusal, and returns the exit status.
     pub fn status(self, rt: &HostRuntime) -> u8 {
         let printed = match self {
-            Failure::Fault(text, at, reason) => {
-                println!(rt; "x {text} {} {} {}", at.line, at.field, reason.name())
-            }
+            Failure::Fault(text, at, reason) => refuse(rt, text, at, reason),
             Failure::Refused(Where::Solution { line, field }, reason) => {
-                println!(rt; "x solution {line} {field} {}", reason.name())
+                refuse(rt, "solution", At { line, field }, reason)
             }
             Failure::Refused(Where::Certificate, reason) => {
-                println!(rt; "x certificate 0 0 {}", reason.name())
+                refuse(rt, "certificate", At { line: 0, field: 0 }, reason)
             }
-            Failure::Refused(Where::Arc(arc), reason) => println!(rt;
-                "x arc {arc} {}",
-                reason.name()
-            ),
-            Failure::Refused(Where::Node(node), reason) => {
-                println!(rt; "x node {node} {}", reason.name())
-            }
+            Failure::Refused(Where::Arc(arc), reason) => refuse_item(rt, "arc", arc, reason),
+            Failure::Refused(Where::Node(node), reason) => refuse_item(rt, "node", node, reason),
             Failure::Misused => return 2,
             Failure::Device => return 3,
             Failure::Memory => return 4,
@@ -59,6 +52,16 @@ impl Failure {
             Err(_) => 3,
         }
     }
+}
+
+/// Prints what is wrong with a text, and where.
+fn refuse(rt: &HostRuntime, text: &str, at: At, reason: Reason) -> io::Result<()> {
+    println!(rt; "x {text} {} {} {}", at.line, at.field, reason.name())
+}
+
+/// Prints what is wrong with an arc or a node.
+fn refuse_item(rt: &HostRuntime, what: &str, number: u32, reason: Reason) -> io::Result<()> {
+    println!(rt; "x {what} {number} {}", reason.name())
 }
 
 impl From<JudgeError> for Failure {

@@ -11,8 +11,8 @@ mod failure;
 use crate::certify::certify;
 use crate::checksum::Checksum;
 use crate::failure::Failure;
-use dimacs_claims::read_solution;
-use dimacs_instance::read_max;
+use dimacs_claims::{Solution, read_solution};
+use dimacs_instance::{CapacityArc, ForwardStar, MaxInstance, read_max};
 use dimacs_lines::{FileSink, FileSource, StdoutSink};
 use std::fs::File;
 use std::process::ExitCode;
@@ -37,15 +37,28 @@ fn run(rt: &HostRuntime, arguments: &[String]) -> Result<bool, Failure> {
     let [instance, solution] = arguments else {
         return Err(Failure::Misused);
     };
-    let mut instance = FileSource::new(File::open(rt, instance.as_str())?);
-    let instance = read_max(rt.alloc(), &mut instance).map_err(|it| Failure::of("instance", it))?;
-    let mut solution = FileSource::new(File::open(rt, solution.as_str())?);
-    let solution = read_solution(rt.alloc(), &mut solution).map_err(|it| Failure::of(
-        "solution", it,
-    ))?;
+    let instance = instance_in(rt, instance.as_str())?;
+    let solution = solution_in(rt, solution.as_str())?;
     let stdout: StdoutSink<'_, HostRuntime> = FileSink::new(io::writer(rt));
     let mut out = Checksum::new(stdout);
     let is_maximum = certify(rt.alloc(), &instance, &solution, &mut out)?;
-    println!(rt; "c checksum {:08x}", out.sum())?;
+    print_sum(rt, out.sum())?;
     Ok(is_maximum)
+}
+
+fn print_sum(rt: &HostRuntime, sum: u32) -> io::Result<()> {
+    println!(rt; "c checksum {sum:08x}")
+}
+
+fn instance_in(
+    rt: &HostRuntime,
+    file: &str,
+) -> Result<MaxInstance<ForwardStar<CapacityArc>>, Failure> {
+    let mut source = FileSource::new(File::open(rt, file)?);
+    read_max(rt.alloc(), &mut source).map_err(|it| Failure::of("instance", it))
+}
+
+fn solution_in(rt: &HostRuntime, file: &str) -> Result<Solution, Failure> {
+    let mut source = FileSource::new(File::open(rt, file)?);
+    read_solution(rt.alloc(), &mut source).map_err(|it| Failure::of("solution", it))
 }

@@ -69,12 +69,20 @@ fn a_maximum_flow_is_judged_by_a_cut(rt: HostRuntime) -> Result<(), Fail> {
     Ok(())
 }
 
-/// Tests that the maximum flow is feasible, and returns the judge's answer to a cut for it.
+/// The maximum flow. Tests that it is feasible.
+fn maximum_flow<N: Network>(alloc: Global, instance: &MaxInstance<N>) -> Result<Flow, Fail>
+    ensures { IfOk result (λ flow. length flow ≡ length instance.now.arcs) }
+{
+    let flow = flow_in(alloc, instance.network(), MAXIMUM)?;
+    feasible_max(alloc, instance, &flow)?;
+    Ok(flow)
+}
+
+/// The judge's answer to a cut for the maximum flow.
 fn tests_of_max(alloc: Global, cut: &[u8]) -> Result<Result<(), (Where, Reason)>, Fail> {
     let cut = cut_of(alloc, cut)?;
     let instance = max_instance(alloc)?;
-    let flow = flow_in(alloc, instance.network(), MAXIMUM)?;
-    feasible_max(alloc, &instance, &flow)?;
+    let flow = maximum_flow(alloc, &instance)?;
     Ok(cut_tests(&instance, &flow, &cut))
 }
 
@@ -132,12 +140,20 @@ fn judged_min(alloc: Global, potentials: &[u8]) -> Result<Result<Verdict, JudgeE
     Ok(judge_min(alloc, &instance, &solution, &potentials))
 }
 
-/// Tests that the flow of least cost is feasible, and returns the judge's answer to potentials for it.
+/// The flow of least cost. Tests that it is feasible.
+fn least_flow<N: Network>(alloc: Global, instance: &MinInstance<N>) -> Result<Flow, Fail>
+    ensures { IfOk result (λ flow. length flow ≡ length instance.now.arcs) }
+{
+    let flow = flow_in(alloc, instance.network(), LEAST)?;
+    feasible_min(alloc, instance, &flow)?;
+    Ok(flow)
+}
+
+/// The judge's answer to potentials for the flow of least cost.
 fn tests_of_min(alloc: Global, potentials: &[u8]) -> Result<Result<(), (Where, Reason)>, Fail> {
     let potentials = potentials_of(alloc, potentials)?;
     let instance = min_instance(alloc)?;
-    let flow = flow_in(alloc, instance.network(), LEAST)?;
-    feasible_min(alloc, &instance, &flow)?;
+    let flow = least_flow(alloc, &instance)?;
     Ok(slack_tests(&instance, &flow, &potentials))
 }
 
