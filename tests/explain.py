@@ -311,6 +311,17 @@ def pipe_fault(binary, comments):
     return None if (ran.returncode, ran.stdout) == (0, wanted) else f"prints {ran.stdout}"
 
 
+def twice_fault(binary):
+    """What is wrong with a refusal of a pipe that is named twice; none if nothing is."""
+    with tempfile.TemporaryDirectory() as folder:
+        written(folder, {})
+        words = ["bash", "-c", f"cat I | '{binary}' explain certify-max /dev/stdin /dev/stdin"]
+        ran = subprocess.run(words, capture_output=True, cwd=folder, check=False)
+    left_out = b"/dev/stdin: is no file that can be read again, so its lines are left out\n"
+    wanted = b"x solution 1 0 SolutionMissing\n" + left_out
+    return None if (ran.returncode, ran.stdout) == (1, wanted) else f"prints {ran.stdout}"
+
+
 def text_in(folder, name):
     with open(os.path.join(folder, name), encoding="ascii") as it:
         return it.read()
@@ -363,6 +374,7 @@ def main():
     faults = [(f"{case[0]}: explain {case[1]}", fault_of(binary, case)) for case in CASES]
     faults += [(f"explain {case[0]}", yes_fault(binary, *case)) for case in YES]
     faults += [(f"explain with a pipe, {size} MB", pipe_fault(binary, size)) for size in (0, 60, 70)]
+    faults += [("explain with a pipe named twice", twice_fault(binary))]
     faults += [("explain", fault) for fault in reader_faults(binary, int(count), int(seed))]
     for words, fault in faults:
         passed += fault is None

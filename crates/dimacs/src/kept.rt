@@ -111,9 +111,14 @@ impl KeptTexts {
         Ok(())
     }
 
-    /// The text with this name from its start; none if it wasn't kept, or memory runs out.
+    /// The text with this name from its start. None if it wasn't kept, memory runs out, or another has the name too: a
+    /// pipe that was opened twice.
     pub fn text(&self, name: &str) -> Option<Again> {
-        let text = self.texts.iter().find(|text| text.name.as_str() == name)?;
+        let mut named = self.texts.iter().filter(|text| text.name.as_str() == name);
+        let text = named.next()?;
+        if named.next().is_some() {
+            return None;
+        }
         let mut bytes = Vec::new(*self.texts.allocator());
         bytes.extend_from_slice(&text.bytes).ok()?;
         Some(Again::Kept { bytes, at: 0 })
