@@ -1,6 +1,7 @@
 """What explains answers, from Python: over texts, arrays and graphs. The lines were worked out by hand, as those of
 tests/explain.py and docs/JUDGING.md were."""
 
+import concurrent.futures
 import copy
 import os
 import pickle
@@ -206,7 +207,10 @@ class Arrays(Explained):
     def test_units_and_bases(self):
         tens = [Decimal(it) / 10 for it in PIPES[-1]]
         scaled = dimacs.solve_max_arrays(*PIPES[:-1], tens, scale=10).explain()
-        self.assertEqual(scaled, f"{MAXIMUM}amounts are multiples of 1/10 here, costs and distances of 1/10\n")
+        self.assertEqual(scaled, f"{MAXIMUM}numbers are whole here: 1 is an amount of 1/10\n")
+        *_, units = dimacs.solve_min_arrays(2, [1], [2], [0], [5], [3], [4, -4], scale=10).explain().splitlines()
+        costs = "a COST or potential of 1/10, a cost of a flow of 1/100"
+        self.assertEqual(units, f"numbers are whole here: 1 is an amount of 1/10, {costs}")
         ends = [[it - 1 for it in ids] for ids in ENDS]
         from_0 = dimacs.solve_max_arrays(4, 0, 3, *ends, PIPES[-1], base=0).explain()
         self.assertEqual(from_0, f"{MAXIMUM}nodes and arcs are numbered from 1 here, and from 0 in the arrays\n")
@@ -214,7 +218,38 @@ class Arrays(Explained):
     def test_no_limit(self):
         wide = (2, 1, 2, [1], [2], [float("inf")])
         lines = self.refused(dimacs.judge_max_arrays, *wide, [3], [True, False])
+        self.assertIn("CAP inf\n", lines)
         self.assertIn("carries 3 of its CAP, inf\n", lines)
+        most = 2**63 - 1
+        lines = dimacs.solve_max_arrays(3, 1, 2, [1, 1, 3], [2, 2, 1], [most, most, float("inf")]).explain()
+        self.assertIn(f"arc 2: 1 -> 2, CAP {most}\n{most} + {most} = {2 * most}, the value", lines)
+
+    def test_predecessors_of_any_number(self):
+        graph = 4, [1, 4, 3], [4, 3, 2], [5, 4, 1], 1
+        distances, before = [0, 10, 9, 5], [0, 3, 4, 1]
+        for answer in (
+            dimacs.solve_paths_arrays(*graph),
+            dimacs.certify_paths_arrays(*graph, distances),
+            dimacs.judge_paths_arrays(*graph, distances, before),
+        ):
+            lines = answer.explain().splitlines()
+            self.assertEqual(lines[0], "v sp ss 1")
+            self.assertIn("1 -> 4 -> 3 -> 2: 5 + 4 + 1 = 10", lines[1])
+        near = self.refused(dimacs.judge_paths_arrays, *graph, [0, 9, 9, 5], before)
+        self.assertTrue(near.startswith("x node 2 NoTightArc\nnode 2: distance 9, predecessor 3\n"), near)
+        in_a_circle = self.refused(dimacs.judge_paths_arrays, *graph, distances, [0, 3, 2, 1])
+        self.assertTrue(in_a_circle.startswith("x node "), in_a_circle)
+
+    def test_threads(self):
+        answer = dimacs.solve_max_arrays(*PIPES)
+        with concurrent.futures.ThreadPoolExecutor(4) as pool:
+            self.assertEqual({it.result() for it in [pool.submit(answer.explain) for _ in range(40)]}, {MAXIMUM})
+
+    def test_arrays_that_changed(self):
+        caps = list(PIPES[-1])
+        answer = dimacs.solve_max_arrays(*PIPES[:-1], caps)
+        caps[1] = -1
+        self.assertEqual(answer.explain().splitlines()[0].partition(",")[0], "the arrays hold other numbers now")
 
 
 @unittest.skipUnless(networkx, "networkx isn't there")
@@ -246,9 +281,12 @@ class Graphs(Explained):
 class Frames(Explained):
     def test_yes(self):
         table = {"from": list("11223"), "to": list("23344"), "tons": PIPES[-1]}
-        network = dimacs.from_frame(pandas.DataFrame(table, index=list("abcde")), "from", "to", capacity="tons")
+        frame = pandas.DataFrame(table, index=list("abcde"))
+        answer = dimacs.from_frame(frame, "from", "to", capacity="tons").solve_max("1", "4")
         names = "nodes by number: 1 is '1', 2 is '2', 3 is '3'\narcs by number: 1 is 'a', 2 is 'b'\n"
-        self.assertEqual(network.solve_max("1", "4").explain(), MAXIMUM + names)
+        self.assertEqual(answer.explain(), MAXIMUM + names)
+        frame.sort_index(ascending=False, inplace=True)
+        self.assertEqual(answer.explain(), MAXIMUM + names)
 
 
 def files_of(words):

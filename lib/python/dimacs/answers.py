@@ -44,7 +44,7 @@ class Explainable:
 
         The command runs once more, over the same texts, or over texts made of the arrays or the graph, whose nodes and arcs
         the lines then name by numbers, with a line that says which is which. No call proves more than the first line. Raises
-        ValueError if the answer was pickled since.
+        ValueError if the answer was pickled since, or no call of the library gave it, as a value that SciPy's result claims.
 
         >>> import dimacs
         >>> print(dimacs.judge_max_arrays(2, 1, 2, [1], [2], [4], [4], [True, False]).explain(), end="")

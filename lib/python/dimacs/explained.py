@@ -1,9 +1,10 @@
-"""What explains an answer: the command that gives it, run once more over the same texts or arrays. The printed line is proved
-to be the answer's; the lines after it aren't."""
+"""What explains an answer: the command that gives it, run once more over the same texts or arrays. The printed line is
+proved to be the answer's; the lines after it aren't."""
 
 from __future__ import annotations
 
 import re
+import threading
 from typing import Any, Iterator, Sequence
 
 from . import library
@@ -121,19 +122,43 @@ def _by_node(kind: str, letter: str, values: Sequence[Any]) -> Iterator[str]:
 
 def _labels(given: Given, kind: str, distances: Sequence[int], before: Sequence[int] | None) -> Iterator[str]:
     source = given.number("source")
-    found = [f"d {node} {it}" for node, it in enumerate(distances, 1) if it < UNLIMITED and node != source]
-    if before is not None:
-        found = [f"{it} {before[int(it.split()[1]) - 1]}" for it in found]
+    reached = [node for node, it in enumerate(distances, 1) if it < UNLIMITED and node != source]
+    if before is None:
+        found = [f"d {node} {distances[node - 1]}" for node in reached]
+    else:
+        order = _after_predecessors(reached, before)
+        found = [f"d {node} {distances[node - 1]} {before[node - 1]}" for node in order]
     return iter([f"p {kind} {len(distances)} 1", f"t {source} {len(found)}", *found])
+
+
+def _after_predecessors(nodes: Sequence[int], before: Sequence[int]) -> list[int]:
+    """These nodes, each after its predecessor if that is one of them and no cycle leads there, else by number."""
+    left = set(nodes)
+    order: list[int] = []
+    for node in nodes:
+        chain: list[int] = []
+        while node in left:
+            left.remove(node)
+            chain.append(node)
+            node = before[node - 1]
+        order += reversed(chain)
+    return order
 
 
 _RECORD = re.compile(r"^( *)(\w+):(\d+): (.*)$")
 _MARK = re.compile(r"^ +\^+$")
 
 #: Where lines have nodes and arcs.
-_NODES = re.compile(r"\b(?:nodes?:?|source|from|to|predecessor|PRED,|inside|sink,) (\d+)|y\((\d+)\)|(\d+(?: -> \d+)+)")
-_LISTED = re.compile(r"nodes: ([\d ]+)")
+_NODES = re.compile(
+    r"\b(?:nodes?:?|source|from|to|predecessor|PRED,|inside|sink,) (\d+)|y\((\d+)\)|^(\d+) reaches|that (\d+) reaches"
+    r"|((?:\d+|\.\.)(?: -> (?:\d+|\.\.))+)"
+)
+_LISTED = re.compile(r"(?:nodes|reaches, \d+): ([\d ]+)")
 _ARCS = re.compile(r"\barc (\d+)")
+_LISTED_ARCS = re.compile(r"arcs with r = 0, [^:]*:([\d ]+)")
+
+#: An arc with the greatest capacity.
+_UNLIMITED_CAP = re.compile(rf"\barc (\d+)\b.*?\bCAP,? ({UNLIMITED})\b")
 
 
 class AskedOfArrays(Asked):
@@ -142,6 +167,7 @@ class AskedOfArrays(Asked):
     def __init__(self, call: str, given: Given, **more: Room) -> None:
         super().__init__(call)
         self._given, self._more = given, more
+        self._lock = threading.Lock()
         self.printed: str | None = None
 
     @property
@@ -176,11 +202,12 @@ class AskedOfArrays(Asked):
         return "".join(f"{it}\n" for it in lines)
 
     def lines(self) -> list[str]:
-        self._given.words()
-        try:
-            return self._told()
-        finally:
-            self._given.forget()
+        with self._lock:
+            self._given.words()
+            try:
+                return self._told()
+            finally:
+                self._given.forget()
 
     def _told(self) -> list[str]:
         names = _NAMES[self._call].split()
@@ -188,7 +215,10 @@ class AskedOfArrays(Asked):
             names = [*names[: _READ.get(self._call, 2)], *(it for it in self._more if it == "better")]
         texts = [self._text(it) for it in names]
         written = ["certificate"] if self._call == "solve_paths" else []
-        first, *more = _explanation(" ".join([self._call.replace("_", "-"), *names, *written]), texts)
+        shown = ["flow" if (it, self.kind) == ("better", "infeasible") else it for it in names]
+        first, *more = _explanation(" ".join([self._call.replace("_", "-"), *shown, *written]), texts)
+        if self.printed is None and first.startswith("x "):
+            return ["the arrays hold other numbers now, and these are refused: the answer isn't theirs"]
         if self.printed is not None and not self._is_same(first):
             return [self.printed]
         retold = [it for line in more for it in self._retold(line, texts)]
@@ -204,15 +234,22 @@ class AskedOfArrays(Asked):
     # ---- without the texts, which the caller never saw
 
     def _retold(self, line: str, texts: list[str]) -> Iterator[str]:
-        line = re.sub(r" \(line \d+\)", "", line)
+        line = re.sub(r" \(line \d+\)|(?<=cut|set) in certificate", "", line)
         found = _RECORD.match(line)
         if found:
             indent, name, number, record = found.groups()
             words = self._record(int(number), record.split(), texts[0])
             if words:
-                yield indent + words
+                yield indent + self._unlimited(words)
         elif not _MARK.match(line) and "dimacs spread-" not in line and " is empty: " not in line:
-            yield line.replace(str(UNLIMITED), "inf") if self._given.limitless() else line
+            yield self._unlimited(line)
+
+    def _unlimited(self, line: str) -> str:
+        """A line with inf in place of the capacity of an arc that has no limit."""
+        found = _UNLIMITED_CAP.search(line)
+        if found is None or int(found[1]) - 1 not in self._given.limitless():
+            return line
+        return line[: found.start(2)] + "inf" + line[found.end(2) :]
 
     def _record(self, line: int, words: list[str], instance: str) -> str:
         letter, *rest = words
@@ -238,14 +275,24 @@ class AskedOfArrays(Asked):
         """What numbers in these lines are for the caller."""
         names, units = self._given.names, self._given.units()
         if units:
-            amount, cost = (it.shown(1) for it in units)
-            yield f"amounts are multiples of {amount} here, costs and distances of {cost}"
+            yield f"numbers are whole here: {self._scaled(*units)}"
         if type(names) is not Names:
             nodes = _numbers(lines, (_NODES, _LISTED), self._given.number("nodes"))
             yield from _named("node", nodes, names.node)
-            yield from _named("arc", _numbers(lines, (_ARCS,), self._given.count(TAILS)), names.arc)
+            arcs = _numbers(lines, (_ARCS, _LISTED_ARCS), self._given.count(TAILS))
+            yield from _named("arc", arcs, names.arc)
         elif names.base == 0:
             yield "nodes and arcs are numbered from 1 here, and from 0 in the arrays"
+
+
+    def _scaled(self, amount: Any, cost: Any) -> str:
+        """What 1 stands for."""
+        if self._given.form is MAX:
+            return f"1 is an amount of {amount.shown(1)}"
+        if self._given.form is not MIN:
+            return f"1 is a distance of {cost.shown(1)}"
+        whole = amount.times(cost).shown(1)
+        return f"1 is an amount of {amount.shown(1)}, a COST or potential of {cost.shown(1)}, a cost of a flow of {whole}"
 
 
 def _numbers(lines: list[str], forms: Sequence[re.Pattern[str]], most: int) -> list[int]:

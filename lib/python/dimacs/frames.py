@@ -57,9 +57,10 @@ class _FrameNames(Names):
     def __init__(self, frame: Frame) -> None:
         super().__init__()
         self._frame = frame
+        self._index = frame.edges.index  # as it is now
 
     def arc(self, place: int) -> Any:
-        return self._frame.edges.index[place]
+        return self._index[place]
 
     def node(self, place: int) -> Any:
         return self._frame.nodes[place]

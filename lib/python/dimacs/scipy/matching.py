@@ -45,16 +45,21 @@ class CertifiedAssignment(NamedTuple):
 
 
 class _Names(Names):
-    def __init__(self, rows: Any, columns: Any, count: int) -> None:
+    """Arcs by the rows and columns of the entries, which have these words the other way round if a matrix is turned."""
+
+    def __init__(self, ends: tuple[Any, Any], shape: tuple[int, int], words: tuple[str, str]) -> None:
         super().__init__()
-        self._ends, self._count = (rows, columns), count
+        self._ends, self._shape, self._words = ends, shape, words
 
     def arc(self, place: int) -> Any:
         edges = len(self._ends[0])
-        return tuple(int(it[place]) for it in self._ends) if place < edges else ("column", place - edges)
+        return tuple(int(it[place]) for it in self._ends) if place < edges else (self._words[1], place - edges)
 
     def node(self, place: int) -> Any:
-        return ("row", place) if place < self._count else ("column", place - self._count)
+        count = self._shape[0]
+        if place == sum(self._shape):
+            return "the sink"
+        return (self._words[0], place) if place < count else (self._words[1], place - count)
 
 
 class _Edges:
@@ -86,7 +91,10 @@ class _Edges:
         costs = np.concatenate((self.sign * self.costs, np.zeros(more, np.int64)))
         supplies = np.zeros(nodes, np.int64)
         supplies[:count], supplies[-1] = 1, -count
-        names = _Names(self.rows, self.columns, count)
+        words, ends = ("row", "column"), (self.rows, self.columns)
+        if self.is_turned:
+            words, ends = words[::-1], ends[::-1]
+        names = _Names(ends, self.shape, words)
         return Given(MIN, nodes, tails, heads, np.zeros(len(caps), np.int64), caps, costs, supplies, names=names)
 
     def assigned(self, flows: Any) -> Assignment:

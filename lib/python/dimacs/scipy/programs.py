@@ -41,15 +41,17 @@ class CertifiedProgram(NamedTuple):
 
 
 class _ConstraintNames(Names):
-    def __init__(self, variables: int, inequalities: int) -> None:
+    def __init__(self, variables: int, inequalities: int, rows: int) -> None:
         super().__init__()
-        self._variables, self._inequalities = variables, inequalities
+        self._variables, self._inequalities, self._rows = variables, inequalities, rows
 
     def arc(self, place: int) -> Any:
         return f"x[{place}]" if place < self._variables else f"the slack of A_ub[{place - self._variables}]"
 
     def node(self, place: int) -> Any:
         count = self._inequalities
+        if place == self._rows:
+            return "the end of variables in one constraint"
         return f"A_ub[{place}]" if place < count else f"A_eq[{place - count}]"
 
     def item(self, name: str, place: int) -> str:
@@ -119,7 +121,7 @@ class _Program:
         supplies[self.rows] = -sum(supplies[: self.rows])
         lows, caps = ([bound[k] - shift for bound, shift in zip(self.bounds, self.shifts)] for k in (0, 1))
         costs = self.costs + [0] * (len(self.ends) - count)
-        names = _ConstraintNames(count, self.inequalities)
+        names = _ConstraintNames(count, self.inequalities, self.rows)
         return Given(MIN, last, tails, heads, lows, caps, costs, supplies, names=names)
 
     def flows(self, x: Sequence[int]) -> list[Any]:
