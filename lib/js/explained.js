@@ -137,10 +137,12 @@ export class AskedOfArrays {
 
     #labels(kind) {
         const {distances, predecessors} = this.arrays, {source} = this.numbers;
-        const after = (i) => (kind === "dist" ? ` ${predecessors[i]}` : "");
-        const found = Array.from(distances, (it, i) => `d ${i + 1} ${it}${after(i)}`);
-        const lines = found.filter((_, i) => distances[i] !== UNREACHED && i + 1 !== source);
-        return [`p ${kind} ${distances.length} 1`, `t ${source} ${lines.length}`, ...lines];
+        const nodes = Array.from(distances, (_, i) => i + 1);
+        const reached = nodes.filter((node) => distances[node - 1] !== UNREACHED && node !== source);
+        const head = [`p ${kind} ${distances.length} 1`, `t ${source} ${reached.length}`];
+        if (kind === "distances") return [...head, ...reached.map((node) => `d ${node} ${distances[node - 1]}`)];
+        const ordered = afterPredecessors(reached, predecessors, source);
+        return [...head, ...ordered.map((node) => `d ${node} ${distances[node - 1]} ${predecessors[node - 1]}`)];
     }
 
     /** A line without the texts, which the caller never saw: none, or one. */
@@ -167,6 +169,36 @@ export class AskedOfArrays {
             default: return "";
         }
     }
+}
+
+/** Whether a node with a label is in the order of labels yet, or on the way to it. Other nodes have 0. */
+const WAITING = 1, ON_THE_WAY = 2, ORDERED = 3;
+
+/** These nodes, each after its predecessor. They stay as they are if there is no such order: the judge refuses that. */
+function afterPredecessors(nodes, predecessors, source) {
+    const states = new Uint8Array(predecessors.length + 1), ordered = [];
+    for (const node of nodes) states[node] = WAITING;
+    states[source] = ORDERED;
+    for (const node of nodes) {
+        if (!addWay(node, predecessors, states, ordered)) return nodes;
+    }
+    return ordered;
+}
+
+/** Adds a node after those of its predecessors that aren't ordered yet. False if they don't lead to one that is. */
+function addWay(last, predecessors, states, ordered) {
+    const way = [];
+    let node = last;
+    for (; states[node] === WAITING; node = predecessors[node - 1]) {
+        states[node] = ON_THE_WAY;
+        way.push(node);
+    }
+    if (states[node] !== ORDERED) return false;
+    way.reverse().forEach((it) => {
+        states[it] = ORDERED;
+        ordered.push(it);
+    });
+    return true;
 }
 
 /** Whether texts are refused as the arrays were: for the same arc or node, or as a whole. */

@@ -249,6 +249,37 @@ const CASES = {
         assert.equal(late.explain(), "x node 1 NotShortest\n");
         throws(() => new dimacs.Verdict("max", 6n).explain(), TypeError);
     },
+    "labels whose predecessors have greater numbers are explained": () => {
+        const graph = {nodes: 4, tails: [1, 4, 3, 2], heads: [4, 3, 2, 2], weights: [5, 4, 1, 0]};
+        const distances = [0, 10, 9, 5], predecessors = [0, 3, 4, 1];
+        const lines = [
+            "v sp ss 1",
+            "the farthest node from 1, of 3 that it reaches: 1 -> 4 -> 3 -> 2: 5 + 4 + 1 = 10",
+            "no walk is shorter: from the source, whose label is 0, each arc raises the label by its WEIGHT at most\n",
+        ].join("\n");
+        const judged = dimacs.judgePathsArrays(graph, 1, distances, predecessors);
+        const certified = dimacs.certifyPathsArrays(graph, 1, distances);
+        for (const it of [judged, certified, dimacs.solvePathsArrays(graph, 1)]) assert.equal(it.explain(), lines);
+        // A source that isn't the first node, and branches of the tree that meet.
+        const tree = {nodes: 5, tails: [5, 4, 4, 1], heads: [4, 1, 3, 2], weights: [1, 1, 1, 1]};
+        const branches = dimacs.judgePathsArrays(tree, 5, [2, 3, 2, 1, 0], [4, 1, 4, 5, 0]).explain();
+        assert.ok(branches.startsWith("v sp ss 1\nthe farthest node from 5, of 4 that it reaches: 5 -> 4 -> 1 -> 2: "));
+        // Node 3 is at 5 + 4 = 9, and not at 8.
+        const loose = thrown(() => dimacs.judgePathsArrays(graph, 1, [0, 9, 8, 5], predecessors)).explain();
+        assert.ok(loose.startsWith("x node 3 NoTightArc\nnode 3: distance 8, predecessor 4\n"));
+    },
+    "predecessors that lead to no source are refused as by the judge, and long ways are walked": () => {
+        const graph = {nodes: 4, tails: [1, 4, 3, 2], heads: [4, 3, 2, 2], weights: [5, 4, 1, 0]};
+        for (const predecessors of [[0, 3, 2, 1], [0, 2, 4, 1], [0, 3, 0, 1], [0, 3, 5, 1]]) {
+            const no = thrown(() => dimacs.judgePathsArrays(graph, 1, [0, 10, 9, 5], predecessors));
+            assert.equal(no.explain().split("\n")[0], `x ${no.message}`);
+        }
+        const chain = Array.from({length: 100_000}, (_, i) => i + 1), [far] = chain.slice(-1);
+        const weights = chain.slice(1).map(() => 1), tails = [1, ...chain.slice(2).reverse()];
+        const long = {nodes: far, tails, heads: chain.slice(1).reverse(), weights};
+        const walk = /^v sp ss 1\n.*: 1 -> 100000 -> 99999 -> .* = 99999\n/;
+        assert.match(dimacs.solvePathsArrays(long, 1).explain(), walk);
+    },
     "what is said of the module": () => {
         assert.match(dimacs.version, /^\d+\.\d+\.\d+/);
         assert.equal(typeof dimacs.proved, "boolean");
