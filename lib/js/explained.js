@@ -71,6 +71,15 @@ const COLUMNS = {max: ["caps"], min: ["lows", "caps", "costs"], graph: ["weights
 const NAMED = {caps: "CAP", lows: "LOW", costs: "COST", weights: "WEIGHT"};
 const UNREACHED = 2n ** 63n - 1n;
 
+/** What sentences say of a text, and what they say of arrays: a flow is in the field of the refusal that has it. */
+const RETOLD = [
+    [/ \(line \d+\)/, ""],
+    [/\bthe (cut|set) in \w+ /, "the $1 "],
+    [/^this flow is feasible,/, "the flow in `better` is feasible,"],
+    [/: if its cost can be written, \w+ has one$/, ": it is in `flow`"],
+];
+const ofArrays = (line) => RETOLD.reduce((told, [words, mine]) => told.replace(words, mine), line);
+
 /** How many texts a command reads. */
 const COUNTS = {judge: 3, certify: 2, solve: 2};
 
@@ -152,7 +161,7 @@ export class AskedOfArrays {
             const words = this.#record(Number(found[2]), found[3].split(" "));
             return words ? [found[1] + words] : [];
         }
-        return /^ +\^+$/.test(line) || line.includes("dimacs spread-") ? [] : [line.replace(/ \(line \d+\)/, "")];
+        return /^ +\^+$/.test(line) || line.includes("dimacs spread-") ? [] : [ofArrays(line)];
     }
 
     #record(line, [letter, one, two, ...numbers]) {

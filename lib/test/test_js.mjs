@@ -240,14 +240,29 @@ const CASES = {
         assert.equal(balance[1], "0 leaves node 2, 4 enters it: 4 too little leaves");
         assert.deepEqual(balance.slice(-3), ["entries into it: 1", "  arc 1: 1 -> 2, FLOW 4", ""]);
         const better = thrown(() => dimacs.certifyMaxArrays(IN_MAX, [0, 2, 0, 0, 2])).explain();
-        const by = /^x solution 0 0 NotMaximum\nthis flow is feasible, and has \d more than the 2 that is claimed\n$/;
-        assert.match(better, by);
+        const by = /^the flow in `better` is feasible, and has [1-4] more than the 2 that is claimed$/;
+        assert.match(better.split("\n")[1], by);
+        assert.ok(better.startsWith("x solution 0 0 NotMaximum\n") && better.split("\n").length === 3);
         const weights = [5, -4, 0], negative = thrown(() => dimacs.solvePathsArrays({...IN_GRAPH, weights}, 1));
         assert.match(negative.explain(), /^x arc 2 NegativeWeight\narc 2: 2 -> 3, WEIGHT -4\n/);
         // A text can't say that the source is at 1.
         const late = thrown(() => dimacs.judgePathsArrays(IN_GRAPH, 1, [1, 5, 9, Infinity], [0, 1, 2, 0]));
         assert.equal(late.explain(), "x node 1 NotShortest\n");
         throws(() => new dimacs.Verdict("max", 6n).explain(), TypeError);
+    },
+    "explanations of arrays name no text": () => {
+        const feasible = "x instance 0 0 Feasible\nthe instance has a feasible flow: it is in `flow`\n";
+        assert.equal(thrown(() => dimacs.certifyInfeasibleArrays(IN_MIN)).explain(), feasible);
+        const outside = thrown(() => dimacs.judgeMaxArrays(IN_MAX, [4, 2, 1, 3, 3], [0, 0, 0, 0])).explain();
+        const source = "node 1: the source\nnode 1 is the source, and the cut doesn't hold it\n";
+        assert.equal(outside, `x node 1 SourceOutside\n${source}`);
+        // Node 1 supplies 4; its arcs have CAP 4 and 2.
+        const met = thrown(() => dimacs.judgeInfeasibleArrays(IN_MIN, [1, 0, 0, 0])).explain().split("\n");
+        assert.ok(met[1].startsWith("the set supplies 4, and its arcs can carry 0 to 6 out of it: "));
+        // 3 * 2 + 2 + 1 + 2 * 3 + 2 = 17, and the least cost is 14.
+        const dear = thrown(() => dimacs.certifyMinArrays(IN_MIN, [3, 1, 1, 2, 2])).explain();
+        const less = /^the flow in `better` is feasible, and costs [1-3] less than the 17 that is claimed$/;
+        assert.match(dear.split("\n")[1], less);
     },
     "labels whose predecessors have greater numbers are explained": () => {
         const graph = {nodes: 4, tails: [1, 4, 3, 2], heads: [4, 3, 2, 2], weights: [5, 4, 1, 0]};
