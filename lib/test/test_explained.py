@@ -192,7 +192,7 @@ class Arrays(Explained):
         self.assertEqual(above[-1], "arc 1 carries 9, more than its CAP, 4")
         self.assertIn("arc 1: 1 -> 2, FLOW 9", above)
         less = self.refused(dimacs.certify_min_arrays, *SHIPS, DEAR_FLOW).splitlines()
-        is_less = "this flow is feasible, and costs 1 less than the 15 that is claimed"
+        is_less = "the flow in `better` is feasible, and costs 1 less than the 15 that is claimed"
         self.assertEqual(less, ["x solution 0 0 NotLeast", is_less])
         loose = self.refused(dimacs.judge_paths_arrays, *GRAPH, 1, [0, 4, *DISTANCES[2:]], PREDECESSORS).splitlines()
         self.assertEqual(loose[:2], ["x node 2 NoTightArc", "node 2: distance 4, predecessor 1"])

@@ -148,6 +148,14 @@ def _after_predecessors(nodes: Sequence[int], before: Sequence[int]) -> list[int
 _RECORD = re.compile(r"^( *)(\w+):(\d+): (.*)$")
 _MARK = re.compile(r"^ +\^+$")
 
+#: What sentences say of a text, and what they say of arrays: a flow is in the field of the refusal that has it.
+_RETOLD = [
+    (r" \(line \d+\)", ""),
+    (r"\bthe (cut|set) in \w+ ", r"the \1 "),
+    (r"^this flow is feasible,", "the flow in `better` is feasible,"),
+    (r": if its cost can be written, \w+ has one$", ": it is in `flow`"),
+]
+
 #: Where lines have nodes and arcs.
 _NODES = re.compile(
     r"\b(?:nodes?:?|source|from|to|predecessor|PRED,|inside|sink,) (\d+)|y\((\d+)\)|^(\d+) reaches|that (\d+) reaches"
@@ -215,8 +223,7 @@ class AskedOfArrays(Asked):
             names = [*names[: _READ.get(self._call, 2)], *(it for it in self._more if it == "better")]
         texts = [self._text(it) for it in names]
         written = ["certificate"] if self._call == "solve_paths" else []
-        shown = ["flow" if (it, self.kind) == ("better", "infeasible") else it for it in names]
-        first, *more = _explanation(" ".join([self._call.replace("_", "-"), *shown, *written]), texts)
+        first, *more = _explanation(" ".join([self._call.replace("_", "-"), *names, *written]), texts)
         if self.printed is None and first.startswith("x "):
             return ["the arrays hold other numbers now, and these are refused: the answer isn't theirs"]
         if self.printed is not None and not self._is_same(first):
@@ -234,7 +241,8 @@ class AskedOfArrays(Asked):
     # ---- without the texts, which the caller never saw
 
     def _retold(self, line: str, texts: list[str]) -> Iterator[str]:
-        line = re.sub(r" \(line \d+\)|(?<=cut|set) in certificate", "", line)
+        for words, mine in _RETOLD:
+            line = re.sub(words, mine, line)
         found = _RECORD.match(line)
         if found:
             indent, name, number, record = found.groups()
