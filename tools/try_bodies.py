@@ -217,6 +217,15 @@ class Trial:
                 shutil.rmtree(f"{self.room}/proofs/{'/'.join(path)}", ignore_errors=True)
                 text = HOLE.format(module=".".join([self.crate, "proofs", *path]), name=path[-1])
                 write(f"{self.room}/proofs/{'/'.join(path)}/Proof.antt", text)
+                self.put_stub(place)
+
+    def put_stub(self, place):
+        """Empties a function's body, in as many lines: a check reads the code of what it takes by its contract, too."""
+        own, file = place.function, f"{self.room}/{place.file}"
+        lines = text_of(file).split("\n")
+        if own.last - own.first > 1 and "const fn" not in lines[own.head]:
+            lines[own.first + 1 : own.last] = ["unreachable!()", *[""] * (own.last - own.first - 2)]
+            write(file, "\n".join(lines))
 
     def put_in_place(self, edit):
         """Gives the edited functions their new bodies."""
