@@ -8,7 +8,7 @@ own. tools/theorem.md has the text, with these lines between:
     @trait FILE NAME            a trait of Rust
     @declared FILE NAME..       types of Rust of one file
     @define NAME..              definitions, one after another; NAME! has its fields or equations on a line each
-    @says NAME : SENTENCE       the comment of a definition that has none in the sources
+    @comment NAME : SENTENCE    the comment of a definition that has none in the sources
     @table NAME                 a definition that has a line for each reason, cut short: each gives the reason's own name
     @kit NAME.. : MEANING       a row of the table of what is cited of the kit
     @files judge                the files of what it cites
@@ -340,7 +340,7 @@ def follow(page, paragraph):
         if asked == "@kit":
             names, meaning = line.removeprefix("@kit ").split(" : ", 1)
             page.kit |= dict.fromkeys(names.split(), meaning)
-        elif asked == "@says":
+        elif asked == "@comment":
             page.says(words[0], line.split(" : ", 1)[1])
         elif asked in ASKED:
             ASKED[asked](page, *words)
