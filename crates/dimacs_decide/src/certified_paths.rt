@@ -1,25 +1,28 @@
 //! Certifies claimed distances from several sources.
 
-ghost use Rattle.std.specs.Prelude.{◌≡◌, ℕ, IfOk, IfSome, IsSome, OnOk};
+ghost use Rattle.std.specs.Prelude.{◌≡◌, ℕ, All, IfOk, IfSome, IsSome, OnOk};
 ghost use Rattle.dimacs_lines.specs.Limits.{IsNode};
 ghost use Rattle.dimacs_network.specs.AdjacencyLists.{AreAdjacencyLists};
 ghost use Rattle.dimacs_network.specs.declared.adjacency_lists.Side.TheVariants.{Tail};
 ghost use Rattle.dimacs_claims.specs.Labels.{IsBlock, label};
+ghost use Rattle.dimacs_claims.specs.declared.block.Label.{Label};
+ghost use Rattle.dimacs_judging.specs.Distances.{Fits};
 ghost use Rattle.dimacs_decide.specs.CertifiedPaths.{CertifiesPaths};
 ghost use Rattle.dimacs_decide.specs.Distances.{AreDistancesFrom};
 ghost use Rattle.dimacs_decide.specs.inside.DistanceBlocks.{DecidesBlock, IsBlockFor};
 ghost use Rattle.dimacs_decide.specs.inside.FewLabels.{AreFree};
 
-use crate::block_claim::{BlockClaim, BlockClaim32};
+use crate::block_claim::BlockClaim;
 use crate::claim::DistanceClaim;
 use crate::distances::decide_block;
 use crate::few_labels::{Tables, few_block, has_few_labels};
+use crate::placed_claim::PlacedClaim;
 use crate::tight_tails::block_by_predecessors;
 use dimacs_claims::{Block, Distances, Labels};
 use dimacs_instance::Graph;
-use dimacs_judging::JudgeError;
+use dimacs_judging::{Distance, JudgeError, fit_64_bits};
 use dimacs_lines::Memory;
-use dimacs_network::{AdjacencyLists, Network, Side};
+use dimacs_network::{AdjacencyLists, Network, NodeTable, Side};
 use std::alloc::Global;
 
 /// Decides whether the distances in every block are right. Weights may be negative. If all are right, it returns labels
@@ -83,7 +86,7 @@ fn search_one<N: Network>(
     ensures decides { DecidesBlock graph.now claimed.now.source (label claimed.now) result }
     ensures lists { OnOk result (IfSome lists.new (AreAdjacencyLists Tail graph.now.arcs)) }
 {
-    let claim = BlockClaim::new(alloc, claimed)?;
+    let claim = PlacedClaim::new(claimed, NodeTable::new(alloc, 0))?;
     search_block(alloc, graph, lists, claimed.source(), &claim)
 }
 
@@ -99,10 +102,30 @@ fn certify_many<N: Network>(
     ensures decides { DecidesBlock graph.now claimed.now.source (label claimed.now) result }
     ensures lists { OnOk result (IfSome lists.new (AreAdjacencyLists Tail graph.now.arcs)) }
 {
-    if let Some(claim) = BlockClaim32::new(alloc, graph.network().nodes(), claimed)? {
-        return certify_block(alloc, graph, lists, claimed.source(), &claim);
+    let labels = claimed.labels();
+    if labels.is_short() {
+        return certify_by::<N, i32>(alloc, graph, lists, claimed);
     }
-    let claim = BlockClaim::new(alloc, claimed)?;
+    if fit_64_bits(labels) {
+        return certify_by::<N, i64>(alloc, graph, lists, claimed);
+    }
+    certify_by::<N, i128>(alloc, graph, lists, claimed)
+}
+
+/// The same with a table whose numbers hold the block's distances.
+fn certify_by<N: Network, D: Distance>(
+    alloc: Global,
+    graph: &Graph<N>,
+    lists: &mut Option<AdjacencyLists>,
+    claimed: &Block,
+) -> Result<Block, JudgeError>
+    requires lawful { IsBlock graph.now.nodes claimed.now }
+    requires fits { All (λ (l : Label). Fits D.low D.end l.dist) claimed.now.labels }
+    requires lists { IfSome lists.old (AreAdjacencyLists Tail graph.now.arcs) }
+    ensures decides { DecidesBlock graph.now claimed.now.source (label claimed.now) result }
+    ensures lists { OnOk result (IfSome lists.new (AreAdjacencyLists Tail graph.now.arcs)) }
+{
+    let claim: BlockClaim<D> = BlockClaim::new(alloc, graph.network().nodes(), claimed)?;
     certify_block(alloc, graph, lists, claimed.source(), &claim)
 }
 

@@ -7,6 +7,7 @@ pub mod Potentials
 pub mod ViolatedSets
 pub mod Walks
 pub mod Labels
+pub mod Distances
 pub mod LightestArcs
 pub mod Laws
 pub mod Tests

@@ -1,10 +1,11 @@
-//! 32-bit, 64-bit and 128-bit distances for a judge's table of labels.
+//! Distances in 32, 64 or 128 bits, for tables of nodes.
 
 ghost use Rattle.std.specs.Prelude.{◌≡◌, ◌↔◌, ◌+ℤ◌, ◌<ℤ◌, ℤ, Option, Some, None, pos, IsTrue, int_lt, if◌then◌else◌};
-ghost use Rattle.dimacs_judging.specs.inside.Distances.{Fits, Improves, IsTight};
+ghost use Rattle.dimacs_judging.specs.Distances.{Fits};
+ghost use Rattle.dimacs_judging.specs.inside.Distances.{Improves, IsTight};
 
 /// A distance, or none: the greatest value.
-pub(crate) trait Distance: Copy {
+pub trait Distance: Copy {
     ghost value: { Self → Option ℤ };
 
     ghost number: { Self → ℤ };
@@ -45,7 +46,7 @@ pub(crate) trait Distance: Copy {
 
 impl Distance for i32 {
     ghost use Rattle.std.specs.Prelude.{◌^◌, ◌-◌, neg_ℤ, pos, refl};
-    ghost use Rattle.dimacs_judging.specs.inside.Distances.{below};
+    ghost use Rattle.dimacs_judging.specs.Distances.{below};
 
     ghost value = { below (pos (2 ^ 31 - 1)) };
 
@@ -95,7 +96,7 @@ impl Distance for i32 {
 
 impl Distance for i64 {
     ghost use Rattle.std.specs.Prelude.{◌^◌, ◌-◌, neg_ℤ, pos, refl};
-    ghost use Rattle.dimacs_judging.specs.inside.Distances.{below};
+    ghost use Rattle.dimacs_judging.specs.Distances.{below};
 
     ghost value = { below (pos (2 ^ 63 - 1)) };
 
@@ -146,7 +147,7 @@ impl Distance for i64 {
 /// A difference that overflows 128 bits exceeds every weight. It saturates, which gives the same answers.
 impl Distance for i128 {
     ghost use Rattle.std.specs.Prelude.{◌^◌, ◌-◌, neg_ℤ, pos, refl};
-    ghost use Rattle.dimacs_judging.specs.inside.Distances.{below};
+    ghost use Rattle.dimacs_judging.specs.Distances.{below};
 
     ghost value = { below (pos (2 ^ 127 - 1)) };
 
@@ -194,8 +195,9 @@ impl Distance for i128 {
     }
 }
 
+/// The distance in a number.
 #[inline(always)]
-pub(crate) fn distance_in<D: Distance>(dist: D) -> Option<i128>
+pub fn distance_in<D: Distance>(dist: D) -> Option<i128>
     ensures { result ≡ D.value dist }
 {
     if dist.is_some() {

@@ -19,7 +19,7 @@ const SUPPORTED: u32 = 1 << 31;
 
 impl<D: Distance> NodeLabel<D> {
     ghost use Rattle.std.specs.Prelude.{◌≡◌, ◌+◌, ◌^◌, ◌↔◌, pos, Some, None, IsTrue, if◌then◌else◌, false, true};
-    ghost use Rattle.dimacs_judging.specs.inside.Distances.{Fits};
+    ghost use Rattle.dimacs_judging.specs.Distances.{Fits};
     ghost use Rattle.dimacs_judging.specs.inside.NodeLabels.{is_supported, entry_of};
 
     /// The entry of a node without a label.

@@ -8,7 +8,7 @@ ghost use Rattle.dimacs_claims.specs.declared.block.Label.{Label};
 ghost use Rattle.dimacs_claims.specs.Labels.{AreLabels, BlockValue, IsBlock};
 ghost use Rattle.dimacs_judging.specs.CertificateTests.{RelaxFails, label_rows, relax_row, support_row, weight_row};
 ghost use Rattle.dimacs_judging.specs.inside.CertificateTests.{distance_rows};
-ghost use Rattle.dimacs_judging.specs.inside.Distances.{Fits};
+ghost use Rattle.dimacs_judging.specs.Distances.{Fits};
 ghost use Rattle.dimacs_judging.specs.LightestArcs.{AreLightest};
 ghost use Rattle.dimacs_judging.specs.inside.NodeLabels.{AllUnlabelled, AreAsTested, AreUnlabelled, AreSupported, AreSupportedBelow, AreWide, DefaultsToNone, IsLabelled, IsFirstTight, RelaxesArc, entries};
 ghost use Rattle.dimacs_judging.specs.Tests.{Clear, TestsRow};
@@ -144,7 +144,7 @@ fn labelled_block_holds<N: Network>(
 }
 
 /// Whether a table of 64-bit distances holds these.
-fn fit_64_bits(labels: &LabelList) -> bool
+pub fn fit_64_bits(labels: &LabelList) -> bool
     ensures { IsTrue result → All (λ (l : Label). Fits (neg_ℤ (pos (2 ^ 63))) (pos (2 ^ 63 - 1)) l.dist) labels.now }
 {
     for i in 0..labels.len() {

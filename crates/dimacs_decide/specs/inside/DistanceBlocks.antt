@@ -1,5 +1,5 @@
 -- Inside: decisions about claimed distances, as one block of labels.
-use Rattle.std.specs.Prelude.{ℕ, ◌≡◌, ◌^◌, ◌-◌, Option, None, Some, ℤ, int_lt, pos, if◌then◌else◌, Result, Ok, Err}
+use Rattle.std.specs.Prelude.{ℕ, ◌≡◌, Option, None, ℤ, Result, Ok, Err}
 use Rattle.dimacs_lines.specs.Limits.{IsNode}
 use Rattle.dimacs_network.specs.Arcs.{NetworkValue}
 use Rattle.dimacs_claims.specs.Labels.{BlockValue, IsBlock, label}
@@ -8,10 +8,6 @@ use Rattle.dimacs_judging.specs.Tests.{FirstAlone}
 use Rattle.dimacs_judging.specs.declared.verdict.JudgeError.{JudgeError}
 use Rattle.dimacs_judging.specs.declared.verdict.JudgeError.TheVariants.{Refused, Memory}
 use Rattle.dimacs_decide.specs.Distances.{AreDistancesFrom, claim_rows}
-
--- the greatest number of 32 bits stands for no distance
-abbrev pub below_none : ℤ → Option ℤ
-below_none d = if int_lt d (pos (2 ^ 31 - 1)) then Some d else None
 
 -- a block of the source, without a radius, that passes the judge's tests and has the claimed distances
 pub record IsBlockOf (g : NetworkValue) (s : ℕ) (claim : ℕ → Option ℤ) (b : BlockValue) : Type 0 where

@@ -14,7 +14,7 @@ use Rattle.dimacs_judging.specs.CertificateTests.{negative_row, relax_row}
 use Rattle.dimacs_network.specs.Arcs.{arc_at}
 use Rattle.dimacs_judging.specs.Labels.{HasTightArc}
 use Rattle.dimacs_judging.specs.Tests.{Clear, ClearBelow}
-use Rattle.dimacs_judging.specs.inside.Distances.{below}
+use Rattle.dimacs_judging.specs.Distances.{below}
 
 -- the weights are as tested so far
 abbrev pub AreAsTested : List ArcView → Weights → Type 0

@@ -1,7 +1,7 @@
 use Rattle.std.proofs.Common.{ℕ, ◌<◌, ◌^◌, ◌-◌, get_or, pos}
 use Rattle.std.specs.Prelude.{neg_ℤ}
 use Rattle.dimacs_claims.specs.Labels.{no_label}
-use Rattle.dimacs_judging.specs.inside.Distances.{Fits}
+use Rattle.dimacs_judging.specs.Distances.{Fits}
 use Rattle.dimacs_judging.proofs.node_labels.fit_64_bits.Given as goal
 
 -- the labels so far

@@ -1,46 +1,76 @@
-use Rattle.std.proofs.Common.{◌≡◌, ◌<◌, ◌+◌, ◌-◌, ℕ, SFits, arith, length, pos, rules, subst}
-use Rattle.std.specs.FinMap.{get, insert}
+use Rattle.std.proofs.Common.{◌≡◌, ◌<◌, ◌+◌, ◌-◌, ◌∙◌, ℕ, ℤ, Option, Some, SFits, ap, arith, length, get_or, pos, rules, subst}
 use Rattle.std.specs.Int.{w128}
-use Rattle.std.proofs.lemmas.Int.{to_z-of_z}
-use Rattle.dimacs_claims.specs.Labels.{label}
-use Rattle.dimacs_network.proofs.Nodes.{get-empty, get-insert_same, get-insert_other}
-use Rattle.dimacs_decide.proofs.BlockClaimLemmas.{AreFrom, from_end, from_one_more, labels_wide, with_source}
+use Rattle.std.proofs.lemmas.Int.{ints, to_z-of_z}
+use Rattle.dimacs_claims.specs.Labels.{label, no_label}
+use Rattle.dimacs_judging.specs.Distances.{Fits}
+use Rattle.dimacs_decide.specs.inside.DenseTables.{value_at}
+use Rattle.dimacs_decide.proofs.BlockClaimLemmas.{AreFrom, below_end, from_end, from_one_more, labels_wide, with_source}
 use Rattle.dimacs_decide.proofs.block_claim.BlockClaim.new.Goals as goal
 
 pub loop-at-init : goal.loop-at-init
-loop-at-init c =
+loop-at-init g c =
     let labels = c.args.block.now.labels in
     let end : c.len-at.result ≡ length labels = rw (← c.labels-labels.ensures) c.len-at.ensures in
-    record { within = omega (arith, end); distances = from_end labels c.len-at.result (get c.new-distances.result) (rw c.new-distances.ensures get-empty) end }
+    let value = g.D.Distance.value in
+    record {
+      within = omega (arith, end);
+      nodes = c.in_ok-distances.ensures.nodes;
+      distances = from_end labels c.len-at.result (λ v. value (value_at c.in_ok-distances.distances v)) (λ v. ap value (c.in_ok-distances.ensures.values v) ∙ c.none.ensures) end;
+    }
+
+pub of-requires : goal.of-requires
+of-requires g c =
+    let labels = c.args.block.now.labels in
+    let l = c.at-label.result in
+    let wide : SFits w128 l.dist = search rules in
+    let inside : c.loop-at.at - 1 < length labels = omega (arith, c.loop-at-test.true, c.loop-at.invariant.within) in
+    let is : l ≡ get_or labels (c.loop-at.at - 1) no_label = rw c.labels-labels.ensures at c.at-label.ensures in
+    rw (to_z-of_z w128 l.dist wide, is) (c.requires.fits (c.loop-at.at - 1) no_label inside)
 
 pub loop-at-preserved : goal.loop-at-preserved
-loop-at-preserved c =
+loop-at-preserved g c =
     let labels = c.args.block.now.labels in
     let at = c.loop-at.at - 1 in
     let l = c.at-label.result in
+    let value = g.D.Distance.value in
+    let old : ℕ → Option ℤ = λ v. value (value_at c.loop-at.distances v) in
+    let new : ℕ → Option ℤ = λ v. value (value_at c.set.new.self v) in
     let inside : at < length labels = omega (arith, c.loop-at-test.true, c.loop-at.invariant.within) in
     let same : c.loop-at.at ≡ at + 1 = omega (arith, c.loop-at-test.true) in
-    let later : AreFrom labels (at + 1) (get c.loop-at.distances) = subst (λ n. AreFrom labels n (get c.loop-at.distances)) same c.loop-at.invariant.distances in
+    let later : AreFrom labels (at + 1) old = subst (λ n. AreFrom labels n old) same c.loop-at.invariant.distances in
     let is = rw c.labels-labels.ensures at c.at-label.ensures in
-    let fits : SFits w128 c.at-label.result.dist = search rules in
+    let wide : SFits w128 l.dist = search rules in
+    let number : g.D.Distance.number c.of.result ≡ l.dist = rw (to_z-of_z w128 l.dist wide) at c.of.ensures in
+    let fits : Fits g.D.Distance.low g.D.Distance.end l.dist = rw is (c.requires.fits at no_label inside) in
+    let law = rw number at (g.met.D.Distance.value_below_end c.of.result) in
+    let here : new l.id ≡ Some l.dist = ap value c.set.ensures.set ∙ (law ∙ below_end l.dist g.D.Distance.end fits.1) in
     record {
       within = omega (arith, inside);
-      distances = rw (c.in_ok-set.ensures.set, to_z-of_z w128 c.at-label.result.dist fits) (from_one_more labels at l (get c.loop-at.distances) (get (insert c.loop-at.distances l.id l.dist)) inside is (get-insert_same c.loop-at.distances l.id l.dist) (λ v apart. get-insert_other c.loop-at.distances l.id v l.dist apart) later);
+      nodes = omega (arith, c.loop-at.invariant.nodes, c.set.ensures.nodes);
+      distances = from_one_more labels at l old new inside is here (λ v apart. ap value (c.set.ensures.others v apart)) later;
     }
 
 pub invariant_of-result : goal.invariant_of-result
-invariant_of-result c =
+invariant_of-result g c =
     let b = c.args.block.now in
-    let old = c.loop-at.distances in
+    let value = g.D.Distance.value in
+    let old : ℕ → Option ℤ = λ v. value (value_at c.loop-at.distances v) in
+    let new : ℕ → Option ℤ = λ v. value (value_at c.set-2.new.self v) in
     let end : c.loop-at.at ≡ 0 = omega (arith, c.loop-at-test.false) in
-    let all : AreFrom b.labels 0 (get c.loop-at.distances) = subst (λ n. AreFrom b.labels n (get c.loop-at.distances)) end c.loop-at.invariant.distances in
-    let kept : (v : ℕ) → get c.set-2.new.self v ≡ label b v = rw (c.in_ok-set-2.ensures.set, c.source.ensures) (with_source b (get old) (get (insert old b.source (pos 0))) (get-insert_same old b.source (pos 0)) (λ v apart. get-insert_other old b.source v (pos 0) apart) all) in
-    record { wide = labels_wide c.requires.0 b (get c.set-2.new.self) c.requires.1 kept }
+    let all : AreFrom b.labels 0 old = subst (λ n. AreFrom b.labels n old) end c.loop-at.invariant.distances in
+    let set = rw c.source.ensures at c.set-2.ensures.set in
+    let others = rw c.source.ensures at c.set-2.ensures.others in
+    let kept = with_source b old new (ap value set ∙ c.zero.ensures) (λ v apart. ap value (others v apart)) all in
+    record { wide = labels_wide c.args.nodes b new c.requires.lawful kept }
 
 pub returns : goal.returns
-returns c =
+returns g c =
     let b = c.args.block.now in
-    let old = c.loop-at.distances in
+    let value = g.D.Distance.value in
+    let old : ℕ → Option ℤ = λ v. value (value_at c.loop-at.distances v) in
+    let new : ℕ → Option ℤ = λ v. value (value_at c.set-2.new.self v) in
     let end : c.loop-at.at ≡ 0 = omega (arith, c.loop-at-test.false) in
-    let all : AreFrom b.labels 0 (get c.loop-at.distances) = subst (λ n. AreFrom b.labels n (get c.loop-at.distances)) end c.loop-at.invariant.distances in
-    rw (c.in_ok-set-2.ensures.set, c.source.ensures) (with_source b (get old) (get (insert old b.source (pos 0))) (get-insert_same old b.source (pos 0)) (λ v apart. get-insert_other old b.source v (pos 0) apart) all)
+    let all : AreFrom b.labels 0 old = subst (λ n. AreFrom b.labels n old) end c.loop-at.invariant.distances in
+    let set = rw c.source.ensures at c.set-2.ensures.set in
+    let others = rw c.source.ensures at c.set-2.ensures.others in
+    with_source b old new (ap value set ∙ c.zero.ensures) (λ v apart. ap value (others v apart)) all
