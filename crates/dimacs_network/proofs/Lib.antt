@@ -1,4 +1,3 @@
-mod LayerLemmas
 mod SlotLemmas
 pub mod Entries
 pub mod MapLemmas

@@ -1,14 +1,16 @@
--- A table whose blank value is `None`, as a map.
-use Rattle.std.proofs.Common.{◌≡◌, ◌≢◌, inl, inr, ℕ, zero, suc, ◌*◌, ◌/◌, ◌<◌, ◌≤◌, length, Option, None, Some, IsSome, refl, sym, ◌∙◌, arith}
-use Rattle.std.specs.Prelude.{Result, Ok, Err, OnOk}
+-- A table as a map.
+use Rattle.std.proofs.Common.{◌≡◌, ◌≢◌, inl, inr, ℕ, zero, suc, ◌*◌, ◌/◌, ◌<◌, ◌≤◌, length, Option, None, Some, IsSome, refl, sym, ◌∙◌, ap, arith}
+use Rattle.std.specs.Prelude.{ℤ, ◌<ℤ◌, int_lt, Bool, true, false, Result, Ok, Err, OnOk}
 use Rattle.std.proofs.lemmas.Bool.{cases_eq, cases_lt}
+use Rattle.std.proofs.lemmas.Int.{ints}
 use Rattle.std.proofs.lemmas.List.{get_or_past}
+use Rattle.std.specs.Bool.{then_some}
 use Rattle.std.specs.Ordering.{nat_cmp}
 use Rattle.std.specs.Cmp.{nat_cmp_total}
 use Rattle.std.specs.FinMap.{FinMap, empty, insert, get, same_map, nat_cmp-IsAntisymmetric}
 use Rattle.dimacs_network.specs.declared.node_table.NodeTable.{NodeTable}
 use Rattle.dimacs_network.specs.declared.node_table.TheConstants.{NO_PAGE}
-use Rattle.dimacs_network.specs.Maps.{values_below, values_in, with_option}
+use Rattle.dimacs_network.specs.Maps.{below_greatest, greatest, made_of, values_below, with_option}
 use Rattle.dimacs_network.specs.Slots.{place_of}
 use Rattle.dimacs_network.specs.Tables.{HasSlot, SameValues, blank_of, reach_of, value_of}
 use Rattle.dimacs_network.proofs.Nodes.{get-empty, get-insert_same, get-insert_other}
@@ -38,43 +40,55 @@ module _ {T : Type 0} where
         | inr apart ↦ get-with_option_other (values_below f n) n id (f n) apart ∙ get-values_below f n id (omega arith)
       ]
 
-  value_of-past : (table : NodeTable (Option T)) (id : ℕ) → blank_of table ≡ None → 64 * reach_of table ≤ id → value_of table id ≡ None
-  value_of-past table id blank past =
-      slot_value-no_page table.blank table.directory.items table.slots.items id table.numbered (get_or_past table.directory.items (id / 64) NO_PAGE (omega (arith, past))) ∙ blank
+module _ {A T : Type 0} (make : A → Option T) where
+  value_of-past : (table : NodeTable A) (id : ℕ) → 64 * reach_of table ≤ id → value_of table id ≡ blank_of table
+  value_of-past table id past =
+      slot_value-no_page table.blank table.directory.items table.slots.items id table.numbered (get_or_past table.directory.items (id / 64) NO_PAGE (omega (arith, past)))
 
-  pub get-values_in : (table : NodeTable (Option T)) (id : ℕ) → blank_of table ≡ None → get (values_in table) id ≡ value_of table id
-  unfolding values_in
-  get-values_in table id blank =
+  pub get-made_of : (table : NodeTable A) (id : ℕ) → make (blank_of table) ≡ None → get (made_of make table) id ≡ make (value_of table id)
+  unfolding made_of
+  get-made_of table id blank =
       elim (cases_lt id (64 * reach_of table)) [
-        | inl h ↦ get-values_below (value_of table) (64 * reach_of table) id h
-        | inr h ↦ get-values_below_past (value_of table) (64 * reach_of table) id h ∙ sym (value_of-past table id blank h)
+        | inl h ↦ get-values_below (λ id. make (value_of table id)) (64 * reach_of table) id h
+        | inr h ↦ get-values_below_past (λ id. make (value_of table id)) (64 * reach_of table) id h ∙ sym (ap make (value_of-past table id h) ∙ blank)
       ]
 
-  pub values_in-none : (table : NodeTable (Option T)) → blank_of table ≡ None → ((id : ℕ) → value_of table id ≡ blank_of table) → values_in table ≡ empty
-  values_in-none table blank none = same_map nat_cmp_total nat_cmp-IsAntisymmetric _ _ (λ id. get-values_in table id blank ∙ none id ∙ blank ∙ sym (get-empty id))
+  pub made_of-none : (table : NodeTable A) → make (blank_of table) ≡ None → ((id : ℕ) → value_of table id ≡ blank_of table) → made_of make table ≡ empty
+  made_of-none table blank none = same_map nat_cmp_total nat_cmp-IsAntisymmetric _ _ (λ id. get-made_of table id blank ∙ ap make (none id) ∙ blank ∙ sym (get-empty id))
 
-  pub values_in-same : (old new : NodeTable (Option T)) → blank_of old ≡ None → blank_of new ≡ blank_of old → SameValues old new → values_in new ≡ values_in old
-  values_in-same old new blank still same =
-      same_map nat_cmp_total nat_cmp-IsAntisymmetric _ _ (λ id. get-values_in new id (still ∙ blank) ∙ same id ∙ sym (get-values_in old id blank))
+  pub made_of-same : (old new : NodeTable A) → make (blank_of old) ≡ None → blank_of new ≡ blank_of old → SameValues old new → made_of make new ≡ made_of make old
+  made_of-same old new blank still same =
+      same_map nat_cmp_total nat_cmp-IsAntisymmetric _ _ (λ id. get-made_of new id (ap make still ∙ blank) ∙ ap make (same id) ∙ sym (get-made_of old id blank))
 
-  pub values_in-set : (old new : NodeTable (Option T)) (id : ℕ) (value : T) → blank_of old ≡ None → blank_of new ≡ blank_of old → value_of new id ≡ Some value → ((other : ℕ) → other ≢ id → value_of new other ≡ value_of old other)
-      → values_in new ≡ insert (values_in old) id value
-  values_in-set old new id value blank still here others =
+  pub made_of-set : (old new : NodeTable A) (id : ℕ) (here : A) (value : T) → make (blank_of old) ≡ None → blank_of new ≡ blank_of old → make here ≡ Some value → value_of new id ≡ here
+      → ((other : ℕ) → other ≢ id → value_of new other ≡ value_of old other) → made_of make new ≡ insert (made_of make old) id value
+  made_of-set old new id here value blank still makes is others =
       same_map nat_cmp_total nat_cmp-IsAntisymmetric _ _ (λ other.
       elim (cases_eq other id) [
-        | inl same ↦ rw same (get-values_in new id (still ∙ blank) ∙ here ∙ sym (get-insert_same (values_in old) id value))
-        | inr apart ↦ get-values_in new other (still ∙ blank) ∙ others other apart ∙ sym (get-values_in old other blank) ∙ sym (get-insert_other (values_in old) id other value apart)
+        | inl same ↦ rw same (get-made_of new id (ap make still ∙ blank) ∙ ap make is ∙ makes ∙ sym (get-insert_same (made_of make old) id value))
+        | inr apart ↦ get-made_of new other (ap make still ∙ blank) ∙ ap make (others other apart) ∙ sym (get-made_of old other blank) ∙ sym (get-insert_other (made_of make old) id other value apart)
       ])
 
   -- a node with a value has a slot
-  pub HasSlot-value : (table : NodeTable (Option T)) (id : ℕ) → blank_of table ≡ None → IsSome (get (values_in table) id) → HasSlot table id
+  pub HasSlot-value : (table : NodeTable A) (id : ℕ) → make (blank_of table) ≡ None → IsSome (get (made_of make table) id) → HasSlot table id
   HasSlot-value table id blank some =
       elim (cases_lt (place_of table.directory.items id) (length table.slots.items)) [
         | inl inside ↦ inside
-        | inr past ↦ let impossible = rw (get-values_in table id blank, slot_value-past table.blank table.directory.items table.slots.items id past, blank) at some in cc
+        | inr past ↦ let impossible = rw (get-made_of table id blank, slot_value-past table.blank table.directory.items table.slots.items id past, blank) at some in cc
       ]
 
-  pub values_in-set_ok : {E : Type 0} (result : Result (Unit {0}) E) (old new : NodeTable (Option T)) (id : ℕ) (value : T) → blank_of old ≡ None → blank_of new ≡ blank_of old
-      → OnOk result (value_of new id ≡ Some value) → OnOk result ((other : ℕ) → other ≢ id → value_of new other ≡ value_of old other) → OnOk result (values_in new ≡ insert (values_in old) id value)
-  values_in-set_ok (Ok done) old new id value blank still here others = values_in-set old new id value blank still here others
-  values_in-set_ok (Err error) old new id value blank still here others = tt
+  pub made_of-set_ok : {E : Type 0} (result : Result (Unit {0}) E) (old new : NodeTable A) (id : ℕ) (here : A) (value : T) → make (blank_of old) ≡ None → blank_of new ≡ blank_of old → make here ≡ Some value
+      → OnOk result (value_of new id ≡ here) → OnOk result ((other : ℕ) → other ≢ id → value_of new other ≡ value_of old other) → OnOk result (made_of make new ≡ insert (made_of make old) id value)
+  made_of-set_ok (Ok done) old new id here value blank still makes is others = made_of-set old new id here value blank still makes is others
+  made_of-set_ok (Err error) old new id here value blank still makes is others = tt
+
+-- ---- the greatest number stands for none
+pub below_greatest-none : (number : ℤ) → number ≡ greatest → below_greatest number ≡ None
+below_greatest-none number is = ap below_greatest is
+
+pub below_greatest-some : (number : ℤ) → number <ℤ greatest → below_greatest number ≡ Some number
+below_greatest-some number below = by_test (int_lt number greatest) refl
+  where
+    by_test : (t : Bool) → int_lt number greatest ≡ t → then_some t number ≡ Some number
+    by_test true is = refl
+    by_test false is = absurd (omega (arith, ints, below, is))

@@ -1,4 +1,3 @@
-pub mod Layers
 pub mod Lists
 pub mod Maps
 pub mod Sets

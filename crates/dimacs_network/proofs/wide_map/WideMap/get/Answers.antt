@@ -1,19 +1,12 @@
-use Rattle.std.proofs.Common.{◌≡◌, rules, Some, None}
-use Rattle.std.specs.FinMap as map
-use Rattle.dimacs_network.proofs.LayerLemmas.{get-upper, get-lower}
+use Rattle.std.proofs.Common.{◌≡◌, SFits, rules, sym, ◌∙◌, ap}
+use Rattle.std.specs.Int.{w128}
+use Rattle.std.proofs.lemmas.Int.{to_z-of_z}
+use Rattle.dimacs_network.specs.Maps.{below_greatest}
+use Rattle.dimacs_network.proofs.MapLemmas.{below_greatest-none, get-made_of}
 use Rattle.dimacs_network.proofs.wide_map.WideMap.get.Goals as goal
-
-pub returns-in-Some : goal.returns-in-Some
-returns-in-Some c =
-    let found : map.get c.self.inside.wide c.args.id ≡ Some c.in-Some.number = search rules in
-    rw (← c.self.view_is, get-upper c.self.inside.wide c.self.inside.narrow c.args.id c.in-Some.number found) (search rules)
-
-pub returns-in_err-number : goal.returns-in_err-number
-returns-in_err-number c =
-    let found : map.get c.self.inside.wide c.args.id ≡ None = search rules in
-    rw (← c.self.view_is, get-lower c.self.inside.wide c.self.inside.narrow c.args.id found) (search rules)
 
 pub returns : goal.returns
 returns c =
-    let found : map.get c.self.inside.wide c.args.id ≡ None = search rules in
-    rw (← c.self.view_is, get-lower c.self.inside.wide c.self.inside.narrow c.args.id found) (search rules)
+    let fits : SFits w128 c.get-number.result = search rules in
+    let some : c.then_some.result ≡ below_greatest c.get-number.result = rw (to_z-of_z w128 c.get-number.result fits) at c.then_some.ensures in
+    rw (← c.self.view_is) (some ∙ ap below_greatest c.get-number.ensures.value ∙ sym (get-made_of _ _ c.args.id (below_greatest-none _ c.self.invariant)))

@@ -1,18 +1,16 @@
-use Rattle.std.proofs.Common.{◌≡◌, rules, None}
-use Rattle.std.specs.FinMap as map
-use Rattle.dimacs_network.proofs.LayerLemmas.{get-lower, set_lower, set_upper}
+use Rattle.std.specs.Int.{w128}
+use Rattle.std.proofs.lemmas.Int.{to_z-of_z}
+use Rattle.std.proofs.lemmas.Result.{on_err_weaker}
+use Rattle.dimacs_network.proofs.MapLemmas.{HasSlot-value, below_greatest-none, below_greatest-some, made_of-same, made_of-set_ok}
 use Rattle.dimacs_network.proofs.wide_map.WideMap.set.Goals as goal
-
-pub returns-in-Ok-clause-set : goal.returns-in-Ok-clause-set
-returns-in-Ok-clause-set c =
-    let none : map.get c.self.inside.wide c.args.id ≡ None = search rules in
-    rw (← c.self.view_is) (set_lower c.self.inside.wide c.self.inside.narrow c.set.new.self c.args.id c.args.number c.set.result none (search rules))
-
-pub returns-in-Ok-clause-replaces : goal.returns-in-Ok-clause-replaces
-returns-in-Ok-clause-replaces c = λ had fits.
-    let none : map.get c.self.inside.wide c.args.id ≡ None = search rules in
-    c.set.ensures.replaces (rw (← c.self.view_is, get-lower c.self.inside.wide c.self.inside.narrow c.args.id none) at had)
 
 pub returns-clause-set : goal.returns-clause-set
 returns-clause-set c =
-    rw (← c.self.view_is) (set_upper c.self.inside.wide c.self.inside.narrow c.set-2.new.self c.args.id c.args.number c.set-2.result (search rules))
+    let set = rw (to_z-of_z w128 c.args.number c.ranges.number) at c.set.ensures.set in
+    rw (← c.self.view_is) (made_of-set_ok _ c.set.result _ _ c.args.id _ c.args.number (below_greatest-none _ c.self.invariant) c.set.ensures.same_blank (below_greatest-some _ c.requires) set c.set.ensures.others)
+
+pub returns-clause-unchanged : goal.returns-clause-unchanged
+returns-clause-unchanged c = rw (← c.self.view_is) (on_err_weaker c.set.result (λ same. made_of-same _ _ _ (below_greatest-none _ c.self.invariant) c.set.ensures.same_blank same) c.set.ensures.unchanged)
+
+pub returns-clause-replaces : goal.returns-clause-replaces
+returns-clause-replaces c = λ some. c.set.ensures.replaces (HasSlot-value _ _ c.args.id (below_greatest-none _ c.self.invariant) (rw (← c.self.view_is) at some))
