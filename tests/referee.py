@@ -16,14 +16,13 @@ import subprocess
 import sys
 import tempfile
 
-from instances import BINARY
+from instances import BINARY, MEMORY
 from rows import rows
 from spoiled_texts import JUDGES, KINDS, judged_texts
 import referee  # the folder of which spoiled_texts.py adds to the path
 
 TOP = os.path.dirname(os.path.dirname(os.path.abspath(__file__)))
 WORKERS = 4
-MEMORY = "/dev/shm" if os.path.isdir("/dev/shm") else None
 
 # The judges in turn. Labels have the most places where they can fail.
 COMMANDS = ["max", "min", "infeasible", "paths", "paths"]
