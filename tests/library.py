@@ -7,7 +7,7 @@ room and without, in eight threads, with each growth of memory refused in turn, 
 a million arcs; in C++, by each of `c++` and `clang++`, the last under sanitizers, dimacs.hpp, and over it what LEMON and
 Boost answer; the crate for Cargo; and in Python, by each of `python3` and /usr/bin/python3, also networkx' own tests of what
 the backend of it answers. N random small instances in arrays are compared with the texts that are printed from them, M
-of which go through the program: `--runs 20000` has all of them do so, which takes some minutes. Then it installs the
+of which go through the program: `--runs 8000` has all of them do so, which takes some minutes. Then it installs the
 wheel and calls it, and builds and runs what docs/LIBRARY.md shows.
 
 What needs a tool that isn't there is left out, and named; what Debian doesn't have apart. Each layer has a least number
@@ -369,7 +369,7 @@ LAYERS = {
 def main():
     words = argparse.ArgumentParser(description="Tests the library for C, C++, Python and Rust.")
     words.add_argument("--build", default=f"{TOP}/build", help="the folder of the library and the program")
-    words.add_argument("--instances", type=int, default=20_000, help="how many are compared in arrays and as texts")
+    words.add_argument("--instances", type=int, default=8_000, help="how many are compared in arrays and as texts")
     words.add_argument("--runs", type=int, default=300, help="how many of their texts go through the program")
     asked = words.parse_args()
     agree = functools.partial(test_agreement, instances=asked.instances, runs=asked.runs)
