@@ -188,7 +188,7 @@ def test_cpp(counts, build, place):
 
 def test_cpp_file(counts, words, name, needs, build, place):
     """One of them, if the library is there that it needs."""
-    if needs and not compiles(words[0], ["-E"], f"#include <{needs[1]}>", place):
+    if needs and not compiles(words[0], ["-E"], f"#if !__has_include(<{needs[1]}>)\n#error\n#endif\n", place):
         counts.leave_out(f"{name}.cpp by {words[0]}", needs[0])
         return
     made = os.path.join(place, f"{name}_cpp")
