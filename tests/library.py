@@ -46,8 +46,8 @@ C_TESTS = [
 
 # Each test in C++: its file, the standard of the language, and a library's header that it needs. Compilers take gnu++17
 # if none is named; in c++17 their integers of 128 bits aren't integers. What LEMON and Boost have in templates takes long
-# to compile with -O1, and gets warnings then.
-CPP_WARN = ["-O0", "-g", "-Wall", "-Wextra", "-Wpedantic", "-Werror", f"-I{LIB}/include"]
+# to compile with -O1, and gets warnings then. What sanitizers report has lines by -g1, and -g takes longer.
+CPP_WARN = ["-O0", "-Wall", "-Wextra", "-Wpedantic", "-Werror", f"-I{LIB}/include"]
 CPP_TESTS = [
     ("hpp", "c++17", None),
     ("hpp", "gnu++17", None),
@@ -181,7 +181,7 @@ def test_cpp(counts, build, place):
     if not with_sanitizers:
         counts.leave_out("the reads and writes of the tests in C++", "sanitizers")
     for compiler in cpp_compilers():
-        flags = [*CPP_WARN, *(SANITIZERS if compiler in with_sanitizers else [])]
+        flags = [*CPP_WARN, *(["-g1", *SANITIZERS] if compiler in with_sanitizers else [])]
         for name, standard, needs in CPP_TESTS:
             test_cpp_file(counts, [compiler, *flags, f"-std={standard}"], name, needs, build, place)
 
