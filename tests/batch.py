@@ -28,6 +28,8 @@ import tempfile
 import time
 import traceback
 
+from instances import compiled_once
+
 TOP = os.path.join(os.path.dirname(os.path.abspath(__file__)), "..")
 BATCH = os.path.join(TOP, "tools/dimacs-batch")
 BUILT = os.path.join(TOP, "crates/dimacs/out/dimacs")
@@ -137,7 +139,7 @@ class Place:
         pipe = subprocess.PIPE
         usual = {"cwd": self.folder, "stdin": subprocess.DEVNULL, "stdout": pipe, "stderr": pipe, "text": True}
         its = {**os.environ, "RAN": self.ran, **how.pop("env", {})}
-        words = [sys.executable, "-B", BATCH, "--program", program or self.program, *words]
+        words = [sys.executable, BATCH, "--program", program or self.program, *words]
         return subprocess.Popen(words, env=its, **{**usual, **how})
 
     def run(self, *words, program=None, **how):
@@ -602,7 +604,7 @@ def new_is_a_link(place):
 def closed_streams(place):
     """Standard streams that are closed give no traceback, and no status of a refusal."""
     place.list(["0 0 v max 1"])
-    words = f"{shlex.quote(sys.executable)} -B {shlex.quote(BATCH)} --program ./stand-in"
+    words = f"{shlex.quote(sys.executable)} {shlex.quote(BATCH)} --program ./stand-in"
     for rest, wanted in (
         ("list <&-", 0), ("list -o table <&-", 0), ("list -o table >&-", 0), ("list >&-", 2), ("- <&-", 2),
         ("list 2>&- >out", 0), ("list -o table 2>&-", 0), ("list -o t2 <&- >&- 2>&-", 0), ("list 2>/dev/full", 0),
@@ -921,19 +923,26 @@ WITH_BINARY = [
 ]
 
 
+def passes(name, test):
+    """Whether a test passes, in a folder of its own."""
+    with tempfile.TemporaryDirectory() as folder:
+        try:
+            test(Place(folder))
+        except AssertionError as error:
+            print(f"{name}, line {traceback.extract_tb(error.__traceback__)[-1].lineno}: {error!r}")
+            return False
+    return True
+
+
 def main():
     tests = [(it.__name__, it) for it in TESTS]
     binary = os.path.abspath(sys.argv[1]) if len(sys.argv) > 1 else BUILT
     if len(sys.argv) > 1 or os.path.exists(BUILT):
         tests += [(it.__name__, functools.partial(it, binary=binary)) for it in WITH_BINARY]
     failed = 0
-    for name, test in tests:
-        with tempfile.TemporaryDirectory() as folder:
-            try:
-                test(Place(folder))
-            except AssertionError as error:
-                failed += 1
-                print(f"{name}, line {traceback.extract_tb(error.__traceback__)[-1].lineno}: {error!r}")
+    with compiled_once():
+        for name, test in tests:
+            failed += not passes(name, test)
     print(f"{len(tests) - failed} passed, {failed} failed")
     return 1 if failed else 0
 

@@ -17,6 +17,8 @@ import sys
 import tempfile
 import xml.etree.ElementTree as ElementTree
 
+from instances import compiled_once
+
 TOP = os.path.dirname(os.path.dirname(os.path.abspath(__file__)))
 DRAW = f"{TOP}/tools/dimacs-draw"
 BINARY = os.path.abspath(sys.argv[1] if len(sys.argv) > 1 else f"{TOP}/crates/dimacs/out/dimacs")
@@ -131,7 +133,7 @@ class Counts:
 
 def run(*words, folder, **how):
     """Runs dimacs-draw over the program."""
-    command = [sys.executable, "-B", DRAW, *words]
+    command = [sys.executable, DRAW, *words]
     environment = {**os.environ, "DIMACS": BINARY, **how.pop("env", {})}
     return subprocess.run(command, cwd=folder, capture_output=True, check=False, env=environment, **how)
 
@@ -515,7 +517,7 @@ def test_layers(counts):
 
 def main():
     counts = Counts()
-    with tempfile.TemporaryDirectory() as place:
+    with compiled_once(), tempfile.TemporaryDirectory() as place:
         test_examples(counts, place)
         test_refusals(counts, place)
         test_complaints(counts, place)

@@ -13,7 +13,7 @@ import sys
 import tempfile
 
 import explained_yes
-from instances import BINARY
+from instances import BINARY, MEMORY
 
 MAX = "p max 4 5\nn 1 s\nn 4 t\na 1 2 4\na 1 3 2\na 2 3 2\na 2 4 3\na 3 4 5\n"
 FLOW = "s 6\nf 1 2 4\nf 1 3 2\nf 2 3 1\nf 2 4 3\nf 3 4 3\n"
@@ -267,7 +267,7 @@ def write(folder, name, text):
 def fault_of(binary, case):
     """What is wrong with the explanation of a case; none if nothing is."""
     reason, words, texts, parts = case
-    with tempfile.TemporaryDirectory() as folder:
+    with tempfile.TemporaryDirectory(dir=MEMORY) as folder:
         written(folder, texts)
         plain = run(binary, words, folder)
         written(folder, texts)
@@ -288,7 +288,7 @@ def fault_of(binary, case):
 
 def yes_fault(binary, words, texts, lines):
     """What is wrong with the explanation of a yes; none if nothing is."""
-    with tempfile.TemporaryDirectory() as folder:
+    with tempfile.TemporaryDirectory(dir=MEMORY) as folder:
         written(folder, texts)
         plain = run(binary, words, folder)
         written(folder, texts)
@@ -300,7 +300,7 @@ def yes_fault(binary, words, texts, lines):
 
 def pipe_fault(binary, comments):
     """What is wrong with a yes about a text of a pipe, after so many MB of comments; none if nothing is."""
-    with tempfile.TemporaryDirectory() as folder:
+    with tempfile.TemporaryDirectory(dir=MEMORY) as folder:
         written(folder, {})
         text = f"yes c | head -c {comments}000000; cat S"
         words = ["bash", "-c", f"'{binary}' explain judge-max I <({text}) C"]
@@ -313,7 +313,7 @@ def pipe_fault(binary, comments):
 
 def twice_fault(binary):
     """What is wrong with a refusal of a pipe that is named twice; none if nothing is."""
-    with tempfile.TemporaryDirectory() as folder:
+    with tempfile.TemporaryDirectory(dir=MEMORY) as folder:
         written(folder, {})
         words = ["bash", "-c", f"cat I | '{binary}' explain certify-max /dev/stdin /dev/stdin"]
         ran = subprocess.run(words, capture_output=True, cwd=folder, check=False)
@@ -330,7 +330,7 @@ def text_in(folder, name):
 def reader_faults(binary, count, seed):
     """What the program explains otherwise than the second reader, in a line for each run."""
     for kind, instance, queries in explained_yes.seeded(count, seed):
-        with tempfile.TemporaryDirectory() as folder:
+        with tempfile.TemporaryDirectory(dir=MEMORY) as folder:
             write(folder, "I", instance)
             write(folder, "C", queries)
             yield from texts_faults(binary, folder, kind)

@@ -2,12 +2,26 @@
 
 An arc is its tail, head, lower bound, capacity and cost. A list by node has an item for node 0 too, which is no node.
 """
+import contextlib
 import itertools
 import os
 import subprocess
 import sys
+import tempfile
 
 BINARY = os.path.join(os.path.dirname(os.path.abspath(__file__)), "../crates/dimacs/out/dimacs")
+
+# Where small files take least time; None for where temporary files are.
+MEMORY = "/dev/shm" if os.path.isdir("/dev/shm") else None
+
+
+@contextlib.contextmanager
+def compiled_once():
+    """Has Python keep the modules of the scripts that are run, else compiled for each run, and not beside their sources."""
+    with tempfile.TemporaryDirectory(dir=MEMORY) as folder:
+        os.environ["PYTHONPYCACHEPREFIX"] = folder
+        os.environ.pop("PYTHONDONTWRITEBYTECODE", None)
+        yield
 
 
 def asked():

@@ -4,10 +4,10 @@
 FOLDER is where `make` built the library and the program: build, or build/quick for those that aren't proved. It runs
 what stands in lib/test: in C, under sanitizers if they fit and by valgrind, the calls over texts and arrays with
 room and without, in eight threads, with each growth of memory refused in turn, over texts of 100 MB, and over arrays of
-a million arcs; in C++, by each of `c++` and `clang++` under sanitizers, dimacs.hpp, and over it what LEMON and Boost
-answer; the crate for Cargo; and in Python, by each of `python3` and /usr/bin/python3, also networkx' own tests of what
+a million arcs; in C++, by each of `c++` and `clang++`, the last under sanitizers, dimacs.hpp, and over it what LEMON and
+Boost answer; the crate for Cargo; and in Python, by each of `python3` and /usr/bin/python3, also networkx' own tests of what
 the backend of it answers. N random small instances in arrays are compared with the texts that are printed from them, M
-of which go through the program: `--runs 20000` has all of them do so, which takes some minutes. Then it installs the
+of which go through the program: `--runs 8000` has all of them do so, which takes some minutes. Then it installs the
 wheel and calls it, and builds and runs what docs/LIBRARY.md shows.
 
 What needs a tool that isn't there is left out, and named; what Debian doesn't have apart. Each layer has a least number
@@ -46,8 +46,8 @@ C_TESTS = [
 
 # Each test in C++: its file, the standard of the language, and a library's header that it needs. Compilers take gnu++17
 # if none is named; in c++17 their integers of 128 bits aren't integers. What LEMON and Boost have in templates takes long
-# to compile with -O1, and gets warnings then.
-CPP_WARN = ["-O0", "-g", "-Wall", "-Wextra", "-Wpedantic", "-Werror", f"-I{LIB}/include"]
+# to compile with -O1, and gets warnings then. What sanitizers report has lines by -g1, and -g takes longer.
+CPP_WARN = ["-O0", "-Wall", "-Wextra", "-Wpedantic", "-Werror", f"-I{LIB}/include"]
 CPP_TESTS = [
     ("hpp", "c++17", None),
     ("hpp", "gnu++17", None),
@@ -174,21 +174,21 @@ def compiles(compiler, flags, text, place):
 
 
 def test_cpp(counts, build, place):
-    """The tests in C++, by each compiler."""
+    """The tests in C++, by each compiler. The sanitizers of one see what those of another would, and clang++'s take less."""
     if not cpp_compilers():
         counts.leave_out("the tests in C++", CXX)
+    with_sanitizers = [it for it in cpp_compilers() if compiles(it, SANITIZERS, "int main() {}", place)][-1:]
+    if not with_sanitizers:
+        counts.leave_out("the reads and writes of the tests in C++", "sanitizers")
     for compiler in cpp_compilers():
-        flags = [*CPP_WARN, *SANITIZERS]
-        if not compiles(compiler, flags, "int main() {}", place):
-            counts.leave_out(f"the reads and writes of the tests by {compiler}", "sanitizers")
-            flags = CPP_WARN
+        flags = [*CPP_WARN, *(["-g1", *SANITIZERS] if compiler in with_sanitizers else [])]
         for name, standard, needs in CPP_TESTS:
             test_cpp_file(counts, [compiler, *flags, f"-std={standard}"], name, needs, build, place)
 
 
 def test_cpp_file(counts, words, name, needs, build, place):
     """One of them, if the library is there that it needs."""
-    if needs and not compiles(words[0], ["-E"], f"#include <{needs[1]}>", place):
+    if needs and not compiles(words[0], ["-E"], f"#if !__has_include(<{needs[1]}>)\n#error\n#endif\n", place):
         counts.leave_out(f"{name}.cpp by {words[0]}", needs[0])
         return
     made = os.path.join(place, f"{name}_cpp")
@@ -369,7 +369,7 @@ LAYERS = {
 def main():
     words = argparse.ArgumentParser(description="Tests the library for C, C++, Python and Rust.")
     words.add_argument("--build", default=f"{TOP}/build", help="the folder of the library and the program")
-    words.add_argument("--instances", type=int, default=20_000, help="how many are compared in arrays and as texts")
+    words.add_argument("--instances", type=int, default=8_000, help="how many are compared in arrays and as texts")
     words.add_argument("--runs", type=int, default=300, help="how many of their texts go through the program")
     asked = words.parse_args()
     agree = functools.partial(test_agreement, instances=asked.instances, runs=asked.runs)

@@ -6,7 +6,7 @@ at one tail, many arcs between two nodes, blocks of labels with a node far off i
 as many lines (100,000 if LINES isn't given) with the same declared nodes, in which neighbours have near numbers and
 everything stands in order. Shown are the processor time and the most memory of both, and their quotients. The script
 fails if a text takes more than LIMIT times what the kind one takes; more is allowed if each ID has a page to
-itself.
+itself. A kind text that stands beside several is run once.
 
 BINARY is the built program; crates/dimacs/out/dimacs by default. With WORD only the cases run that have it in
 their name. refusals.c, which reports the most memory, is compiled with cc.
@@ -247,6 +247,14 @@ class Runner:
     def __init__(self, binary, library):
         self.binary = binary
         self.library = library
+        self.known = {}
+
+    def measure_kind(self, words, texts):
+        """The same of a kind text, which several cases may have."""
+        key = words, *texts
+        if key not in self.known:
+            self.known[key] = self.measure(words, texts)
+        return self.known[key]
 
     def measure(self, words, texts):
         """The status of a run, its processor time in seconds, and the most memory that it held, in MB."""
@@ -294,7 +302,7 @@ def main():
                 if word not in name:
                     continue
                 status, time, peak = runner.measure(words, texts)
-                kind_status, kind_time, kind_peak = runner.measure(words, kind_texts)
+                kind_status, kind_time, kind_peak = runner.measure_kind(words, kind_texts)
                 slower = (time + COARSE) / (kind_time + COARSE)
                 larger = peak / kind_peak
                 too_large = peak > most_memory * kind_peak + DIRECTORIES

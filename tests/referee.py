@@ -1,7 +1,7 @@
 #!/usr/bin/env python3
 """Compares the program with the referee, referee/referee.py: tests/referee.py [BINARY] [COUNT] [SEED]
 
-Both judge COUNT cases (30,000 if it isn't given), whose texts spoiled_texts.py makes at random, and have to print the
+Both judge COUNT cases (10,000 if it isn't given), whose texts spoiled_texts.py makes at random, and have to print the
 same, with the same status. Listed is how often each answer of a judge was met, and each fault of a text by KIND,
 letter, field and reason; what wasn't met has failed, but LineLimit, which takes 10^12 lines. Then both commands run
 with files that fail, and with wrong arguments. At last the referee alone judges the rows of tests/rows.
@@ -16,14 +16,13 @@ import subprocess
 import sys
 import tempfile
 
-from instances import BINARY
+from instances import BINARY, MEMORY
 from rows import rows
 from spoiled_texts import JUDGES, KINDS, judged_texts
 import referee  # the folder of which spoiled_texts.py adds to the path
 
 TOP = os.path.dirname(os.path.dirname(os.path.abspath(__file__)))
 WORKERS = 4
-MEMORY = "/dev/shm" if os.path.isdir("/dev/shm") else None
 
 # The judges in turn. Labels have the most places where they can fail.
 COMMANDS = ["max", "min", "infeasible", "paths", "paths"]
@@ -208,7 +207,7 @@ def judge_tables():
 
 
 def main():
-    binary, count, seed = [*sys.argv[1:], *[BINARY, "30000", "1"][len(sys.argv) - 1 :]]
+    binary, count, seed = [*sys.argv[1:], *[BINARY, "10000", "1"][len(sys.argv) - 1 :]]
     binary = os.path.abspath(binary)
     parts = [compare_all(binary, int(count), seed), compare_commands(binary), judge_tables()]
     failures = [failure for _, some in parts for failure in some]

@@ -28,6 +28,8 @@ import sys
 import tempfile
 import threading
 
+from instances import MEMORY
+
 HERE = os.path.dirname(os.path.abspath(__file__))
 
 MAX = "p max 4 5\nn 1 s\nn 4 t\na 1 2 4\na 1 3 2\na 2 3 2\na 2 4 3\na 3 4 5\n"
@@ -667,7 +669,7 @@ def give_bytes(runs):
 
 def miss(runs, call):
     """Refuses calls by a library that doesn't see this one. Yields a fault if no run fails by that."""
-    blind = Runs(runs.binary, build(runs.folder, call), runs.folder)
+    blind = Runs(runs.binary, build(os.path.dirname(runs.library), call), runs.folder)
     if not list(refuse_all(blind, *SHOWING, KINDS)):
         yield f"nothing is missed if {call} is never refused"
     runs.runs += blind.runs
@@ -737,8 +739,8 @@ def main():
     built = "crates/dimacs_tests/out/dimacs_tests_tests"
     tests = os.path.abspath(sys.argv[2] if len(sys.argv) > 2 else os.path.join(top, built))
     cases = Cases()
-    with tempfile.TemporaryDirectory() as folder:
-        runs = Runs(os.path.abspath(binary), build(folder), folder)
+    with tempfile.TemporaryDirectory() as built, tempfile.TemporaryDirectory(dir=MEMORY) as folder:
+        runs = Runs(os.path.abspath(binary), build(built), folder)
         for name, text in {**TEXTS, **long_texts()}.items():
             runs.write(name, text)
         for run in RUNS:

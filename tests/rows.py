@@ -19,7 +19,7 @@ import subprocess
 import sys
 import tempfile
 
-from instances import BINARY
+from instances import BINARY, MEMORY
 from refusals import build
 
 HERE = os.path.dirname(os.path.abspath(__file__))
@@ -367,8 +367,8 @@ def commands(runs):
 
 def main():
     binary = os.path.abspath(sys.argv[1] if len(sys.argv) > 1 else BINARY)
-    with tempfile.TemporaryDirectory() as folder:
-        runs = Runs(binary, build(folder), folder)
+    with tempfile.TemporaryDirectory() as built, tempfile.TemporaryDirectory(dir=MEMORY) as folder:
+        runs = Runs(binary, build(built), folder)
         for part in (texts, judges, certifiers, solvers, commands):
             part(runs)
     for failure in runs.failures:

@@ -4,7 +4,7 @@
 FOLDER is where `make` built the library and the program for this one: build, or build/quick for those that aren't proved.
 What a part tests is built by make first. The parts:
   module    the module that is kept is the one of which clang made the archive
-  wasm      in node the library's tests, with each call compared with the library for this system, and 5,000 random
+  wasm      in node the library's tests, with each call compared with the library for this system, and 2,000 random
             instances; its heap, up to the end of 32-bit addresses; the layer for JavaScript; and the package
   command   the command in node: its statuses, output, files and complaints are those of the program
   page      the page in Chromium: answers, marked lines, downloads, refused requests
@@ -109,7 +109,7 @@ def test_wasm(tests):
     if not tests.made("wasm/dimacs.wasm", "npm/dimacs.tgz", "libdimacs.so", "dimacs"):
         return
     module, library = f"{tests.build}/wasm/dimacs.wasm", f"{tests.build}/libdimacs.so"
-    instances = ["--instances", "50000" if tests.is_all else "5000", "--runs", "1", "--program", f"{tests.build}/dimacs"]
+    instances = ["--instances", "50000" if tests.is_all else "2000", "--runs", "1", "--program", f"{tests.build}/dimacs"]
     for name, words in (("agree", instances), ("test_texts", []), ("test_arrays", []), ("test_solving", [])):
         words = [sys.executable, f"{JS}/through.py", module, library, f"{TEST}/{name}.py", *words]
         tests.counted(f"{name}.py through node", run(*words, env=python_environment(tests.build)))

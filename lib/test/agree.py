@@ -459,7 +459,7 @@ COMPARED += [solved_max, solved_min, solved_paths]
 
 def main():
     words = argparse.ArgumentParser(description="Compares the calls over arrays with the same as texts.")
-    words.add_argument("--instances", type=int, default=20_000)
+    words.add_argument("--instances", type=int, default=8_000)
     words.add_argument("--program", help="the built dimacs; without it only the calls over texts are asked")
     words.add_argument("--runs", type=int, default=300, help="how many texts go through the program")
     words.add_argument("--seed", type=int, default=11)
