@@ -335,21 +335,33 @@ def places_in(folder):
             yield Place(os.path.relpath(path, folder), it)
 
 
+def within(path):
+    """The path of a function, and where its closures stand: after `fn`, as in `module::fn::function`, `module::fn::Type::f`."""
+    return [path, [*path[:-1], "fn", path[-1]], [*path[:-2], "fn", *path[-2:]]]
+
+
 def verdict_at(path, report):
     """What a check reports of the function at a path."""
     found = re.findall(rf"^fn \S*::{re.escape('::'.join(path))}: (.*)", report.text, re.M)
     return found[0] if len(found) == 1 else ""
 
 
+def closure_verdicts(path, report):
+    """What a check reports of the closures in a function."""
+    ends = "|".join(re.escape("::".join(it)) for it in within(path)[1:])
+    return re.findall(rf"^fn \S*::(?:{ends})::\S+: (.*)", report.text, re.M)
+
+
 def judge(edit, paths, report):
     """Settles an edit by what a check reports of the functions that it changed, at the paths that these have there."""
     verdicts = [verdict_at(it, report) for it in paths]
-    parts = [f"/{'/'.join(it)}/" for it in paths]
+    inside = [verdict for it in paths for verdict in closure_verdicts(it, report)]
+    parts = [f"/{'/'.join(part)}/" for it in paths for part in within(it)]
     errors = [why for file, why in PROOF_ERROR.findall(report.text) if any(it in file for it in parts)]
-    without = [it for it in verdicts if it.startswith("no proof: expected answers in")]
+    without = [it for it in [*verdicts, *inside] if it.startswith("no proof: expected answers in")]
     if without:
         edit.settle(REFUSED, without[0])
-    elif any(it.startswith("not proved") for it in verdicts):
+    elif any(it.startswith("not proved") for it in [*verdicts, *inside]):
         judge_errors(edit, errors)
     elif all(it.startswith(AS_PROVED) for it in verdicts):
         edit.settle(PROVED)
