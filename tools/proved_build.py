@@ -30,6 +30,9 @@ PROGRAM, ARCHIVE = f"{CRATES}/dimacs/out/dimacs", f"{CRATES}/dimacs_c/out/libdim
 # What the program that rt ci built was made of: rt ci removes this file as it begins.
 BY_CI = f"{CRATES}/dimacs/out/sources"
 
+# Where a check keeps what it checked of a crate: that for another target takes most of it from there.
+SHARED = ["--incremental", "out/incremental"]
+
 # Stands for clang: keeps the module that it compiles, and the words that came with it.
 CLANG = """#!/bin/sh
 case "$*" in
@@ -87,14 +90,14 @@ def crate_words(kit, listed, name):
 def calls_words(kit, listed, room):
     """The command that proves dimacs_c, builds its archive, and keeps the module in `room`."""
     words = [*crate_words(kit, listed, "dimacs_c"), "src/lib.rt", "--crate-type", "staticlib"]
-    return [*words, "--toolchain", quick_build.stand_in(kit, room, CLANG), "-o", "out/libdimacs_c.a"]
+    return [*words, *SHARED, "--toolchain", quick_build.stand_in(kit, room, CLANG), "-o", "out/libdimacs_c.a"]
 
 
 def prove_all(listed, calls):
     """Proves each crate in turn, and builds the two at the top."""
     crates = order(listed)
     words = {"dimacs": ["rt", "run", "--", "show", "gr", "../../examples/road.gr"]}
-    words["dimacs_c"] = [*calls, "--incremental", "out/incremental"]
+    words["dimacs_c"] = calls
     for at, name in enumerate(crates):
         prove(name, words.get(name, ["rt", "lib"]), len(crates) - at - 1)
 

@@ -2,7 +2,8 @@
 """Proves and compiles the library and the program for aarch64 Linux: tools/targets/aarch64.py FOLDER
 
 The crates below them are proved already, by `make` or by rt ci. The two are proved over these for the kit's own target
-aarch64-unknown-linux-gnu, and compiled: FOLDER gets dimacs_c.a and main.o, which the Makefile links.
+aarch64-unknown-linux-gnu, and compiled: FOLDER gets dimacs_c.a and main.o, which the Makefile links. What the proof for
+this system checked of dimacs_c isn't checked again where it is the same: 16 seconds for 150.
 """
 import os
 import subprocess
@@ -27,7 +28,7 @@ def main():
     kit, listed = kits.folder("bin/rattle"), kits.crates()
     os.makedirs(folder, exist_ok=True)
     for name, (crate, root) in MADE.items():
-        words = [*proved_build.crate_words(kit, listed, crate), *root, "--target", TARGET]
+        words = [*proved_build.crate_words(kit, listed, crate), *root, *proved_build.SHARED, "--target", TARGET]
         words += ["--toolchain", f"{kit}/toolchain", "-o", f"{folder}/{name}"]
         subprocess.run(words, cwd=f"{kits.TOP}/crates/{crate}", check=True)
 
