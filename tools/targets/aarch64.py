@@ -16,9 +16,9 @@ import proved_build  # noqa: E402
 
 TARGET = "aarch64-unknown-linux-gnu"
 
-# What is made, of which crate, and its root.
+# What is made, of which crate, its root, and what else its command has.
 MADE = {
-    "dimacs_c.a": ("dimacs_c", ["src/lib.rt", "--crate-type", "staticlib"]),
+    "dimacs_c.a": ("dimacs_c", ["src/lib.rt", "--crate-type", "staticlib", *proved_build.SHARED]),
     "main.o": ("dimacs", ["src/main.rt"]),
 }
 
@@ -28,7 +28,7 @@ def main():
     kit, listed = kits.folder("bin/rattle"), kits.crates()
     os.makedirs(folder, exist_ok=True)
     for name, (crate, root) in MADE.items():
-        words = [*proved_build.crate_words(kit, listed, crate), *root, *proved_build.SHARED, "--target", TARGET]
+        words = [*proved_build.crate_words(kit, listed, crate), *root, "--target", TARGET]
         words += ["--toolchain", f"{kit}/toolchain", "-o", f"{folder}/{name}"]
         subprocess.run(words, cwd=f"{kits.TOP}/crates/{crate}", check=True)
 
