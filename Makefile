@@ -35,7 +35,7 @@ FOLDERS = PREFIX BINDIR LIBDIR INCLUDEDIR DATADIR MANDIR DOCDIR ZSHDIR DESTDIR
 
 # The folder of what is installed: what is proved, or with UNPROVED=1 what isn't.
 FROM = build$(if $(UNPROVED),/quick)
-MAN = $(if $(wildcard tools/man_pages.py),build/man)
+MADE = $(if $(wildcard tools/man_pages.py),build/man build/completion)
 
 ## make: proves the program and the library, and builds build/dimacs, build/libdimacs.a and build/libdimacs.so
 all: build/dimacs build/linked
@@ -93,7 +93,7 @@ proved-by-ci:
 	ln -sf libdimacs.so.0 $@
 
 ## make install: installs what is proved, into PREFIX=/usr/local below DESTDIR=; UNPROVED=1 takes what isn't proved
-install: $(FROM)/dimacs $(FROM)/dimacs_c.a linked $(MAN)
+install: $(FROM)/dimacs $(FROM)/dimacs_c.a linked $(MADE)
 	@$(INSTALL) $(FROM)
 
 ## make uninstall: removes what was installed there, and no more
@@ -116,9 +116,13 @@ build/man: tools/man_pages.py VERSION crates/dimacs/src/usage.rt $(wildcard man/
 	tools/man_pages.py $@.new
 	mv $@.new $@
 
+build/completion: tools/completions.py crates/dimacs/src/usage.rt tools/dimacs_batch/options.py tools/dimacs_draw/options.py
+	rm -rf $@
+	tools/completions.py $@
+
 ## make dist: makes packages of what is proved in dist/, and tests them; MAINTAINER="Name <address>" is their contact
 ## make dist ARCH=aarch64: makes those for that system in dist/aarch64; ARCH=windows makes a wheel in dist/windows
-dist: $(or $(if $(UNPROVED),proved-only),$(if $(filter-out x86_64 aarch64 windows,$(ARCH)),no-such-system),all) $(MAN)
+dist: $(or $(if $(UNPROVED),proved-only),$(if $(filter-out x86_64 aarch64 windows,$(ARCH)),no-such-system),all) $(MADE)
 	tools/dist.py $(ARCH:%=--for %)
 	tests/packages.py dist$(addprefix /,$(filter-out x86_64,$(ARCH)))
 
@@ -134,13 +138,13 @@ no-such-system:
 	@echo "make dist: ARCH is x86_64, aarch64 or windows, and not $(ARCH)" >&2
 	@exit 2
 
-## make release: goes through what a release wants, runs the gate, dist and check-packages, and prints the tag's text
+## make release: runs all that a release has to pass (CONTRIBUTING.md), which takes hours; no tool may be missing
 release:
-	tools/release.py
-
-## make licence: writes what LICENCE-STATUS says into the files here that have a field for it
-licence:
-	tools/licence.py
+	ALL_TOOLS=yes .ci/gate all
+	$(MAKE) check-targets
+	$(MAKE) dist check-packages
+	$(MAKE) dist ARCH=aarch64
+	@echo 'dimacs $(VERSION) can be tagged v$(VERSION), with what CHANGELOG.md says of it'
 
 ## make theorem: writes docs/THEOREM.md, and build/THEOREM.html with links from names to their definitions
 theorem:
@@ -161,4 +165,4 @@ include targets.mk
 .PRECIOUS: build/dimacs build/dimacs_c.a build/dimacs_c.bc %/dimacs.o %/libdimacs.a %/libdimacs.so.0 \
     %/libdimacs.so
 .PHONY: all help quick check prove prove-all proved-by-ci install uninstall linked dist check-packages proved-only \
-    no-such-system release licence theorem bench clean FORCE
+    no-such-system release theorem bench clean FORCE

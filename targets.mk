@@ -63,8 +63,8 @@ ARM = aarch64-linux-gnu
 %/aarch64/dimacs: %/aarch64/main.o %/aarch64/heap.o lib/glue/os.c
 	$(ARM)-gcc -O2 -fPIE -pie -Wl,-z,relro,-z,now -Wall -Wextra -s -o $@ $^
 
-build/aarch64/dimacs_c.a build/aarch64/main.o &: build/dimacs tools/targets/aarch64.py
-	tools/targets/aarch64.py build/aarch64
+build/aarch64/dimacs_c.a build/aarch64/main.o: build/dimacs tools/targets/aarch64.py
+	tools/targets/aarch64.py $@
 
 build/quick/aarch64/dimacs_c.a: build/quick/dimacs_c.bc tools/targets/compile.py
 	mkdir -p $(@D)

@@ -1,5 +1,5 @@
 #!/usr/bin/env python3
-"""Tests completion/ in the shells that are there: tests/completion.py
+"""Tests the completions that tools/completions.py makes, in the shells that are there: tests/completion.py
 
 After each command of the usage text, at each of its places, the words, kinds and files that can stand there are
 offered, and after the last place nothing. In zsh the functions that it brings for completion are stood in for.
@@ -14,7 +14,7 @@ import tempfile
 TOP = os.path.realpath(os.path.join(os.path.dirname(os.path.abspath(__file__)), ".."))
 
 BASH = """
-source {top}/completion/dimacs.bash
+source {made}/dimacs.bash
 COMP_WORDS=({words} '') COMP_CWORD={count}
 _dimacs
 printf '%s\\n' "${{COMPREPLY[@]}}"
@@ -26,11 +26,11 @@ _files() {{ print -rl -- ${{~2}} }}
 _message() {{ }}
 compadd() {{ print -r -- $2 }}
 words=({words} '') CURRENT={count}+1 service=dimacs
-source {top}/completion/_dimacs
+source {made}/_dimacs
 """
 
 FISH = """
-source {top}/completion/dimacs.fish
+source {made}/dimacs.fish
 complete -C '{words} ' | string replace -r '\\t.*' ''
 """
 
@@ -54,10 +54,10 @@ def usage():
     return commands, re.findall(r"(?:^|  )(\w+)  ", table, re.MULTILINE)
 
 
-def offered(shell, words, folder):
+def offered(shell, words, folder, made):
     """What a shell offers after these words."""
     command, script = SHELLS[shell]
-    script = script.format(top=TOP, words=" ".join(words), count=len(words))
+    script = script.format(made=made, words=" ".join(words), count=len(words))
     ran = subprocess.run([*command, script], capture_output=True, text=True, check=False, cwd=folder)
     return ran.stdout.split(), ran.stderr
 
@@ -75,42 +75,43 @@ def is_right(found, place, commands, kinds, files):
     return bool(found) and set(found) <= set(files)
 
 
-def checks(shell, folder):
+def checks(shell, folder, made):
     """Yields what was looked at in a shell, and whether it is right."""
     commands, kinds = usage()
     files = sorted(os.listdir(folder))
     command, _ = SHELLS[shell]
-    ran = subprocess.run([command[0], "-n", f"{TOP}/completion/{CHECKS[shell]}"], capture_output=True, check=False)
+    ran = subprocess.run([command[0], "-n", f"{made}/{CHECKS[shell]}"], capture_output=True, check=False)
     yield "syntax", ran.returncode == 0 and not ran.stderr
-    found, complaint = offered(shell, ["dimacs"], folder)
+    found, complaint = offered(shell, ["dimacs"], folder, made)
     yield f"commands: {found}{complaint}", sorted(found) == sorted(commands) and not complaint
     explained = sorted(set(commands) - {"explain", "help"})
-    found, complaint = offered(shell, ["dimacs", "explain"], folder)
+    found, complaint = offered(shell, ["dimacs", "explain"], folder, made)
     yield f"explain: {found}{complaint}", sorted(found) == explained and not complaint
     for word, places in commands.items():
         if word == "explain":
             continue
         typed = ["dimacs", word]
         for place in [*places, None]:
-            found, complaint = offered(shell, typed, folder)
+            found, complaint = offered(shell, typed, folder, made)
             yield f"{' '.join(typed)}: {found}{complaint}", is_right(found, place, commands, kinds, files) and not complaint
             typed.append({"COMMAND": "show", "KIND": "max", "--limit": "--limit", "N": "5"}.get(place, "a"))
     for typed in ["dimacs", "judge-max"], ["dimacs", "explain", "judge-max"]:
-        found, complaint = offered(shell, typed, folder)
+        found, complaint = offered(shell, typed, folder, made)
         yield f"files of the kind: {found}{complaint}", "a.max" in found and not complaint
 
 
 def main():
     failed = passed = 0
     _, kinds = usage()
-    with tempfile.TemporaryDirectory() as folder:
+    with tempfile.TemporaryDirectory() as folder, tempfile.TemporaryDirectory() as made:
+        subprocess.run([f"{TOP}/tools/completions.py", made], check=True)
         for kind in kinds:
             open(os.path.join(folder, f"a.{kind}"), "w", encoding="ascii").close()
         for shell in SHELLS:
             if not shutil.which(shell):
                 print(f"left out: {shell}")
                 continue
-            for what, right in checks(shell, folder):
+            for what, right in checks(shell, folder, made):
                 passed += right
                 failed += not right
                 if not right:

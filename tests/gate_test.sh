@@ -6,15 +6,28 @@
 # were built. Nothing is built for it.
 set -u
 cd "$(dirname "$0")/.."
-. tests/count.sh
 unset ALL_TOOLS
+passed=0 failed=0
+room=$(mktemp -d)
+trap 'rm -rf "$room"' EXIT
 
-# What count adds up of a stand-in, a line of sh, of which at least so many have to pass.
-added() {
-    sh -c '. tests/count.sh; count "$1" sh -c "$2" >/dev/null; echo "$passed passed, $failed failed"' sh "$@"
+# fail WHY..: counts one more that failed.
+fail() {
+    echo "FAILED: $*"
+    failed=$((failed + 1))
 }
 
-# expect WANTED LEAST STAND_IN: tests what count adds up of a stand-in.
+# What is counted of a stand-in, a line of sh, of which at least so many have to pass.
+added() {
+    python3 -B -c '
+import sys
+sys.path.insert(0, "tests")
+import scripts
+ran = scripts.counted("it", int(sys.argv[1]), *scripts.ended(["sh", "-c", sys.argv[2]]))
+print(f"{ran.passed} passed, {ran.failed} failed")' "$@"
+}
+
+# expect WANTED LEAST STAND_IN: tests what is counted of a stand-in.
 expect() {
     wanted=$1
     shift
@@ -43,7 +56,8 @@ expect "5 passed, 0 failed" 5 'echo "5 passed, 0 failed (and more)"'
 expect "5 passed, 1 failed" 5 'echo "5 passed, 0 failed"; exit 1'
 expect "4 passed, 1 failed" 5 'echo "4 passed, 0 failed"'
 expect "0 passed, 1 failed" 1 'echo "0 passed, 0 failed"'
-expect "0 passed, 1 failed" 0 'echo "0 passed, 0 failed"'
+expect "1 passed, 0 failed" 0 'true'
+expect "0 passed, 1 failed" 0 'echo "5 passed, 0 failed"; exit 1'
 expect "5 passed, 2 failed" 5 'echo "5 passed, 2 failed"; exit 1'
 expect "5 passed, 3 failed" 5 'echo "5 passed, 2 failed"'
 expect "0 passed, 1 failed" 1 'echo "5 passed, 0 failed"; echo a line'
@@ -113,9 +127,9 @@ python() {
 }
 
 python '
-import check
-check.SCRIPTS = {"gone": []}
-print("OK" if [run(name, "")[1:] for run, name in check.jobs() if name == "gone"] == [(0, 1)] else "left out")'
+import scripts
+found = [scripts.run(scripts.Script("build", 1, it), {}) for it in (["tests/gone.py"], ["false", "echo 1 passed, 0 failed"])]
+print("OK" if [it[1:3] for it in found] == [(0, 1), (0, 1)] else found)'
 python '
 import believed
 named = believed.imports("use M.{x as y, z};\nghost use N.{◌≤◌ as ◌≡◌};")
@@ -225,4 +239,5 @@ if $here proved-by-ci 2>&1 | grep -q "isn't what rt ci proved"; then
 else
     fail "make proved-by-ci takes a program of other sources"
 fi
-finish
+echo "$passed passed, $failed failed"
+[ "$failed" -eq 0 ]

@@ -8,8 +8,9 @@ What a part tests is built by make first. The parts:
             instances; its heap, up to the end of 32-bit addresses; the layer for JavaScript; and the package
   command   the command in node: its statuses, output, files and complaints are those of the program
   page      the page in Chromium: answers, marked lines, downloads, refused requests
-  aarch64   under qemu the library's tests in C, and the program, compared as the command
-With --all there are more instances and all runs over the examples, npm installs the package, and two parts more:
+  aarch64   under qemu the library's tests in C
+With --all there are more instances and all runs over the examples, npm installs the package, the program for aarch64 is
+compared as the command is, and there are two parts more:
   windows   under wine the library's tests in C; and the wheel, of what is proved
   firefox   the page in Firefox
 
@@ -332,14 +333,14 @@ def test_in_c(tests, system, compiler, flags, libraries, by):
 
 
 def test_aarch64(tests):
-    if not tests.made(*(f"aarch64/{it}" for it in ("dimacs", "libdimacs.a", "libdimacs.so"))):
+    if not tests.made(*(f"aarch64/{it}" for it in ("libdimacs.a", "libdimacs.so", *["dimacs"] * tests.is_all))):
         return
     folder = f"{tests.build}/aarch64"
     static, shared = [f"{folder}/libdimacs.a"], [f"-L{folder}", f"-Wl,-rpath,{folder}", "-ldimacs"]
     libraries = [("texts", static), ("arrays", shared), ("refused", [*static, *WRAPPED])]
     test_in_c(tests, "aarch64", "aarch64-linux-gnu-gcc", ["-g"], libraries, QEMU)
-    compare_commands(tests, "dimacs on aarch64", [*QEMU, f"{folder}/dimacs"])
     if tests.is_all:
+        compare_commands(tests, "dimacs on aarch64", [*QEMU, f"{folder}/dimacs"])
         test_scripts(tests, f"{folder}/dimacs")
 
 
@@ -350,8 +351,7 @@ def test_scripts(tests, program):
         it.write(f'#!/bin/sh\nexec {" ".join(QEMU)} {program} "$@"\n')
     os.chmod(by_qemu, 0o755)
     tests.counted("shown_runs.py on aarch64", run(f"{TOP}/tests/shown_runs.py", by_qemu, cwd=TOP))
-    for name, count in (("certify_trials", "60"), ("solve_min_trials", "150")):
-        tests.ended(f"{name}.py on aarch64", run(f"{TOP}/tests/{name}.py", count, "1", by_qemu, cwd=TOP))
+    tests.counted("solve_min_trials.py on aarch64", run(f"{TOP}/tests/solve_min_trials.py", "150", "1", by_qemu, cwd=TOP))
 
 
 def test_windows(tests):

@@ -3,7 +3,8 @@
 
 crates.txt has the crates, lowest first, under the headings that its comments are. What a crate is for is the first
 sentence of its root. Its lines are counted as they stand: sources with their contracts, the definitions that contracts
-cite, and proofs. With --check nothing is written, and the status is 1 if the tables aren't those of the crates.
+cite, and proofs. With --check nothing is written, and the status is 1 if the tables aren't those of the crates, or a test
+of `surface` uses another crate than a program in Rattle calls.
 """
 import glob
 import os
@@ -48,6 +49,13 @@ def sizes(crate):
         yield sum(text_of(it).count("\n") for it in glob.glob(f"{TOP}/crates/{crate}/{pattern}", recursive=True))
 
 
+def astray():
+    """The crates that tests in `surface` use, but for the five that a program in Rattle calls."""
+    files = sorted(glob.glob(f"{TOP}/crates/dimacs_tests/src/surface/*.rt"))
+    used = [it for file in files for it in re.findall(r"^use (dimacs_\w+)", text_of(file), re.MULTILINE)]
+    return set(used) - {f"dimacs_{it}" for it in ("lines", "records", "instance", "claims", "judge")}
+
+
 def row(cells):
     """A row of a table."""
     return "| " + " | ".join(cells) + " |\n"
@@ -68,6 +76,8 @@ def main():
     before, _, rest = page.partition(BEGIN)
     made = before + BEGIN + "".join(table(*it) for it in groups().items()) + "\n" + END + rest.partition(END)[2]
     if sys.argv[1:] == ["--check"]:
+        if astray():
+            sys.exit(f"tests of the surface use {', '.join(astray())}")
         sys.exit(made != page and f"{PAGE}: its tables of crates aren't of today's: run tools/crate_tables.py")
     if sys.argv[1:]:
         sys.exit(__doc__)

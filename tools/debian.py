@@ -14,8 +14,6 @@ import sys
 import time
 import zipfile
 
-import licence
-
 TOP = os.path.dirname(os.path.dirname(os.path.abspath(__file__)))
 SOURCES = f"{TOP}/lib/package/debian"
 PYTHON = "usr/lib/python3/dist-packages"
@@ -77,8 +75,9 @@ def words_for(release):
     """What stands in place of the words between @."""
     version = release.version
     date = time.strftime("%a, %d %b %Y %H:%M:%S +0000", time.gmtime(release.epoch))
-    chosen = licence.words()
-    chosen["LICENCE_TEXT"] = "\n".join(f" {line}" if line else " ." for line in chosen["LICENCE_TEXT"].split("\n"))
+    licence, _, text = read(f"{TOP}/LICENCE-STATUS").partition("\n\n")
+    chosen = {"LICENCE": licence.replace(" OR ", " or ")}
+    chosen["LICENCE_TEXT"] = "\n".join(f" {line}" if line else " ." for line in text.strip().split("\n"))
     words = {"VERSION": version.replace("-", "~") + "-1", "DATE": date, "MAINTAINER": maintainer(version)}
     words |= {"DISTRIBUTION": "UNRELEASED" if "-" in version else "unstable", "GLIBC": str(release.glibc)}
     words["ARCHITECTURE"] = ARCHITECTURES[release.machine]

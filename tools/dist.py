@@ -3,11 +3,11 @@
 
 SYSTEM is x86_64, else aarch64 or windows. Of what `make` proved and built for it, in build/ or build/SYSTEM/, it makes in
 OUT, or in dist/ or dist/SYSTEM/, a tarball with all that `make install` installs, packages for Debian (where dpkg-deb is;
-tools/debian.py), a wheel for Python, the recipes of packaging/ with the tarball's sum (tools/other_systems.py; for x86_64
-alone), a list of what they are made of (tools/sbom.py), and SHA256SUMS; for Windows all but the first two and the recipes.
+tools/debian.py), a wheel for Python, for x86_64 the recipe for Arch with the tarball's sum, and SHA256SUMS; for Windows
+the wheel and the sums alone.
 What is of other sources, or doesn't have the mark of what is proved, it refuses, with the status 2. The same files give
 the same packages: they are of the time that SOURCE_DATE_EPOCH has in seconds, or of the last date in CHANGELOG.md.
-MAINTAINER is the contact that packages for Debian name.
+MAINTAINER is the contact that packages for Debian name, URL the place of the tarball that the recipe names.
 """
 import argparse
 import calendar
@@ -23,9 +23,7 @@ import tempfile
 import time
 
 import debian
-import other_systems
 import proved_build
-import sbom
 import sources
 
 TOP = os.path.dirname(os.path.dirname(os.path.abspath(__file__)))
@@ -115,10 +113,13 @@ def make_tarball(build, room, out, release):
     return name
 
 
-def write_recipes(room, out, release, name):
-    """Packs the recipes, which install the tarball of this name."""
-    other_systems.fill(room, other_systems.words_for(release, name, dict(sums_of(out))[f"{name}.tar.gz"]))
-    write_tar(out, room, f"dimacs-{release.version}-packaging", release.epoch)
+def write_recipe(out, release, name):
+    """Writes the recipe for Arch, which installs the tarball of this name."""
+    words = {"NAME": name, "NUMBERS": release.version.partition("-")[0], "SHA256": dict(sums_of(out))[f"{name}.tar.gz"]}
+    words |= {"URL": os.environ.get("URL") or f"https://example.invalid/{name}.tar.gz"}
+    words["LICENCE"] = text("LICENCE-STATUS").split("\n")[0]
+    with open(f"{out}/PKGBUILD", "w", encoding="utf-8") as it:
+        it.write(re.sub(r"@([A-Z0-9_]+)@", lambda found: words[found[1]], text("packaging/PKGBUILD")))
 
 
 def files_of(folder):
@@ -138,7 +139,7 @@ def make_for_linux(build, release, room, out):
     """Makes the packages that are for Linux alone, and the wheel."""
     name = make_tarball(build, f"{room}/tarball", out, release)
     if release.machine == "x86_64":
-        write_recipes(f"{room}/packaging", out, release, name)
+        write_recipe(out, release, name)
     wheel = make_wheel(build, release.machine, out)
     if shutil.which("dpkg-deb"):
         install(build, f"{room}/installed", *debian.folders(release.machine))
@@ -159,7 +160,6 @@ def make(build, name, out):
             make_wheel(build, name, out)
         else:
             make_for_linux(build, release, room, out)
-    sbom.write(f"{out}/dimacs-{release.version}.spdx.json", name, release, sums_of(out))
     sums = sums_of(out)
     with open(f"{out}/SHA256SUMS", "w", encoding="ascii") as it:
         it.writelines(f"{value}  {name}\n" for name, value in sums)

@@ -38,9 +38,6 @@ import kit as kits
 
 TOP = os.path.dirname(os.path.dirname(os.path.abspath(__file__)))
 
-# How the folders of the trials are named, for tools/gate_times.py.
-ROOM = "wrong-bodies-"
-
 # The checks that run at once, and the edits in one of them.
 JOBS = os.cpu_count()
 EDITS = 48
@@ -379,7 +376,7 @@ def judge_errors(edit, errors):
 def try_together(edits):
     """Tries edits of functions by one check, and answers the minutes by crate. It may leave some unsettled."""
     crate = edits[0].crate
-    with tempfile.TemporaryDirectory(prefix=ROOM) as room:
+    with tempfile.TemporaryDirectory() as room:
         trial = Trial(crate, room)
         trial.put_holes(edits)
         for edit in (it for it in edits if not it.may_have_twin()):
@@ -401,7 +398,7 @@ def try_together(edits):
 
 def try_alone(edit):
     """Tries one edit by a check of the crate with it, and answers the minutes by crate."""
-    with tempfile.TemporaryDirectory(prefix=ROOM) as room:
+    with tempfile.TemporaryDirectory() as room:
         trial = Trial(edit.crate, room)
         trial.put_whole(edit)
         report = trial.check(edit.log())

@@ -1,9 +1,9 @@
 #!/usr/bin/env python3
-"""Proves and compiles the library and the program for aarch64 Linux: tools/targets/aarch64.py FOLDER
+"""Proves and compiles the library or the program for aarch64 Linux: tools/targets/aarch64.py OUT
 
-The crates below them are proved already, by `make` or by rt ci. The two are proved over these for the kit's own target
-aarch64-unknown-linux-gnu, and compiled: FOLDER gets dimacs_c.a and main.o, which the Makefile links. What the proof for
-this system checked of dimacs_c isn't checked again where it is the same: 16 seconds for 150.
+OUT ends in dimacs_c.a or main.o, which the Makefile links. The crates below are proved already, by `make` or by rt ci. The
+crate is proved over these for the kit's own target aarch64-unknown-linux-gnu, and compiled. What the proof for this system
+checked of dimacs_c isn't checked again where it is the same: 16 seconds for 150. The program takes five minutes.
 """
 import os
 import subprocess
@@ -24,13 +24,12 @@ MADE = {
 
 
 def main():
-    folder = os.path.abspath(sys.argv[1])
+    out = os.path.abspath(sys.argv[1])
     kit, listed = kits.folder("bin/rattle"), kits.crates()
-    os.makedirs(folder, exist_ok=True)
-    for name, (crate, root) in MADE.items():
-        words = [*proved_build.crate_words(kit, listed, crate), *root, "--target", TARGET]
-        words += ["--toolchain", f"{kit}/toolchain", "-o", f"{folder}/{name}"]
-        subprocess.run(words, cwd=f"{kits.TOP}/crates/{crate}", check=True)
+    os.makedirs(os.path.dirname(out), exist_ok=True)
+    crate, root = MADE[os.path.basename(out)]
+    words = [*proved_build.crate_words(kit, listed, crate), *root, "--target", TARGET]
+    subprocess.run([*words, "--toolchain", f"{kit}/toolchain", "-o", out], cwd=f"{kits.TOP}/crates/{crate}", check=True)
 
 
 if __name__ == "__main__":

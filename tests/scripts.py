@@ -1,0 +1,126 @@
+"""The scripts of the gate and of `make check`, and how they are run: side by side, as many as there are processors.
+
+A script ends with the line 'N passed, M failed'. It has failed if it has no such line, if fewer passed than the table
+wants, though nothing was left out, if its status isn't that of its line, or, where ALL_TOOLS is set, if it leaves anything
+out. One of which the table wants 0 counts nothing: its status decides.
+"""
+import collections
+import concurrent.futures
+import os
+import re
+import subprocess
+import sys
+import time
+
+TOP = os.path.dirname(os.path.dirname(os.path.abspath(__file__)))
+
+# What runs side by side: what it needs, how much has to pass in it, and its commands, one after the other. What needs
+# nothing that is built comes first, and of each kind what takes longest.
+TABLE = """
+nothing | 440    | tests/lower_addresses.py
+nothing | 46     | tests/gate_test.sh
+nothing | 0      | tools/try_bodies.py --apply
+nothing | 0      | tests/wrong_bodies.py --apply
+nothing | 0      | tools/believed.py
+nothing | 0      | tools/crate_tables.py --check
+nothing | 750    | tests/promises.py
+nothing | 13     | tests/theorem.py
+nothing | 40     | tests/completion.py
+nothing | 110    | tests/man_pages.py
+build   | 200000 | tests/library.py --build {build}
+build   | 10800  | tests/referee.py {build}/dimacs
+build   | 106    | tests/refusals.py {build}/dimacs {tests}
+build   | 1900   | tests/explain.py {build}/dimacs
+build   | 40     | tests/malicious.py {build}/dimacs
+build   | 180    | tests/large_runs.py {build}/dimacs
+build   | 1028   | tests/rows.py {build}/dimacs
+build   | 3000   | tests/solve_min_trials.py 1500 1 {build}/dimacs
+build   | 650    | tests/draw.py {build}/dimacs
+build   | 24     | tests/batch.py {build}/dimacs
+build   | 50     | tests/usage.py {build}/dimacs
+build   | 50     | tests/shown_runs.py {build}/dimacs
+build   | 43     | tests/install.py {build}
+build   | 28     | tests/abi.py {build}
+build   | 13     | tests/version.py {build}
+proved  | 6000   | tests/targets.py --build {build}
+proved  | 60     | tools/dist.py ; tests/packages.py dist
+"""
+
+COUNTED = re.compile(r"^(\d+) passed, (\d+) failed\b[^\n]*\n?\Z", re.MULTILINE)
+
+Script = collections.namedtuple("Script", "needs least commands")
+Ran = collections.namedtuple("Ran", "name passed failed said")
+
+
+def listed(*needs):
+    """The scripts that need one of these."""
+    rows = [[cell.strip() for cell in line.split("|")] for line in TABLE.strip().splitlines()]
+    return [Script(need, int(least), commands.split(" ; ")) for need, least, commands in rows if need in needs]
+
+
+def ended(words, **how):
+    """Runs a command; its status and what it printed."""
+    how = {"cwd": TOP, "stdin": subprocess.DEVNULL, "stdout": subprocess.PIPE, "stderr": subprocess.STDOUT} | how
+    try:
+        ran = subprocess.run(words, text=True, errors="replace", check=False, **how)
+    except OSError as why:
+        return 127, f"{words[0]}: {why.strerror}\n"
+    return ran.returncode, ran.stdout
+
+
+def counted(name, least, status, output):
+    """What a script that ended so passed and failed, and what is to be printed of it."""
+    line = COUNTED.search(output)
+    passed, failed = map(int, line.groups()) if line else (0, 0)
+    left_out = re.findall(r"^left out: .*", output, re.MULTILINE)
+    faults = []
+    if not least:
+        passed, failed = int(status == 0), int(status != 0)
+    elif not line:
+        faults.append(f"ended without counting what passed, with status {status}")
+    elif passed == 0 or passed < least and not left_out:
+        faults.append(f"passed {passed}, and at least {least} have to")
+    if status == 0 and failed or status != 0 and not failed and line:
+        faults.append(f"ended with status {status}")
+    if left_out and os.environ.get("ALL_TOOLS"):
+        faults.append("left something out, and all tools have to be there")
+    failed += len(faults)
+    said = output.splitlines() if failed else left_out
+    return Ran(name, passed, failed, [*said, *(f"FAILED: {name} {it}" for it in faults)])
+
+
+def command_of(line, words):
+    """A command with its words filled in, without those that are empty."""
+    return [it for it in (word.format(**words) for word in line.split()) if it]
+
+
+def run(script, words):
+    """Runs the commands of a script, up to one that fails. The last one counts."""
+    name = re.sub(r"\S*/|\.\w+$", "", script.commands[-1].split()[0])
+    *before, last = [command_of(it, words) for it in script.commands]
+    printed = ""
+    for command in before:
+        status, output = ended(command)
+        printed += output
+        if status:
+            return counted(name, script.least, status, printed)
+    status, output = ended(last)
+    return counted(name, script.least, status, printed + output)
+
+
+def run_all(jobs):
+    """Runs these calls side by side, prints a line for each as it ends, and what failed; what passed and failed in all."""
+    passed = failed = 0
+    with concurrent.futures.ThreadPoolExecutor(os.cpu_count()) as pool:
+        begun = {pool.submit(*it): time.monotonic() for it in jobs}
+        for it in concurrent.futures.as_completed(begun):
+            ran = it.result()
+            passed, failed = passed + ran.passed, failed + ran.failed
+            print(f"== {ran.name}: {ran.passed} passed, {ran.failed} failed", *ran.said, sep="\n", flush=True)
+    return passed, failed
+
+
+def finish(passed, failed):
+    """Prints the counts, and ends with their status."""
+    print(f"{passed} passed, {failed} failed")
+    sys.exit(1 if failed or not passed else 0)
