@@ -4,8 +4,7 @@
 FOLDER is where `make` built the library and the program: build, or build/quick for those that aren't proved. It runs
 what stands in lib/test: in C, under sanitizers if they fit and by valgrind, the calls over texts and arrays with
 room and without, in eight threads, with each growth of memory refused in turn, over texts of 100 MB, and over arrays of
-a million arcs; in C++, by each of `c++` and `clang++`, the last under sanitizers, dimacs.hpp, and over it what LEMON and
-Boost answer; the crate for Cargo; and in Python, by each of `python3` and /usr/bin/python3, also networkx' own tests of what
+a million arcs; in C++, by `c++`, or `clang++` and its sanitizers, dimacs.hpp, and over it what LEMON and Boost answer; the crate for Cargo; and in Python, by each of `python3` and /usr/bin/python3, also networkx' own tests of what
 the backend of it answers. N random small instances in arrays are compared with the texts that are printed from them, M
 of which go through the program: `--runs 8000` has all of them do so, which takes some minutes. Then it installs the
 wheel and calls it, and builds and runs what docs/LIBRARY.md shows.
@@ -174,16 +173,16 @@ def compiles(compiler, flags, text, place):
 
 
 def test_cpp(counts, build, place):
-    """The tests in C++, by each compiler. The sanitizers of one see what those of another would, and clang++'s take less."""
+    """The tests in C++: those in gnu++17 by the last compiler, under its sanitizers, and the others by the first."""
     if not cpp_compilers():
         counts.leave_out("the tests in C++", CXX)
     with_sanitizers = [it for it in cpp_compilers() if compiles(it, SANITIZERS, "int main() {}", place)][-1:]
     if not with_sanitizers:
         counts.leave_out("the reads and writes of the tests in C++", "sanitizers")
-    for compiler in cpp_compilers():
-        flags = [*CPP_WARN, *(["-g1", *SANITIZERS] if compiler in with_sanitizers else [])]
-        for name, standard, needs in CPP_TESTS:
-            test_cpp_file(counts, [compiler, *flags, f"-std={standard}"], name, needs, build, place)
+    for name, standard, needs in CPP_TESTS if cpp_compilers() else []:
+        compiler = cpp_compilers()[-1 if standard == "gnu++17" else 0]
+        flags = [*CPP_WARN, *(["-g1", *SANITIZERS] if standard == "gnu++17" and compiler in with_sanitizers else [])]
+        test_cpp_file(counts, [compiler, *flags, f"-std={standard}"], name, needs, build, place)
 
 
 def test_cpp_file(counts, words, name, needs, build, place):
