@@ -23,10 +23,11 @@ TOP = os.path.dirname(os.path.dirname(os.path.abspath(__file__)))
 DRAW = f"{TOP}/tools/dimacs-draw"
 BINARY = os.path.abspath(sys.argv[1] if len(sys.argv) > 1 else f"{TOP}/crates/dimacs/out/dimacs")
 SVG = "{http://www.w3.org/2000/svg}"
+TIP = 12  # the most from the end of a loop to its label
 
 sys.path.insert(0, f"{TOP}/tools")
 sys.dont_write_bytecode = True
-from dimacs_draw.drawing import layers, layout  # noqa: E402  (the folder of tools is on the path now)
+from dimacs_draw.drawing import graphviz, layers, layout  # noqa: E402  (the folder of tools is on the path now)
 
 # Claims over the examples: the command, and the texts.
 EXAMPLES = """
@@ -164,7 +165,7 @@ class Picture:
         self.below = {int(it.get("data-node")): [text.text for text in it.iter(f"{SVG}text")][1:] for it in nodes}
         self.claimed = [set(it.get("class").split()[1:]) for it in arcs if not it.get("data-arc")]
         texts = [(it.text, set(it.get("class").split())) for it in self.root.iter(f"{SVG}text")]
-        self.labels = [text for text, classes in texts if classes & {"along", "beside"}]
+        self.labels = [text for text, classes in texts if "along" in classes]
         self.texts = [it.text for it in self.root.findall(f"{SVG}text")]
 
     def with_mark(self, mark):
@@ -253,6 +254,14 @@ def test_marks(counts, name, picture, claim):
         counts.expect(f"{name}: supply of {node}", f"{supply:+}" in picture.below[node])
 
 
+def test_legend(counts, name, picture):
+    """No line below the network has a colour or dashes that no arc has."""
+    samples, drawn = picture.root.findall(f"{SVG}path"), list(picture.root.iter(f"{SVG}path"))
+    for look in ("class", "stroke-dasharray"):
+        shown, there = ({it.get(look) for it in paths} for paths in (samples, [it for it in drawn if it not in samples]))
+        counts.expect(f"{name}: {look} of the legend", shown - {None} <= there, f"{shown}: {there}")
+
+
 def test_labels(counts, name, picture, claim):
     """Each arc has its numbers."""
     flows = claim.flows() if "solution" in claim.texts else [None] * len(claim.arcs)
@@ -312,6 +321,7 @@ def test_examples(counts, place):
             picture = Picture(ran.stdout)
             test_marks(counts, name, picture, claim)
             test_labels(counts, name, picture, claim)
+            test_legend(counts, name, picture)
             test_picture(counts, name, picture, lines)
             if {"dist", "distances"} & set(claim.texts):
                 test_distances(counts, name, picture, claim)
@@ -468,10 +478,15 @@ def overlaps(first, second):
     return abs(a.x - b.x) < (box.width + other.width) / 2 and abs(a.y - b.y) < (box.height + other.height) / 2
 
 
+def within(points, middle, box):
+    """How many of some places are in a box."""
+    return sum(overlaps((it, layout.Box(0, 0)), (middle, box)) for it in points)
+
+
 def is_inside(made, middle, box):
     """Whether a box lies in the picture, but for what rounding takes."""
     beyond = (middle.x - box.width / 2, made.width - middle.x - box.width / 2)
-    return all(it > -0.01 for it in (*beyond, middle.y - box.height / 2, made.height - middle.y - box.height / 2))
+    return all(it > -0.1 for it in (*beyond, middle.y - box.height / 2, made.height - middle.y - box.height / 2))
 
 
 def points_of(curve):
@@ -489,30 +504,51 @@ def random_sketch(rng):
     box = layout.Box
     boxes = {it: box(rng.choice([36, 60, 150]), rng.choice([36, 54])) for it in nodes}
     ends = [(rng.choice(nodes), rng.choice(nodes)) for _ in range(rng.randint(0, 40))]
+    ends += [ends[0]] * 2 + [(nodes[0], nodes[0])] * 2 if ends else []
     edges = [layout.Edge(*it, "", box(rng.choice([20, 80, 400]), 16)) for it in ends]
     return layout.Sketch({it: [str(it)] for it in nodes}, boxes, edges, nodes[: rng.randint(0, 2)])
 
 
-def test_layers(counts):
-    """Nodes and labels lie apart, and arcs pass by nodes, from their tail's border to their head's."""
+def faults_of(sketch, made):
+    """What is wrong with a layout. Nodes and labels lie apart; an arc passes by other nodes and labels, from its tail's
+    border to its head's, has its own label on it or at the end of its loop, and isn't hidden by it; and loops end apart."""
+    nodes = [(made.places[it], box) for it, box in sketch.boxes.items()]
+    labels = [(it, edge.box) for it, edge in zip(made.labels, sketch.edges)]
+    boxes = nodes + labels
+    if any(overlaps(a, b) for k, a in enumerate(boxes) for b in boxes[:k]):
+        yield "overlap"
+    if not all(is_inside(made, *it) for it in boxes):
+        yield "outside"
+    for edge, curve, label in zip(sketch.edges, made.curves, labels):
+        points = list(points_of(curve))
+        ends = [(made.places[it], sketch.boxes[it]) for it in (edge.tail, edge.head)]
+        others = [(it, layout.Box(box.width - 1, box.height - 1)) for it, box in boxes if (it, box) not in (*ends, label)]
+        if any(within(points, *it) for it in others):
+            yield "crossing"
+        if not within(points, label[0], layout.Box(edge.box.width + 2 * TIP, edge.box.height)):
+            yield "label"
+        seen = [it for it in points if not any(within([it], *box) for box in (*ends, label))]
+        if len({(it.x // 9, it.y // 9) for it in seen}) < 4:
+            yield "hidden"
+        for (middle, box), end in zip(ends, (curve[0], curve[-1])):
+            if not within([end], middle, layout.Box(box.width + 3, box.height + 3)):
+                yield "ends"
+    tips = [curve[-1] for edge, curve in zip(sketch.edges, made.curves) if edge.tail == edge.head]
+    if len(set(tips)) < len(tips):
+        yield "one tip"
+
+
+def test_layouts(counts):
     rng = random.Random(7)
-    wrong = {"overlap": 0, "crossing": 0, "ends": 0, "outside": 0}
-    for _ in range(300):
-        sketch = random_sketch(rng)
-        made = layers.place(sketch)
-        nodes = [(made.places[it], box) for it, box in sketch.boxes.items()]
-        boxes = nodes + [(it, edge.box) for it, edge in zip(made.labels, sketch.edges)]
-        wrong["overlap"] += any(overlaps(a, b) for k, a in enumerate(boxes) for b in boxes[:k])
-        wrong["outside"] += not all(is_inside(made, *it) for it in boxes)
-        for edge, curve in zip(sketch.edges, made.curves):
-            others = [(made.places[it], box) for it, box in sketch.boxes.items() if it not in (edge.tail, edge.head)]
-            point = layout.Box(0, 0)
-            wrong["crossing"] += any(overlaps((it, point), other) for it in points_of(curve) for other in others)
-            for node, end in ((edge.tail, curve[0]), (edge.head, curve[-1])):
-                near = layout.Box(sketch.boxes[node].width + 1, sketch.boxes[node].height + 1)
-                wrong["ends"] += not overlaps((end, point), (made.places[node], near))
-    for name, count in wrong.items():
-        counts.expect(f"layers: {name}", count == 0, f"{count} times")
+    by_dot = graphviz.place if shutil.which("dot") else layers.place
+    for name, place, times in (("layers", layers.place, 100), ("Graphviz", by_dot, 10)):
+        wrong = dict.fromkeys(["overlap", "outside", "crossing", "label", "hidden", "ends", "one tip"], 0)
+        for _ in range(times):
+            sketch = random_sketch(rng)
+            for fault in faults_of(sketch, place(sketch)):
+                wrong[fault] += 1
+        for fault, count in wrong.items():
+            counts.expect(f"{name}: {fault}", count == 0, f"{count} times")
 
 
 def main():
@@ -526,7 +562,7 @@ def main():
         test_elsewhere(counts)
         test_files(counts, place)
         test_pages(counts, place)
-        test_layers(counts)
+        test_layouts(counts)
     print(f"{counts.passed} passed, {counts.failed} failed")
     return 1 if counts.failed or not counts.passed else 0
 

@@ -29,7 +29,7 @@ PALETTE = {
 # For each of these the first mark counts that an arc has.
 _COLOURS = {WRONG: "refused", CLAIMED: "refused", LEAVES: "crossing", ENTERS: "crossing", TREE: "branch"}
 _WIDTHS = {WRONG: 3.0, SATURATED: 3.4, TREE: 3.0, EMPTY: 1.2}
-_DASHES = {CLAIMED: "7 4", EMPTY: "2 3", ENTERS: "10 4"}
+_DASHES = {CLAIMED: "7 4", EMPTY: "2 3"}
 
 
 def arc_colour(marks: Set[str]) -> str:

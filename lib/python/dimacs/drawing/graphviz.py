@@ -5,13 +5,14 @@ from __future__ import annotations
 import shlex
 import shutil
 import subprocess
-from typing import Dict, List, Optional, Tuple
+from typing import Dict, List, Optional
 
 from . import colours
 from .layout import Box, Layout, Point, Sketch, corner
 from .network import Network
 
 POINTS = 72  # of an inch, in which dot measures
+FLAT = 9  # how far a curve lies about flat before a label
 SECONDS = 8  # after which the own layers are taken
 
 
@@ -58,34 +59,52 @@ def _attributes(found: Dict[str, str]) -> str:
 
 
 def _plain(sketch: Sketch) -> str:
-    """The network for dot, with sizes and labels alone."""
+    """The network for dot, with sizes alone. An arc goes by its label, which is a node: so parallel ones and loops lie
+    apart, and no arc crosses a label."""
     lines = _head(sketch)
     lines += [f"{node} {_attributes({**_node(sketch, node), 'label': ''})}" for node in sketch.ordered()]
-    lines += [f"{it.tail} -> {it.head} [label=<{_room(it.box)}>]" for it in sketch.edges]
+    for k, (it, (first, last)) in enumerate(zip(sketch.edges, _ends(sketch))):
+        size = {"width": f"{it.box.width / POINTS:.4f}", "height": f"{it.box.height / POINTS:.4f}"}
+        lines.append(f"by{k} {_attributes({'shape': 'box', 'label': '', **size})}")
+        lines.append(f"{first} -> by{k} -> {last}")
     return _graph(lines)
 
 
-def _room(box: Box) -> str:
-    """A label of this size, whatever fonts are there."""
-    size = f'width="{box.width:.0f}" height="{box.height:.0f}"'
-    return f'<table fixedsize="true" border="0" {size}><tr><td></td></tr></table>'
+def _ends(sketch: Sketch) -> List[List[int]]:
+    """The ends of each arc from left to right."""
+    at = {node: place for place, node in enumerate(sketch.ordered())}
+    return [sorted((it.tail, it.head), key=at.__getitem__) for it in sketch.edges]
 
 
 def _layout(sketch: Sketch, printed: str) -> Layout:
-    """What dot printed: its lines begin with graph, node or edge. Parallel arcs come in any order."""
+    """What dot printed: its lines begin with graph, node or edge."""
     lines = [shlex.split(it) for it in printed.split("\n") if it]
-    layout = Layout(*_point(lines[0][2:]), is_beside=True)
-    layout.places = {int(words[1]): _point(words[2:]) for words in lines if words[0] == "node"}
-    drawn: Dict[Tuple[int, int], List[List[str]]] = {}
-    for words in lines:
-        if words[0] == "edge":
-            drawn.setdefault((int(words[1]), int(words[2])), []).append(words[3:])
-    for edge in sketch.edges:
-        count, *words = drawn[edge.tail, edge.head].pop(0)
-        numbers = words[: 2 * int(count)]
-        layout.curves.append([_point(numbers[k:]) for k in range(0, len(numbers), 2)])
-        layout.labels.append(_point(words[-4:]))  # then come a style and a colour
+    layout = Layout(*_point(lines[0][2:]))
+    places = {words[1]: _point(words[2:]) for words in lines if words[0] == "node"}
+    layout.places = {node: places[str(node)] for node in sketch.boxes}
+    drawn = {tuple(words[1:3]): _curve(words[3:]) for words in lines if words[0] == "edge"}
+    for k, (edge, (first, last)) in enumerate(zip(sketch.edges, _ends(sketch))):
+        label = places[f"by{k}"]
+        there = _up_to(drawn[str(first), f"by{k}"], label, edge.box)
+        on = _up_to(drawn[f"by{k}", str(last)][::-1], label, edge.box)[::-1]
+        curve = [*there, there[-1], on[0], *on]
+        layout.curves.append(curve if first == edge.tail else curve[::-1])
+        layout.labels.append(label)
     return layout
+
+
+def _curve(words: List[str]) -> List[Point]:
+    """A curve: the number of its points, and these."""
+    return [_point(words[k:]) for k in range(1, 2 * int(words[0]), 2)]
+
+
+def _up_to(curve: List[Point], label: Point, box: Box) -> List[Point]:
+    """A curve to a label, which ends in the middle of the side where it comes from."""
+    side = -1 if curve[0].x < label.x else 1
+    end = Point(label.x + side * box.width / 2, label.y)
+    while len(curve) > 4 and (curve[-4].x - end.x) * side < FLAT:
+        curve = curve[:-3]
+    return [*curve[:-2], Point(end.x + side * FLAT, end.y), end]
 
 
 def _point(words: List[str]) -> Point:

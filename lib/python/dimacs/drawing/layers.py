@@ -15,7 +15,7 @@ from .layout import Box, Edge, Layout, Point, Sketch, inset
 GAP = 34  # between columns, in which arcs bend
 APART = 14  # between what lies in a column
 THIN = 8  # the height of an arc that only passes
-LOOP = 26  # the height of a loop and its label
+TURN = 5  # half the height of a loop where it turns
 ROUNDS = 12
 
 
@@ -35,7 +35,7 @@ class _Place:
 def place(sketch: Sketch) -> Layout:
     order = sketch.ordered()
     columns_of = _columns(sketch, order)
-    nodes = {node: _Place(_with_loops(sketch, node), columns_of[node], True) for node in order}
+    nodes = {node: _Place(sketch.boxes[node], columns_of[node], True) for node in order}
     chains = [_chain(edge, nodes) for edge in sketch.edges]
     columns = _filled([*nodes.values(), *(it for chain in chains for it in chain)])
     _order(columns)
@@ -57,22 +57,15 @@ def _columns(sketch: Sketch, order: List[int]) -> Dict[int, int]:
     return columns
 
 
-def _with_loops(sketch: Sketch, node: int) -> Box:
-    """A node with room for its loops above it, and as much below."""
-    loops = [it.box.width for it in sketch.edges if it.tail == it.head == node]
-    box = sketch.boxes[node]
-    return Box(max([box.width, *loops]), box.height + 2 * LOOP * len(loops))
-
-
 def _chain(edge: Edge, nodes: Dict[int, _Place]) -> List[_Place]:
     """The places of an arc between its ends, from left to right; the label is in the middle one of those for labels."""
-    if edge.tail == edge.head:
-        return []
     first, last = sorted((nodes[edge.tail], nodes[edge.head]), key=lambda it: it.column)
-    inner = range(first.column + 1, last.column)
+    is_loop = first is last
+    inner = range(first.column + 1, last.column + 2 * is_loop)
     labelled = inner[len(inner) // 4 * 2]
-    chain = [_Place(edge.box if column == labelled else Box(0, THIN), column, False) for column in inner]
-    linked = [first, *chain, last]
+    label = Box(edge.box.width + 2 * TURN, edge.box.height) if is_loop else edge.box
+    chain = [_Place(label if column == labelled else Box(0, THIN), column, False) for column in inner]
+    linked = [first, *chain] if is_loop else [first, *chain, last]
     for left, right in zip(linked, linked[1:]):
         left.after.append(right)
         right.before.append(left)
@@ -181,16 +174,13 @@ def _measured(
         left, right = spans[nodes[node].column]
         layout.places[node] = Point((left + right) / 2, nodes[node].y)
     ports = _ports(sketch, layout, nodes, chains)
-    loops: Dict[int, int] = {}
     for edge, chain, ends in zip(sketch.edges, chains, ports):
-        if chain:
-            curve, label = _curve(chain, ends, spans)
-            is_forward = nodes[edge.tail].column < nodes[edge.head].column
-            curve = curve if is_forward else curve[::-1]
+        if edge.tail == edge.head:
+            curve, label = _loop(edge, chain[0], ends, spans)
         else:
-            loops[edge.tail] = loops.get(edge.tail, 0) + 1
-            curve, label = _loop(layout.places[edge.tail], sketch.boxes[edge.tail], loops[edge.tail])
-        layout.curves.append(curve)
+            curve, label = _curve(chain, ends, spans)
+        is_backward = nodes[edge.tail].column > nodes[edge.head].column
+        layout.curves.append(curve[::-1] if is_backward else curve)
         layout.labels.append(label)
     return layout
 
@@ -210,18 +200,17 @@ _Ends = Tuple[Point, Point]
 
 def _ports(sketch: Sketch, layout: Layout, nodes: Dict[int, _Place], chains: List[List[_Place]]) -> List[_Ends]:
     """Where each arc meets the borders of its ends, the left one first: those of one side lie below one another, in the
-    order in which the arcs come."""
-    met: Dict[Tuple[int, bool], List[Tuple[float, int]]] = {}
+    order in which the arcs come. A loop has both on the right."""
+    met: Dict[Tuple[int, bool], List[Tuple[float, int, int]]] = {}
     for k, (edge, chain) in enumerate(zip(sketch.edges, chains)):
-        if chain:
-            left, right = sorted((edge.tail, edge.head), key=lambda node: nodes[node].column)
-            met.setdefault((left, True), []).append((chain[0].y, k))
-            met.setdefault((right, False), []).append((chain[-1].y, k))
+        left, right = sorted((edge.tail, edge.head), key=lambda node: nodes[node].column)
+        met.setdefault((left, True), []).append((chain[0].y, k, 0))
+        met.setdefault((right, left == right), []).append((chain[-1].y, k, 1))
     ends: List[List[Point]] = [[Point(0, 0), Point(0, 0)] for _ in chains]
     for (node, is_right), arcs in met.items():
         middle = layout.places[node]
-        for (_, k), port in zip(sorted(arcs), _ports_of(sketch.boxes[node], len(arcs), is_right)):
-            ends[k][0 if is_right else 1] = Point(middle.x + port.x, middle.y + port.y)
+        for (_, k, end), port in zip(sorted(arcs), _ports_of(sketch.boxes[node], len(arcs), is_right)):
+            ends[k][end] = Point(middle.x + port.x, middle.y + port.y)
     return [(first, last) for first, last in ends]
 
 
@@ -236,24 +225,27 @@ def _curve(chain: List[_Place], ends: _Ends, spans: List[Tuple[float, float]]) -
     """The curve of an arc from left to right, and the middle of its label."""
     flat = [(Point(spans[it.column][0], it.y), Point(spans[it.column][1], it.y)) for it in chain]
     out, into = Point(spans[chain[0].column - 1][1], ends[0].y), Point(spans[chain[-1].column + 1][0], ends[1].y)
-    stops = [ends[0], out, *(point for both in flat for point in both), into, ends[1]]
-    curve = [stops[0]]
-    for start, end in zip(stops, stops[1:]):
-        middle = (start.x + end.x) / 2
-        if start != end:
-            curve += [Point(middle, start.y), Point(middle, end.y), end]
+    curve = _through([ends[0], out, *(point for both in flat for point in both), into, ends[1]])
     labelled = max(range(len(chain)), key=lambda k: chain[k].box.width)
     left, right = flat[labelled]
     return curve, Point((left.x + right.x) / 2, left.y)
 
 
-def _loop(middle: Point, box: Box, number: int) -> Tuple[List[Point], Point]:
-    """A loop above its node, over those before it, with its label in it."""
-    top = middle.y - box.height / 2
-    side = 9.0
-    start = top + inset(Box(box.height, box.width), side)
-    peak = top - LOOP * number + 8
-    over, wide = start + (peak - start) * 4 / 3, side + 10 * number
-    rising = [Point(middle.x - side, start), Point(middle.x - wide, over)]
-    falling = [Point(middle.x + wide, over), Point(middle.x + side, start)]
-    return [*rising, *falling], Point(middle.x, peak)
+def _loop(edge: Edge, place: _Place, ends: _Ends, spans: List[Tuple[float, float]]) -> Tuple[List[Point], Point]:
+    """The curve of a loop, which turns before its label, and the middle of that."""
+    right, left = spans[place.column - 1][1], spans[place.column][0]
+    over, under = Point(left, place.y - TURN), Point(left, place.y + TURN)
+    turn = [Point(left + 2 * TURN, over.y), Point(left + 2 * TURN, under.y)]
+    there = _through([ends[0], Point(right, ends[0].y), over])
+    back = _through([under, Point(right, ends[1].y), ends[1]])
+    return [*there, *turn, *back], Point(left + 2 * TURN + edge.box.width / 2, place.y)
+
+
+def _through(stops: List[Point]) -> List[Point]:
+    """A curve through places, which lies flat at each."""
+    curve = stops[:1]
+    for start, end in zip(stops, stops[1:]):
+        middle = (start.x + end.x) / 2
+        if start != end:
+            curve += [Point(middle, start.y), Point(middle, end.y), end]
+    return curve

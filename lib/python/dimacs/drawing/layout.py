@@ -65,11 +65,10 @@ def _search(begun: Dict[int, None], ways: Dict[int, List[int]]) -> Dict[int, Non
 @dataclass
 class Layout:
     """The middle of each node; of each arc a chain of cubic curves from border to border, of three points more each, and
-    the middle of its label, which lies on the arc or beside it."""
+    the middle of its label, which lies on the arc, or at the end of a loop."""
 
     width: float
     height: float
-    is_beside: bool = False
     places: Dict[int, Point] = field(default_factory=dict)
     curves: List[List[Point]] = field(default_factory=list)
     labels: List[Point] = field(default_factory=list)

@@ -24,8 +24,7 @@ _STYLE = """
 {0} .name {{ font-size: 14px; font-weight: 600 }}
 {0} .below {{ font-size: 11px }}
 {0} .strong {{ font-weight: 600 }}
-{0} .along, {0} .beside {{ paint-order: stroke; stroke-width: 7px; stroke-linejoin: round }}
-{0} .beside {{ stroke-width: 3px }}
+{0} .along {{ paint-order: stroke; stroke-width: 7px; stroke-linejoin: round }}
 {0} .shade * {{ stroke-linecap: round; stroke-linejoin: round }}
 """
 
@@ -39,7 +38,6 @@ def write(network: Network, sketch: Sketch, layout: Layout, said: Said) -> str:
     caption, top = _caption(said, width)
     legend, height = _legend(said.legend, width, top + layout.height + 2 * MARGIN)
     left = (width - layout.width) / 2
-    beside = "beside" if layout.is_beside else "along"
     size = f'width="{width:.0f}" height="{height:.0f}" viewBox="0 0 {width:.0f} {height:.0f}"'
     lines = [
         f'<svg xmlns="http://www.w3.org/2000/svg" class="dimacs-drawing" role="img" {size}>',
@@ -51,7 +49,7 @@ def write(network: Network, sketch: Sketch, layout: Layout, said: Said) -> str:
         f'<g transform="translate({left:.1f} {top + MARGIN:.1f})">',
         *_shade(network, sketch, layout),
         *(_arc(network, *it) for it in zip(network.arcs, layout.curves)),
-        *(_label(*it, beside) for it in zip(network.arcs, sketch.edges, layout.labels)),
+        *(_label(*it) for it in zip(network.arcs, sketch.edges, layout.labels)),
         *(_node(network, sketch, node, place) for node, place in layout.places.items()),
         "</g>",
         *legend,
@@ -172,11 +170,11 @@ def _stroked(path: str, marks: Set[str]) -> str:
     return f'<path class="s-{arc_colour(marks)}" fill="none" stroke-width="{arc_width(marks):g}"{dashed} d="{path}"/>'
 
 
-def _label(arc: Arc, edge: Edge, middle: Point, place: str) -> str:
+def _label(arc: Arc, edge: Edge, middle: Point) -> str:
     colour = arc_colour(arc.marks)
     strong = " strong" if is_strong(arc.marks) else ""
     fill = "ink" if colour == "line" else colour
-    return _text(middle.x, middle.y + 4, f"middle {place} s-ground f-{fill}{strong}", edge.label)
+    return _text(middle.x, middle.y + 4, f"middle along s-ground f-{fill}{strong}", edge.label)
 
 
 # ---- curves

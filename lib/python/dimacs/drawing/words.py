@@ -3,6 +3,7 @@
 from __future__ import annotations
 
 import re
+from collections import Counter
 from typing import List, NamedTuple, Sequence, Set, Tuple
 
 from .colours import is_strong
@@ -46,17 +47,19 @@ def sketch_of(network: Network) -> Sketch:
     nodes = {node: node_lines(network, node) for node in network.nodes}
     has_costs = _has_costs(network)
     edges = [_edge(arc, arc_label(network.kind, arc, has_costs)) for arc in network.arcs]
-    return Sketch(nodes, {node: _node_box(lines) for node, lines in nodes.items()}, edges, network.roots())
+    loops = Counter(it.tail for it in edges if it.tail == it.head)
+    return Sketch(nodes, {node: _node_box(lines, loops[node]) for node, lines in nodes.items()}, edges, network.roots())
 
 
 def _edge(arc: Arc, label: str) -> Edge:
     return Edge(arc.tail, arc.head, label, Box(len(label) * (STRONG if is_strong(arc.marks) else ALONG) + 6, 16))
 
 
-def _node_box(lines: Sequence[str]) -> Box:
+def _node_box(lines: Sequence[str], loops: int) -> Box:
+    """The size of a node, which is higher if loops begin and end at it."""
     name, *below = lines
     width = max([36, len(name) * NAME + 16, *(len(it) * BELOW + 16 for it in below)])
-    return Box(width, 36 if not below else 28 + 13 * len(below))
+    return Box(width, (36 if not below else 28 + 13 * len(below)) + 14 * loops)
 
 
 def node_lines(network: Network, node: int) -> List[str]:
@@ -113,13 +116,14 @@ def _legend(network: Network, refused: bool) -> List[Tuple[str, str]]:
     meanings = {
         SATURATED: "saturated: carries its capacity",
         EMPTY: "carries nothing",
-        LEAVES: f"leaves {name}",
-        ENTERS: f"enters {name}",
         TREE: "by which a label was reached",
         CLAIMED: "no arc of the network",
     }
     found = [("", it) for it in (_arcs_meaning(network), *_nodes_meanings(network)) if it]
     found += [(f"arc {mark}", it) for mark, it in meanings.items() if mark in of_arcs]
+    crossing = [verb for mark, verb in ((LEAVES, "leaves"), (ENTERS, "enters")) if mark in of_arcs]
+    if crossing:
+        found.append(("arc leaves", f"{' or '.join(crossing)} {name}"))
     if INSIDE in of_nodes:
         found.append(("node inside", f"inside {name}"))
     if ASKED in of_nodes:
