@@ -40,7 +40,7 @@ JS = $(filter-out lib/js/package.json,$(wildcard lib/js/*.js lib/js/*.ts lib/js/
 ## make page: makes build/page/dimacs.html, one file that checks and solves in a browser, and needs no server
 page: $(FROM)/page/dimacs.html
 
-%/page/dimacs.html: %/wasm/dimacs.wasm tools/targets/page.py lib/js/library.js $(wildcard lib/page/* examples/*)
+%/page/dimacs.html: %/wasm/dimacs.wasm tools/targets/page.py $(JS) $(wildcard lib/page/* examples/*)
 	mkdir -p $(@D)
 	tools/targets/page.py $< $@
 

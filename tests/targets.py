@@ -7,7 +7,7 @@ What a part tests is built by make first. The parts:
   wasm      in node the library's tests, with each call compared with the library for this system, and 2,000 random
             instances; its heap, up to the end of 32-bit addresses; the layer for JavaScript; and the package
   command   the command in node: its statuses, output, files and complaints are those of the program
-  page      the page in Chromium: answers, marked lines, downloads, refused requests
+  page      the page in Chromium: answers, what explains them, downloads, refused requests
   aarch64   under qemu the library's tests in C
 With --all there are more instances and all runs over the examples, npm installs the package, the program for aarch64 is
 compared as the command is, and there are two parts more:
@@ -296,16 +296,13 @@ def test_page(tests):
 
 
 def test_reasons(tests):
-    """The page has words for each reason that the pages on judging and on texts name."""
-    with open(f"{TOP}/lib/page/words.js", encoding="utf-8") as it:
-        found = set(re.findall(r"^    (\w+): \"[A-Z]", it.read(), re.MULTILINE))
-    wanted = set()
-    for page in ("TEXTS", "JUDGING"):
-        with open(f"{TOP}/docs/{page}.md", encoding="utf-8") as it:
-            text = it.read()
-        wanted |= set(re.findall(r"^\| \d+ \| (\w+) \|", text, re.MULTILINE))
-        wanted |= set(re.findall(r"`x (?:arc|node|\w+) [\w ]*?([A-Z][a-z]\w+)`", text))
-    tests.add("words for reasons", int(wanted == found), int(wanted != found), f"{wanted ^ found}")
+    """The page knows what each reason of the page on judging says of a claim."""
+    with open(f"{TOP}/lib/page/kinds.js", encoding="utf-8") as it:
+        found = set(" ".join(re.findall(r'^    \w+: "([A-Z][\w ]+)"', it.read(), re.MULTILINE)).split())
+    with open(f"{TOP}/docs/JUDGING.md", encoding="utf-8") as it:
+        rows = re.search(r"## What a refusal means\n\n.*\n.*\n((?:\|.*\n)+)\n", it.read())[1]
+    wanted = set(re.findall(r"[A-Z]\w+", "".join(row.split("|")[1] for row in rows.split("\n") if row)))
+    tests.add("the reasons", int(wanted == found), int(wanted != found), f"{wanted ^ found}")
 
 
 def test_firefox(tests):

@@ -56,7 +56,8 @@ export function explanationOf(answer) {
     return given instanceof AskedOfArrays ? given.explanation(command, shown) : explanation(command, given, shown);
 }
 
-function explanation(command, given, shown) {
+/** The lines for a command over texts; `shown` names the last one, if it isn't the certificate. */
+export function explanation(command, given, shown) {
     const [first, second, third] = [...given, "", ""].map(bytesOf);
     const words = bytesOf(commandOf(command, given.length, shown));
     const {handed: [lines]} = texts.explain(words, first, second, third);

@@ -1,6 +1,5 @@
 // The page: shows texts and answers, and asks the worker.
-import {drawing} from "./drawing.js";
-import {FORMATS, inWords} from "./words.js";
+import {FORMATS, headed} from "./kinds.js";
 
 const $ = (id) => document.getElementById(id);
 const SLOTS = ["instance", "claim", "certificate"];
@@ -11,9 +10,15 @@ const UNPROVED = "This page was built of code that is not proved.";
 /** The longest that typing pauses before a text is read, in milliseconds. */
 const PAUSE = 250;
 
-/** What stands in each slot: the string or file, its name, and its kind. */
-const slots = Object.fromEntries(SLOTS.map((slot) => [slot, {source: "", name: "", kind: null, isHeld: true}]));
+const TITLE = document.title;
+const NO_SUM = "no SHA-256, which a browser computes for pages from a file, https or localhost";
+
+/** What stands in each slot: the string or file, its name, whether the worker has it, and with which texts it came. */
+const slots = Object.fromEntries(SLOTS.map((slot) => [slot, {source: "", name: "", isHeld: true, came: 0}]));
 let worker, waiting, running = false, pending = Promise.resolve();
+
+/** The answer that is shown, and how often texts or the claim have changed. */
+let answered = null, changes = 0;
 
 // ---- the worker
 
@@ -45,7 +50,7 @@ function ask(what, words) {
 async function stop() {
     worker.terminate();
     for (const it of Object.values(slots)) it.isHeld = it.source === "";
-    for (const {bad} of waiting.values()) bad(new Error("Stopped: undecided."));
+    for (const {bad} of waiting.values()) bad(new Error(answered ? "It was stopped before it was explained." : "Stopped: undecided."));
     await startWorker();
 }
 
@@ -58,12 +63,19 @@ function about(slot, text, isBad = false) {
     place.classList.toggle("bad", isBad);
 }
 
-/** Hands a text to the worker, and shows what it says of it. */
-async function hold(source, name, slot) {
+/** Hands a text to the worker, and shows what it says of it. With another instance the last one's certificate goes. */
+async function hold(source, name, slot, came) {
     try {
-        const got = await ask("hold", {source, slot});
-        slots[got.slot] = {source, name, kind: got.kind, isHeld: true};
+        const got = await ask("hold", {source, file: name, slot}), {instance, certificate} = slots, own = slots[got.slot];
+        if (!own.isHeld && own.source !== source) return;  // it was typed over meanwhile
+        const isNext = got.slot === "instance" && instance.source !== "" && instance.came !== came;
+        slots[got.slot] = {source, name, isHeld: true, came};
         show(got, source, name);
+        if (isNext && certificate.source !== "" && certificate.came !== came) {
+            $("certificate").value = "";
+            await hold("", "", "certificate", came);
+            about("certificate", "The last instance's certificate was removed.");
+        }
     } catch (why) {
         about(slot ?? "instance", why.message, true);
     }
@@ -71,14 +83,15 @@ async function hold(source, name, slot) {
 }
 
 function show({slot, kind, about: text, text: shown, isWhole}, source, name) {
-    const area = $(slot), isWrong = kind && FORMATS[kind].slot !== slot;
+    const area = $(slot), isWrong = kind ? FORMATS[kind].slot !== slot : name !== "";
     if (shown !== undefined) area.value = shown;
     if (name) area.scrollTop = 0;
     area.readOnly = !isWhole;
-    const notes = [isWrong && "It doesn't belong here.", !isWhole && "Only its first lines are shown."].filter(Boolean);
+    const notes = [isWrong && kind && "It doesn't belong here.", !isWhole && "Only its first lines are shown."].filter(Boolean);
     about(slot, text && [`${name ? `${name}: ` : ""}${text}.`, ...notes].join(" "), isWrong);
     if (slot === "certificate" && source !== "") $("more").open = true;
-    if (slot === "instance" && kind && FORMATS[kind].claim) $("kind").value = FORMATS[kind].claim;
+    const claims = FORMATS[kind]?.claims ?? [];
+    if (slot === "instance" && claims.length && !claims.includes($("kind").value)) $("kind").value = claims[0];
 }
 
 /** One text after the other, so that the last one stays. */
@@ -87,29 +100,36 @@ function queue(work) {
     return pending;
 }
 
-const take = (source, name, slot) => queue(() => hold(source, name, slot));
+const take = (source, name, slot, came) => queue(() => hold(source, name, slot, came));
+
+/** Hands over what the worker doesn't have yet, as what was typed just now. */
+function flush() {
+    for (const slot of SLOTS) {
+        const {source, name, isHeld, came, timer} = slots[slot];
+        clearTimeout(timer);
+        if (!isHeld) take(source, name, slot, came);
+    }
+    return pending;
+}
+
+/** Texts that are given at once. Several files, or one beside the texts, go where their kinds belong. */
+function give(files, slot) {
+    flush();
+    const came = changed();
+    for (const it of files) take(it, it.name, files.length > 1 ? undefined : slot, came);
+}
 
 function typed(slot) {
-    const own = slots[slot];
-    clearTimeout(own.timer);
-    slots[slot] = {...own, source: $(slot).value, name: "", isHeld: false};
-    slots[slot].timer = setTimeout(() => take($(slot).value, "", slot), PAUSE);
+    clearTimeout(slots[slot].timer);
+    changed();
+    slots[slot] = {...slots[slot], source: $(slot).value, name: "", isHeld: false, timer: setTimeout(flush, PAUSE)};
     ready();
 }
 
 function clear(slot) {
-    clearTimeout(slots[slot].timer);
+    flush();
     $(slot).value = "";
-    return take("", "", slot);
-}
-
-async function holdAll() {
-    for (const slot of SLOTS) clearTimeout(slots[slot].timer);
-    await pending;
-    for (const slot of SLOTS) {
-        const {source, name, isHeld} = slots[slot];
-        if (!isHeld) await take(source, name, slot);
-    }
+    return take("", "", slot, changed());
 }
 
 // ---- progress
@@ -155,32 +175,34 @@ function button(text, run) {
     return element("button", {type: "button", textContent: text, onclick: run});
 }
 
-/** A line's fields, of which one is marked. */
-function markedText(text, field) {
-    if (!field) return [text];
-    const parts = text.split(/(\s+)/), first = parts[0] === "" ? 2 : 0, at = first + 2 * (field - 1);
-    if (at >= parts.length) return [text];
-    return [parts.slice(0, at).join(""), element("mark", {textContent: parts[at]}), parts.slice(at + 1).join("")];
+/** A quoted line with its field marked, as the marks below it say. A press shows it where it stands. */
+function quoted(line, marks, judged) {
+    const [, name, number] = /^(\w+):(\d+): /.exec(line), begin = marks.indexOf("^"), end = marks.trimEnd().length;
+    const parts = begin < 0 ? [line] : [line.slice(0, begin), element("mark", {textContent: line.slice(begin, end)}), line.slice(end)];
+    const place = judged.find((it) => it.name === name);
+    if (!place) return element("p", {className: "quote"}, ...parts);
+    const show = (isPressed) => select(place.slot, Number(number), isPressed);
+    return Object.assign(element("button", {type: "button", className: "quote", onclick: () => show(true)}, ...parts), {show});
 }
 
-function excerpt({slot, line, field, lines}) {
-    const rows = lines.map(({number, text, isEnd}) => {
-        const isFaulty = number === line;
-        const row = element("li", {className: isFaulty ? "faulty" : ""});
-        row.append(element("span", {textContent: isEnd ? "end" : number}));
-        row.append(element("span", {}, ...(isFaulty ? markedText(text, field) : [text])));
-        if (isFaulty) row.setAttribute("aria-label", `Line ${number}, the faulty one: ${text}`);
-        return row;
+/** The lines that explain an answer. */
+function explained(text, judged) {
+    const lines = text.split("\n").slice(0, -1), isMarks = (line) => /^ *\^+$/.test(line ?? "");
+    const names = [...judged.map((it) => it.name), "certificate", "better", "flow"];
+    return lines.flatMap((line, i) => {
+        if (isMarks(line)) return [];
+        if (!names.includes(/^(\w+):\d+: /.exec(line)?.[1])) return [element("p", {textContent: line})];
+        return [quoted(line, isMarks(lines[i + 1]) ? lines[i + 1] : "", judged)];
     });
-    const title = element("h3", {textContent: `${slots[slot].name || slot}, line ${line}`});
-    return element("div", {className: "excerpt"}, title, element("pre", {}, element("ol", {}, ...rows)));
 }
 
-/** Selects the faulty line in its text too. */
-function select({slot, line}) {
+/** Selects a line in its text. */
+function select(slot, line, isPressed) {
     const area = $(slot), lines = area.value.split("\n");
     if (line > lines.length) return;
     const at = lines.slice(0, line - 1).reduce((sum, it) => sum + it.length + 1, 0);
+    if (isPressed) area.closest("details")?.setAttribute("open", "");
+    if (isPressed) area.focus();
     area.setSelectionRange(at, at + lines[line - 1].length);
     area.scrollTop = Math.max(0, (line - 4) * (area.scrollHeight / lines.length));
 }
@@ -193,13 +215,18 @@ function download(name, bytes) {
 
 const CERTIFICATES = {max: "a minimum cut", min: "potentials", infeasible: "a set of nodes", paths: "labels"};
 
+/** A name for a file of the answer, by that of its instance. */
+function named(ending) {
+    const [{file}] = answered.judged;
+    return `${(file || "instance").replace(/\.gz$/i, "").replace(/\.[^.]*$/, "")}${ending}`;
+}
+
 function made({name, bytes, text, isWhole}, {what, kind, status}) {
-    const base = (slots.instance.name || "instance").replace(/(\.gz)$/i, "").replace(/\.[^.]*$/, "");
     const isBetter = what === "check" && status === 1;
     const certificate = CERTIFICATES[kind === "min" && name === "cut" ? "infeasible" : kind];
     const own = name === "solution" ? "The solution" : `What shows it: ${certificate}`;
     const title = isBetter ? "A better solution" : own;
-    const file = `${base}${isBetter ? "-better" : ""}.${name}`;
+    const file = named(`${isBetter ? "-better" : ""}.${name}`);
     const row = element("div", {className: "row"}, element("h3", {textContent: title}));
     row.append(button(`Download ${file}`, () => download(file, bytes)));
     if (name === "solution") row.append(button("Use it as the solution", () => use(file, bytes)));
@@ -208,77 +235,115 @@ function made({name, bytes, text, isWhole}, {what, kind, status}) {
     return element("div", {className: "made"}, row, shown);
 }
 
-/** What the drawing shows, below it. */
-function caption({kind, network}) {
-    const set = network.inside.length ? " Filled nodes are in the set." : "";
-    const arcs = kind === "paths"
-        ? "Arcs have their weights. Dark ones lead from the first source along its labels."
-        : `Arcs have their flow / capacity, or only their capacity. Thick ones are full.${set}`;
-    return element("p", {className: "about", textContent: arcs});
-}
-
-function use(file, bytes) {
-    return take(new File([bytes], file), file, "claim");
-}
+const use = (file, bytes) => give([new File([bytes], file)], "claim");
 
 function clearAnswer() {
+    answered = null;
+    document.title = TITLE;
     $("answer").hidden = true;
-    for (const id of ["verdict", "meaning", "line", "places", "drawn", "made"]) $(id).replaceChildren();
+    for (const id of ["verdict", "meaning", "line", "judged", "offers", "made"]) $(id).replaceChildren();
 }
 
-function answer(got) {
-    const [heading, sentence] = inWords(got);
-    $("answer").className = got.status === 0 ? "yes" : got.status === 1 ? "no" : "";
+/** An answer is of the texts that were judged. After any change it isn't one any more of those that are shown. */
+function changed() {
+    if (!answered) clearAnswer();
+    else if ($("answer").className !== "past") head({heading: "Changed since: check again", state: "past"});
+    return ++changes;
+}
+
+function head({heading, state}) {
+    $("answer").className = state;
     $("verdict").textContent = heading;
-    const time = got.took < 1000 ? `${Math.ceil(got.took)} ms` : `${(got.took / 1000).toFixed(1)} s`;
-    $("meaning").textContent = `${sentence} (${time})`;
-    $("line").textContent = got.output.trimEnd();
-    $("places").replaceChildren(...got.places.map(excerpt));
-    $("drawn").replaceChildren(...(got.network ? [drawing(got.network), caption(got)] : []));
-    $("made").replaceChildren(...got.files.map((it) => made(it, got)));
+    document.title = `${heading} (dimacs)`;
     $("answer").hidden = false;
-    got.places.forEach(select);
+}
+
+/** What was judged, in lines: the claim, the command, and each text with its sum. */
+function judgedIn({what, claim, command, took, judged}) {
+    const time = took < 1000 ? `${Math.ceil(took)} ms` : `${(took / 1000).toFixed(1)} s`;
+    const texts = judged.map(({name, file, bytes, sum}) => {
+        const of = [file && (/\.gz$/i.test(file) ? `${file}, unpacked` : file), `${bytes} bytes`].filter(Boolean).join(", ");
+        return `${name}: ${of}, ${sum ? `SHA-256 ${sum}` : NO_SUM}`;
+    });
+    return [...(what === "check" ? [`claim: ${claim}`] : []), ...texts, `by ${command}, in ${time}`];
+}
+
+/** What can be done if a certificate doesn't show a claim. */
+function offered({command}, {isOpen}) {
+    if (!isOpen) return [];
+    if (command === "judge-paths") return [button("Solve the queries", () => run("solve"))];
+    return [button("Check without this certificate", () => run("check", true))];
+}
+
+/** Shows an answer, and then what explains it; a reader of the screen hears both at once. */
+function answer(got) {
+    const heading = headed(got);
+    answered = {...got, ...heading, lines: judgedIn(got)};
+    $("said").setAttribute("aria-busy", "true");
+    head(heading);
+    $("line").textContent = got.output.trimEnd();
+    $("judged").replaceChildren(...answered.lines.map((it) => element("li", {textContent: it})));
+    $("offers").replaceChildren(...offered(got, heading), button("Save this answer", save));
+    $("made").replaceChildren(...got.files.map((it) => made(it, got)));
+}
+
+function explain(text) {
+    answered.text = text;
+    $("meaning").replaceChildren(...explained(text, answered.judged));
+    $("said").setAttribute("aria-busy", "false");
     $("answer").scrollIntoView({block: "nearest"});
 }
 
-function fail(message) {
-    $("answer").className = "";
-    $("verdict").textContent = message;
-    $("answer").hidden = false;
+function save() {
+    const {heading, output, text, lines} = answered;
+    const parts = [heading, output.trimEnd(), text.trimEnd(), lines.join("\n"), $("proof").textContent].filter(Boolean);
+    download(named("-answer.txt"), `${parts.join("\n\n")}\n`);
 }
 
-async function run(what) {
+function fail(message) {
+    clearAnswer();
+    head({heading: message, state: ""});
+}
+
+async function run(what, isAlone = false) {
     if (running || slots.instance.source === "") return;
     running = true;
     clearAnswer();
     ready();
-    const watching = watch();
+    const watching = watch(), before = changes;
     try {
-        await holdAll();
-        answer(await ask("run", {what, kind: $("kind").value, claimed: slots.claim.kind}));
+        await flush();
+        const kind = $("kind").value, claim = $("kind").selectedOptions[0].textContent;
+        answer({...(await ask("run", {what, kind, isAlone})), claim});
+        if (changes !== before) changed();
+        explain(await ask("explain"));
     } catch (why) {
-        fail(why.message);
+        if (answered) explain(`${why.message}\n`);
+        else fail(why.message);
     }
     clearInterval(watching);
     running = false;
     ready();
+    if (changes === before) for (const it of [...document.querySelectorAll("button.quote")].reverse()) it.show(false);
 }
 
 // ---- examples, files and keys
 
 async function example({kind, texts}) {
+    flush();
+    const came = changed();
     clearAnswer();
     for (const slot of SLOTS) {
         const [name, text] = texts[slot] ?? ["", ""];
         $(slot).value = text;
-        await take(text, name, slot);
+        await take(text, name, slot, came);
     }
     $("kind").value = kind;
 }
 
 function openFile(slot) {
     const input = element("input", {type: "file"});
-    input.onchange = () => input.files[0] && take(input.files[0], input.files[0].name, slot);
+    input.onchange = () => input.files[0] && give([input.files[0]], slot);
     input.click();
 }
 
@@ -286,8 +351,7 @@ function drop(event, slot) {
     const files = [...(event.dataTransfer?.files ?? [])];
     if (!files.length) return;
     event.preventDefault();
-    // Several files, or one beside the texts, go where their kinds belong.
-    for (const it of files) take(it, it.name, files.length > 1 ? undefined : slot);
+    give(files, slot);
 }
 
 function wire() {
@@ -308,6 +372,7 @@ function wire() {
         if (event.key === "Enter" && (event.ctrlKey || event.metaKey)) run("check");
         if (event.key === "Escape" && running) stop();
     };
+    $("kind").onchange = changed;
     $("check").onclick = () => run("check");
     $("solve").onclick = () => run("solve");
     $("stop").onclick = stop;

@@ -1,6 +1,7 @@
-// The worker: keeps the texts as bytes, makes the calls, and finds the lines that a refusal points to.
-import {GAVE_UP, LIMIT, Library, Texts} from "../js/library.js";
-import {FORMATS, refusal} from "./words.js";
+// The worker: keeps the texts as bytes, and makes the calls.
+import {explanation} from "../js/explained.js";
+import {DONE, GAVE_UP, LIMIT, Library, Texts} from "../js/library.js";
+import {FORMATS} from "./kinds.js";
 
 /** Texts of more bytes are refused: an array of bytes can't be longer everywhere. */
 const MOST_BYTES = 2 ** 31 - 1;
@@ -8,7 +9,7 @@ const MOST_BYTES = 2 ** 31 - 1;
 /** Texts of more bytes are shown in part, as they would make the page slow. */
 const MOST_SHOWN = 2 ** 18;
 
-const SHOWN_LINES = 100, AROUND = 3;
+const SHOWN_LINES = 100;
 
 /** The most bytes of a line that are looked at here. */
 const MOST_OF_LINE = 1000;
@@ -28,8 +29,11 @@ const PACKED = {
 class Unreadable extends Error {}
 
 const latin = new TextDecoder("latin1"), utf8 = new TextEncoder();
-const held = {instance: NONE, claim: NONE, certificate: NONE};
-let texts;
+const EMPTY = {bytes: NONE, file: "", kind: null};
+const held = {instance: EMPTY, claim: EMPTY, certificate: EMPTY};
+
+/** The calls, and the last run. */
+let texts, last;
 
 const megabytes = (bytes) => `${(bytes / 1e6).toFixed(1)} MB`;
 
@@ -72,7 +76,7 @@ function watched(file) {
     return file.stream().pipeThrough(watch);
 }
 
-async function bytesOf(file) {
+async function contentOf(file) {
     if (file.size > MOST_BYTES) throw tooLong(file.name);
     const head = new Uint8Array(await file.slice(0, 6).arrayBuffer());
     const begins = (bytes) => bytes.every((it, i) => it === head[i]);
@@ -107,16 +111,6 @@ function firstByte(bytes, at, end) {
 /** The fields of a line, or of its beginning. */
 function fieldsOf(bytes, at, end) {
     return latin.decode(bytes.subarray(at, Math.min(end, at + MOST_OF_LINE))).split(/\s+/).filter(Boolean);
-}
-
-/** Yields the lines that begin with one of these letters: the number of each and its fields. */
-function* linesWith(bytes, letters) {
-    const codes = [...letters].map((it) => it.charCodeAt(0));
-    for (let at = 0, number = 1; at < bytes.length; number++) {
-        const end = afterLine(bytes, at);
-        if (codes.includes(firstByte(bytes, at, end))) yield {number, fields: fieldsOf(bytes, at, end)};
-        at = end;
-    }
 }
 
 /** The fields of the first line that is neither blank nor a comment. */
@@ -163,155 +157,72 @@ function shown(bytes) {
     return {text: latin.decode(bytes.subarray(0, Math.min(end, MOST_SHOWN))), isWhole: false};
 }
 
-// ---- what a refusal points to
-
-/** Some lines around one, which may stand after the end. */
-function excerpt(slot, bytes, line, field) {
-    const lines = [];
-    for (let at = 0, number = 1; at < bytes.length && number <= line + AROUND; number++) {
-        const end = afterLine(bytes, at), shownEnd = Math.min(end, at + MOST_OF_LINE);
-        if (number >= line - AROUND) lines.push({number, text: latin.decode(bytes.subarray(at, shownEnd)).trimEnd()});
-        at = end;
-    }
-    if (lines.every((it) => it.number < line)) lines.push({number: line, text: "", isEnd: true});
-    return {slot, line, field, lines};
-}
-
-function found(slot, lines, isIt) {
-    for (const {number, fields} of lines) if (isIt(fields, number)) return [excerpt(slot, held[slot], number, 0)];
-    return [];
-}
-
-/** An arc's line in the instance, and the entry for its ends in the claim. */
-function placesOfArc(arc) {
-    let count = 0, ends = [];
-    const inInstance = found("instance", linesWith(held.instance, "a"), (fields) => {
-        ends = fields;
-        return ++count === arc;
-    });
-    const isSame = ([, tail, head]) => tail === ends[1] && head === ends[2];
-    return [...inInstance, ...found("claim", linesWith(held.claim, "f"), isSame)];
-}
-
-/** The lines that name a node. */
-function placesOfNode(node) {
-    const isSame = ([, id]) => Number(id) === node, isEnd = ([, tail, head]) => [tail, head].map(Number).includes(node);
-    const own = found("instance", linesWith(held.instance, "n"), isSame);
-    return [
-        ...(own.length ? own : found("instance", linesWith(held.instance, "a"), isEnd)),
-        ...found("claim", linesWith(held.claim, "dsq"), isSame),
-        ...found("certificate", linesWith(held.certificate, "uyd"), isSame),
-    ];
-}
-
-const SLOTS = {instance: "instance", solution: "claim", query: "claim", distances: "claim", certificate: "certificate"};
-
-function placesOf(line) {
-    const {text, line: number, field, arc, node} = refusal(line);
-    if (arc) return placesOfArc(arc);
-    if (node) return placesOfNode(node);
-    return number ? [excerpt(SLOTS[text], held[SLOTS[text]], number, field)] : [];
-}
-
-// ---- a small network, to be drawn
-
-const MOST_DRAWN = {nodes: 60, arcs: 150};
-
-/** The fields of the lines that begin with one of these letters. */
-const recordsOf = (bytes, letters) => [...linesWith(bytes, letters)].map((it) => it.fields);
-
-/** A number as it is printed. */
-const plain = (number) => String(BigInt(number.replace("+", "")));
-
-/** Where flow begins: the source, nodes with a supply, or the source of the first block. */
-function beginsOf(kind, claim) {
-    const nodes = recordsOf(held.instance, "n");
-    if (kind === "max") return nodes.filter(([, , end]) => end === "s").map(([, id]) => Number(id));
-    if (kind !== "paths") return nodes.filter(([, , supply]) => Number(supply) > 0).map(([, id]) => Number(id));
-    return recordsOf(claim, "tsq").slice(0, 1).map(([, id]) => Number(id));
-}
-
-/** What arcs carry: the entries with the same ends, in their order. */
-function flowsOf(claim) {
-    const found = new Map();
-    for (const [, tail, head, flow] of recordsOf(claim, "f")) {
-        const key = `${Number(tail)} ${Number(head)}`;
-        found.set(key, [...(found.get(key) ?? []), plain(flow)]);
-    }
-    return found;
-}
-
-/** The arcs by which the labels of the first block go. */
-function treeOf(labels) {
-    const records = recordsOf(labels, "td"), end = records.findIndex(([letter], i) => i > 0 && letter === "t");
-    const first = records.slice(1, end < 0 ? undefined : end);
-    return new Set(first.map(([, id, , predecessor]) => `${Number(predecessor)} ${Number(id)}`));
-}
-
-/** An arc as it is drawn: on a path its weight, otherwise its flow and its capacity. */
-function drawnArc(kind, numbers, number, flows, tree, wrong) {
-    const [tail, head] = numbers.map(Number), key = `${tail} ${head}`, arc = {number, tail, head};
-    const isWrong = wrong === number;
-    if (kind === "paths") {
-        const state = isWrong ? "wrong" : tree.has(key) ? "used" : "";
-        return {...arc, label: plain(numbers[2]), state};
-    }
-    const cap = plain(numbers[kind === "max" ? 2 : 3]), flow = flows.get(key)?.shift() ?? "0";
-    if (kind === "infeasible" && flows.size === 0) return {...arc, label: cap, state: ""};
-    const state = isWrong ? "wrong" : flow === "0" ? "" : flow === cap ? "full" : "used";
-    return {...arc, label: `${flow}/${cap}`, state};
-}
-
-/** The network with a claim and a certificate, if it is small; otherwise null. */
-function drawn(kind, claim, certificate, {arc = 0, node = 0}) {
-    const [, , ...counts] = firstRecord(held.instance), [nodes, arcs] = counts.map(Number);
-    if (!(nodes <= MOST_DRAWN.nodes && arcs <= MOST_DRAWN.arcs)) return null;
-    const given = recordsOf(held.instance, "a"), flows = flowsOf(claim), tree = treeOf(certificate);
-    return {
-        nodes,
-        arcs: given.map(([, ...numbers], i) => drawnArc(kind, numbers, i + 1, flows, tree, arc)),
-        begins: beginsOf(kind, kind === "paths" ? certificate : claim),
-        inside: recordsOf(certificate, "u").map(([, id]) => Number(id)),
-        wrongNode: node,
-    };
-}
-
-/** What is drawn of an answer: nothing if a text has a fault. */
-function drawnAnswer(kind, status, line, files) {
-    const place = status === 1 ? refusal(line) : {};
-    if (place.line && !["NotMaximum", "NotLeast"].includes(place.reason)) return null;
-    const own = (name, slot) => files.find((it) => it.name === name)?.bytes ?? held[slot];
-    const certificate = files.find((it) => it.name !== "solution")?.bytes ?? held.certificate;
-    const isMade = status === 0 || place.reason === "Feasible";
-    return drawn(kind, isMade ? own("solution", "claim") : held.claim, status === 0 ? certificate : held.certificate, place);
-}
-
 // ---- what the page asks for
 
-const CERTIFICATES = {max: "cut", min: "pot", infeasible: "cut", paths: "dist"};
+/** The kinds of instance, claim and certificate for each kind of claim. */
+const NEEDED = {
+    max: ["max", "solution", "cut"],
+    min: ["min", "solution", "pot"],
+    infeasible: ["min", null, "cut"],
+    paths: ["gr", "distances", "dist"],
+};
 
-function checked(kind, claimed) {
-    const {instance, claim, certificate} = held;
-    if (kind !== "infeasible" && !claim.length) {
-        throw new Unreadable("There is nothing to check yet: give a claim beside the instance, or press Solve.");
+/** The command for what is asked, the texts that it reads, and what is missing. A certificate may be left out. */
+function planned(what, kind, isAlone) {
+    const [instance, claim, certificate] = NEEDED[kind], {kind: given, bytes} = held.claim, isSolved = what === "solve";
+    const isJudged = !isSolved && !isAlone && held.certificate.bytes.length > 0 && given !== "distances";
+    const isAsked = kind === "paths" && (isSolved || isJudged || given === "query");
+    const reads = [{name: "instance", slot: "instance", wanted: instance}];
+    const name = isAsked ? "query" : claim;
+    if (isAsked || (claim && !isSolved)) reads.push({name, slot: "claim", wanted: name});
+    if (isJudged) reads.push({name: "certificate", slot: "certificate", wanted: certificate});
+    const verb = isSolved ? "solve" : isJudged ? "judge" : "certify";
+    const plan = {verb, kind: isSolved && kind === "infeasible" ? "min" : kind, certificate, reads};
+    if (isSolved && isAsked && given !== "query") {
+        plan.missing = "Solve answers queries: give some beside the graph, as p aux sp ss 1 and s 1 on two lines.";
+    } else if (isAsked && !isSolved && !isJudged) {
+        plan.missing = "Queries are judged by labels: give them as the certificate, or press Solve to make them.";
+    } else if (claim && !isSolved && !bytes.length) {
+        plan.missing = "There is nothing to check yet: give a claim beside the instance, or press Solve.";
     }
-    if (kind === "paths" && claimed === "query" && !certificate.length) {
-        throw new Unreadable("Queries are judged by labels: give them as the certificate, or press Solve to make them.");
-    }
-    const given = kind === "infeasible" ? NONE : claim;
-    if (certificate.length) return {...texts.judge(kind, instance, given, certificate), names: []};
-    const answer = texts.certify(kind, instance, given);
-    return {...answer, names: [answer.status === 0 ? CERTIFICATES[kind] : "solution"]};
+    return plan;
 }
 
-function solved(claim, claimed) {
-    if (claim === "paths" && claimed !== "query") {
-        throw new Unreadable("Solve answers queries: give some beside the graph, as p aux sp ss 1 and s 1 on two lines.");
-    }
-    const kind = claim === "infeasible" ? "min" : claim;
-    const answer = texts.solve(kind, held.instance, kind === "paths" ? held.claim : NONE, LIMIT);
-    const isInfeasible = latin.decode(answer.handed[0]).startsWith("v infeasible");
-    return {...answer, names: ["solution", isInfeasible ? "cut" : CERTIFICATES[kind]]};
+/** The call of each command: its status, and the texts that it hands out, the printed one first. */
+const CALLS = {
+    judge: (kind, instance, ...more) => texts.judge(kind, instance, more.length > 1 ? more[0] : NONE, more.at(-1)),
+    certify: (kind, instance, claim = NONE) => texts.certify(kind, instance, claim),
+    solve: (kind, instance, queries = NONE) => texts.solve(kind, instance, queries, LIMIT),
+    show: (kind, instance) => texts.show(kind, instance),
+};
+
+/** A command as it is typed. */
+const typed = (verb, kind) => `${verb}${verb === "show" ? " " : "-"}${kind}`;
+
+/** Makes the call of a plan, and keeps what explains it. */
+function called({verb, kind, certificate, given}) {
+    const {status, handed: [printed, ...made]} = CALLS[verb](kind, ...given);
+    const isInfeasible = verb === "solve" && latin.decode(printed.subarray(0, 12)) === "v infeasible";
+    const names = verb === "solve" ? ["solution", isInfeasible ? "cut" : certificate] : [status ? "solution" : certificate];
+    last = {verb, kind: isInfeasible ? "infeasible" : kind, given, status, printed, made: made.filter((it) => it.length)};
+    const files = made.map((bytes, i) => ({name: names[i], bytes, ...shown(bytes)}));
+    return {status, printed, files: status === GAVE_UP ? [] : files.filter((it) => it.bytes.length)};
+}
+
+/** The lines after those that are printed. The judge says the same of what was made, and sooner than who made it. */
+function explained() {
+    const {verb, kind, given, status, printed, made} = last, isPaths = verb === "certify" && kind === "paths";
+    if (status === GAVE_UP) return "";
+    const name = status === DONE && !isPaths ? "judge" : verb;
+    const better = kind === "infeasible" ? "flow" : "better";
+    const shown = verb === "certify" && status !== DONE ? better : "certificate";
+    return explanation(typed(name, kind), [...given, ...made], shown).slice(printed.length);
+}
+
+/** The SHA-256 of a text; null where the browser doesn't compute it. */
+async function sumOf(bytes) {
+    const sum = await self.crypto?.subtle?.digest("SHA-256", bytes).catch(() => null);
+    return sum ? [...new Uint8Array(sum)].map((it) => it.toString(16).padStart(2, "0")).join("") : null;
 }
 
 /** The bytes of a text in base 64. */
@@ -321,7 +232,7 @@ function decoded(text) {
     return bytes;
 }
 
-const ASKED = {
+const ANSWERS = {
     async start({module}) {
         const plain = new Blob([decoded(module)]).stream().pipeThrough(new DecompressionStream("gzip"));
         const headers = {"content-type": "application/wasm"};
@@ -331,30 +242,37 @@ const ASKED = {
     },
 
     /** Keeps a text: a string, or a file. Without a slot it goes where its kind belongs. */
-    async hold({source, slot}) {
-        const bytes = typeof source === "string" ? utf8.encode(source) : await bytesOf(source);
+    async hold({source, file, slot}) {
+        const bytes = typeof source === "string" ? utf8.encode(source) : await contentOf(source);
         const fields = firstRecord(bytes), kind = kindOf(fields), place = slot ?? FORMATS[kind]?.slot ?? "instance";
-        held[place] = bytes;
+        held[place] = {bytes, file, kind};
         const about = bytes.length ? described(kind, fields, bytes) : "";
         return {slot: place, kind, about, ...(typeof source === "string" ? {isWhole: true} : shown(bytes))};
     },
 
-    async run({what, kind, claimed}) {
-        const begun = performance.now();
-        const answer = what === "solve" ? solved(kind, claimed) : checked(kind, claimed);
-        const {status, handed: [printed, ...made], names} = answer;
+    /** Answers, and names the texts that were judged. If one is missing, the instance may have a fault. */
+    async run({what, kind, isAlone}) {
+        let plan = planned(what, kind, isAlone);
+        if (plan.missing) {
+            const {missing, reads: [instance]} = plan;
+            plan = {verb: "show", kind: instance.wanted, reads: [instance]};
+            if (texts.show(plan.kind, held.instance.bytes).status === DONE) throw new Unreadable(missing);
+        }
+        const judged = plan.reads.map((it) => ({...it, ...held[it.slot]})), given = judged.map((it) => it.bytes);
+        const begun = performance.now(), sums = given.map(sumOf);
+        const {status, printed, files} = called({...plan, given});
         const took = performance.now() - begun, output = latin.decode(printed.subarray(0, MOST_SHOWN));
-        const line = output.split("\n", 1)[0];
-        const all = names.map((name, i) => ({name, bytes: made[i], ...shown(made[i])}));
-        const files = status === GAVE_UP ? [] : all.filter((it) => it.bytes.length);
-        const network = status === 0 || status === 1 ? drawnAnswer(kind, status, line, files) : null;
-        return {what, kind, status, line, output, took, files, network, places: status === 1 ? placesOf(line) : []};
+        for (const [i, it] of judged.entries()) Object.assign(it, {bytes: it.bytes.length, sum: await sums[i]});
+        const command = typed(plan.verb, plan.kind), line = output.split("\n", 1)[0];
+        return {what, kind, command, status, line, output, took, files, judged};
     },
+
+    explain: async () => explained(),
 };
 
 onmessage = async ({data: {id, ask, ...words}}) => {
     try {
-        postMessage({id, good: await ASKED[ask](words)});
+        postMessage({id, good: await ANSWERS[ask](words)});
     } catch (why) {
         postMessage({id, bad: why instanceof Unreadable ? why.message : `No answer: ${why.message}.`});
     }

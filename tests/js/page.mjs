@@ -1,6 +1,7 @@
 // Uses the page in a browser as a person does: page.mjs PAGE chromium|firefox PROGRAM. The last line counts what passed
 // and what failed.
 import assert from "node:assert/strict";
+import {createHash} from "node:crypto";
 import {existsSync, readFileSync} from "node:fs";
 import {createServer} from "node:http";
 import {join, resolve} from "node:path";
@@ -69,12 +70,26 @@ class Person {
 
     answer() {
         return this.page.evaluate(`({verdict: ${text("verdict")}, meaning: ${text("meaning")}, line: ${text("line")},
-            marked: [...document.querySelectorAll(".faulty")].map((it) => it.lastChild.textContent),
-            fields: [...document.querySelectorAll(".faulty mark")].map((it) => it.textContent)})`);
+            marked: [...document.querySelectorAll(".quote")].map((it) => it.textContent),
+            fields: [...document.querySelectorAll(".quote mark")].map((it) => it.textContent)})`);
+    }
+
+    /** The names of what was judged, without their sums. */
+    judged() {
+        return this.page.evaluate(`[...document.querySelectorAll("#judged li")].map((it) => it.textContent)`);
+    }
+
+    choose(kind) {
+        const chosen = `it.value = ${quoted(kind)}; it.dispatchEvent(new Event("change", {bubbles: true}));`;
+        return this.page.evaluate(`void ((it) => { ${chosen} })(${element("kind")})`);
     }
 
     async downloaded(name) {
         await this.click(`Download ${name}`);
+        return this.saved(name);
+    }
+
+    async saved(name) {
         for (let tries = 0; tries < 100 && !existsSync(join(this.folder, name)); tries++) await this.read();
         return readFileSync(join(this.folder, name), "latin1");
     }
@@ -87,6 +102,11 @@ class Person {
 // ---- what is tested. Networks and their answers were worked out by hand.
 
 const MAX = "p max 2 1\nn 1 s\nn 2 t\na 1 2 4\n";
+const PARALLEL = "p max 3 3\nn 1 s\nn 3 t\na 1 2 9\na 2 3 3\na 2 3 5\n";
+const MANY = "9000000000000000000", DEAR = `p min 2 1\nn 1 ${MANY}\nn 2 -${MANY}\na 1 2 0 ${MANY} ${MANY}\n`;
+const GRAPH = "p sp 2 1\na 1 2 5\n", LABELS = "p dist 2 1\nt 1 1\nd 2 5 1\n";
+const EXAMPLES = new URL("../../examples", import.meta.url).pathname;
+const CHOSEN = (slot) => `((it) => it.value.slice(it.selectionStart, it.selectionEnd))(${element(slot)})`;
 const CUT = "p cut 5 3\nu 1\nu 2\nu 3\n";  // the only minimum cut of the example
 
 /** A network of many arcs, which takes long to solve: each of its layers of 300 nodes has arcs into the next one. */
@@ -117,58 +137,150 @@ const REQUESTS = {
 };
 
 const TESTS = {
-    "a yes, with its certificate": async (person) => {
+    "a yes, with its certificate and its sum": async (person) => {
         await person.example("a maximum flow");
         const {verdict, meaning, line} = await person.ask("Check");
         assert.deepEqual([verdict, line], ["Yes.", "v max 12"]);
-        assert.match(meaning, /maximum.* 12\./);
+        assert.match(meaning, /4 \+ 8 = 12/);
         if (person.downloads) assert.equal(await person.downloaded("pipes.cut"), CUT);
     },
     "a no, with its line marked and a better flow": async (person) => {
         await person.example("a flow that can grow");
         const {verdict, line, marked, fields} = await person.ask("Check");
-        assert.deepEqual([verdict, line, marked, fields], ["No.", "x solution 2 2 NotMaximum", ["s 10"], ["10"]]);
+        assert.deepEqual([verdict, line], ["No: the answer is wrong", "x solution 2 2 NotMaximum"]);
+        assert.deepEqual([marked, fields], [["solution:2: s 10", "better:1: s 12"], ["10"]]);
         if (person.downloads) assert.match(await person.downloaded("pipes-better.solution"), /^s 12\n/);
         await person.click("Use it as the solution");
         await person.read();
         assert.equal((await person.ask("Check")).line, "v max 12");
     },
-    "a small network is drawn": async (person) => {
-        const count = (selector) => person.page.evaluate(`document.querySelectorAll("#drawn ${selector}").length`);
+    "an answer is of the texts that were judged": async (person) => {
+        const changes = {
+            typing: () => person.write("claim", "s 11\n"),
+            "another claim": () => person.choose("min"),
+            "another file": () => person.drop(`[new File([${quoted(MAX)}], "one.max")]`, "instance"),
+            "clearing a text": () => person.page.evaluate(`void document.querySelector('[data-slot="claim"] [data-clear]').click()`),
+        };
+        for (const [name, change] of Object.entries(changes)) {
+            await person.example("a maximum flow");
+            assert.equal((await person.ask("Check")).verdict, "Yes.", name);
+            await change();
+            await person.read();
+            assert.doesNotMatch((await person.answer()).verdict, /Yes/, name);
+            assert.notEqual(await person.page.evaluate(`${element("answer")}.className`), "yes", name);
+            assert.doesNotMatch(await person.page.evaluate("document.title"), /Yes/, name);
+        }
+    },
+    "an answer to what was changed meanwhile": async (person) => {
+        await person.example("a maximum flow");
+        const typed = `it.value += "c \\n"; it.dispatchEvent(new Event("input", {bubbles: true}));`;
+        await person.page.evaluate(`void (${button("Check")}.click(), ((it) => { ${typed} })(${element("claim")}))`);
+        await until(person.page, `!document.getElementById("answer").hidden && ${settled}`);
+        assert.match((await person.answer()).verdict, /^Changed since/);
+    },
+    "what is typed while a text is read": async (person) => {
+        await person.write("instance", MAX);
+        await person.drop(`[new File(["s 4\\nf 1 2 4\\n"], "one.solution")]`, "claim");
+        const typed = (text) => `it.value = ${quoted(text)}; it.dispatchEvent(new Event("input", {bubbles: true}));`;
+        const pause = "await new Promise((good) => setTimeout(good, 251));";
+        for (let tries = 0; tries < 5; tries++) {
+            await person.page.evaluate(`(async (it) => { ${typed("s 4\nf 1 2 4\n")} ${pause} ${typed("s 3\n")} })(${element("claim")})`);
+            await person.read();
+            assert.equal((await person.ask("Check")).line, "x solution 1 2 ValueDiffers");
+        }
+    },
+    "what was judged is named": async (person) => {
         await person.example("a maximum flow");
         await person.ask("Check");
-        // Of its arcs 1 to 3, 2 to 4 and 3 to 5 are full.
-        const wanted = {".node": 5, ".node.inside": 3, ".arc": 7, ".arc.full": 3, ".arc.wrong": 0};
-        for (const [selector, number] of Object.entries(wanted)) assert.equal(await count(selector), number, selector);
-        const label = `document.querySelector("#drawn svg").getAttribute("aria-label")`;
-        assert.equal(await person.page.evaluate(label), "The network: 5 nodes, 7 arcs; inside the set: 1, 2, 3");
-        await person.write("claim", "s 12\nf 1 2 11\nf 1 3 6\nf 2 3 7\nf 2 4 4\nf 3 5 13\nf 4 5 4\n");
-        assert.equal((await person.ask("Check")).line, "x arc 1 AboveCap");
-        assert.equal(await count(".arc.wrong"), 1);
-        await person.example("a fault in a text");
+        const sum = (name) => createHash("sha256").update(readFileSync(`${EXAMPLES}/${name}`)).digest("hex");
+        const [claim, ...texts] = (await person.judged()).slice(0, 3);
+        assert.equal(claim, "claim: the flow is maximum");
+        for (const [i, name] of ["pipes.max", "pipes.solution"].entries()) {
+            assert.ok(texts[i].includes(`: ${name}, `) && texts[i].endsWith(`, SHA-256 ${sum(name)}`), texts[i]);
+        }
+        await person.write("claim", "s 12\n");
         await person.ask("Check");
-        assert.equal(await count("svg"), 0);
+        const typed = (await person.judged())[2];
+        assert.ok(typed.endsWith(createHash("sha256").update("s 12\n").digest("hex")) && !typed.includes("pipes"), typed);
+    },
+    "the arc and the line that are wrong, of parallel ones": async (person) => {
+        await person.write("instance", PARALLEL);
+        await person.write("claim", "s 8\nf 1 2 8\nf 2 3 3\nf 2 3 6\n");
+        const {marked, line} = await person.ask("Check");
+        assert.deepEqual([line, marked], ["x arc 3 AboveCap", ["instance:6: a 2 3 5", "solution:4: f 2 3 6"]]);
+        await person.page.evaluate(`void document.querySelectorAll(".quote")[1].click()`);
+        assert.equal(await person.page.evaluate(CHOSEN("claim")), "f 2 3 6");
+        assert.equal(await person.page.evaluate("document.activeElement.id"), "claim");
+    },
+    "a right flow and a certificate that doesn't show it": async (person) => {
+        await person.write("instance", MAX);
+        await person.write("claim", "s 4\nf 1 2 4\n");
+        await person.write("certificate", "p cut 2 2\nu 1\nu 2\n");
+        const {verdict, line} = await person.ask("Check");
+        assert.deepEqual([verdict, line], ["Not shown: this certificate doesn't show it", "x node 2 SinkInside"]);
+        assert.notEqual(await person.page.evaluate(`${element("answer")}.className`), "no");
+        assert.equal((await person.ask("Check without this certificate")).verdict, "Yes.");
+        assert.deepEqual((await person.judged()).map((it) => it.split(/[: ]/)[0]), ["claim", "instance", "solution", "by"]);
+    },
+    "what isn't the answer's fault": async (person) => {
+        const solution = "s 4\nf 1 2 4\n";
+        const rows = [
+            ["max", MAX.replace("4\n", "4.5\n"), solution, "", "Nothing was judged: the instance has a fault"],
+            ["max", MAX, "s 4\nf 1 2\n", "", "Nothing was judged: the solution has a fault"],
+            ["max", MAX, solution, "p cut 2 1\nu 3\n", "Nothing was judged: the certificate has a fault"],
+            ["max", solution, MAX, "", "Nothing was judged: the instance is a solution"],
+            ["max", MAX, "p distances 2 0\n", "", "Nothing was judged: the solution is distances"],
+            ["max", GRAPH, solution, "", "Nothing was judged: the instance is a graph"],
+            ["paths", GRAPH, "p aux sp ss 1\ns 9\n", LABELS, "Nothing was judged: the texts don't fit together"],
+            ["paths", GRAPH, "p aux sp ss 1\ns 2\n", LABELS, "Not shown: this certificate doesn't show it"],
+            ["paths", GRAPH, "p distances 3 0\n", "", "Nothing was judged: the texts don't fit together"],
+            ["max", MAX, "s 4\nf 2 1 4\n", "", "No: the answer is wrong"],
+            ["min", DEAR, `s 0\nf 1 2 ${MANY}\n`, "", "Undecided: the cost is out of range"],
+        ];
+        for (const [kind, instance, claim, certificate, wanted] of rows) {
+            for (const [slot, text] of Object.entries({instance, claim, certificate})) await person.write(slot, text);
+            await person.choose(kind);
+            assert.equal((await person.ask("Check")).verdict, wanted);
+        }
+        assert.match((await person.ask("Solve")).verdict, /^Undecided: the solver reached its limit, or/);
+        await person.choose("infeasible");
+        await person.write("instance", `${DEAR}c typed\n`);
+        assert.equal((await person.ask("Check")).line, "x instance 0 0 Feasible");
+    },
+    "a certificate of the last instance goes": async (person) => {
+        await person.example("queries and labels");
+        await person.drop(`[new File([${quoted(MAX)}], "one.max")]`, "instance");
+        assert.equal(await person.page.evaluate(`${element("certificate")}.value`), "");
+        const cut = `new File(["p cut 2 1\\nu 1\\n"], "one.cut")`;
+        await person.drop(`[${cut}, new File([${quoted(MAX)}], "one.max"), new File(["s 4\\nf 1 2 4\\n"], "one.solution")]`);
+        await person.ask("Check");
+        assert.match((await person.judged()).at(-1), /^by judge-max/);
+    },
+    "a binary file as the instance": async (person) => {
+        for (const claim of ["", "s 4\nf 1 2 4\n"]) {
+            await person.choose("max");
+            await person.drop(`[new File([new Uint8Array(400).map((_, i) => (i * 89 + 7) % 256)], "a.bin")]`, "instance");
+            await person.write("claim", claim);
+            const {verdict, meaning} = await person.ask("Check");
+            assert.equal(verdict, "Nothing was judged: the instance has a fault");
+            assert.match(meaning, /instance:1: /);
+        }
+    },
+    "an answer is saved": async (person) => {
+        await person.example("a flow that can grow");
+        await person.ask("Check");
+        if (!person.downloads) return;
+        await person.click("Save this answer");
+        const saved = await person.saved("pipes-answer.txt");
+        for (const it of ["No: the answer is wrong\n", "\nx solution 2 2 NotMaximum\n", "s 10", "pipes.max, ", "SHA-256 ", "\ndimacs "]) {
+            assert.ok(saved.includes(it), saved);
+        }
     },
     "a fault in a text": async (person) => {
         await person.example("a fault in a text");
         const {line, marked, fields} = await person.ask("Check");
-        assert.deepEqual([line, marked, fields], ["x instance 12 4 BadNumber", ["a 3 4  500.5"], ["500.5"]]);
-        const chosen = `((it) => it.value.slice(it.selectionStart, it.selectionEnd))(${element("instance")})`;
-        assert.equal(await person.page.evaluate(chosen), "a 3 4  500.5");
-    },
-    "an arc that carries too much": async (person) => {
-        await person.write("instance", "c \np max 3 3\nn 1 s\nn 3 t\na 1 2 4\na 1 3 1\na 2 3 4\n");
-        await person.write("claim", "s 6\nf 1 2 5\nf 1 3 1\nf 2 3 5\n");
-        const {line, marked, meaning} = await person.ask("Check");
-        assert.deepEqual([line, marked], ["x arc 1 AboveCap", ["a 1 2 4", "f 1 2 5"]]);
-        assert.match(meaning, /^Arc 1\. The arc carries more than its capacity\./);
-    },
-    "a text that ends early": async (person) => {
-        await person.write("instance", MAX);
-        await person.write("claim", "f 1 2 4\n");
-        const {line, meaning} = await person.ask("Check");
-        assert.equal(line, "x solution 2 0 SolutionMissing");
-        assert.match(meaning, /no line s VALUE/);
+        assert.deepEqual([line, marked, fields], ["x instance 12 4 BadNumber", ["instance:12: a 3 4  500.5"], ["500.5"]]);
+        assert.equal(await person.page.evaluate(CHOSEN("instance")), "a 3 4  500.5");
     },
     "nothing to check, and nothing to solve": async (person) => {
         await person.write("instance", MAX);
@@ -186,7 +298,7 @@ const TESTS = {
     },
     "no feasible flow": async (person) => {
         await person.example("no feasible flow");
-        assert.equal((await person.ask("Check")).meaning.startsWith("No flow is feasible."), true);
+        assert.match((await person.ask("Check")).meaning, /its supply: 5/);
         assert.equal((await person.ask("Solve")).line, "v infeasible");
     },
     "queries judged by labels": async (person) => {
@@ -239,7 +351,9 @@ const TESTS = {
         await person.example("a maximum flow");
         const pressed = `new KeyboardEvent("keydown", {key: "Enter", ctrlKey: true})`;
         await person.page.evaluate(`void document.dispatchEvent(${pressed})`);
-        await until(person.page, `${text("verdict")} === "Yes."`);
+        await until(person.page, `${text("verdict")} === "Yes." && ${element("said")}.getAttribute("aria-busy") === "false"`);
+        assert.match(await person.page.evaluate(`document.querySelector("[role=alert]").textContent`), /^\s*Yes\.[^]*4 \+ 8 = 12/);
+        assert.match(await person.page.evaluate("document.body.innerText"), /Ctrl\+Enter/);
         const isNamed = `it.getAttribute("aria-label") || it.labels?.length || (it.matches("button") && it.textContent.trim())`;
         const all = `[...document.querySelectorAll("button, textarea, select, progress")]`;
         const nameless = `${all}.filter((it) => !(${isNamed})).map((it) => it.outerHTML)`;
@@ -268,7 +382,7 @@ async function served(run) {
         answer.setHeader("content-type", isPage || isPlain ? "text/html" : "image/svg+xml");
         answer.end(isPage ? readFileSync(file) : isPlain ? "<!doctype html>" : picture);
     });
-    await new Promise((good) => server.listen(0, "127.0.0.1", good));
+    await new Promise((good) => server.listen(0, "0.0.0.0", good));
     try {
         await run(`http://127.0.0.1:${server.address().port}`, reached);
     } finally {
@@ -299,6 +413,13 @@ async function requests(person, counted) {
         await counted("the page from a server", async () => {
             await person.example("a maximum flow");
             assert.equal((await person.ask("Check")).line, "v max 12");
+        });
+        if (kind === "firefox") return;  // it doesn't open 0.0.0.0
+        await counted("a page from a server without https", async () => {
+            await person.open(`${address.replace("127.0.0.1", "0.0.0.0")}/page`);
+            await person.example("a maximum flow");
+            assert.equal((await person.ask("Check")).verdict, "Yes.");
+            assert.match((await person.judged())[1], /, no SHA-256, which a browser computes for /);
         });
     });
 }

@@ -57,15 +57,16 @@ def digest(text):
 
 
 def page(module):
-    style, script = read(f"{PAGE}/page.css"), joined(*(f"{PAGE}/{it}.js" for it in ("words", "drawing", "main")))
+    style, script = read(f"{PAGE}/page.css"), joined(f"{PAGE}/kinds.js", f"{PAGE}/main.js")
     policy = ["default-src 'none'", f"script-src {digest(script)} 'wasm-unsafe-eval'", "worker-src blob:"]
     policy += [f"style-src {digest(style)}", "base-uri 'none'", "form-action 'none'"]
+    calls = [f"{JS}/{it}.js" for it in ("library", "bytes", "explained")]
     parts = {
         "POLICY": "; ".join(policy),
         "STYLE": style,
         "EXAMPLES": in_script(examples()),
         "MODULE": base64.b64encode(gzip.compress(module, 9, mtime=0)).decode(),
-        "WORKER": in_script(joined(f"{JS}/library.js", f"{PAGE}/words.js", f"{PAGE}/worker.js")),
+        "WORKER": in_script(joined(*calls, f"{PAGE}/kinds.js", f"{PAGE}/worker.js")),
         "SCRIPT": script,
     }
     if "</script" in script:
