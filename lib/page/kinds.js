@@ -38,7 +38,9 @@ function faultOf(reason, text) {
 export function headed({what, command, status, line, judged}) {
     const isSolved = what === "solve";
     if (status === 0) return {heading: isSolved ? "Solved." : "Yes.", state: "yes"};
-    if (status !== 1) return {heading: "Undecided: the solver reached its limit, or the cost is out of range", state: "open"};
+    if (status !== 1) {
+        return {heading: "Undecided: the solver reached its limit, or the cost is out of range", state: "open"};
+    }
     const [, place, ...more] = line.split(" "), reason = more.pop(), isJudged = command.startsWith("judge");
     const isUnfit = isOne(reason, "unfit") && place !== "certificate";
     if (isOne(reason, "wrong") || (reason === "NoTightArc" && !isJudged)) {
@@ -49,5 +51,6 @@ export function headed({what, command, status, line, judged}) {
         return {heading: "Not shown: this certificate doesn't show it", state: "open", isOpen: true};
     }
     const fault = faultOf(reason, judged.find((it) => it.name === place));
-    return {heading: `${isSolved ? "Not solved" : "Nothing was judged"}: ${fault}`, state: "open", isOpen: place === "certificate"};
+    const heading = `${isSolved ? "Not solved" : "Nothing was judged"}: ${fault}`;
+    return {heading, state: "open", isOpen: place === "certificate"};
 }

@@ -50,7 +50,8 @@ function ask(what, words) {
 async function stop() {
     worker.terminate();
     for (const it of Object.values(slots)) it.isHeld = it.source === "";
-    for (const {bad} of waiting.values()) bad(new Error(answered ? "It was stopped before it was explained." : "Stopped: undecided."));
+    const message = answered ? "It was stopped before it was explained." : "Stopped: undecided.";
+    for (const {bad} of waiting.values()) bad(new Error(message));
     await startWorker();
 }
 
@@ -66,13 +67,13 @@ function about(slot, text, isBad = false) {
 /** Hands a text to the worker, and shows what it says of it. With another instance the last one's certificate goes. */
 async function hold(source, name, slot, came) {
     try {
-        const got = await ask("hold", {source, file: name, slot}), {instance, certificate} = slots, own = slots[got.slot];
+        const got = await ask("hold", {source, file: name, slot});
+        const {instance, certificate} = slots, own = slots[got.slot];
         if (!own.isHeld && own.source !== source) return;  // it was typed over meanwhile
         const isNext = got.slot === "instance" && instance.source !== "" && instance.came !== came;
         slots[got.slot] = {source, name, isHeld: true, came};
         show(got, source, name);
         if (isNext && certificate.source !== "" && certificate.came !== came) {
-            $("certificate").value = "";
             await hold("", "", "certificate", came);
             about("certificate", "The last instance's certificate was removed.");
         }
@@ -84,11 +85,11 @@ async function hold(source, name, slot, came) {
 
 function show({slot, kind, about: text, text: shown, isWhole}, source, name) {
     const area = $(slot), isWrong = kind ? FORMATS[kind].slot !== slot : name !== "";
-    if (shown !== undefined) area.value = shown;
+    if (area.value !== (shown ?? source)) area.value = shown ?? source;
     if (name) area.scrollTop = 0;
     area.readOnly = !isWhole;
-    const notes = [isWrong && kind && "It doesn't belong here.", !isWhole && "Only its first lines are shown."].filter(Boolean);
-    about(slot, text && [`${name ? `${name}: ` : ""}${text}.`, ...notes].join(" "), isWrong);
+    const notes = [isWrong && kind && "It doesn't belong here.", !isWhole && "Only its first lines are shown."];
+    about(slot, text && [`${name ? `${name}: ` : ""}${text}.`, ...notes].filter(Boolean).join(" "), isWrong);
     if (slot === "certificate" && source !== "") $("more").open = true;
     const claims = FORMATS[kind]?.claims ?? [];
     if (slot === "instance" && claims.length && !claims.includes($("kind").value)) $("kind").value = claims[0];
@@ -128,7 +129,6 @@ function typed(slot) {
 
 function clear(slot) {
     flush();
-    $(slot).value = "";
     return take("", "", slot, changed());
 }
 
@@ -177,12 +177,13 @@ function button(text, run) {
 
 /** A quoted line with its field marked, as the marks below it say. A press shows it where it stands. */
 function quoted(line, marks, judged) {
-    const [, name, number] = /^(\w+):(\d+): /.exec(line), begin = marks.indexOf("^"), end = marks.trimEnd().length;
-    const parts = begin < 0 ? [line] : [line.slice(0, begin), element("mark", {textContent: line.slice(begin, end)}), line.slice(end)];
-    const place = judged.find((it) => it.name === name);
+    const [, name, number] = /^(\w+):(\d+): /.exec(line), place = judged.find((it) => it.name === name);
+    const begin = marks.lastIndexOf(" ") + 1, end = marks.length;
+    const field = marks ? [element("mark", {textContent: line.slice(begin, end)})] : [];
+    const parts = [line.slice(0, begin), ...field, line.slice(end)];
     if (!place) return element("p", {className: "quote"}, ...parts);
     const show = (isPressed) => select(place.slot, Number(number), isPressed);
-    return Object.assign(element("button", {type: "button", className: "quote", onclick: () => show(true)}, ...parts), {show});
+    return element("button", {type: "button", className: "quote", onclick: () => show(true), show}, ...parts);
 }
 
 /** The lines that explain an answer. */
@@ -262,8 +263,8 @@ function head({heading, state}) {
 function judgedIn({what, claim, command, took, judged}) {
     const time = took < 1000 ? `${Math.ceil(took)} ms` : `${(took / 1000).toFixed(1)} s`;
     const texts = judged.map(({name, file, bytes, sum}) => {
-        const of = [file && (/\.gz$/i.test(file) ? `${file}, unpacked` : file), `${bytes} bytes`].filter(Boolean).join(", ");
-        return `${name}: ${of}, ${sum ? `SHA-256 ${sum}` : NO_SUM}`;
+        const packed = /\.gz$/i.test(file) && "unpacked";
+        return `${name}: ${[file, packed, `${bytes} bytes`, sum ? `SHA-256 ${sum}` : NO_SUM].filter(Boolean).join(", ")}`;
     });
     return [...(what === "check" ? [`claim: ${claim}`] : []), ...texts, `by ${command}, in ${time}`];
 }
@@ -324,18 +325,18 @@ async function run(what, isAlone = false) {
     clearInterval(watching);
     running = false;
     ready();
-    if (changes === before) for (const it of [...document.querySelectorAll("button.quote")].reverse()) it.show(false);
+    const quotes = changes === before ? [...document.querySelectorAll("button.quote")] : [];
+    for (const it of quotes.reverse()) it.show(false);
 }
 
 // ---- examples, files and keys
 
 async function example({kind, texts}) {
     flush();
-    const came = changed();
     clearAnswer();
+    const came = changed();
     for (const slot of SLOTS) {
         const [name, text] = texts[slot] ?? ["", ""];
-        $(slot).value = text;
         await take(text, name, slot, came);
     }
     $("kind").value = kind;

@@ -203,7 +203,8 @@ const typed = (verb, kind) => `${verb}${verb === "show" ? " " : "-"}${kind}`;
 function called({verb, kind, certificate, given}) {
     const {status, handed: [printed, ...made]} = CALLS[verb](kind, ...given);
     const isInfeasible = verb === "solve" && latin.decode(printed.subarray(0, 12)) === "v infeasible";
-    const names = verb === "solve" ? ["solution", isInfeasible ? "cut" : certificate] : [status ? "solution" : certificate];
+    const shows = isInfeasible ? "cut" : certificate, isMade = verb === "solve" || status !== DONE;
+    const names = isMade ? ["solution", shows] : [shows];
     last = {verb, kind: isInfeasible ? "infeasible" : kind, given, status, printed, made: made.filter((it) => it.length)};
     const files = made.map((bytes, i) => ({name: names[i], bytes, ...shown(bytes)}));
     return {status, printed, files: status === GAVE_UP ? [] : files.filter((it) => it.bytes.length)};
@@ -212,6 +213,7 @@ function called({verb, kind, certificate, given}) {
 /** The lines after those that are printed. The judge says the same of what was made, and sooner than who made it. */
 function explained() {
     const {verb, kind, given, status, printed, made} = last, isPaths = verb === "certify" && kind === "paths";
+    last = null;
     if (status === GAVE_UP) return "";
     const name = status === DONE && !isPaths ? "judge" : verb;
     const better = kind === "infeasible" ? "flow" : "better";
