@@ -353,6 +353,12 @@ const TESTS = {
         assert.equal((await person.answer()).verdict, "Stopped: undecided.");
         await person.write("claim", "s 0\n");
         assert.match((await person.ask("Check")).line, /^x solution 1 2 NotMaximum$/);
+        await person.page.evaluate(`void ${button("Solve")}.click()`);
+        await until(person.page, `!document.getElementById("stop").hidden`);
+        await person.click("Stop");
+        await until(person.page, settled);
+        await person.clear("instance");
+        assert.equal(await person.page.evaluate(`${element("instance")}.value`), "");
     },
     "keys and labels": async (person) => {
         await person.example("a maximum flow");
