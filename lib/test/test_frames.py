@@ -43,6 +43,17 @@ class Frames(unittest.TestCase):
         no = self.refused(dimacs.Refused, self.network().certify_max, "spring", "town", "flow")
         self.assertEqual(str(no), "arc 'd' AboveCap: it carries 6, its capacity is 5")
 
+    def test_what_the_caller_changes_later(self):
+        """A frame is of the edges and the supplies as they were when it was made."""
+        supply = pandas.Series({"spring": 9, "town": -9})
+        self.edges["sent"] = [5, 4, 5, 4]
+        network, named = self.network(supply=supply), self.network()
+        self.edges.sort_values("room", inplace=True)
+        self.edges.loc[:, "room"], supply["spring"] = 99, 0
+        no = self.refused(dimacs.Refused, named.certify_max, "spring", "town", "sent")
+        self.assertEqual(str(no), "arc 'c' AboveCap: it carries 5, its capacity is 4")
+        self.assertEqual(network.solve_min().flows.to_dict(), {"a": 4, "b": 5, "c": 4, "d": 5})
+
     def test_least_cost(self):
         network = self.network(supply=pandas.Series({"spring": 7, "town": -7}))
         answer = network.solve_min()

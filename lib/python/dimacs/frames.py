@@ -57,10 +57,9 @@ class _FrameNames(Names):
     def __init__(self, frame: Frame) -> None:
         super().__init__()
         self._frame = frame
-        self._index = frame.edges.index  # as it is now
 
     def arc(self, place: int) -> Any:
-        return self._index[place]
+        return self._frame.edges.index[place]
 
     def node(self, place: int) -> Any:
         return self._frame.nodes[place]
@@ -140,6 +139,7 @@ class Frame:
     ) -> None:
         if not isinstance(edges, pd.DataFrame):
             raise TypeError(f"edges is a {type(edges).__name__}, and has to be a DataFrame")
+        edges = edges.copy()  # the caller's may change in place
         self.edges, self.columns, self._scale, self._named = edges, columns, scale, [tail, head]
         tails, heads = _ends(edges, tail), _ends(edges, head)
         for name in columns.values():
