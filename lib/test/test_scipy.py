@@ -2,6 +2,7 @@
 
 import random
 import unittest
+import warnings
 from decimal import Decimal
 
 import dimacs
@@ -243,8 +244,53 @@ class ShortestPath(Scipy):
             stored([5.0, 2], [1, 1], [0, 2, 2]),
         ):
             self.same(graph)
-            self.same(graph, unweighted=True)
             self.same(graph, directed=False)
+            if not (sparse.issparse(graph) and inf in graph.data):
+                self.same(graph, unweighted=True)
+
+    def test_a_mask(self):
+        """What isn't masked is an edge, of weight 0 too, by the methods of SciPy but for "FW", which has no such edges."""
+        chance = random.Random(12)
+        for _ in range(300):
+            places = range(chance.randrange(2, 7))
+            weights = [[chance.choice([0, 0, 1, 2, 5]) for _ in places] for _ in places]
+            mask = [[place == 0 or chance.random() < 0.6 for place in places] for _ in places]
+            graph = numpy.ma.masked_array(weights, mask, dtype=chance.choice(["int64", "float64"]))
+            words = {"directed": chance.choice([True, False]), "unweighted": chance.choice([True, False])}
+            theirs = csgraph.shortest_path(graph, "D", return_predecessors=True, **words)
+            self.assertEqual(ours.shortest_path(graph, **words).tolist(), theirs[0].tolist())
+            ours.certify_shortest_path(graph, *theirs, **words)
+        graph = numpy.ma.masked_equal([[9.0, 0, 5], [9, 9, 0], [9, 9, 9]], 9)
+        no = self.raises(dimacs.Refused, "", ours.certify_shortest_path, graph, [[0, numpy.inf, 5]], indices=[0])
+        self.assertEqual((no.arc, no.reason), ((0, 1), "Escapes"))
+
+    def test_formats(self):
+        """Zeros that are stored, entries of one place, and sums of bools, in each format."""
+        chance = random.Random(13)
+        for _ in range(300):
+            count, vertices = chance.randrange(12), chance.randrange(1, 5)
+            ends = [[chance.randrange(vertices) for _ in range(count)] for _ in range(2)]
+            weights = numpy.array([chance.randrange(4) for _ in range(count)], chance.choice(["bool", "int64", "float64"]))
+            graph = sparse.coo_matrix((weights, ends), shape=(vertices, vertices))
+            if chance.random() < 0.5:
+                starts = numpy.searchsorted(sorted(ends[0]), range(vertices + 1))
+                graph = sparse.csr_matrix((weights, ends[1], starts), shape=graph.shape)
+            graph = graph.asformat(chance.choice(["coo", "csr", "csc", "lil", "dok", "bsr", "dia"]))
+            self.same(graph, method="D", unweighted=chance.choice([True, False]), directed=chance.choice([True, False]))
+        self.same(sparse.coo_matrix(([True, True], ([0, 0], [1, 1])), shape=(2, 2)), method="D")
+
+    def test_infinite_entries_that_are_stored(self):
+        """By some of SciPy's methods these are edges if weights aren't asked for, and lead to vertices that aren't reached."""
+        for graph in (
+            sparse.csr_matrix(([numpy.inf, 3.0], ([0, 0], [1, 2])), shape=(3, 3)),
+            numpy.ma.masked_equal([[9.0, numpy.inf, 3], [9, 9, 9], [9, 9, 9]], 9),
+        ):
+            theirs = [csgraph.shortest_path(graph, it, return_predecessors=True) for it in ("D", "FW")]
+            self.assertNotEqual(theirs[0][1].tolist(), theirs[1][1].tolist())
+            for dist, before in theirs:
+                ours.certify_shortest_path(graph, dist)
+                self.raises(ValueError, r"\(0, 1\) is inf", ours.certify_shortest_path, graph, dist, before)
+            self.raises(ValueError, r"\(0, 1\) is inf", ours.shortest_path, graph, unweighted=True)
 
     def test_sums_of_entries(self):
         """Where SciPy adds entries up, in their own type, the sum is exact here."""
@@ -413,6 +459,21 @@ class Assignments(Scipy):
         narrow = sparse.coo_matrix((numpy.array([100, 100, 127], "int8"), twice[1]))
         self.assertEqual(ours.min_weight_full_bipartite_matching(narrow).col_ind.tolist(), [1])
 
+    def test_entries_that_are_no_edges(self):
+        """SciPy takes away zeros that are stored, and says so, and what is infinite; it sees no mask."""
+        one, other = ([0, 0, 1, 1], [0, 1, 0, 1]), (2, 2)
+        for worst, maximize in (0.0, False), (numpy.inf, False), (-numpy.inf, True):
+            graph = sparse.csr_matrix(([worst, 3.0, 4.0, 9.0], one), other)
+            with warnings.catch_warnings(record=True) as told:
+                warnings.simplefilter("always")
+                theirs, found = (it.min_weight_full_bipartite_matching(graph, maximize) for it in (csgraph, ours))
+            self.assertEqual(found.col_ind.tolist(), theirs[1].tolist())
+            self.assertEqual([str(it.message) for it in told[1:]], [str(it.message) for it in told[:1]])
+        self.assertEqual(ours.maximum_bipartite_matching(stored([0, 0], [0, 1], [0, 1, 2])).tolist(), [0, 1])
+        masked = numpy.ma.masked_equal([[1, 9], [9, 1]], 1)
+        self.raises(TypeError, "the cost matrix is a masked array", ours.linear_sum_assignment, masked)
+        self.raises(TypeError, "the cost matrix is a masked array", ours.certify_assignment, masked, [0, 1], [0, 1])
+
     def test_matchings(self):
         chance = random.Random(7)
         for _ in range(300):
@@ -571,6 +632,25 @@ class Programs(Scipy):
         self.raises(ValueError, "b_ub has 2 numbers", ours.certify_linprog, result, **both)
         result.x = [5, 0, 7, 8]
         self.raises(ValueError, "x has 4 numbers, and c has 1", ours.certify_linprog, result, **program)
+
+    def test_bounds(self):
+        """A pair for each variable or for all, in each form that linprog takes, and no other."""
+        inf, nan = numpy.inf, numpy.nan
+        program = {"c": [3, 7], "A_eq": [[1, 1]], "b_eq": [6]}
+        forms = [[(0, 5)], (0, 5), [[0], [5]], [(0, 5), (0, nan)], [(0, 5), (0, None)], numpy.array([[0, 5], [0, inf]])]
+        for bounds in *forms, [], [[]], None, (0, nan), (0, inf):
+            result = optimize.linprog(**program, bounds=bounds)
+            found = ours.certify_linprog(result, **program, bounds=bounds)
+            self.assertEqual((found.value, found.x.tolist()), (round(result.fun), result.x.round().tolist()))
+        for bounds in [(0, 5)] * 3, [0, 5, 6], [[[0, 5]]]:
+            self.raises(ValueError, "", optimize.linprog, **program, bounds=bounds)
+            self.raises(ValueError, "bounds have the shape", ours.certify_linprog, result, **program, bounds=bounds)
+        for bounds in [(None, 5)], [(nan, 5)], [(-inf, 5)]:
+            self.raises(ValueError, "no lower bound", ours.certify_linprog, result, **program, bounds=bounds)
+        for name in "c", "A_eq", "b_eq", "bounds":
+            words = {**program, "bounds": [(0, 5), (0, 5)]}
+            words[name] = numpy.ma.masked_equal(words[name], 7)
+            self.raises(TypeError, f"{name} is a masked array", ours.certify_linprog, result, **words)
 
     def test_numbers_of_numpy(self):
         """The numbers of a program are exact, also where those of numpy wrap around or are rounded."""

@@ -46,56 +46,66 @@ def whole_items(values: Any, name: Name) -> Any:
     return np.asarray(array_of(values, NUMBERS, name).kept)
 
 
+_LOW = 2**32 - 1
+
+
 class Sums(NamedTuple):
     """Sums without a limit: multiples of 2^32, and what they are more."""
 
     highs: Any
     lows: Any
 
-    def at(self, number: int) -> int:
-        return (int(self.highs[number]) << 32) + int(self.lows[number])
-
-    def fit(self) -> Any:
-        """Whether each sum has 64 bits."""
-        return (self.highs >= -(2**31)) & (self.highs < 2**31)
+    @classmethod
+    def of(cls, highs: Any, lows: Any = None) -> Sums:
+        """The sums of the terms of terms_of."""
+        return cls(highs >> 32, highs & _LOW) if lows is None else cls(highs + (lows >> 32), lows & _LOW)
 
     def are_zero(self) -> Any:
         return (self.highs == 0) & (self.lows == 0)
 
-    def numbers(self) -> Any:
-        """The sums, which fit, as integers of 64 bits."""
+    def fitting(self, what: str, at: Callable[[int], Any], refuse: Callable[[str], Exception] = ValueError) -> Any:
+        """The sums as integers of 64 bits. Raises an exception that names the place of the first that has more."""
+        fit = (self.highs >= -(2**31)) & (self.highs < 2**31)
+        if not fit.all():
+            first = int(np.argmin(fit))
+            found = (int(self.highs[first]) << 32) + int(self.lows[first])
+            raise refuse(f"{what} at {at(first)} is {found}, which has more than 64 bits")
         return (self.highs << 32) + self.lows
+
+
+def terms_of(amounts: Any) -> list[Any]:
+    """Integers of 64 bits as terms whose sums have 62: as they are, or as multiples of 2^32 and what they are more."""
+    is_small = np.abs(amounts.astype(np.float64)).sum() < 2**59
+    return [amounts] if is_small else [amounts >> 32, amounts & _LOW]
 
 
 class Places:
     """The places of some entries, each once, in the order of rows and columns."""
 
     def __init__(self, rows: Any, columns: Any, vertices: int) -> None:
-        keys, self._number = np.unique(rows * np.int64(vertices) + columns, return_inverse=True)
-        self.rows, self.columns = np.divmod(keys, np.int64(vertices))
+        self._keys = rows * np.int64(vertices) + columns
+        self._order = np.argsort(self._keys, kind="stable")  # takes less time the fewer runs there are
+        keys = self._keys[self._order]
+        self._starts = np.flatnonzero(np.diff(keys, prepend=-1))
+        first = self._order[self._starts]
+        self.rows, self.columns = rows[first], columns[first]
 
     def sums(self, amounts: Any) -> Sums:
         """What the amounts of the entries, integers of 64 bits, add up to at each place."""
-        highs, lows = (np.zeros(len(self.rows), np.int64) for _ in range(2))
-        np.add.at(highs, self._number, amounts >> 32)
-        np.add.at(lows, self._number, amounts & (2**32 - 1))
-        return Sums(highs + (lows >> 32), lows & (2**32 - 1))
+        if not len(amounts):
+            return Sums(amounts, amounts)
+        return Sums.of(*(np.add.reduceat(it, self._starts) for it in terms_of(amounts[self._order])))
 
     def share(self, marks: Any) -> Any:
         """Whether each entry is at the place of one with a mark."""
-        return np.isin(self._number, self._number[marks])
+        return np.isin(self._keys, self._keys[marks])
 
     def at(self, number: int) -> tuple[int, int]:
         return int(self.rows[number]), int(self.columns[number])
 
-    def fitting(self, amounts: Any, what: str, refuse: Callable[[str], Exception] = ValueError) -> Any:
-        """The sums as integers of 64 bits. Raises an exception that names the place of the first that has more."""
-        sums = self.sums(amounts)
-        fit = sums.fit()
-        if not fit.all():
-            first = int(np.argmin(fit))
-            raise refuse(f"{what} at {self.at(first)} is {sums.at(first)}, which has more than 64 bits")
-        return sums.numbers()
+    def fitting(self, amounts: Any, what: str) -> Any:
+        """The sums as integers of 64 bits. Raises ValueError that names the place of the first that has more."""
+        return self.sums(amounts).fitting(what, self.at)
 
 
 def entries_of(matrix: Any) -> tuple[Any, Any, Any]:
@@ -112,18 +122,30 @@ SEVERAL = ("csr", "csc")
 
 
 def edges_of(matrix: Any, rows: Any, columns: Any, values: Any) -> tuple[Any, Any, Any]:
-    """The entries of a matrix as edges, whose weights are whole numbers."""
+    """The entries of a matrix as edges, whose weights are whole numbers. The sum of bools is a bool, as by SciPy."""
     weights = whole(values, rows, columns)
     if matrix.format in SEVERAL:
         return rows, columns, weights
     places = Places(rows, columns, matrix.shape[1])
-    return places.rows, places.columns, places.fitting(weights, "the weight")
+    sums = places.fitting(weights, "the weight")
+    return places.rows, places.columns, np.minimum(sums, 1) if values.dtype.kind == "b" else sums
 
 
-def matrix_of(places: Places, amounts: Any, vertices: int) -> Any:
-    """A matrix in CSR format with an amount at each of these places."""
-    starts = np.searchsorted(places.rows, np.arange(vertices + 1))
-    return sparse.csr_matrix((amounts, places.columns, starts), shape=(vertices, vertices))
+def matrix_of(rows: Any, columns: Any, amounts: Any, vertices: int) -> Any:
+    """A matrix in CSR format with these entries, which stand in the order of rows."""
+    starts = np.searchsorted(rows, np.arange(vertices + 1))
+    return sparse.csr_matrix((amounts, columns, starts), shape=(vertices, vertices))
+
+
+def netted(entries: Any) -> Any:
+    """A matrix less its transpose, which has an entry where one of them has, also if that is 0. Sums have 62 bits."""
+    entries.sum_duplicates()
+    back = entries.T.tocsr()
+    # SciPy leaves sums out that are 0. None is: the last two bits say which of both have an entry.
+    entries.data, back.data = 4 * entries.data + 1, 2 - 4 * back.data
+    found = entries + back
+    found.data >>= 2
+    return found
 
 
 def numbers_of(vertices: Any) -> Any:

@@ -14,7 +14,7 @@ from .. import calls, library
 from ..answers import Certified, GaveUp, NotOptimal, Refused
 from ..buffers import LIMIT, LIMITS, test_mask, value_of
 from ..given import FLOWS, INSIDE, MAX, Given, Names
-from .entries import Places, entries_of, exact, matrix_of, whole
+from .entries import Places, Sums, entries_of, exact, matrix_of, netted, numbers_of, terms_of, whole
 
 
 @dataclass(repr=False)
@@ -44,8 +44,11 @@ class _EntryNames(Names):
     """Vertices by their numbers, from 0, and an arc by its two."""
 
     def __init__(self, tails: Any, heads: Any) -> None:
-        super().__init__(0)
+        super().__init__()
         self._ends = tails, heads
+
+    def node(self, place: int) -> Any:
+        return place
 
     def arc(self, place: int) -> Any:
         return tuple(int(it[place]) for it in self._ends)
@@ -78,17 +81,18 @@ class _Network:
     def given(self) -> Given:
         """The arguments of calls over arrays."""
         names = _EntryNames(self.tails, self.heads)
-        return Given(MAX, self.vertices, self.source, self.sink, self.tails, self.heads, self.caps, names=names)
+        ends = self.source + 1, self.sink + 1, numbers_of(self.tails), numbers_of(self.heads)
+        return Given(MAX, self.vertices, *ends, self.caps, names=names)
 
     def matrix(self, flows: Any) -> Any:
         """A flow as SciPy has it: of 32 bits if all capacities and all of its sums fit those."""
-        # Of each pair of vertices there is one sum. Those of 0 are kept, as they are by SciPy.
-        ends = np.concatenate((self.tails, self.heads)), np.concatenate((self.heads, self.tails))
-        places = Places(*ends, self.vertices)
-        amounts = places.fitting(np.concatenate((flows, -flows)), "the flow", GaveUp)
+        parts = [netted(matrix_of(self.tails, self.heads, it, self.vertices)) for it in terms_of(flows)]
+        matrix = parts[0]
+        sums = Sums.of(*(it.data for it in parts))
+        amounts = sums.fitting("the flow", lambda arc: tuple(int(it[arc]) for it in entries_of(matrix)[:2]), GaveUp)
         most = max(self.caps.max(initial=0), amounts.max(initial=0))
-        kind = np.int32 if most <= np.iinfo(np.int32).max else np.int64
-        return self.form(matrix_of(places, amounts.astype(kind), self.vertices))
+        matrix.data = amounts.astype(np.int32 if most <= np.iinfo(np.int32).max else np.int64)
+        return self.form(matrix)
 
 
 def maximum_flow(csgraph: Any, source: int, sink: int, *, method: str = "dinic") -> MaximumFlowResult:
@@ -144,15 +148,24 @@ def _by_pair(given: _Network, flow: Any) -> tuple[Any, Any, Any, Any]:
     if matrix.shape != (given.vertices, given.vertices):
         raise ValueError(f"the flow has the shape {matrix.shape}, and the graph has {given.vertices} vertices")
     rows, columns, values = entries_of(matrix)
-    amounts, none = whole(values, rows, columns), np.zeros(len(values), np.int64)
-    ends = np.concatenate((given.tails, rows, columns)), np.concatenate((given.heads, columns, rows))
-    places = Places(*ends, given.vertices)
-    no_caps = np.zeros(len(given.caps), np.int64)
-    caps = places.fitting(np.concatenate((given.caps, none, none)), "the capacity")
-    both_ways = places.sums(np.concatenate((no_caps, amounts, amounts))).are_zero()
-    if not both_ways.all():
-        place = places.at(int(np.argmin(both_ways)))
+    amounts = whole(values, rows, columns)
+    places = Places(np.append(given.tails, rows), np.append(given.heads, columns), given.vertices)
+    none = np.zeros(len(amounts), np.int64), np.zeros(len(given.caps), np.int64)
+    caps = places.fitting(np.append(given.caps, none[0]), "the capacity")
+    flows = places.fitting(np.append(none[1], amounts), "the flow")
+    _test_negated(places, flows, given.vertices)
+    kept = (caps > 0) | (flows > 0)
+    return places.rows[kept], places.columns[kept], caps[kept], np.maximum(flows[kept], 0)
+
+
+def _test_negated(places: Places, flows: Any, vertices: int) -> None:
+    """Raises ValueError if the flow at a place isn't that of its vertices the other way round, negated."""
+    carries = np.flatnonzero(flows)
+    one = matrix_of(places.rows[carries], places.columns[carries], flows[carries], vertices)
+    both = [entries_of(it) for it in (one, one.T.tocsr())]
+    rows, columns, amounts = (np.append(*it) for it in zip(*both))
+    found = Places(rows, columns, vertices)
+    are_zero = found.sums(amounts).are_zero()
+    if not are_zero.all():
+        place = found.at(int(np.argmin(are_zero)))
         raise ValueError(f"the flow at {place} isn't that at {place[::-1]} negated, as SciPy has it")
-    sums = places.fitting(np.concatenate((no_caps, amounts, none)), "the flow")
-    kept = (caps > 0) | (sums > 0)
-    return places.rows[kept], places.columns[kept], caps[kept], np.maximum(sums[kept], 0)

@@ -2,6 +2,7 @@
 
 from __future__ import annotations
 
+import warnings
 from itertools import chain
 from typing import Any, NamedTuple
 
@@ -11,7 +12,7 @@ from scipy import sparse
 
 from .. import calls, library
 from ..answers import GaveUp, Infeasible, NotOptimal
-from ..buffers import LIMIT, LIMITS, NUMBERS
+from ..buffers import LIMIT, LIMITS, NUMBERS, test_mask
 from ..given import FLOWS, MAX, MIN, POTENTIALS, Given, Names
 from .entries import edges_of, entries_of, exact, whole, whole_items
 
@@ -126,7 +127,9 @@ class _Edges:
 
 
 def _of_matrix(cost_matrix: Any, maximize: bool) -> _Edges:
-    """The entries of a matrix. One of inf (or of -inf, for the greatest) is no edge, as by SciPy."""
+    """The entries of a matrix. One of inf (or of -inf, for the greatest) is no edge, as by SciPy; a mask, which SciPy doesn't
+    see, is refused."""
+    test_mask(cost_matrix, "the cost matrix")
     matrix = np.asarray(exact(cost_matrix))
     if matrix.ndim != 2:
         raise ValueError(f"expected a matrix (2-D array), got a {matrix.ndim} array")
@@ -196,12 +199,17 @@ def _of_sparse(matrix: Any, maximize: bool, has_costs: bool = True) -> _Edges:
     rows, columns, values = entries_of(matrix)
     if not has_costs:
         return _Edges(matrix.shape, rows, columns, np.zeros(len(rows), np.int64), maximize)
+    is_zero = values == 0
+    if is_zero.any():
+        warnings.warn("explicit zero weights are removed before matching", stacklevel=3)
+    kept = ~is_zero & (values != (-np.inf if maximize else np.inf))
+    rows, columns, values = rows[kept], columns[kept], values[kept]
     return _Edges(matrix.shape, *edges_of(matrix, rows, columns, values), maximize)
 
 
 def min_weight_full_bipartite_matching(biadjacency: Any, maximize: bool = False) -> Assignment:
     """A full matching of least weight, as scipy.sparse.csgraph returns it, judged by potentials. Weights are whole numbers;
-    each entry that is stored is an edge. Raises ValueError as SciPy if there is none.
+    each entry that is stored, but for zeros and inf, is an edge. Raises ValueError as SciPy if there is none.
 
     >>> from scipy.sparse import csr_matrix
     >>> min_weight_full_bipartite_matching(csr_matrix([[3, 3], [0, 4]])).col_ind

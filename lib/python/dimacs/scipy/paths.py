@@ -23,43 +23,45 @@ NO_PREDECESSOR = -9999
 _METHODS = ("auto", "FW", "D", "BF", "J")
 
 
-def _stored(matrix: Any) -> tuple[Any, Any, Any]:
-    """The entries of a sparse matrix, but for those at a place with inf, which is no edge."""
-    rows, columns, values = entries_of(matrix)
-    kept = values != np.inf
-    if not (kept.all() or matrix.format in SEVERAL):
-        kept = ~Places(rows, columns, matrix.shape[1]).share(~kept)
-    return rows[kept], columns[kept], values[kept]
-
-
 def _shown(csgraph: Any) -> tuple[Any, Any, Any, Any]:
-    """The shape of a matrix that isn't sparse, and its entries that are edges."""
+    """The shape of a matrix that isn't sparse, and its entries that are edges: of a masked array those that aren't masked,
+    zeros among them, else those that are neither 0 nor inf nor nan."""
     masked: Any = np.ma
-    matrix = masked.masked_invalid(masked.asarray(exact(csgraph)), copy=True)
+    is_masked = masked.isMaskedArray(csgraph)
+    matrix = np.asarray(exact(csgraph))
     if matrix.ndim != 2:
         raise ValueError("compressed-sparse graph must be 2-D")
-    filled = matrix.filled(0)
-    rows, columns = np.nonzero(filled)
-    return matrix.shape, rows, columns, filled[rows, columns]
+    kept = ~masked.getmaskarray(csgraph) if is_masked else matrix != 0
+    if matrix.dtype.kind == "f" and not is_masked:
+        kept &= np.isfinite(matrix)
+    rows, columns = np.nonzero(kept)
+    return matrix.shape, rows, columns, matrix[rows, columns]
 
 
-def _edges(csgraph: Any, unweighted: bool) -> tuple[int, Any, Any, Any]:
-    """The number of vertices of a graph, and the ends and weights of its edges."""
+def _edges(csgraph: Any, distances_alone: bool) -> tuple[int, Any, Any, Any]:
+    """The number of vertices of a graph, and the ends and weights of its edges. A stored inf is none, as distances have it;
+    if more than those are asked for, the methods of SciPy differ, and ValueError is raised."""
     is_sparse = sparse.issparse(csgraph)
-    shape, rows, columns, values = (csgraph.shape, *_stored(csgraph)) if is_sparse else _shown(csgraph)
+    shape, rows, columns, values = (csgraph.shape, *entries_of(csgraph)) if is_sparse else _shown(csgraph)
     if shape[0] != shape[1]:
         raise ValueError("graph should be a square array")
-    if unweighted:
-        return shape[0], rows, columns, np.ones(len(rows), np.int64)
-    if is_sparse:
-        return shape[0], *edges_of(csgraph, rows, columns, values)
-    return shape[0], rows, columns, whole(values, rows, columns)
+    kept = values != np.inf
+    if not kept.all():
+        first = int(np.argmin(kept))
+        place = int(rows[first]), int(columns[first])
+        if not distances_alone:
+            raise ValueError(f"the entry at {place} is inf: by some methods of SciPy it is an edge, by others none")
+        if is_sparse and csgraph.format not in SEVERAL:
+            kept = ~Places(rows, columns, shape[1]).share(~kept)
+        rows, columns, values = rows[kept], columns[kept], values[kept]
+    return shape[0], rows, columns, values
 
 
 def _sources(indices: Any, vertices: int) -> Any:
     """The vertices that are asked for, in the shape in which they are."""
     if indices is None:
         return np.arange(vertices)
+    test_mask(indices, "indices")
     given = np.asarray(indices)
     found = whole_items(given.ravel(), "indices" if given.ndim else lambda place: "indices")
     found = np.where(found < 0, found + vertices, found).reshape(given.shape)
@@ -68,9 +70,15 @@ def _sources(indices: Any, vertices: int) -> Any:
     return found
 
 
-def _arcs(csgraph: Any, directed: bool, unweighted: bool) -> tuple[int, Any, Any, Any]:
-    """The number of vertices, and the arcs: an edge of a graph that isn't directed is two."""
-    vertices, tails, heads, weights = _edges(csgraph, unweighted)
+def _arcs(csgraph: Any, directed: bool, unweighted: bool, has_more: bool = False) -> tuple[int, Any, Any, Any]:
+    """The number of vertices, and the arcs: an edge of a graph that isn't directed is two. More than distances may be given."""
+    vertices, tails, heads, weights = _edges(csgraph, not (unweighted or has_more))
+    if unweighted:
+        weights = np.ones(len(tails), np.int64)
+    elif sparse.issparse(csgraph):
+        tails, heads, weights = edges_of(csgraph, tails, heads, weights)
+    else:
+        weights = whole(weights, tails, heads)
     if not directed:
         tails, heads, weights = np.append(tails, heads), np.append(heads, tails), np.append(weights, weights)
     return vertices, tails, heads, weights
@@ -186,7 +194,7 @@ def certify_shortest_path(
     >>> certify_shortest_path([[0, 5, 0], [0, 0, 4], [0, 0, 0]], [[0, 5, 9]], indices=[0])
     array([[-9999,     0,     1]], dtype=int32)
     """
-    vertices, tails, heads, weights = _arcs(csgraph, directed, unweighted)
+    vertices, tails, heads, weights = _arcs(csgraph, directed, unweighted, predecessors is not None)
     sources = _sources(indices, vertices)
     rows, before = _table(dist, "dist", sources, vertices), None
     if predecessors is not None:

@@ -18,7 +18,7 @@ from scipy import sparse
 
 from .. import calls, library
 from ..answers import NotOptimal, Refused
-from ..buffers import NUMBERS, number_of
+from ..buffers import NUMBERS, number_of, test_mask
 from ..given import FLOWS, MIN, POTENTIALS, Given, Names
 from ..scales import fraction_of
 
@@ -63,6 +63,7 @@ class _Part:
 
     def __init__(self, A: Any, b: Any, name: str, variables: int) -> None:
         self._name = name
+        test_mask(A, f"A_{name}")
         self._matrix = sparse.coo_matrix((0, variables), dtype=np.int64) if A is None else sparse.coo_matrix(A)
         self.rows, columns = self._matrix.shape
         if columns != variables:
@@ -80,6 +81,7 @@ class _Part:
 
 def _numbers(given: Any, name: str) -> list[int]:
     """Numbers as ints. As objects they keep what they are: in an array of floats an int may be rounded."""
+    test_mask(given, name)
     listed = np.asarray(given, object).ravel().tolist()
     return [number_of(it, NUMBERS, f"{name}[{place}]") for place, it in enumerate(listed)]
 
@@ -180,20 +182,22 @@ def _ends(entries: list[tuple[int, Any]], signs: list[int]) -> tuple[int | None,
 
 
 def _bounds(bounds: Any, count: int) -> list[tuple[Any, Any]]:
-    """The bounds of each variable, as linprog takes them."""
-    given = (0, None) if bounds is None else bounds
-    table = [tuple(given)] * count if len(given) == 2 and np.ndim(given[0]) == 0 else [tuple(it) for it in given]
-    if len(table) != count:
-        raise ValueError(f"there are {len(table)} bounds, and {count} variables")
+    """The bounds of each variable, as linprog takes them: a pair for each, or one for all, where None and nan are no bound."""
+    test_mask(bounds, "bounds")
+    table = np.asarray((0, None) if bounds is None or np.size(bounds) == 0 else bounds, object)
+    if table.shape in ((2,), (1, 2), (2, 1)):
+        table = np.tile(table.ravel(), (count, 1))
+    if table.shape != (count, 2):
+        raise ValueError(f"bounds have the shape {table.shape}, and there are {count} variables")
     for place, (low, _) in enumerate(table):
-        if low is None or low == -math.inf:
+        if low is None or low == -math.inf or low != low:
             raise ValueError(f"x[{place}] has no lower bound: a variable of a network has to have one")
     return [(_bound(low, place), _bound(high, place)) for place, (low, high) in enumerate(table)]
 
 
 def _bound(number: Any, place: int) -> Any:
     """A bound as an int, or inf."""
-    is_limitless = number is None or number == math.inf
+    is_limitless = number is None or number == math.inf or number != number
     return math.inf if is_limitless else number_of(number, NUMBERS, f"bounds[{place}]")
 
 
