@@ -2,6 +2,7 @@
 
 Each test of random graphs draws a few hundred, or N. All are drawn by a seed."""
 
+import contextlib
 import importlib.metadata
 import inspect
 import itertools
@@ -350,6 +351,20 @@ class Costs(Backend):
         graph.add_edge(0, 1, room=3, price=4)
         self.same(networkx.network_simplex, graph, "supply", "room", "price")
 
+    def test_supplies_past_64_bits(self):
+        """What a node supplies is its demand negated, which -2^63 can't be."""
+        graph = networkx.DiGraph()
+        graph.add_node("s", demand=-(2**63))
+        graph.add_node("t", demand=2**62)
+        graph.add_node("u", demand=2**62)
+        graph.add_edges_from([("s", "t"), ("s", "u")], weight=1)
+        self.assertIn("more than 64 bits", self.refused("network_simplex", graph))
+        with networkx.config(backend_priority=["dimacs"]):
+            self.assertEqual(networkx.min_cost_flow_cost(graph), 2**63)
+        wide = networkx.DiGraph()
+        wide.add_edges_from([("s", "a"), ("s", "b"), ("a", "t"), ("b", "t")], capacity=2**63 - 1)
+        self.assertIn("more than 64 bits", self.refused("max_flow_min_cost", wide, "s", "t"))
+
     def test_what_networkx_is_left(self):
         graph = pipes()
         graph.nodes["a"]["demand"] = 1
@@ -540,16 +555,145 @@ class Paths(Backend):
             networkx.dijkstra_path_length(graph, 0, 2, backend="dimacs")
 
 
+    def test_no_target(self):
+        """None is no target, also where networkx has no default for it."""
+        chance = random.Random(10)
+        for _ in rounds(60):
+            graph = drawn(networkx.DiGraph, chance, 12, weight=lambda: chance.randrange(9))
+            for name in "dijkstra_path", "bellman_ford_path", "dijkstra_path_length", "bellman_ford_path_length", "has_path":
+                for ends in (0, None), (None, 0), (None, None), (9, None):
+                    both = self.compared_kinds(getattr(networkx, name), graph, *ends)
+                    if both and name == "has_path":
+                        self.assertEqual(both[1], both[0])
+                    elif both:
+                        self.assertEqual(*(sorted(it) for it in both))
+
+    def test_what_is_yielded_is_answered(self):
+        """A generator that networkx goes through can't be left to it when a number turns out not to be answered here."""
+        graph = networkx.path_graph(4, networkx.DiGraph)
+        graph.edges[2, 3]["weight"] = 0.5
+        wide = networkx.path_graph(4, networkx.DiGraph)
+        networkx.set_edge_attributes(wide, 2**62, "weight")
+        long = networkx.path_graph(4, networkx.DiGraph)
+        networkx.set_edge_attributes(long, 2.0**52, "weight")
+        for it in graph, wide, long:
+            for name in "all_pairs_dijkstra", "all_pairs_dijkstra_path", "all_pairs_dijkstra_path_length":
+                self.refused(name, it)
+                with all_run():
+                    self.assertEqual(dict(getattr(networkx, name)(it)), dict(getattr(networkx, name)(it, backend="networkx")))
+            for method in "dijkstra", "bellman-ford":
+                self.refused("shortest_path", it, weight="weight", method=method)
+                self.refused("shortest_path_length", it, weight="weight", method=method)
+
+    def test_what_networkx_makes_of_distances(self):
+        chance = random.Random(11)
+        draws = [lambda: chance.randrange(1, 9), lambda: chance.choice([0.5, 1, 2.25]), lambda: float(chance.randrange(1, 9))]
+        for _ in rounds(15):
+            graph = networkx.connected_watts_strogatz_graph(8, 4, 0.4, seed=chance)
+            draw = chance.choice(draws)
+            networkx.set_edge_attributes(graph, {edge: draw() for edge in graph.edges}, "weight")
+            for call in (
+                lambda: networkx.wiener_index(graph, weight="weight"),
+                lambda: networkx.barycenter(graph, weight="weight"),
+                lambda: networkx.average_shortest_path_length(graph, weight="weight"),
+                lambda: networkx.eccentricity(graph, weight="weight"),
+                lambda: networkx.closeness_centrality(graph, distance="weight"),
+                lambda: tour_of(graph, networkx.approximation.traveling_salesman_problem(graph, nodes=[0, 3, 5])),
+                lambda: list(networkx.shortest_simple_paths(graph, 0, 5, weight="weight"))[0][-1],
+            ):
+                theirs = call()
+                with all_run():
+                    ours = call()
+                self.assertEqual(ours, theirs)
+
+    def test_the_graph_that_was_read(self):
+        """The answers of one generator are of one graph."""
+        graph = pipes()
+        found = networkx.all_pairs_dijkstra_path_length(graph, backend="dimacs")
+        wanted = dict(networkx.all_pairs_dijkstra_path_length(graph))
+        next(found)
+        graph.edges["a", "b"]["weight"] = 0.5
+        graph.remove_node("t")
+        self.assertEqual({"s": wanted["s"], **dict(found)}, wanted)
+
+
+#: What isn't faster by networkx if no backend is named: a call, the number of nodes, and whether it runs here.
+RUNS = """
+maximum_flow(G, 0, 1)                                            | 2    | yes
+network_simplex(G)                                               | 2    | yes
+cost_of_flow(G, {})                                              | 9999 | no
+has_path(G, 0, 1)                                                | 9999 | no
+dijkstra_path(G, 0, 1)                                           | 9999 | no
+dijkstra_path_length(G, 0, target=1)                             | 9999 | no
+single_source_dijkstra(G, 0)                                     | 1000 | yes
+single_source_dijkstra(G, 0)                                     | 999  | no
+single_source_dijkstra(G, 0, None, None, "length")               | 1000 | yes
+single_source_dijkstra(G, 0, 1)                                  | 9999 | no
+single_source_dijkstra_path(G, 0, cutoff=5)                      | 9999 | no
+multi_source_dijkstra(G, [0, 1])                                 | 1000 | yes
+multi_source_dijkstra(G, [0, 1], target=5)                       | 9999 | no
+all_pairs_dijkstra(G)                                            | 100  | yes
+all_pairs_dijkstra(G)                                            | 99   | no
+all_pairs_dijkstra_path(G, 7)                                    | 9999 | no
+single_source_bellman_ford(G, 0, target=1)                       | 100  | yes
+bellman_ford_path(G, 0, 1)                                       | 99   | no
+negative_edge_cycle(G)                                           | 100  | yes
+single_source_shortest_path(G, 0)                                | 9999 | no
+shortest_path(G)                                                 | 9999 | no
+shortest_path(G, weight="weight")                                | 100  | yes
+shortest_path(G, 0, 1, weight="weight")                          | 9999 | no
+shortest_path(G, 0, 1, weight="weight", method="bellman-ford")   | 100  | yes
+shortest_path_length(G, target=1, weight="weight")               | 1000 | yes
+shortest_path_length(G, target=1, weight="weight")               | 99   | no
+shortest_path_length(G, 0, 1, "weight", "dijkstra", "too many")  | 9    | yes
+"""
+
+
+def all_run():
+    """Has networkx call the backend for each graph, small ones too."""
+    from dimacs import backend
+
+    stack = contextlib.ExitStack()
+    stack.enter_context(networkx.config(backend_priority=["dimacs"]))
+    stack.enter_context(unittest.mock.patch.object(backend, "should_run", lambda *words: True))
+    return stack
+
+
+def tour_of(graph, nodes):
+    """The ends of a tour and how many nodes it visits at least: of equal ones another may be found."""
+    return nodes[0] == nodes[-1], set(nodes) >= {0, 3, 5}
+
+
 class Registered(Backend):
+    def test_what_runs(self):
+        from dimacs import backend
+
+        for line in RUNS.strip().splitlines():
+            call, nodes, wanted = (it.strip() for it in line.split("|"))
+            name, _, words = call.partition("(")
+            graph = networkx.empty_graph(int(nodes), networkx.DiGraph)
+            args, kwargs = eval(f"(lambda *args, **kwargs: (args, kwargs))({words}", {"G": graph})
+            self.assertEqual(backend.should_run(name, args, kwargs), wanted == "yes", line)
+
+    def test_what_networkx_does_faster(self):
+        """It isn't called here, but if the backend is named."""
+        graph = networkx.path_graph(5, networkx.DiGraph)
+        with unittest.mock.patch("dimacs.backend.paths._Paths") as read:
+            with networkx.config(backend_priority=["dimacs"]):
+                self.assertTrue(networkx.has_path(graph, 0, 1))
+                self.assertEqual(networkx.dijkstra_path(graph, 0, 2), [0, 1, 2])
+                self.assertEqual(networkx.single_source_dijkstra_path_length(graph, 0, cutoff=1), {0: 0, 1: 1})
+            read.assert_not_called()
+        self.same(networkx.has_path, graph, 0, 1)
+
     def test_functions(self):
         from dimacs import backend
         from dimacs.backend import info
 
         dispatched = set(networkx.utils.backends._registered_algorithms)
         self.assertEqual(set(dir(backend)) & dispatched, set(info.FUNCTIONS))
-        self.assertEqual(
-            set(backend.__all__), {*info.FUNCTIONS, "Unable", "can_run", "convert_from_nx", "convert_to_nx"}
-        )
+        others = {"Unable", "can_run", "convert_from_nx", "convert_to_nx", "should_run"}
+        self.assertEqual(set(backend.__all__), {*info.FUNCTIONS, *others})
         self.assertIn("certificate", networkx.minimum_cut.__doc__)
 
     def test_length(self):

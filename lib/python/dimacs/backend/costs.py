@@ -81,6 +81,8 @@ def _solved(given: Network, caps: list[Any], infeasible: str, unbounded: str) ->
     # An infinite weight is left where nothing can be carried.
     weights = [0 if cap == 0 else it for cap, it in zip(caps, given.weights)]
     arcs, supplies = given.arcs, [-it for it in given.demands]
+    if not all(NUMBERS.least <= it <= NUMBERS.greatest for it in supplies):
+        raise Unable("a supply has more than 64 bits")
     try:
         with unable():
             words = arcs.tails, arcs.heads, [0] * len(caps), caps, weights, supplies

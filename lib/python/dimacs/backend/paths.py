@@ -7,40 +7,46 @@ from typing import Any, Callable, Iterable, Iterator
 import networkx as nx
 
 from ..answers import UNREACHED
-from ..distances import NegativeCycle, distances_from, potentials_of
-from .given import Arcs, Numbers, Unable, answered, edges_of, graph_of, of_edges, unable
+from ..distances import Distances, NegativeCycle, distances_from, potentials_of
+from .given import MOST_FLOAT, Arcs, Unable, answered, edges_of, graph_of, of_edges, unable
 
 Lengths = dict[Any, Any]
 Paths = dict[Any, list[Any]]
 
 
-def weights_of(graph: Any, weight: Any, signed: bool) -> Numbers:
-    """The weight of each arc; if they aren't signed, none is negative."""
-    if callable(weight):
-        raise Unable("the weight is a function")
-    weights = of_edges(graph, weight, 1, "weight")
-    if not signed and min(weights.values, default=0) < 0:
-        edge = next(edge for edge, it in zip(edges_of(graph), weights.values) if it < 0)
-        raise Unable(f"the weight of edge {edge!r} is negative")
-    return weights
+class _Paths:
+    """The arcs of a graph and their weights, as they are when it is read. If they aren't signed, none is negative."""
+
+    def __init__(self, given: Any, weight: Any, signed: bool = False) -> None:
+        graph = graph_of(given)
+        if callable(weight):
+            raise Unable("the weight is a function")
+        self.weights, self.arcs = of_edges(graph, weight, 1, "weight"), Arcs(graph)
+        if not signed and min(self.weights.values, default=0) < 0:
+            edge = next(edge for edge, it in zip(edges_of(graph), self.weights.values) if it < 0)
+            raise Unable(f"the weight of edge {edge!r} is negative")
+
+    def distances(self, starts: list[int]) -> Distances:
+        """The distances from the nearest of these nodes."""
+        arcs, lengths = self.arcs, self.weights.values
+        nodes, tails, heads, start = len(arcs.nodes), arcs.tails, arcs.heads, starts[0]
+        if len(starts) > 1:  # one more node leads to all sources
+            nodes, start = nodes + 1, nodes + 1
+            tails, heads, lengths = tails + [start] * len(starts), heads + starts, lengths + [0] * len(starts)
+        try:
+            with unable():
+                return distances_from(nodes, tails, heads, lengths, start)
+        except NegativeCycle:
+            raise nx.NetworkXUnbounded("Negative cycle detected.") from None
 
 
 class _Tree:
     """The nodes that sources reach, the nearest first, with their distances, and a shortest path to each."""
 
-    def __init__(self, given: Any, sources: Iterable[Any], weight: Any, signed: bool = False) -> None:
-        graph = graph_of(given)
-        weights = weights_of(graph, weight, signed)
-        arcs = Arcs(graph)
-        self._are_floats, self._nodes, self._number = weights.are_floats, arcs.nodes, arcs.number
+    def __init__(self, graph: _Paths, sources: Iterable[Any]) -> None:
+        self._are_floats, self._nodes, self._number = graph.weights.are_floats, graph.arcs.nodes, graph.arcs.number
         self._sources = list(sources)
-        starts = [arcs.number[it] for it in self._sources]
-        nodes, tails, heads, lengths, start = len(arcs.nodes), arcs.tails, arcs.heads, weights.values, starts[0]
-        if len(starts) > 1:  # one more node leads to all sources
-            nodes, start = nodes + 1, nodes + 1
-            tails, heads, lengths = tails + [start] * len(starts), heads + starts, lengths + [0] * len(starts)
-        with unable():
-            self._distances, self._predecessors = distances_from(nodes, tails, heads, lengths, start)
+        self._distances, self._predecessors = graph.distances([self._number[it] for it in self._sources])
 
     def within(self, cutoff: Any = None) -> list[int]:
         """The places of the nodes whose distance isn't above the cutoff."""
@@ -70,28 +76,15 @@ class _Tree:
                 path = found[node] = [*path, node]
         return found
 
-    def length_to(self, target: Any, cutoff: Any = None) -> Any:
-        """The distance of a node; None if it isn't reached."""
-        if target not in self._number:
-            return None
-        length = self._distances[self._number[target] - 1]
-        if not self._is_within(length, cutoff):
-            return None
-        return answered([length], self._are_floats)[0]
-
-    def path_to(self, target: Any) -> list[Any]:
-        """A shortest path to a node that is reached."""
+    def to(self, target: Any, message: str, cutoff: Any = None) -> tuple[Any, list[Any]]:
+        """The distance of a node, and a path. Raises NetworkXNoPath with this message if it isn't reached."""
+        place = self._number.get(target, 0) - 1
+        if place < 0 or not self._is_within(self._distances[place], cutoff):
+            raise nx.NetworkXNoPath(message)
         path = [target]
         while path[-1] not in self._sources:
             path.append(self._nodes[self._predecessors[self._number[path[-1]] - 1] - 1])
-        return path[::-1]
-
-    def to(self, target: Any, message: str, cutoff: Any = None) -> tuple[Any, list[Any]]:
-        """The distance of a node, and a path. Raises NetworkXNoPath with this message if it isn't reached."""
-        length = self.length_to(target, cutoff)
-        if length is None:
-            raise nx.NetworkXNoPath(message)
-        return length, self.path_to(target)
+        return answered([self._distances[place]], self._are_floats)[0], path[::-1]
 
 
 def _test_nodes(graph: Any, message: str, *nodes: Any) -> None:
@@ -106,7 +99,7 @@ def _nearest(graph: Any, sources: Any, weight: Any) -> _Tree:
     if not sources:
         raise ValueError("sources must not be empty")
     _test_nodes(graph, "Node {} not found in graph", *sources)
-    return _Tree(graph, sources, weight)
+    return _Tree(_Paths(graph, weight), sources)
 
 
 def multi_source_dijkstra(
@@ -148,9 +141,9 @@ def single_source_dijkstra_path_length(G: Any, source: Any, cutoff: Any = None, 
     return multi_source_dijkstra_path_length(G, [source], cutoff, weight)
 
 
-def dijkstra_path(G: Any, source: Any, target: Any, weight: Any = "weight") -> list[Any]:
+def dijkstra_path(G: Any, source: Any, target: Any, weight: Any = "weight") -> Any:
     """A shortest path from one node to another."""
-    return list(single_source_dijkstra(G, source, target, None, weight)[1])
+    return single_source_dijkstra(G, source, target, None, weight)[1]
 
 
 def dijkstra_path_length(G: Any, source: Any, target: Any, weight: Any = "weight") -> Any:
@@ -159,28 +152,33 @@ def dijkstra_path_length(G: Any, source: Any, target: Any, weight: Any = "weight
     return 0 if source == target else tree.to(target, f"Node {target} not reachable from {source}")[0]
 
 
+def _from_each(graph: _Paths, show: Callable[[_Tree], Any]) -> Iterator[tuple[Any, Any]]:
+    """What `show` makes of the tree from each node. What a generator yields can't be left to networkx: Unable is raised before."""
+    longest = sum(map(abs, graph.weights.values))
+    if longest > (MOST_FLOAT if graph.weights.are_floats else 2**60):  # then potentials and sums with them have 64 bits
+        raise Unable(f"weights add up to {longest}, and what is answered later may be out of range")
+    return ((node, show(_Tree(graph, [node]))) for node in graph.arcs.nodes)
+
+
 def all_pairs_dijkstra(G: Any, cutoff: Any = None, weight: Any = "weight") -> Iterator[tuple[Any, Any]]:
     """For each node the distances from it and shortest paths."""
-    return ((node, single_source_dijkstra(G, node, None, cutoff, weight)) for node in list(graph_of(G)))
+    return _from_each(_Paths(G, weight), lambda tree: (tree.lengths(cutoff), tree.paths(cutoff)))
 
 
 def all_pairs_dijkstra_path_length(G: Any, cutoff: Any = None, weight: Any = "weight") -> Iterator[tuple[Any, Any]]:
     """For each node the distances from it."""
-    return ((node, single_source_dijkstra_path_length(G, node, cutoff, weight)) for node in list(graph_of(G)))
+    return _from_each(_Paths(G, weight), lambda tree: tree.lengths(cutoff))
 
 
 def all_pairs_dijkstra_path(G: Any, cutoff: Any = None, weight: Any = "weight") -> Iterator[tuple[Any, Any]]:
     """For each node shortest paths from it."""
-    return ((node, single_source_dijkstra_path(G, node, cutoff, weight)) for node in list(graph_of(G)))
+    return _from_each(_Paths(G, weight), lambda tree: tree.paths(cutoff))
 
 
 def _nearest_signed(graph: Any, source: Any, weight: Any) -> _Tree:
     """As Bellman and Ford's search finds them."""
     _test_nodes(graph, "Source {} not in G", source)
-    try:
-        return _Tree(graph, [source], weight, True)
-    except NegativeCycle:
-        raise nx.NetworkXUnbounded("Negative cycle detected.") from None
+    return _Tree(_Paths(graph, weight, True), [source])
 
 
 def single_source_bellman_ford(G: Any, source: Any, target: Any = None, weight: Any = "weight") -> tuple[Any, Any]:
@@ -204,9 +202,9 @@ def single_source_bellman_ford_path_length(G: Any, source: Any, weight: Any = "w
     return _nearest_signed(G, source, weight).lengths()
 
 
-def bellman_ford_path(G: Any, source: Any, target: Any, weight: Any = "weight") -> list[Any]:
+def bellman_ford_path(G: Any, source: Any, target: Any, weight: Any = "weight") -> Any:
     """A shortest path from one node to another; weights may be negative."""
-    return list(single_source_bellman_ford(G, source, target, weight)[1])
+    return single_source_bellman_ford(G, source, target, weight)[1]
 
 
 def bellman_ford_path_length(G: Any, source: Any, target: Any, weight: Any = "weight") -> Any:
@@ -219,11 +217,10 @@ def bellman_ford_path_length(G: Any, source: Any, target: Any, weight: Any = "we
 
 def negative_edge_cycle(G: Any, weight: Any = "weight", heuristic: bool = True) -> bool:
     """Whether a cycle has a negative weight: a proved call found one, or potentials that show that there is none."""
-    graph = graph_of(G)
-    arcs, weights = Arcs(graph), weights_of(graph, weight, True)
+    graph = _Paths(G, weight, True)
     try:
         with unable():
-            potentials_of(len(arcs.nodes), arcs.tails, arcs.heads, weights.values)
+            potentials_of(len(graph.arcs.nodes), graph.arcs.tails, graph.arcs.heads, graph.weights.values)
     except NegativeCycle:
         return True
     return False
@@ -232,19 +229,19 @@ def negative_edge_cycle(G: Any, weight: Any = "weight", heuristic: bool = True) 
 def single_source_shortest_path(G: Any, source: Any, cutoff: Any = None) -> Paths:
     """Paths of the fewest edges from a node."""
     _test_nodes(G, "Source {} not in G", source)
-    return _Tree(G, [source], None).paths(cutoff)
+    return _Tree(_Paths(G, None), [source]).paths(cutoff)
 
 
 def single_source_shortest_path_length(G: Any, source: Any, cutoff: Any = None) -> Lengths:
     """The fewest edges of paths from a node."""
     _test_nodes(G, "Source {} is not in G", source)
-    return _Tree(G, [source], None).lengths(cutoff)
+    return _Tree(_Paths(G, None), [source]).lengths(cutoff)
 
 
 def _tree(graph: Any, source: Any, weight: Any, method: str) -> _Tree:
     if weight is None:
         _test_nodes(graph, "Source {} is not in G", source)
-        return _Tree(graph, [source], None)
+        return _Tree(_Paths(graph, None), [source])
     return _nearest_signed(graph, source, weight) if method == "bellman-ford" else _nearest(graph, [source], weight)
 
 
@@ -252,7 +249,7 @@ def _some(given: Any, source: Any, target: Any, weight: Any, method: str, show: 
     """What `show` makes of the tree from a source, of that to a target, or of that from each node."""
     graph = graph_of(given)
     if source is None and target is None:
-        return ((node, show(_tree(graph, node, weight, method))) for node in list(graph))
+        return _from_each(_Paths(graph, weight, method == "bellman-ford"), show)
     if source is None and graph.is_directed():
         graph = graph.reverse(copy=False)
     return show(_tree(graph, target if source is None else source, weight, method))
@@ -261,7 +258,7 @@ def _some(given: Any, source: Any, target: Any, weight: Any, method: str, show: 
 def _one(graph: Any, source: Any, target: Any, weight: Any) -> tuple[Any, list[Any]]:
     _test_nodes(graph, "Source {} is not in G", source)
     _test_nodes(graph, "Target {} is not in G", target)
-    return _Tree(graph, [source], weight).to(target, f"No path between {source} and {target}.")
+    return _Tree(_Paths(graph, weight), [source]).to(target, f"No path between {source} and {target}.")
 
 
 def _test_method(given: Any, method: str) -> None:
@@ -296,6 +293,6 @@ def shortest_path_length(
 def has_path(G: Any, source: Any, target: Any) -> bool:
     """Whether a path leads from one node to another."""
     try:
-        return bool(_one(G, source, target, None))
+        return bool(shortest_path(G, source, target))
     except nx.NetworkXNoPath:
         return False
