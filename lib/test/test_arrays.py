@@ -368,7 +368,7 @@ class Misuse(unittest.TestCase):
         for flows, message in [
             ([4, 2, 1, 3, 2**63], "flows[4] is 9223372036854775808, not a whole number of 64 bits"),
             ([4, 2, 1, 3.0, -(2**63) - 1], "flows[4] is -9223372036854775809, not a whole number of 64 bits"),
-            ([4, 2, 1, 3, 2.5], "flows[4] is 2.5, not a whole number"),
+            ([4, 2, 1, 3, 2.5], "flows[4] is 2.5, not a whole number: scale= takes multiples of a unit"),
         ]:
             with self.subTest(message), self.assertRaises(ValueError) as caught:
                 dimacs.judge_max_arrays(*MAX, flows, CUT)
@@ -378,6 +378,15 @@ class Misuse(unittest.TestCase):
         for kind in (decimal.Decimal, fractions.Fraction):
             with self.subTest(kind), self.assertRaises((TypeError, ValueError)):
                 dimacs.judge_max_arrays(*MAX, [*FLOW[:-1], kind("3.5")], CUT)
+
+    def test_bytes_are_texts(self):
+        """Those of a text are no numbers; marks may be bytes."""
+        for text in b"5", bytearray(b"5"):
+            with self.assertRaisesRegex(TypeError, "caps is a text, .*'5'.*, and no array of numbers"):
+                dimacs.solve_max_arrays(2, 1, 2, [1], [2], text)
+            with self.assertRaisesRegex(TypeError, "caps is a text, .*'5'.*, and no array of numbers"):
+                dimacs.spread_max_arrays(2, 1, 2, [1], [2], text, [1], [2], [5])
+        self.assertEqual(dimacs.judge_max_arrays(2, 1, 2, [1], [2], [5], [5], b"\1\0").value, 5)
 
     def test_what_has_no_places(self):
         by_number = dict(enumerate(FLOW))

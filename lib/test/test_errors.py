@@ -21,6 +21,7 @@ except ImportError:
     numpy = None
 
 INF, NAN = float("inf"), float("nan")
+NOT_WHOLE = "not a whole number: scale= takes multiples of a unit"
 TEXT = "p max 2 1\nn 1 s\nn 2 t\na 1 2 3\n"
 MAX = 3, 1, 3, [1, 2], [2, 3], [5, 4]
 MIN = 2, [1, 1], [2, 2], [1, 0], [5, 5], [3, 7], [6, -6]
@@ -140,8 +141,8 @@ class Arrays(Errors):
             ValueError,
             [
                 ("flows[1] is nan, not a whole number", certify, *MAX, [0, NAN]),
-                ("flows[1] is 2.5, not a whole number", certify, *MAX, [0, 2.5]),
-                ("flows[0] is 5/2, not a whole number", certify, *MAX, [Fraction(5, 2), 0]),
+                (f"flows[1] is 2.5, {NOT_WHOLE}", certify, *MAX, [0, 2.5]),
+                (f"flows[0] is 5/2, {NOT_WHOLE}", certify, *MAX, [Fraction(5, 2), 0]),
                 ("flows[0] is inf, not a whole number", certify, *MAX, [INF, 0]),
                 (
                     "caps[0] is 9223372036854775808, not a whole number of 64 bits",
@@ -278,11 +279,68 @@ class Arrays(Errors):
         )
 
     def test_unbounded(self):
-        message = "arcs without a limit lead from the source to the sink"
+        message = "arcs without a limit lead from the source to the sink: 1, 2"
         self.rows(dimacs.Unbounded, [(message, dimacs.solve_max_arrays, *changed(MAX, 5, [INF, INF]))])
-        message = "a cycle of arcs without a limit costs less than nothing"
-        words = 2, [1, 2], [2, 1], [0, 0], [INF, INF], [1, -2], [0, 0]
+        message = "a cycle of arcs without a limit costs less than nothing: 2, 3"
+        words = 2, [1, 1, 2], [2, 2, 1], [0] * 3, [4, INF, INF], [0, 1, -2], [0, 0]
         self.rows(dimacs.Unbounded, [(message, dimacs.solve_min_arrays, *words)])
+        long = 20, 1, 20, list(range(1, 20)), list(range(2, 21)), [INF] * 19
+        message = "arcs without a limit lead from the source to the sink: 1, 2, 3, 4, 5, 6, 7, 8, .."
+        self.rows(dimacs.Unbounded, [(message, dimacs.solve_max_arrays, *long)])
+
+    def test_gave_up(self):
+        judged = 2, [1], [2], [0], [5], [3], [4, -4]
+        wide = 4, [1, 2, 3], [2, 3, 4], [0] * 3, [2] * 3, [2**63 - 1] * 3, [1, 0, 0, -1], [1] * 3
+        apart = "two of the potentials that were found are 2^64 or more apart; others may fit"
+        less = "limit=0 steps led to better flows, or the least cost"
+        text = "p min 2 1\nn 1 4\nn 2 -4\na 1 2 0 5 3\n"
+        self.rows(
+            dimacs.GaveUp,
+            [
+                ("limit=0 flows that aren't maximum were found", dimacs.solve_max_arrays, *MAX, 0),
+                ("limit=0 flows that aren't maximum were found", dimacs.solve_max, TEXT, 0),
+                (f"{less} or a potential is out of range", dimacs.solve_min_arrays, *judged, 0),
+                (f"{less} is out of range", dimacs.solve_min, text, 0),
+                (apart, dimacs.certify_min_arrays, *wide),
+                ("a distance is 2^63 - 1 or more", dimacs.solve_paths_arrays, 3, [1, 2], [2, 3], [2**62] * 2, 1),
+            ],
+        )
+
+    def test_predecessors(self):
+        judge, far = dimacs.judge_paths_arrays, dimacs.UNREACHED
+        self.rows(
+            dimacs.Refused,
+            [
+                ("node 3 NodeRange: it isn't reached, and its predecessor is 2", judge, *PATHS, 1, [0, 5, far], [0, 1, 2]),
+                ("node 1 NodeRange: it is the source, and its predecessor is 2", judge, *PATHS, 1, [0, 5, 9], [2, 1, 2]),
+                ("node 3 NodeRange: its predecessor is 9, and there are 3 nodes", judge, *PATHS, 1, [0, 5, 9], [0, 1, 9]),
+            ],
+        )
+
+    def test_supplies_that_do_not_add_up(self):
+        words = 2, [1], [2], [0], [9], [1], [5, -3]
+        message = "no flow is feasible: supplies add up to 2, and not to 0"
+        self.rows(dimacs.Infeasible, [(message, dimacs.solve_min_arrays, *words)])
+        with self.assertRaisesRegex(dimacs.Infeasible, "add up to 1/5, and"):
+            dimacs.solve_min_arrays(*words[:3], [0], [1], [1], [0.5, -0.3], scale=10)
+
+    def test_names_of_answers(self):
+        """An answer has the names of what it is about, and keeps them if it is pickled."""
+        is_max, is_min = dimacs.solve_max_arrays(*MAX), dimacs.solve_min_arrays(*MIN)
+        is_paths = dimacs.certify_paths_arrays(*PATHS, 1, [0, 5, 9])
+        texts = dimacs.certify_max(TEXT, "s 3\nf 1 2 3\n")
+        names = {"inside", "potentials", "predecessors", "flows", "distances"}
+        for answer, wanted in (
+            (is_max, {"inside", "flows"}),
+            (is_min, {"potentials", "flows"}),
+            (is_paths, {"predecessors"}),
+            (texts, {"inside"}),
+            (dimacs.Certified(1, None), {"inside", "potentials", "predecessors"}),
+        ):
+            for it in answer, pickle.loads(pickle.dumps(answer)):
+                self.assertEqual({name for name in names if hasattr(it, name)}, wanted)
+        with self.assertRaisesRegex(AttributeError, "about max, and only one about min has that"):
+            is_max.potentials
 
 
 class Scales(Errors):
@@ -322,6 +380,9 @@ class Texts(Errors):
             message = f"certify_max takes texts, and {str(name)!r} names a file: pass pathlib.Path({str(name)!r})"
             self.rows(ValueError, [(message, certify, str(name), "s 3\n")])
             self.rows(ValueError, [(message.replace("certify_max", "show"), dimacs.show, "max", str(name))])
+        message = "certify_max takes texts, and 'net.mx' is none, but may be a name: pass pathlib.Path('net.mx')"
+        self.rows(ValueError, [(message, certify, "net.mx", "s 3\n")])
+        self.rows(dimacs.Refused, [("instance 2 0 EndMissing", certify, "p max 2 1", "s 3\n")])
         for given in (None, 5, ["p max"]):
             message = f"certify_max takes texts, not {type(given).__name__}: for a file pass pathlib.Path(..)"
             self.rows(TypeError, [(message, certify, given, "s 3\n")])
@@ -336,6 +397,23 @@ class Graphs(Errors):
         made.add_node("York", demand=30)
         made.add_edge("Leeds", "York", **data)
         return made
+
+    def test_what_minimum_cut_returns(self):
+        graph = self.graph(capacity=3)
+        value, sides = networkx.minimum_cut(graph, "Leeds", "York")
+        words = graph, "Leeds", "York", {"Leeds": {"York": 3}}
+        self.assertEqual(dimacs.judge_networkx_max(*words, sides[0]).value, value)
+        for side in sides, (value, sides):
+            message = f"side is {side!r}, and has to be a set of nodes: the first of the two of minimum_cut"
+            self.rows(TypeError, [(message, dimacs.judge_networkx_max, *words, side)])
+
+    def test_edges_without_a_capacity(self):
+        graph = self.graph(capcity=3)
+        message = "arcs without a limit lead from the source to the sink: ('Leeds', 'York')"
+        self.rows(networkx.NetworkXUnbounded, [(message, dimacs.solve_networkx_max, graph, "Leeds", "York")])
+        graph.nodes["York"]["demand"] = 31
+        message = "no flow is feasible: demands add up to 1, and not to 0"
+        self.rows(dimacs.Infeasible, [(message, dimacs.solve_networkx_min, graph)])
 
     def test_refused(self):
         flow = {"Leeds": {"York": 31}}
@@ -367,15 +445,15 @@ class Graphs(Errors):
         self.rows(
             ValueError,
             [
-                (f"capacity {name} is 2.5, not a whole number", certify, self.graph(capacity=2.5), *ends),
+                (f"capacity {name} is 2.5, {NOT_WHOLE}", certify, self.graph(capacity=2.5), *ends),
                 (
-                    f"weight {name} is 2.5, not a whole number",
+                    f"weight {name} is 2.5, {NOT_WHOLE}",
                     dimacs.solve_networkx_paths,
                     self.graph(weight=2.5),
                     "Leeds",
                 ),
                 (
-                    f"flow {name} is -0.5, not a whole number",
+                    f"flow {name} is -0.5, {NOT_WHOLE}",
                     certify,
                     self.graph(),
                     *ends[:2],

@@ -200,9 +200,13 @@ class Arrays(Explained):
         self.assertEqual(negative[:2], ["x arc 1 NegativeWeight", "arc 1: 1 -> 2, WEIGHT -4"])
 
     def test_what_no_text_says(self):
-        """The source's distance isn't in a text: the refusal alone is left."""
+        """The source's distance isn't in a text: what the exception says is left."""
         lines = self.refused(dimacs.judge_paths_arrays, *GRAPH, 1, [1, 5, *DISTANCES[2:]], PREDECESSORS)
-        self.assertEqual(lines, "x node 1 NotShortest\n")
+        self.assertEqual(lines, "x node 1 NotShortest\nnode 1 NotShortest: the source is at 1\n")
+        if networkx:
+            graph = networkx.path_graph("ab", networkx.DiGraph)
+            lines = self.refused(dimacs.certify_networkx_paths, graph, "a", {"a": 2, "b": 3})
+            self.assertEqual(lines, "x node 1 NotShortest\nnode 'a' NotShortest: the source is at 2\n")
 
     def test_units_and_bases(self):
         tens = [Decimal(it) / 10 for it in PIPES[-1]]

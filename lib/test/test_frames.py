@@ -54,6 +54,15 @@ class Frames(unittest.TestCase):
         self.assertEqual(str(no), "arc 'c' AboveCap: it carries 5, its capacity is 4")
         self.assertEqual(network.solve_min().flows.to_dict(), {"a": 4, "b": 5, "c": 4, "d": 5})
 
+    def test_floats_of_32_bits(self):
+        self.edges["room"] = pandas.Series([0.6, 0.8, 0.4, 0.5], self.edges.index, "float32")
+        network = self.network(scale=10)
+        self.assertEqual(network.solve_max("spring", "town").value, Fraction(9, 10))
+        flows = pandas.Series([0.4, 0.5, 0.4, 0.5], self.edges.index, "float32")
+        self.assertEqual(network.certify_max("spring", "town", flows).value, Fraction(9, 10))
+        supply = pandas.Series({"spring": 0.7, "town": -0.7}, dtype="float32")
+        self.assertEqual(self.network(scale=(10, 1), supply=supply).solve_min().value, Fraction(2))
+
     def test_least_cost(self):
         network = self.network(supply=pandas.Series({"spring": 7, "town": -7}))
         answer = network.solve_min()
@@ -87,7 +96,7 @@ class Frames(unittest.TestCase):
         self.edges["room"] = [0.6, 0.8, 0.4, 0.5]
         self.assertEqual(self.network(scale=10).solve_max("spring", "town").value, Fraction(9, 10))
         no = self.refused(ValueError, self.network().solve_max, "spring", "town")
-        self.assertEqual(str(no), "room of row 'a' is 0.6, not a whole number")
+        self.assertEqual(str(no), "room of row 'a' is 0.6, not a whole number: scale= takes multiples of a unit")
         no = self.refused(ValueError, self.network().solve_max, "spring", "sea")
         self.assertEqual(str(no), "'sea' is no node of the frame")
         no = self.refused(ValueError, dimacs.from_frame, self.edges, "from", "where")

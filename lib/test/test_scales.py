@@ -31,7 +31,7 @@ def multiples(number, factor, count=6):
 
 class Floats(unittest.TestCase):
     def test_the_multiple_that_a_float_stands_for(self):
-        """The only one that is this float, or the float itself if it is one; none otherwise."""
+        """The only one that is this float; the float itself by a factor of 1; none otherwise."""
         chance = random.Random(1)
         taken = 0
         for _ in range(20_000):
@@ -41,12 +41,12 @@ class Floats(unittest.TestCase):
             number = chance.choice([number, number, math.nextafter(number, INF), number + 1 / 3])
             same = multiples(number, factor)
             exact = Fraction(number) * factor
-            wanted = int(exact) if exact.denominator == 1 else same[0] if len(same) == 1 else None
+            wanted = same[0] if len(same) == 1 else int(exact) if factor == 1 and exact.denominator == 1 else None
             try:
                 found = Scale.of(factor).whole(number, lambda: "it")
             except ValueError as it:
                 found = None
-                self.assertIn("the nearest is", str(it))
+                self.assertRegex(str(it), "the nearest is|more than one multiple" if same else "the nearest is")
             self.assertEqual(found, wanted, (number, factor))
             taken += found is not None
         self.assertGreater(taken, 9000)
@@ -67,6 +67,20 @@ class Floats(unittest.TestCase):
         for number in Decimal("0.075"), Fraction(1, 3), Decimal("NaN"), Decimal("sNaN"):
             with self.assertRaises(ValueError):
                 Scale.of(100).whole(number, str)
+
+    def test_floats_of_32_bits(self):
+        """They stand for the multiples that they are the nearest of their type to, wherever they come from."""
+        short = array.array("f", [0.1, 0.3])
+        forms = [short, memoryview(short)]
+        if numpy:
+            forms += [numpy.array(short), numpy.array(short)[:1].repeat(2) + numpy.array([0, 0.2], "f")]
+        for caps in forms:
+            found = dimacs.solve_max_arrays(2, 1, 2, [1, 1], [2, 2], caps, scale=10)
+            self.assertEqual(found.value, Fraction(4, 10))
+            exact = dimacs.solve_max_arrays(2, 1, 2, [1, 1], [2, 2], caps, scale="exact")
+            self.assertEqual(exact.value, sum(Fraction(it) for it in short))
+        with self.assertRaisesRegex(ValueError, r"caps\[1\] is 0.2\d*, not a multiple of 1/10"):
+            dimacs.solve_max_arrays(2, 1, 2, [1, 1], [2, 2], array.array("f", [0.1, 0.25]), scale=10)
 
     @unittest.skipUnless(numpy, "no numpy")
     def test_floats_of_numpy(self):

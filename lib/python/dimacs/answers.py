@@ -38,6 +38,14 @@ class Explainable:
     """An answer that keeps what it was asked of: its texts or arrays live as long."""
 
     _asked: Any = None
+    #: What a certificate or solution is of: "max", "min", "infeasible" or "paths", if a call gave the answer.
+    _kind: str | None = None
+
+    def _of(self, shown: Any, *kinds: str) -> Any:
+        """What an answer of these kinds has by another name. Raises AttributeError for one of another kind."""
+        if self._kind is not None and self._kind not in kinds:
+            raise AttributeError(f"this is an answer about {self._kind}, and only one about {' or '.join(kinds)} has that")
+        return shown
 
     def explain(self) -> str:
         r"""The lines that `dimacs explain` prints: the printed line, and what the test compared or what shows the yes.
@@ -99,17 +107,17 @@ class Certified(_Certified, Explainable):
     @property
     def inside(self) -> Any:
         """The certificate of certify_max_arrays, certify_infeasible_arrays and the two of the same names over graphs."""
-        return self.certificate
+        return self._of(self.certificate, "max", "infeasible")
 
     @property
     def potentials(self) -> Any:
         """That of certify_min_arrays and certify_networkx_min."""
-        return self.certificate
+        return self._of(self.certificate, "min")
 
     @property
     def predecessors(self) -> Any:
         """That of certify_paths_arrays and certify_networkx_paths."""
-        return self.certificate
+        return self._of(self.certificate, "paths")
 
 
 class _Solved(NamedTuple):
@@ -132,27 +140,27 @@ class Solved(_Solved, Explainable):
     @property
     def flows(self) -> Any:
         """The solution of solve_max_arrays, solve_min_arrays, solve_networkx_max and solve_networkx_min."""
-        return self.solution
+        return self._of(self.solution, "max", "min")
 
     @property
     def distances(self) -> Any:
         """That of solve_paths_arrays and solve_networkx_paths."""
-        return self.solution
+        return self._of(self.solution, "paths")
 
     @property
     def inside(self) -> Any:
         """The certificate of solve_max_arrays and solve_networkx_max."""
-        return self.certificate
+        return self._of(self.certificate, "max", "infeasible")
 
     @property
     def potentials(self) -> Any:
         """That of solve_min_arrays and solve_networkx_min."""
-        return self.certificate
+        return self._of(self.certificate, "min")
 
     @property
     def predecessors(self) -> Any:
         """That of solve_paths_arrays and solve_networkx_paths."""
-        return self.certificate
+        return self._of(self.certificate, "paths")
 
 
 #: What an exception says of the numbers that were compared, by its reason: the first line that has all of them.
@@ -164,9 +172,11 @@ _SAID = {
     "BoundOrder": ["its lower bound is {low}, its capacity {capacity}", "its capacity is {capacity}"],
     "CostRange": ["the cost up to it is {cost}"],
     "Escapes": ["its tail is at {tail}, its head isn't reached"],
+    "Infeasible": ["supplies add up to {supply}, and not to 0", "demands add up to {demand}, and not to 0"],
     "NegativeWeight": ["its weight is {weight}"],
     "NoTightArc": ["no arc from {predecessor} gives its distance {distance}", "no arc gives its distance {distance}"],
     "NodeRange": [
+        "{it_is}, and its predecessor is {predecessor}",
         "its predecessor is {predecessor}, and there are {nodes} nodes",
         "it goes from {tail} to {head}; nodes are numbered from {base}, and there are {nodes}{hint}",
         "nodes are numbered from {base}, and there are {nodes}{hint}",
@@ -238,7 +248,7 @@ class Placed(Exception):
     def __repr__(self) -> str:
         fields = [repr(self.reason)]
         for name, it in vars(self).items():
-            if name not in ("reason", "_asked") and it not in (None, {}):
+            if name != "reason" and name[0] != "_" and it not in (None, {}):
                 fields.append(f"{name}={it!r}" if name in self._PLACES else f"{name}={reprlib.repr(it)}")
         return f"{type(self).__name__}({', '.join(fields)})"
 
@@ -312,8 +322,8 @@ class Infeasible(Refused):
     no flow is feasible [True, False]
     """
 
-    def __init__(self, certificate: Any) -> None:
-        super().__init__("Infeasible")
+    def __init__(self, certificate: Any, numbers: dict[str, Any] | None = None) -> None:
+        super().__init__("Infeasible", numbers=numbers)
         self.certificate = certificate
 
     @property
@@ -322,7 +332,7 @@ class Infeasible(Refused):
         return self.certificate
 
     def __str__(self) -> str:
-        return "no flow is feasible"
+        return "no flow is feasible" + _said(self.reason, self.numbers)
 
 
 class Feasible(Refused):
@@ -354,7 +364,7 @@ class Unbounded(ValueError):
     >>> import dimacs
     >>> dimacs.solve_max_arrays(2, 1, 2, [1], [2], [float("inf")])
     Traceback (most recent call last):
-    dimacs.answers.Unbounded: arcs without a limit lead from the source to the sink
+    dimacs.answers.Unbounded: arcs without a limit lead from the source to the sink: 1
     """
 
 
@@ -364,5 +374,5 @@ class GaveUp(OverflowError):
     >>> import dimacs
     >>> dimacs.solve_max_arrays(2, 1, 2, [1], [2], [5], limit=0)
     Traceback (most recent call last):
-    dimacs.answers.GaveUp: a limit was reached, or numbers that were found are out of range
+    dimacs.answers.GaveUp: limit=0 flows that aren't maximum were found
     """

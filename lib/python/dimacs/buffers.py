@@ -7,6 +7,7 @@ import ctypes
 import math
 import operator
 import os
+import struct
 import sys
 from collections.abc import Mapping, Set
 from decimal import MAX_EMAX, MIN_EMIN, Context, Decimal
@@ -99,6 +100,8 @@ class Items(NamedTuple):
     greatest: int
     #: The item for an infinite number, if one is allowed.
     infinity: int | None = None
+    #: What may be done about a number that isn't whole.
+    hint: str = ""
 
 
 IDS = Items("I", 4, 0, 2**32 - 1)
@@ -136,10 +139,15 @@ def written(number: Any) -> str:
         return f"about {rounded(number)}"
 
 
+def _not_whole(name: str, number: Any, items: Items) -> ValueError:
+    is_near = not (isinstance(number, Decimal) and number.is_nan()) and NUMBERS.least <= number <= NUMBERS.greatest
+    return ValueError(f"{name} is {written(number)}, not a whole number{items.hint if is_near else ''}")
+
+
 def _refuse(name: str, number: Any, items: Items) -> ValueError:
     """The exception for a number out of the range, or one of numpy that isn't whole."""
     if hasattr(number, "is_integer") and not number.is_integer():
-        return ValueError(f"{name} is {written(number)}, not a whole number")
+        return _not_whole(name, number, items)
     width = "64 bits" if items.least < 0 and items.greatest == 2**63 - 1 else f"{items.least} to {items.greatest}"
     return ValueError(f"{name} is {written(number)}, not a whole number of {width}")
 
@@ -170,7 +178,7 @@ def _whole(number: Any, items: Items, name: str) -> int:
     if items.infinity is not None and is_infinite(number):
         return items.infinity
     if not _is_whole(number):
-        raise ValueError(f"{name} is {written(number)}, not a whole number")
+        raise _not_whole(name, number, items)
     return _as_int(int, number, name)
 
 
@@ -277,6 +285,13 @@ def test_mask(numbers: Any, name: Name) -> None:
         raise TypeError(f"{_array(name)} is a masked array, and what is masked has no number")
 
 
+class _Single(float):
+    """A float of 32 bits, from one of 64, as an item of numpy is one: it stands for what it is the nearest such float to."""
+
+    def __new__(cls, number: float) -> _Single:
+        return super().__new__(cls, struct.unpack("f", struct.pack("f", number))[0])
+
+
 def gone_through(numbers: Any, name: Name) -> list[Any]:
     """The items of an object one by one: those of numpy keep their type."""
     test_mask(numbers, name)
@@ -287,6 +302,8 @@ def gone_through(numbers: Any, name: Name) -> list[Any]:
     is_plain = is_numpy(numbers) and numbers.dtype.char in "?bBhHiIlLqQd"  # whose items are those of Python
     if not hasattr(numbers, "__iter__") and not hasattr(numbers, "__getitem__"):
         raise TypeError(f"{_array(name)} is {numbers!r}, not an array")
+    if isinstance(numbers, array.array) and numbers.typecode == "f" or isinstance(numbers, memoryview) and numbers.format == "f":
+        return list(map(_Single, numbers))
     return list(numbers.tolist() if is_plain else numbers)
 
 
@@ -343,8 +360,15 @@ def array_of(numbers: Any, items: Items, name: Name) -> Buffer:
     return _from_view(view, items)
 
 
+def test_text(numbers: Any, items: Items, name: str) -> None:
+    """Raises TypeError for the bytes of a text: they are no numbers, but may be marks."""
+    if isinstance(numbers, (bytes, bytearray)) and items is not MARKS:
+        raise TypeError(f"{name} is a text, {numbers!r}, and no array of numbers")
+
+
 def list_of(numbers: Any, items: Items, name: Name) -> list[int]:
     """The items of an array as ints."""
+    test_text(numbers, items, _array(name))
     if is_single(numbers):
         raise TypeError(f"{_array(name)}: {'None' if numbers is None else 'one number'}, an array is wanted")
     return array_of(numbers, items, name).listed(items)

@@ -93,7 +93,8 @@ def solve_min(given: Given, came: Any) -> Solved:
     words, handed = given.words(), (FLOWS, POTENTIALS, INSIDE)
     found, (flows, prices, inside) = _solve_bounded(library.solve_min_arrays, given, words, _test_bounded_min, *handed)
     if found.kind == "infeasible":
-        raise kept(Infeasible(_found_set(given, inside, came)), _shown_by(given, "infeasible", inside=inside))
+        no = Infeasible(_found_set(given, inside, came), _imbalance(given))
+        raise kept(no, _shown_by(given, "infeasible", inside=inside))
     costs, potentials = given.column(COSTS), prices.items()
     for arc, (tail, head) in zip(given.limitless(), _limitless_ends(given)):
         if costs[arc] - potentials[tail - 1] + potentials[head - 1] < 0:
@@ -102,6 +103,13 @@ def solve_min(given: Given, came: Any) -> Solved:
     answer = Solved(given.value(found.value), given.shown(FLOWS, flows, came), given.shown(POTENTIALS, prices, came))
     shown: Solved = kept(answer, _shown_by(given, "min", flows=flows, potentials=prices))
     return shown
+
+
+def _imbalance(given: Given) -> dict[str, Any]:
+    """What all nodes supply, or demand, if it isn't 0."""
+    supply = sum(given.column(SUPPLIES))
+    name, found = ("demand", -supply) if given.names.has_demands else ("supply", supply)
+    return {name: given.amount("amount", found)} if found else {}
 
 
 def _solve_bounded(
@@ -158,9 +166,21 @@ def _test_bounded_max(given: Given) -> None:
     """Raises Unbounded if arcs without a limit lead from the source to the sink."""
     tails, heads = zip(*_limitless_ends(given))
     graph = Given(GRAPH, given.number("nodes"), tails, heads, [0] * len(tails))
-    distances = solve_paths(graph.add_number("source", given.number("source")), []).distances
-    if distances[given.number("sink") - 1] != UNREACHED:
-        raise Unbounded("arcs without a limit lead from the source to the sink")
+    source, node = given.number("source"), given.number("sink")
+    _, distances, before = solve_paths(graph.add_number("source", source), [])
+    if distances[node - 1] == UNREACHED:
+        return
+    ends, arcs = dict(zip(zip(tails, heads), given.limitless())), []
+    while node != source:
+        arcs.append(ends[before[node - 1], node])
+        node = before[node - 1]
+    raise Unbounded(f"arcs without a limit lead from the source to the sink: {_named(given, arcs[::-1])}")
+
+
+def _named(given: Given, arcs: list[int]) -> str:
+    """The names of arcs; of many the first ones."""
+    names = [repr(given.names.arc(it)) for it in arcs[:8]]
+    return ", ".join([*names, *([".."] if len(arcs) > 8 else [])])
 
 
 def _test_bounded_min(given: Given) -> None:
@@ -173,8 +193,9 @@ def _test_bounded_min(given: Given) -> None:
     claim = Given(MIN, nodes, tails, heads, none, [1] * len(none), costs, [0] * nodes).add(FLOWS, none)
     try:
         certify(library.certify_min_arrays, claim, [], POTENTIALS, FLOWS)
-    except NotOptimal:
-        raise Unbounded("a cycle of arcs without a limit costs less than nothing") from None
+    except NotOptimal as it:
+        arcs = [arc for arc, amount in zip(limitless, it.better) if amount]
+        raise Unbounded(f"a cycle of arcs without a limit costs less than nothing: {_named(given, arcs)}") from None
 
 
 def _found_set(given: Given, inside: Room, came: Any) -> Any:

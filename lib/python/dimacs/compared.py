@@ -83,7 +83,10 @@ def _range(given: Given, node: int) -> dict[str, Any]:
 def _node_range(given: Given, node: int) -> dict[str, Any]:
     if node > given.number("nodes") or node == 0:
         return _range(given, node)
-    return {**_claimed(given, node), "nodes": given.number("nodes")}
+    claimed = _claimed(given, node)
+    if not 0 <= given.column(PREDECESSORS)[node - 1] <= given.number("nodes"):
+        return {**claimed, "nodes": given.number("nodes")}
+    return {**claimed, "it_is": "it isn't reached" if claimed["distance"] == math.inf else "it is the source"}
 
 
 def _no_violation(given: Given) -> dict[str, Any]:

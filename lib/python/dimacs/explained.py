@@ -41,6 +41,7 @@ _READ = {"certify_infeasible": 1}
 def kept(answer: Any, asked: Any) -> Any:
     """An answer with what it was asked of."""
     object.__setattr__(answer, "_asked", asked)
+    object.__setattr__(answer, "_kind", asked and asked.kind)
     return answer
 
 
@@ -71,6 +72,11 @@ class Asked:
 
     def __reduce__(self) -> Any:
         return _forgotten, ()
+
+    @property
+    def kind(self) -> str:
+        """What the call is about: "max", "min", "infeasible" or "paths"."""
+        return self._call.partition("_")[2]
 
     def command(self) -> str:
         """The command, and the names of its texts. A certifier that shows nothing writes nothing."""
@@ -176,11 +182,9 @@ class AskedOfArrays(Asked):
         super().__init__(call)
         self._given, self._more = given, more
         self._lock = threading.Lock()
+        #: The line of a refusal, and what the exception says.
         self.printed: str | None = None
-
-    @property
-    def kind(self) -> str:
-        return self._call.partition("_")[2]
+        self.said = ""
 
     def add(self, **more: Room) -> None:
         """Adds what was handed out."""
@@ -227,7 +231,7 @@ class AskedOfArrays(Asked):
         if self.printed is None and first.startswith("x "):
             return ["the arrays hold other numbers now, and these are refused: the answer isn't theirs"]
         if self.printed is not None and not self._is_same(first):
-            return [self.printed]
+            return [self.printed, self.said]
         retold = [it for line in more for it in self._retold(line, texts)]
         return [self.printed or first, *retold, *self._notes(retold)]
 

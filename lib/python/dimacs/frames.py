@@ -70,13 +70,19 @@ class _FrameNames(Names):
         return f"{self._frame.columns.get(name, name)} of row {self.arc(place)!r}"
 
 
+def _listed(column: pd.Series) -> list[Any]:
+    """The items of a column. A shorter float than Python's stands for another number than that: it stays what it is."""
+    is_short = str(column.dtype).lower() in ("float16", "float32")
+    return list(column.to_numpy() if is_short else column.tolist())
+
+
 def _by_label(given: Any, name: str) -> dict[Any, Any]:
     """A dict or Series by node. Raises TypeError for anything else, and ValueError if a Series has a node twice: which of its
     numbers is meant isn't said."""
     if not isinstance(given, (Mapping, pd.Series)):
         raise TypeError(f"{name} is a {type(given).__name__}, and has to be a dict or a Series by node")
     found: dict[Any, Any] = {}
-    for node, number in given.items():
+    for node, number in zip(given.index, _listed(given)) if isinstance(given, pd.Series) else given.items():
         if node in found:
             raise ValueError(f"{name} has the node {node!r} twice")
         found[node] = number
@@ -163,7 +169,7 @@ class Frame:
     def _numbers_of(self, name: str, missing: Any) -> Any:
         if name not in self.columns:
             return [missing] * len(self.edges)
-        return _column(self.edges, self.columns[name]).tolist()
+        return _listed(_column(self.edges, self.columns[name]))
 
     def _given(self, form: Any, *numbers: Any) -> Given:
         return Given(form, len(self.nodes), *numbers, scale=self._scale, names=_FrameNames(self))
@@ -202,7 +208,7 @@ class Frame:
         if isinstance(flows, pd.Series):
             if not flows.index.equals(self.edges.index):
                 raise ValueError("flows has another index than the frame")
-            return flows.tolist()
+            return _listed(flows)
         return list(flows) if hasattr(flows, "__next__") else flows
 
     def _by_edge(self, flows: Any) -> pd.Series:

@@ -14,7 +14,7 @@ from typing import Any, Callable, Iterable, Iterator, NamedTuple, Sequence
 
 from .answers import UNREACHED, PastLimit, Refused
 from .buffers import CAPACITIES, IDS, LENGTHS, MARKS, NUMBERS, UNLIMITED, Buffer, Items, Room
-from .buffers import array_of, gone_through, is_bool, is_numpy, is_single, item, number_of, unlabelled, written
+from .buffers import array_of, gone_through, is_bool, is_numpy, is_single, item, number_of, test_text, unlabelled, written
 from .scales import units_of
 
 #: The greatest number of nodes.
@@ -92,11 +92,16 @@ class Names:
         return f"{name}[{place}]"
 
 
+#: In place of a scale where there is no such argument.
+UNSCALED = object()
+
+
 class Given:
     """The arguments of a call: an instance, and those that are added. Keeps the memory of all arrays."""
 
-    def __init__(self, form: Form, *given: Any, scale: Any = None, names: Names | None = None) -> None:
-        self.form, self.names, self._scale = form, names or Names(), scale
+    def __init__(self, form: Form, *given: Any, scale: Any = UNSCALED, names: Names | None = None) -> None:
+        self.form, self.names = form, names or Names()
+        self._scale, self._may_be_scaled = (None, False) if scale is UNSCALED else (scale, scale is None)
         count = len(form.numbers)
         self._singles = dict(zip(form.numbers, given))
         self._raw: dict[Array, Any] = {}
@@ -153,6 +158,7 @@ class Given:
 
     def _convert(self, kind: Array) -> None:
         numbers = self._raw[kind]
+        test_text(numbers, kind.items, kind.name)
         if is_single(numbers):
             wanted = f"an array of {self._count[kind.each]}" if kind.each in self._count else "an array"
             given = "None" if numbers is None else "one number"
@@ -167,14 +173,17 @@ class Given:
 
     def _buffer(self, kind: Array, numbers: Any) -> Buffer:
         """An array in memory, as the library takes it."""
-        name = self._namer(kind)
+        name, hint = self._namer(kind), ": scale= takes multiples of a unit" if kind.unit and self._may_be_scaled else ""
         if kind is SUPPLIES and self.names.has_demands:
             # A number is an int before it is negated: those of numpy have an end.
-            found = array("q", (-number_of(it, _DEMANDS, item(name, k)) for k, it in enumerate(numbers)))
+            items = _DEMANDS._replace(hint=hint)
+            found = array("q", (-number_of(it, items, item(name, k)) for k, it in enumerate(numbers)))
         elif kind.items is IDS and self.names.base == 0:
+            if is_numpy(numbers):
+                return array_of(sys.modules["numpy"].add(array_of(numbers, _FROM_ZERO, name).kept, 1), IDS, name)
             found = array("I", (it + 1 for it in array_of(numbers, _FROM_ZERO, name).listed(_FROM_ZERO)))
         else:
-            return array_of(numbers, kind.items, name)
+            return array_of(numbers, kind.items._replace(hint=hint), name)
         return Buffer(found, *found.buffer_info())
 
     def _test_reached(self, kind: Array, numbers: Any) -> None:
@@ -262,7 +271,7 @@ class Given:
     def shown(self, kind: Array, room: Room, came: Any) -> Any:
         """An array that was handed out, in the user's numbers, and in the form of one that came."""
         if kind.items is IDS and self.names.base == 0:
-            return _in_form_of([it - 1 for it in room.items()], came, "q")
+            return room.in_form_of(came).astype("q") - 1 if is_numpy(came) else [it - 1 for it in room.items()]
         if not (self._units and kind.unit):
             return room.in_form_of(came)
         scale = self._units.of(kind.unit)
@@ -320,6 +329,8 @@ class Given:
             if it.node is not None:
                 is_node = 0 < it.node <= self.number("nodes")
                 it.node = self.names.node(it.node - 1) if is_node else it.node - 1 + self.names.base
+            if asked is not None:
+                asked.said = str(it)
             self.forget()
             raise
 

@@ -119,7 +119,10 @@ class _Graph:
     def inside(self, side: Any) -> list[bool]:
         """Whether each node is on this side: one of these nodes, or one that a dict maps to True."""
         is_dict = isinstance(side, Mapping) and not isinstance(side, Set)  # a NodeView of networkx is both
-        marks = side if is_dict else dict.fromkeys(unlabelled(side), True)
+        try:
+            marks = side if is_dict else dict.fromkeys(unlabelled(side), True)
+        except TypeError:
+            raise TypeError(f"side is {side!r}, and has to be a set of nodes: the first of the two of minimum_cut") from None
         if not all(is_bool(it) for it in marks.values()):
             raise TypeError(
                 f"side is a {type(side).__name__} that doesn't map nodes to bools, and has to be a set of nodes"

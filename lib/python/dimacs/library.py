@@ -114,7 +114,23 @@ def _if(is_it: bool, number: str) -> int | None:
     return int(number) if is_it else None
 
 
-def _raise_for(status: int, line: bytes) -> None:
+#: At what a call gives up, by its name: that of a solver of texts has the kind, which is its first argument.
+_GAVE_UP = {
+    "certify_min_arrays": "two of the potentials that were found are 2^64 or more apart; others may fit",
+    "solve_max": "limit={limit} flows that aren't maximum were found",
+    "solve_min": "limit={limit} steps led to better flows, or the least cost is out of range",
+    "solve_min_arrays": "limit={limit} steps led to better flows, or the least cost or a potential is out of range",
+    "solve_paths_arrays": "a distance is 2^63 - 1 or more",
+}
+
+
+def _gave_up(function: Callable[..., int], words: Sequence[Any]) -> GaveUp:
+    name = function.__name__.removeprefix("dimacs_")
+    name = f"solve_{'max' if words[0] == 0 else 'min'}" if name == "solve" else name.replace("max_arrays", "max")
+    return GaveUp(_GAVE_UP[name].format(limit=words[-1]))
+
+
+def _raise_for(status: int, line: bytes, function: Callable[..., int], words: Sequence[Any]) -> None:
     """Raises the exception of a status that leaves the claim undecided, or whose certificate doesn't fit."""
     if status == NO_MEMORY:
         raise MemoryError("there was not enough memory to judge")
@@ -124,7 +140,7 @@ def _raise_for(status: int, line: bytes) -> None:
     if status == MISUSED:
         raise ValueError("the library doesn't take these words")
     if status == GAVE_UP:
-        raise GaveUp("a limit was reached, or numbers that were found are out of range")
+        raise _gave_up(function, words)
 
 
 def call(function: Callable[..., int], *words: Any) -> tuple[int, bytes]:
@@ -139,7 +155,7 @@ def call(function: Callable[..., int], *words: Any) -> tuple[int, bytes]:
         line = ctypes.create_string_buffer(room)
     output = line.raw[: needed.value]
     if status != DONE and status != REFUSED:
-        _raise_for(status, output)
+        _raise_for(status, output, function, words)
     return status, output
 
 
@@ -155,7 +171,7 @@ def call_for_texts(function: Callable[..., int], *words: Any, rooms: Sequence[in
             break
         rooms = [max(it) for it in zip(lengths, rooms)]
     outputs = [ctypes.string_at(*it) for it in zip(texts, lengths)]
-    _raise_for(status, outputs[0])
+    _raise_for(status, outputs[0], function, words)
     return status, outputs
 
 
@@ -165,7 +181,7 @@ def call_with_rooms(function: Callable[..., int], words: list[Any], rooms: list[
     handed = [word for room in rooms for word in room.words()]
     status = function(*words, line, LINE, ctypes.byref(needed), *handed)
     output = line.raw[: needed.value]
-    _raise_for(status, output)
+    _raise_for(status, output, function, words)
     return status, output
 
 

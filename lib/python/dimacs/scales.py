@@ -74,11 +74,13 @@ class Scale(NamedTuple):
         if not -(2**63) <= found < 2**63:
             wide = f"more than 64 bits in units of {written(self._unit())}"
             raise ValueError(f"{name()} is {written(number)}, which has {wide}")
-        is_exact = isinstance(number, (int, Fraction, decimal.Decimal))
-        if product != found and (is_exact or not self._stands_for(found, number)):
-            nearest, unit = _readable(self.shown(found)), written(self._unit())
-            raise ValueError(f"{name()} is {written(number)}, not a multiple of {unit}: the nearest is {nearest}")
-        return found
+        is_exact = isinstance(number, (int, Fraction, decimal.Decimal)) or self == _WHOLE
+        if product == found if is_exact else self._stands_for(found, number):
+            return found
+        shown, unit = f"{name()} is {written(number)}", written(self._unit())
+        if product == found:
+            raise ValueError(f"{shown}, the nearest float to more than one multiple of {unit}: pass it as a Decimal")
+        raise ValueError(f"{shown}, not a multiple of {unit}: the nearest is {_readable(self.shown(found))}")
 
     def _unit(self) -> Any:
         return self.shown(1)
@@ -93,6 +95,13 @@ class Scale(NamedTuple):
 
 
 _WHOLE = Scale(Fraction(1))
+
+
+class _Exact(Scale):
+    """That by which each float is the fraction that it is."""
+
+    def _stands_for(self, multiple: int, number: Any) -> bool:
+        return True
 
 
 def fraction_of(number: Any, name: Callable[[], str]) -> Fraction:
@@ -150,7 +159,7 @@ def exact_scale(groups: Iterable[tuple[Sequence[Any], Callable[[int], str]]]) ->
         if not -(2**63) <= it * common < 2**63:
             shown, by = f"{named()} is {written(_readable(it))}", written(common)
             raise ValueError(f"{shown}: with the least common denominator {by} it has more than 64 bits")
-    return Scale(Fraction(common))
+    return _Exact(Fraction(common))
 
 
 class Units(NamedTuple):

@@ -31,8 +31,10 @@ def _read(call: str, *texts: Text) -> Iterator[list[Buffer]]:
         if it.text is None or it.line != 1:
             raise
         for text in texts:
-            if isinstance(text, str) and "\n" not in text and os.path.isfile(text):
-                raise ValueError(f"{call.split()[0]} takes texts, and {text!r} names a file: pass pathlib.Path({text!r})") from it
+            # Each line of a text begins with a letter.
+            if isinstance(text, str) and "\n" not in text and (os.path.isfile(text) or len(text.split(" ")[0]) > 1):
+                names = "names a file" if os.path.isfile(text) else "is none, but may be a name"
+                raise ValueError(f"{call.split()[0]} takes texts, and {text!r} {names}: pass pathlib.Path({text!r})") from it
         raise
 
 
