@@ -297,7 +297,7 @@ def test_wheel(counts, build, place):
     call += "\nprint(*(it.value for it in importlib.metadata.distribution('dimacs').entry_points))"
     ran = made if made.returncode else run(python, "-c", call, cwd=place, env=installed)
     shown = ran.stdout.startswith("i cut 4 1\n") and target in ran.stdout
-    if ran.returncode == 0 and not (shown and ran.stdout.endswith("\ndimacs.backend dimacs.backend.info:get_info\n")):
+    if ran.returncode == 0 and not (shown and ran.stdout.endswith("\ndimacs.__main__:main dimacs.backend dimacs.backend.info:get_info\n")):
         ran.returncode = 1
     counts.add("the wheel", ran, by_status)
 

@@ -149,8 +149,9 @@ def metadata(version: str) -> str:
 
 
 def entry_points() -> str:
-    """Where other packages find this one: the tables of pyproject.toml, as an installed package has them."""
-    tables = re.findall(r'^\[project\.entry-points\."(.+)"\]\n((?:.+\n)+)', _project(), re.M)
+    """Its command, and where other packages find this one: tables of pyproject.toml, as an installed package has them."""
+    project = _project().replace("[project.scripts]", '[project.entry-points."console_scripts"]')
+    tables = re.findall(r'^\[project\.entry-points\."(.+)"\]\n((?:.+\n)+)', project, re.M)
     return "\n".join(f"[{group}]\n{lines}" for group, lines in tables).replace('"', "")
 
 

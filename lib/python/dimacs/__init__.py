@@ -12,6 +12,7 @@ Certified(value=4, certificate=[True, True, False])
 
 from __future__ import annotations
 
+import importlib
 from typing import TYPE_CHECKING, Any
 
 from . import library as _library
@@ -76,6 +77,7 @@ from .texts import (
 )
 
 if TYPE_CHECKING:
+    from . import backend, ortools, scipy
     from .frames import from_frame
 
 __version__: str = _library.version
@@ -140,12 +142,17 @@ __all__ = [
 
 
 def __getattr__(name: str) -> Any:
-    """from_frame needs pandas, which is imported if it is asked for."""
+    """What needs pandas, SciPy or networkx is imported if it is asked for."""
     if name == "from_frame":
         from .frames import from_frame
 
         return from_frame
-    raise AttributeError(f"module 'dimacs' has no attribute {name!r}")
+    if name not in ("backend", "ortools", "scipy"):
+        raise AttributeError(f"module 'dimacs' has no attribute {name!r}")
+    try:
+        return importlib.import_module(f".{name}", __name__)
+    except ModuleNotFoundError as it:
+        raise AttributeError(f"dimacs.{name} needs {it.name}, which isn't installed") from it
 
 
 def __dir__() -> list[str]:

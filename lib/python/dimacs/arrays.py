@@ -27,7 +27,7 @@ from typing import Any
 
 from . import calls, library
 from .answers import Certified, Solved, Verdict
-from .buffers import LIMIT, LIMITS
+from .buffers import LIMIT, LIMITS, Numbers
 from .given import DISTANCES, FLOWS, GRAPH, INSIDE, MAX, MIN, POTENTIALS, PREDECESSORS, Given, Names
 
 
@@ -35,11 +35,11 @@ def judge_max_arrays(
     nodes: int,
     source: int,
     sink: int,
-    tails: Any,
-    heads: Any,
-    caps: Any,
-    flows: Any,
-    inside: Any,
+    tails: Numbers,
+    heads: Numbers,
+    caps: Numbers,
+    flows: Numbers,
+    inside: Numbers,
     *,
     scale: Any = None,
     base: int = 1,
@@ -57,14 +57,14 @@ def judge_max_arrays(
 
 def judge_min_arrays(
     nodes: int,
-    tails: Any,
-    heads: Any,
-    lows: Any,
-    caps: Any,
-    costs: Any,
-    supplies: Any,
-    flows: Any,
-    potentials: Any,
+    tails: Numbers,
+    heads: Numbers,
+    lows: Numbers,
+    caps: Numbers,
+    costs: Numbers,
+    supplies: Numbers,
+    flows: Numbers,
+    potentials: Numbers,
     *,
     scale: Any = None,
     base: int = 1,
@@ -83,13 +83,13 @@ def judge_min_arrays(
 
 def judge_infeasible_arrays(
     nodes: int,
-    tails: Any,
-    heads: Any,
-    lows: Any,
-    caps: Any,
-    costs: Any,
-    supplies: Any,
-    inside: Any,
+    tails: Numbers,
+    heads: Numbers,
+    lows: Numbers,
+    caps: Numbers,
+    costs: Numbers,
+    supplies: Numbers,
+    inside: Numbers,
     *,
     scale: Any = None,
     base: int = 1,
@@ -105,12 +105,12 @@ def judge_infeasible_arrays(
 
 def judge_paths_arrays(
     nodes: int,
-    tails: Any,
-    heads: Any,
-    weights: Any,
+    tails: Numbers,
+    heads: Numbers,
+    weights: Numbers,
     source: int,
-    distances: Any,
-    predecessors: Any,
+    distances: Numbers,
+    predecessors: Numbers,
     *,
     scale: Any = None,
     base: int = 1,
@@ -132,10 +132,10 @@ def certify_max_arrays(
     nodes: int,
     source: int,
     sink: int,
-    tails: Any,
-    heads: Any,
-    caps: Any,
-    flows: Any,
+    tails: Numbers,
+    heads: Numbers,
+    caps: Numbers,
+    flows: Numbers,
     *,
     scale: Any = None,
     base: int = 1,
@@ -156,13 +156,13 @@ def certify_max_arrays(
 
 def certify_min_arrays(
     nodes: int,
-    tails: Any,
-    heads: Any,
-    lows: Any,
-    caps: Any,
-    costs: Any,
-    supplies: Any,
-    flows: Any,
+    tails: Numbers,
+    heads: Numbers,
+    lows: Numbers,
+    caps: Numbers,
+    costs: Numbers,
+    supplies: Numbers,
+    flows: Numbers,
     *,
     scale: Any = None,
     base: int = 1,
@@ -184,12 +184,12 @@ def certify_min_arrays(
 
 def certify_infeasible_arrays(
     nodes: int,
-    tails: Any,
-    heads: Any,
-    lows: Any,
-    caps: Any,
-    costs: Any,
-    supplies: Any,
+    tails: Numbers,
+    heads: Numbers,
+    lows: Numbers,
+    caps: Numbers,
+    costs: Numbers,
+    supplies: Numbers,
     *,
     scale: Any = None,
     base: int = 1,
@@ -207,11 +207,11 @@ def certify_infeasible_arrays(
 
 def certify_paths_arrays(
     nodes: int,
-    tails: Any,
-    heads: Any,
-    weights: Any,
+    tails: Numbers,
+    heads: Numbers,
+    weights: Numbers,
     source: int,
-    distances: Any,
+    distances: Numbers,
     *,
     scale: Any = None,
     base: int = 1,
@@ -234,9 +234,9 @@ def solve_max_arrays(
     nodes: int,
     source: int,
     sink: int,
-    tails: Any,
-    heads: Any,
-    caps: Any,
+    tails: Numbers,
+    heads: Numbers,
+    caps: Numbers,
     limit: int = LIMIT,
     *,
     scale: Any = None,
@@ -256,12 +256,12 @@ def solve_max_arrays(
 
 def solve_min_arrays(
     nodes: int,
-    tails: Any,
-    heads: Any,
-    lows: Any,
-    caps: Any,
-    costs: Any,
-    supplies: Any,
+    tails: Numbers,
+    heads: Numbers,
+    lows: Numbers,
+    caps: Numbers,
+    costs: Numbers,
+    supplies: Numbers,
     limit: int = LIMIT,
     *,
     scale: Any = None,
@@ -284,7 +284,7 @@ def solve_min_arrays(
 
 
 def solve_paths_arrays(
-    nodes: int, tails: Any, heads: Any, weights: Any, source: int, *, scale: Any = None, base: int = 1
+    nodes: int, tails: Numbers, heads: Numbers, weights: Numbers, source: int, *, scale: Any = None, base: int = 1
 ) -> Solved:
     """Makes the distances from the source. Returns them, and predecessors that show them.
 

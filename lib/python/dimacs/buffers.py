@@ -14,9 +14,17 @@ from decimal import MAX_EMAX, MIN_EMIN, Context, Decimal
 from functools import partial
 from numbers import Number, Rational
 from pathlib import Path
-from typing import Any, Callable, NamedTuple, Sequence, Union
+from typing import TYPE_CHECKING, Any, Callable, Iterable, NamedTuple, Sequence, Union
 
 from .answers import UNREACHED
+
+if TYPE_CHECKING:
+    from numpy.typing import ArrayLike
+
+    #: An array that is given, as an editor shows it: see dimacs.arrays.
+    Numbers = Union[ArrayLike, Iterable[Any]]
+else:
+    Numbers = Iterable[Any]
 
 
 class Buffer:

@@ -59,19 +59,21 @@ def _is_proved() -> bool:
     return hasattr(_library, "dimacs_proved") and bool(_library.dimacs_proved())
 
 
-def _version() -> str:
-    """The version of the library, as PEP 440 spells it."""
+def _description() -> str:
+    """The version of the library, and what it says of its proof."""
     if not hasattr(_library, "dimacs_version_text"):
         number = _library.dimacs_version()
         return f"{number // 10000}.{number // 100 % 100}.{number % 100}"
     out, needed = ctypes.create_string_buffer(LINE), _size()
     _library.dimacs_version_text(out, _size(LINE), ctypes.byref(needed))
-    return out.raw[: needed.value].decode("ascii").partition(" ")[0].replace("-dev", ".dev0")
+    return out.raw[: needed.value].decode("ascii")
 
 
 proved = _is_proved()
+description = _description()
 _TRANSLATED = "+translated" if sys.platform == "win32" else ""
-version = _version() + (_TRANSLATED if proved else "+unproved")
+#: As PEP 440 spells it.
+version = description.partition(" ")[0].replace("-dev", ".dev0") + (_TRANSLATED if proved else "+unproved")
 
 
 def _export(name: str, *words: Any, texts: int = 0, more: Sequence[Any] = (), rooms: int = 1) -> Callable[..., int]:
@@ -127,7 +129,7 @@ _GAVE_UP = {
 def _gave_up(function: Callable[..., int], words: Sequence[Any]) -> GaveUp:
     name = function.__name__.removeprefix("dimacs_")
     name = f"solve_{'max' if words[0] == 0 else 'min'}" if name == "solve" else name.replace("max_arrays", "max")
-    return GaveUp(_GAVE_UP[name].format(limit=words[-1]))
+    return GaveUp(_GAVE_UP.get(name, "a limit was reached").format(limit=words[-1]))
 
 
 def _raise_for(status: int, line: bytes, function: Callable[..., int], words: Sequence[Any]) -> None:

@@ -6,11 +6,12 @@ import os
 from pathlib import Path
 from typing import Any, Iterable, Sequence, Union
 
-from . import drawing, library
+from . import drawing
 from .answers import Certified, Solved
 from .buffers import bytes_of
 from .drawing import Answer, Drawing
-from .texts import KINDS, Text, convert, show
+from .commands import run
+from .texts import Text, convert, show
 
 
 class _Library:
@@ -23,15 +24,9 @@ class _Library:
         return bytes(convert(kind, text))
 
     def answer(self, command: str, texts: Sequence[bytes]) -> Answer:
-        how, kind = command.split("-")
-        claims = [texts[0], b"", texts[1]] if command == "judge-infeasible" else texts
-        words = [word for it in claims for word in bytes_of(it).words()]
-        if how == "judge":
-            _, line = library.call(library.judge, KINDS[kind], *words)
-            return Answer(command, line.decode("ascii").splitlines())
-        rooms = [library.LINE, library.LINE + sum(map(len, texts))]
-        _, (line, shown) = library.call_for_texts(library.certify, KINDS[kind], *words, rooms=rooms)
-        return Answer(command, line.decode("ascii").splitlines(), shown)
+        verb, _, kind = command.partition("-")
+        _, line, made = run(verb, kind, [bytes_of(it) for it in texts])
+        return Answer(command, line.decode("ascii").splitlines(), *made)
 
 
 def _text(name: str, text: Any) -> drawing.Text:

@@ -11,7 +11,7 @@ from typing import Any
 from . import texts
 from .answers import PastLimit, Refused
 from .given import MOST_NODES, Names
-from .buffers import IDS, NUMBERS, Items, Room, list_of, number_of
+from .buffers import IDS, NUMBERS, Items, Numbers, Room, list_of, number_of
 
 _MAX_ARCS = ("tails", IDS), ("heads", IDS), ("caps", NUMBERS)
 _MIN_ARCS = ("tails", IDS), ("heads", IDS), ("lows", NUMBERS), ("caps", NUMBERS), ("costs", NUMBERS)
@@ -65,12 +65,12 @@ def spread_max_arrays(
     nodes: int,
     source: int,
     sink: int,
-    tails: Any,
-    heads: Any,
-    caps: Any,
-    pair_tails: Any,
-    pair_heads: Any,
-    sums: Any,
+    tails: Numbers,
+    heads: Numbers,
+    caps: Numbers,
+    pair_tails: Numbers,
+    pair_heads: Numbers,
+    sums: Numbers,
     *,
     base: int = 1,
 ) -> Any:
@@ -93,14 +93,14 @@ def spread_max_arrays(
 
 def spread_min_arrays(
     nodes: int,
-    tails: Any,
-    heads: Any,
-    lows: Any,
-    caps: Any,
-    costs: Any,
-    pair_tails: Any,
-    pair_heads: Any,
-    sums: Any,
+    tails: Numbers,
+    heads: Numbers,
+    lows: Numbers,
+    caps: Numbers,
+    costs: Numbers,
+    pair_tails: Numbers,
+    pair_heads: Numbers,
+    sums: Numbers,
     *,
     base: int = 1,
 ) -> Any:

@@ -10,15 +10,13 @@ from typing import Any, Iterator, Union
 from . import library
 from .answers import Certified, Feasible, Infeasible, NotOptimal, Refused, Solved, Verdict
 from .buffers import LIMIT, LIMITS, Buffer, bytes_of, number_of
+from .commands import TEXTS, run
 from .explained import Asked, kept
 
 Text = Union[bytes, str, bytearray, memoryview, "os.PathLike[str]"]
 
 #: In place of a text that a call doesn't read.
 _NO_TEXT = b""
-
-KINDS = {"max": 0, "min": 1, "infeasible": 2, "paths": 3}
-_TEXTS = {"max": 0, "min": 1, "gr": 2, "query": 3, "solution": 4, "cut": 5, "pot": 6, "dist": 7, "distances": 8}
 
 
 @contextmanager
@@ -51,16 +49,11 @@ def _asked(call: str, no: Refused, *texts: Text) -> Asked:
     return Asked(call, *read)
 
 
-def _words(texts: list[Buffer]) -> list[Any]:
-    return [word for it in texts for word in it.words()]
-
-
-def _judge(kind: str, instance: Text, claim: Text, certificate: Text) -> Verdict:
-    with _read(f"judge_{kind}", instance, claim, certificate) as texts:
-        status, output = library.call(library.judge, KINDS[kind], *_words(texts))
+def _judge(kind: str, *read: Text) -> Verdict:
+    with _read(f"judge_{kind}", *read) as texts:
+        status, output, _ = run("judge", kind, texts)
         if status == library.REFUSED:
             raise library.refusal(output)
-    read = [it for it in (instance, claim, certificate) if it is not _NO_TEXT]
     found: Verdict = kept(library.verdict(output), Asked(f"judge_{kind}", *read))
     return found
 
@@ -89,7 +82,7 @@ def judge_infeasible(instance: Text, cut: Text) -> Verdict:
     >>> judge_infeasible("p min 2 1\nn 1 3\nn 2 -3\na 1 2 0 2 7\n", "p cut 2 1\nu 1\n").kind
     'infeasible'
     """
-    return _judge("infeasible", instance, _NO_TEXT, cut)
+    return _judge("infeasible", instance, cut)
 
 
 def judge_paths(graph: Text, queries: Text, labels: Text) -> Verdict:
@@ -107,8 +100,7 @@ def _in_form_of(came: Text, text: bytes) -> Any:
 
 def _certify(kind: str, instance: Text, claim: Text) -> Certified:
     with _read(f"certify_{kind}", instance, claim) as texts:
-        rooms = [library.LINE, library.LINE + texts[0].length + texts[1].length]
-        status, (line, shown) = library.call_for_texts(library.certify, KINDS[kind], *_words(texts), rooms=rooms)
+        status, line, (shown,) = run("certify", kind, texts)
         if status == library.REFUSED:
             raise _refusal(library.refusal(line), instance, claim, shown)
     value = library.verdict(line).value if kind in ("max", "min") else None
@@ -183,8 +175,7 @@ def certify_paths(graph: Text, distances: Text) -> Certified:
 
 def _spread(kind: str, instance: Text, solution: Text) -> Any:
     with _read(f"spread_{kind}", instance, solution) as texts:
-        rooms = [library.LINE, library.LINE + texts[0].length + texts[1].length]
-        status, (line, spread) = library.call_for_texts(library.spread, KINDS[kind], *_words(texts), rooms=rooms)
+        status, line, (spread,) = run("spread", kind, texts)
         if status == library.REFUSED:
             raise library.refusal(line)
     return _in_form_of(solution, spread)
@@ -214,12 +205,7 @@ def spread_min(instance: Text, solution: Text) -> Any:
 
 def _solve(kind: str, instance: Text, queries: Text, limit: int) -> Solved:
     with _read(f"solve_{kind}", instance, queries) as texts:
-        words = [*_words(texts), number_of(limit, LIMITS, "limit")]
-        # An answer to a query is a longer line than the query, and a potential or label may be one than an arc.
-        length = texts[0].length
-        rooms = [library.LINE + 4 * texts[1].length, library.LINE + length, library.LINE + 2 * length]
-        handed = library.call_for_texts(library.solve, KINDS[kind], *words, rooms=rooms)
-        status, (output, solution, certificate) = handed
+        status, output, (solution, certificate) = run("solve", kind, texts, number_of(limit, LIMITS, "limit"))
         if status == library.REFUSED:
             raise library.refusal(output)
     shown = _in_form_of(instance, certificate)
@@ -269,12 +255,11 @@ def solve_paths(graph: Text, queries: Text) -> Solved:
     return _solve("paths", graph, queries, LIMIT)
 
 
-def _printed(call: str, function: Any, kind: str, text: Text) -> Any:
-    if kind not in _TEXTS:
-        raise ValueError(f"{kind!r} is no kind of text: these are {', '.join(_TEXTS)}")
+def _printed(call: str, kind: str, text: Text) -> Any:
+    if kind not in TEXTS:
+        raise ValueError(f"{kind!r} is no kind of text: these are {', '.join(TEXTS)}")
     with _read(f"{call} {kind}", text) as texts:
-        rooms = [library.LINE + texts[0].length]
-        status, (printed,) = library.call_for_texts(function, _TEXTS[kind], *_words(texts), rooms=rooms)
+        status, printed, _ = run(call, kind, texts)
         if status == library.REFUSED:
             raise library.refusal(printed)
     return _in_form_of(text, printed)
@@ -288,7 +273,7 @@ def convert(kind: str, text: Text) -> Any:
     >>> convert("gr", "c a road\np  sp 2 1\na 1 2 05\n")
     'p sp 2 1\na 1 2 5\n'
     """
-    return _printed("convert", library.convert, kind, text)
+    return _printed("convert", kind, text)
 
 
 def show(kind: str, text: Text) -> Any:
@@ -297,4 +282,4 @@ def show(kind: str, text: Text) -> Any:
     >>> show("gr", "p sp 2 1\na 1 2 5\n")
     'i sp 2 1\n'
     """
-    return _printed("show", library.show, kind, text)
+    return _printed("show", kind, text)

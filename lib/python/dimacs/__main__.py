@@ -1,0 +1,188 @@
+"""The command of the package: python -m dimacs COMMAND FILE.., or `dimacs` if it is installed.
+
+It makes the calls of the library over files, and prints, writes and returns what the program does: `dimacs help` there says
+more. Only the words about arguments are its own.
+"""
+
+from __future__ import annotations
+
+import difflib
+import re
+import signal
+import sys
+from contextlib import contextmanager
+from typing import Any, Iterator, NamedTuple, Sequence
+
+from . import commands, library
+from .answers import GaveUp
+from .buffers import LIMIT, bytes_of
+
+_NO_RUN, _DEVICE = 2, 3
+_COMPLAINTS = {_NO_RUN: "usage", _DEVICE: "device fault", library.NO_MEMORY: "out of memory"}
+_GREATEST_LIMIT = 1_000_000_000
+
+#: The files that each command reads, and those that it writes: one in brackets may be left out.
+_FILES = {
+    "convert": "FILE |",
+    "show": "FILE |",
+    "judge-max": "INSTANCE SOLUTION CUT |",
+    "judge-min": "INSTANCE SOLUTION POTENTIALS |",
+    "judge-infeasible": "INSTANCE CUT |",
+    "judge-paths": "GRAPH QUERY LABELS |",
+    "certify-max": "INSTANCE SOLUTION | [CERTIFICATE]",
+    "certify-min": "INSTANCE SOLUTION | [CERTIFICATE]",
+    "certify-infeasible": "INSTANCE | [CERTIFICATE]",
+    "certify-paths": "GRAPH DISTANCES | [LABELS]",
+    "solve-max": "INSTANCE | SOLUTION CUT",
+    "solve-min": "INSTANCE | SOLUTION CERTIFICATE",
+    "solve-paths": "GRAPH QUERY | LABELS",
+    "spread-max": "INSTANCE SOLUTION | OUT",
+    "spread-min": "INSTANCE SOLUTION | OUT",
+}
+_WITH_LIMIT = ("solve-max", "solve-min")
+
+
+def _usage(name: str) -> str:
+    kind = "KIND " if name in ("convert", "show") else ""
+    files = " ".join(_FILES[name].replace("|", "").split())
+    return f"dimacs {name} {kind}{files}{' [--limit N]' if name in _WITH_LIMIT else ''}\n"
+
+
+def _help() -> str:
+    more = f"dimacs explain COMMAND FILE..\nKIND: {', '.join(commands.TEXTS)}\n"
+    return f"{_description()}{''.join(map(_usage, _FILES))}{more}"
+
+
+def _description() -> str:
+    return f"dimacs {library.description}\n"
+
+
+class _Fault(Exception):
+    """What ends a run without an answer: its status, and a line that says more."""
+
+    def __init__(self, status: int, line: str) -> None:
+        super().__init__(line)
+        self.status, self.line = status, line
+
+
+class _Job(NamedTuple):
+    """A run: a command, its files, and whether it is explained."""
+
+    verb: str
+    kind: str
+    reads: Sequence[str]
+    writes: Sequence[str]
+    limit: int
+    explained: Sequence[str]
+
+
+def _job(words: Sequence[str]) -> _Job:
+    explained = words[1:] if words[:1] == ["explain"] else []
+    name, *files = explained or words or [""]
+    if name not in _FILES:
+        near = difflib.get_close_matches(name, _FILES, 1)
+        raise _Fault(_NO_RUN, (f"no command {name}{f': {near[0]}?' if near else ''}\n" if name else "") + _help())
+    verb, _, kind = name.partition("-")
+    limit = LIMIT
+    if name in _WITH_LIMIT and files[-2:-1] == ["--limit"]:
+        *files, _, number = files
+        limit = int(number) if re.fullmatch("[+-]?0*[0-9]{1,10}", number) else -1
+    if not kind:
+        kind, *files = files or [""]
+    reads, writes = (it.split() for it in _FILES[name].split("|"))
+    least, most = len(reads) + sum("[" not in it for it in writes), len(reads) + len(writes)
+    is_kind = kind in (commands.TEXTS if verb in ("convert", "show") else commands.KINDS)
+    if not (least <= len(files) <= most and is_kind and 0 <= limit <= _GREATEST_LIMIT):
+        raise _Fault(_NO_RUN, _usage(name))
+    return _Job(verb, kind, files[: len(reads)], files[len(reads) :], limit, explained)
+
+
+@contextmanager
+def _attempt(name: str, call: str) -> Iterator[None]:
+    """An error of the system raised inside ends the run, with the name of the file."""
+    try:
+        yield
+    except OSError as it:
+        call = "read" if isinstance(it, IsADirectoryError) and call == "opened" else call
+        raise _Fault(_DEVICE, f"dimacs: {name}: cannot be {call}: {it.strerror} (os error {it.errno})\n") from None
+
+
+def _opened(name: str, call: str, mode: str) -> Any:
+    with _attempt(name, call):
+        return open(name, mode, buffering=0)
+
+
+def _read(name: str, file: Any) -> bytes:
+    with _attempt(name, "read"), file:
+        return bytes(file.readall())
+
+
+def _write(name: str, file: Any, text: bytes) -> None:
+    with _attempt(name, "written"):
+        left = memoryview(text)
+        while left:
+            left = left[file.write(left) :]
+        file.flush()
+
+
+def _run(job: _Job) -> int:
+    """Reads the files, makes the call, and writes and prints what it hands out. A solver empties its files before."""
+    opened = [_opened(name, "opened", "rb") for name in job.reads]
+    created = [_opened(name, "created", "wb") for name in job.writes] if job.verb == "solve" else []
+    texts = [_read(*it) for it in zip(job.reads, opened)]
+    try:
+        status, printed, made = commands.run(job.verb, job.kind, [bytes_of(it) for it in texts], job.limit)
+    except GaveUp:
+        _write("standard output", sys.stdout.buffer, b"g limit\n")
+        return library.GAVE_UP
+    made = made[1:] if (job.verb, job.kind) == ("solve", "paths") else made
+    for place, (name, text) in enumerate(zip(job.writes, made)):
+        if created or text:
+            _write(name, created[place] if created else _opened(name, "created", "wb"), text)
+    _write("standard output", sys.stdout.buffer, _explained(job, [*texts, *made]) if job.explained else printed)
+    return status
+
+
+#: What stands for the blanks in a file's name, where blanks separate words.
+_BLANKS = dict(zip(b" \t\r", b"\1\2\3"))
+
+
+def _explained(job: _Job, texts: Sequence[bytes]) -> bytes:
+    words = [it.encode("utf-8", "surrogateescape") for it in job.explained]
+    command = b" ".join(bytes(_BLANKS.get(letter, letter) for letter in it) for it in words)
+    given = [word for it in (command, *texts, b"", b"", b"") for word in bytes_of(it).words()][:8]
+    _, lines = library.call(library.explain(), *given)
+    blanks = {stand_in: letter for letter, stand_in in _BLANKS.items()}
+    return bytes(blanks.get(letter, letter) for letter in lines)
+
+
+def _answered(words: list[str]) -> int:
+    asked = {"--version": _description, "-V": _description, "--help": _help, "-h": _help, "help": _help}
+    text = asked[words[0]]() if len(words) == 1 and words[0] in asked else None
+    if len(words) == 2 and words[0] == "help" and words[1] in _FILES:
+        text = _usage(words[1])
+    if text is not None:
+        _write("standard output", sys.stdout.buffer, text.encode())
+        return library.DONE
+    job = _job(words)
+    try:
+        return _run(job)
+    finally:
+        if len(set(job.writes)) < len(job.writes):
+            sys.stderr.write(f"dimacs: {job.writes[0]}: written twice\n")
+
+
+def main() -> int:
+    """Does what the arguments ask for, and returns the exit status."""
+    # A call can't be interrupted: the process ends at once.
+    signal.signal(signal.SIGINT, signal.SIG_DFL)
+    try:
+        return _answered(sys.argv[1:])
+    except (_Fault, MemoryError) as it:
+        status, line = (it.status, it.line) if isinstance(it, _Fault) else (library.NO_MEMORY, "")
+        sys.stderr.write(f"dimacs: {_COMPLAINTS[status]}\n{line}")
+        return status
+
+
+if __name__ == "__main__":
+    sys.exit(main())

@@ -1,0 +1,44 @@
+"""A command over texts, as one call of the library: what it prints, and what it has for files."""
+
+from __future__ import annotations
+
+from typing import Any, Callable, Sequence
+
+from . import library
+from .buffers import LIMIT, Buffer, bytes_of
+from .library import LINE
+
+KINDS = {"max": 0, "min": 1, "infeasible": 2, "paths": 3}
+TEXTS = {"max": 0, "min": 1, "gr": 2, "query": 3, "solution": 4, "cut": 5, "pot": 6, "dist": 7, "distances": 8}
+
+#: In place of a text that a call doesn't read.
+_NO_TEXT = bytes_of(b"")
+
+
+#: How many texts a call takes, and how much room it is given at first, by the lengths of two of them.
+_VERBS: dict[str, tuple[int, Callable[[int, int], list[int]]]] = {
+    "judge": (3, lambda first, second: [LINE]),
+    "certify": (2, lambda first, second: [LINE, LINE + first + second]),
+    "spread": (2, lambda first, second: [LINE, LINE + first + second]),
+    # An answer to a query is a longer line than the query, and a potential or label may be one than an arc.
+    "solve": (2, lambda first, second: [LINE + 4 * second, LINE + first, LINE + 2 * first]),
+    "convert": (1, lambda first, second: [LINE + first]),
+    "show": (1, lambda first, second: [LINE]),
+}
+
+
+def run(verb: str, kind: str, texts: Sequence[Buffer], limit: int = LIMIT) -> tuple[int, bytes, list[bytes]]:
+    """Makes the call of a command. Returns its status, which is a yes or a no, what it prints, and the texts for files.
+
+    Raises GaveUp and MemoryError for the other statuses.
+    """
+    count, rooms = _VERBS[verb]
+    read = [*texts, _NO_TEXT, _NO_TEXT][:count]
+    if (verb, kind) == ("judge", "infeasible"):
+        read = [texts[0], _NO_TEXT, texts[1]]
+    words: list[Any] = [(TEXTS if count == 1 else KINDS)[kind], *(word for it in read for word in it.words())]
+    if verb == "solve":
+        words.append(limit)
+    first, second = [it.length for it in [*read, _NO_TEXT]][:2]
+    status, (printed, *made) = library.call_for_texts(getattr(library, verb), *words, rooms=rooms(first, second))
+    return status, printed, made
