@@ -2,8 +2,7 @@
 import {explanationOf} from "./explained.js";
 import {DONE, GAVE_UP, MISUSED} from "./library.js";
 
-/** The distance of a node that isn't reached. Its predecessor is 0. */
-export const UNREACHED = 2n ** 63n - 1n;
+export {UNREACHED} from "./numbers.js";
 
 /** In place of a distance: it is greater than this radius, or there is no walk. */
 export class Beyond {
@@ -87,8 +86,8 @@ export class Refused extends Error {
 
 /** The first number of an instance in arrays that is past its limit: nothing was judged. */
 export class PastLimit extends RangeError {
-    constructor(reason, place) {
-        super(placed(place, reason));
+    constructor(reason, place, said = "") {
+        super(placed(place, reason) + said);
         this.name = "PastLimit";
         Object.assign(this, {arc: null, node: null}, place, {reason});
     }
@@ -96,8 +95,8 @@ export class PastLimit extends RangeError {
 
 /** The flow is feasible and has the claimed value, but there is a better one. */
 export class NotOptimal extends Refused {
-    constructor(reason, place, better) {
-        super(reason, place);
+    constructor(reason, place, message, better) {
+        super(reason, place, message);
         this.better = better;
     }
 }
@@ -124,8 +123,8 @@ export class Feasible extends Refused {
 
 /** A limit was reached before the best was found, or the answer has numbers that don't fit. */
 export class GaveUp extends Error {
-    constructor() {
-        super("a limit was reached, or numbers that were found are out of range");
+    constructor(message) {
+        super(message);
         this.name = "GaveUp";
     }
 }
@@ -149,24 +148,38 @@ function refused(line) {
     return {reason: words.pop(), place: place(words)};
 }
 
+/** At what a call gives up, by its name over arrays, or else over texts. */
+const GAVE_UP_AT = {
+    certify_min_arrays: () => "two of the potentials that were found are 2^64 or more apart; others may fit",
+    solve_max: (limit) => `limit: ${limit} flows that aren't maximum were found`,
+    solve_min: (limit) => `limit: ${limit} steps led to better flows, or the least cost is out of range`,
+    solve_min_arrays: (limit) => `limit: ${limit} steps led to better flows, or the least cost or a potential is out of range`,
+    solve_paths_arrays: () => "a distance is 2^63 - 1 or more",
+};
+
 /** Throws what a status stands for that leaves the claim undecided, or whose certificate doesn't fit. */
-export function throwUndecided(status, lines) {
-    if (status === GAVE_UP) throw new GaveUp();
+export function throwUndecided(status, lines, {name, limit, say = () => ""}) {
+    const gaveUp = GAVE_UP_AT[name] ?? GAVE_UP_AT[name?.replace("_arrays", "")];
+    if (status === GAVE_UP) throw new GaveUp(gaveUp?.(limit) ?? "a limit was reached");
     if (status !== MISUSED) return;
     if (lines.length === 0) throw new RangeError("the library doesn't take these arguments");
     const {reason, place} = refused(lines[0]);
-    throw new PastLimit(reason, place);
+    throw new PastLimit(reason, place, say(reason, place));
 }
 
 const BETTER = ["NotMaximum", "NotLeast"];
 
-/** Throws the no of a status, if it is one. `flow` gives the better or the feasible flow that was made, or null. */
-export function throwRefused(status, lines, flow = () => null) {
+/**
+ * Throws the no of a status, if it is one. `flow` gives the better or the feasible flow that was made, or null, and `say`
+ * the numbers that were compared.
+ */
+export function throwRefused(status, lines, flow = () => null, say = () => "") {
     if (status === DONE) return;
     const {reason, place} = refused(lines[0]);
-    if (BETTER.includes(reason)) throw new NotOptimal(reason, place, flow());
     if (reason === "Feasible") throw new Feasible(flow());
-    throw new Refused(reason, place);
+    const better = BETTER.includes(reason) ? flow() : null, message = placed(place, reason) + say(reason, place, better);
+    if (BETTER.includes(reason)) throw new NotOptimal(reason, place, message, better);
+    throw new Refused(reason, place, message);
 }
 
 function distance([word, radius]) {

@@ -2,13 +2,11 @@
 // arc 1, those of supplies, inside, distances and so on to node 1.
 import {Certified, Feasible, Infeasible, NotOptimal, Refused, Solved} from "./answers.js";
 import {linesOf, throwRefused, throwUndecided, verdict} from "./answers.js";
+import {MOST_NODES, saying} from "./compared.js";
 import {AskedOfArrays, kept} from "./explained.js";
 import {InArrays, LIMIT, LINE, Room} from "./library.js";
 import {library} from "./loaded.js";
 import {DISTANCES, IDS, MARKS, NUMBERS, limitOf} from "./numbers.js";
-
-/** The greatest number of nodes. If there are more, the library hands out no array by node. */
-const MOST_NODES = 2 ** 27;
 
 /** The items of each array, and whether there is one for each node or for each arc. */
 const ARRAYS = {
@@ -70,7 +68,10 @@ class Given {
         return this;
     }
 
-    /** Room for an array that is handed out. */
+    /** What is said of the numbers that a test compared. */
+    say = (...refused) => saying(this.asked, ...refused);
+
+    /** Room for an array that is handed out. If there are too many nodes, the library hands out none by node. */
     room(name) {
         const [{array}, each] = ARRAYS[name];
         return new Room(array, each === "nodes" ? Math.min(this.counts.nodes, MOST_NODES) : this.counts.arcs);
@@ -82,7 +83,7 @@ function ask(name, given, ...handed) {
     const rooms = [new Room(Uint8Array, LINE), ...handed.map((it) => given.room(it))];
     const {status, handed: [line, ...arrays]} = library.call(`dimacs_${name}_arrays`, given.words, rooms);
     const lines = linesOf(line);
-    throwUndecided(status, lines);
+    throwUndecided(status, lines, {name: `${name}_arrays`, limit: given.words.at(-1), say: given.say});
     return {status, lines, arrays};
 }
 
@@ -96,7 +97,8 @@ function keeping(name, given, lines, handed, call) {
         if (why instanceof Infeasible) kept(why, "judge-infeasible", given.asked.with({inside: why.inside}), null);
         else if (why instanceof Refused) {
             const better = why instanceof NotOptimal ? why.better : why instanceof Feasible ? why.flow : null;
-            kept(why, name.replace("_", "-"), better ? given.asked.with({better}) : given.asked, lines[0]);
+            const asked = better ? given.asked.with({better}) : given.asked;
+            kept(why, name.replace("_", "-"), asked, lines[0], why.message);
         }
         throw why;
     }
@@ -105,7 +107,7 @@ function keeping(name, given, lines, handed, call) {
 function judge(name, given) {
     const {status, lines} = ask(name, given);
     return keeping(name, given, lines, {}, () => {
-        throwRefused(status, lines);
+        throwRefused(status, lines, undefined, given.say);
         return verdict(lines);
     });
 }
@@ -113,7 +115,7 @@ function judge(name, given) {
 function certify(name, given, ...handed) {
     const {status, lines, arrays: [certificate, flow]} = ask(name, given, ...handed);
     return keeping(name, given, lines, {[handed[0]]: certificate}, () => {
-        throwRefused(status, lines, () => flow);
+        throwRefused(status, lines, () => flow, given.say);
         const {kind, value} = verdict(lines);
         return new Certified(kind === "max" || kind === "min" ? value : null, certificate);
     });
@@ -122,7 +124,7 @@ function certify(name, given, ...handed) {
 function solve(name, given, ...handed) {
     const {status, lines, arrays: [solution, certificate, inside]} = ask(name, given, ...handed);
     return keeping(name, given, lines, {[handed[0]]: solution, [handed[1]]: certificate}, () => {
-        throwRefused(status, lines);
+        throwRefused(status, lines, undefined, given.say);
         const {kind, value} = verdict(lines);
         if (kind === "infeasible") throw new Infeasible(inside);
         return new Solved(kind === "sp" ? null : value, solution, certificate);

@@ -2,6 +2,7 @@
 // The printed line is proved to be the answer's; the lines after it aren't.
 import {bytesOf, inFormOf} from "./bytes.js";
 import {texts} from "./loaded.js";
+import {UNREACHED} from "./numbers.js";
 
 const OF_FLOWS = "instance solution certificate", OF_SETS = "instance certificate";
 
@@ -52,8 +53,8 @@ function commandOf(command, count, shown) {
 /** The lines that `dimacs explain` prints. */
 export function explanationOf(answer) {
     if (!ASKED.has(answer)) throw new TypeError("this answer doesn't keep what it was asked of");
-    const [command, given, shown] = ASKED.get(answer);
-    return given instanceof AskedOfArrays ? given.explanation(command, shown) : explanation(command, given, shown);
+    const [command, given, shown, said] = ASKED.get(answer);
+    return given instanceof AskedOfArrays ? given.explanation(command, shown, said) : explanation(command, given, shown);
 }
 
 /** The lines for a command over texts; `shown` names the last one, if it isn't the certificate. */
@@ -70,7 +71,7 @@ export function explanation(command, given, shown) {
 /** The arrays of an arc's line, by the form of the instance, and the names of their numbers in lines that explain. */
 const COLUMNS = {max: ["caps"], min: ["lows", "caps", "costs"], graph: ["weights"]};
 const NAMED = {caps: "CAP", lows: "LOW", costs: "COST", weights: "WEIGHT"};
-const UNREACHED = 2n ** 63n - 1n;
+const CHANGED = "the arrays hold other numbers now, and these are refused: the answer isn't theirs\n";
 
 /** What sentences say of a text, and what they say of arrays: a flow is in the field of the refusal that has it. */
 const RETOLD = [
@@ -95,14 +96,15 @@ export class AskedOfArrays {
         return new AskedOfArrays(this.form, this.numbers, {...this.arrays, ...arrays});
     }
 
-    /** The lines for arrays that were refused by the line `printed`, or null. No line quotes a text. */
-    explanation(command, printed) {
+    /** The lines for arrays that were refused by the line `printed`, with the message `said`, or null. None quotes a text. */
+    explanation(command, printed, said) {
         const [verb, kind] = command.split("-"), count = command === "certify-infeasible" ? 1 : COUNTS[verb];
         const made = NAMES[command].split(" ").slice(0, count).map((name) => this.#text(kind, name));
         if (this.arrays.better) made.push(this.#solution(this.arrays.better));
         const given = made.map((lines) => `${lines.join("\n")}\n`);
         const [first, ...more] = explanation(command, given, "better").split("\n");
-        if (printed && !isSame(first, printed)) return `${printed}\n`;
+        if (!printed && first.startsWith("x ")) return CHANGED;
+        if (printed && !isSame(first, printed)) return `${printed}\n${said}\n`;
         return [printed ?? first, ...more.flatMap((line) => this.#retold(line))].join("\n");
     }
 
@@ -129,14 +131,16 @@ export class AskedOfArrays {
         return [...this.#head(), ...Array.from(columns[0], (_, arc) => `a ${columns.map((it) => it[arc]).join(" ")}`)];
     }
 
-    #solution(flows) {
+    /** The value or the cost of a flow. */
+    valueOf(flows) {
         const {tails, heads, costs} = this.arrays, {source} = this.numbers;
-        let value = 0n;
-        flows.forEach((flow, arc) => {
-            if (costs) value += flow * costs[arc];
-            else value += flow * BigInt((tails[arc] === source) - (heads[arc] === source));
-        });
-        return [`s ${value}`, ...Array.from(flows, (flow, arc) => `f ${tails[arc]} ${heads[arc]} ${flow}`)];
+        const times = (arc) => (costs ? costs[arc] : BigInt((tails[arc] === source) - (heads[arc] === source)));
+        return flows.reduce((sum, flow, arc) => sum + flow * times(arc), 0n);
+    }
+
+    #solution(flows) {
+        const {tails, heads} = this.arrays;
+        return [`s ${this.valueOf(flows)}`, ...Array.from(flows, (flow, arc) => `f ${tails[arc]} ${heads[arc]} ${flow}`)];
     }
 
     #byNode(kind, letter, values) {

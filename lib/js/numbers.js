@@ -1,5 +1,7 @@
 // Numbers and arrays that are given, as the library takes them.
-import {UNREACHED} from "./answers.js";
+
+/** The distance of a node that isn't reached. Its predecessor is 0. */
+export const UNREACHED = 2n ** 63n - 1n;
 
 /** The items of an array: their typed array, their range, and what stands for an infinite one. */
 class Items {
@@ -18,14 +20,14 @@ class Items {
     all(numbers, name) {
         if (numbers instanceof this.array) return numbers;
         if (!isListed(numbers)) throw new TypeError(`${name} is no array`);
-        return this.array.from(numbers, (it) => this.one(it, name));
+        return this.array.from(numbers, (it, i) => this.one(it, `${name}[${i}]`));
     }
 }
 
 function wholeOf(number, {infinite}, name) {
     if (typeof number === "bigint") return number;
     if (typeof number === "boolean") return BigInt(number);
-    if (typeof number !== "number") throw new TypeError(`${name} has an item that is no number`);
+    if (typeof number !== "number") throw new TypeError(`${name} is no number`);
     if (number === Infinity && infinite !== null) return infinite;
     if (!Number.isInteger(number)) throw new RangeError(`${name}: ${number} isn't a whole number`);
     if (!Number.isSafeInteger(number)) throw new RangeError(`${name}: ${number} may have been rounded: give a BigInt`);

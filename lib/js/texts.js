@@ -11,9 +11,9 @@ import {limitOf} from "./numbers.js";
 const NONE = new Uint8Array(0);
 
 /** The printed lines of a call, and what else it handed out; throws what leaves the claim undecided. */
-function decided({status, handed: [printed, ...more]}) {
+function decided({status, handed: [printed, ...more]}, name, limit) {
     const lines = linesOf(printed);
-    throwUndecided(status, lines);
+    throwUndecided(status, lines, {name, limit});
     return {status, lines, more};
 }
 
@@ -78,7 +78,8 @@ export const spreadMax = (instance, solution) => spread("max", instance, solutio
 export const spreadMin = (instance, solution) => spread("min", instance, solution);
 
 function solve(kind, instance, queries, limit) {
-    const answer = decided(texts.solve(kind, bytesOf(instance), bytesOf(queries), limitOf(limit)));
+    const most = limitOf(limit);
+    const answer = decided(texts.solve(kind, bytesOf(instance), bytesOf(queries), most), `solve_${kind}`, most);
     const [solution, certificate] = answer.more.map((it) => inFormOf(instance, it));
     const given = [instance, kind === "paths" ? queries : answer.status === DONE ? solution : NONE];
     return asked(`solve-${kind}`, given, () => {

@@ -247,7 +247,7 @@ const CASES = {
         assert.match(negative.explain(), /^x arc 2 NegativeWeight\narc 2: 2 -> 3, WEIGHT -4\n/);
         // A text can't say that the source is at 1.
         const late = thrown(() => dimacs.judgePathsArrays(IN_GRAPH, 1, [1, 5, 9, Infinity], [0, 1, 2, 0]));
-        assert.equal(late.explain(), "x node 1 NotShortest\n");
+        assert.equal(late.explain(), "x node 1 NotShortest\nnode 1 NotShortest: the source is at 1\n");
         throws(() => new dimacs.Verdict("max", 6n).explain(), TypeError);
     },
     "explanations of arrays name no text": () => {
@@ -287,13 +287,59 @@ const CASES = {
         const graph = {nodes: 4, tails: [1, 4, 3, 2], heads: [4, 3, 2, 2], weights: [5, 4, 1, 0]};
         for (const predecessors of [[0, 3, 2, 1], [0, 2, 4, 1], [0, 3, 0, 1], [0, 3, 5, 1]]) {
             const no = thrown(() => dimacs.judgePathsArrays(graph, 1, [0, 10, 9, 5], predecessors));
-            assert.equal(no.explain().split("\n")[0], `x ${no.message}`);
+            assert.equal(no.explain().split("\n")[0], `x ${no.message.split(":")[0]}`);
         }
         const chain = Array.from({length: 100_000}, (_, i) => i + 1), [far] = chain.slice(-1);
         const weights = chain.slice(1).map(() => 1), tails = [1, ...chain.slice(2).reverse()];
         const long = {nodes: far, tails, heads: chain.slice(1).reverse(), weights};
         const walk = /^v sp ss 1\n.*: 1 -> 100000 -> 99999 -> .* = 99999\n/;
         assert.match(dimacs.solvePathsArrays(long, 1).explain(), walk);
+    },
+    "a yes for arrays that change later": () => {
+        const flows = big(4, 2, 1, 3, 3), yes = dimacs.judgeMaxArrays(IN_MAX, flows, [1, 0, 0, 0]);
+        assert.match(yes.explain(), /^v max 6\n/);
+        flows[0] = 9n;
+        const told = "the arrays hold other numbers now, and these are refused: the answer isn't theirs\n";
+        assert.equal(yes.explain(), told);
+    },
+    "messages": () => {
+        // What is said, and the call: the numbers that were compared, or the item that is no number.
+        const graph = {nodes: 3, tails: [1, 2], heads: [2, 3], weights: [5, 4]}, cut = [1, 0, 0, 0], far = Infinity;
+        const paths = (distances, predecessors) => () => dimacs.judgePathsArrays(graph, 1, distances, predecessors);
+        const max = (flows, inside = cut) => () => dimacs.judgeMaxArrays(IN_MAX, flows, inside);
+        const min = (flows, potentials) => () => dimacs.judgeMinArrays(IN_MIN, flows, potentials);
+        const apart = {nodes: 4, tails: [1, 2, 3], heads: [2, 3, 4], lows: [0, 0, 0], caps: [2, 2, 2]};
+        const wide = {...apart, costs: Array(3).fill(2n ** 63n - 1n), supplies: [1, 0, 0, -1]};
+        const certify = (flows) => dimacs.certifyMaxArrays(IN_MAX, flows);
+        const below = {...IN_MAX, caps: [-4, 2, 2, 3, 5]}, dear = [3, 1, 1, 2, 2];
+        const steps = "limit: 0 steps led to better flows, or the least cost";
+        for (const [message, call] of [
+            ["arc 1 AboveCap: it carries 5, its capacity is 4", max([5, 2, 1, 3, 3])],
+            ["arc 1 BelowLow: it carries -1, its lower bound is 0", max([-1, 2, 1, 3, 3])],
+            ["node 2 Balance: 3 leaves, 4 enters", max([4, 2, 1, 2, 3])],
+            ["arc 2 NotSaturated: it leaves the cut and carries 1, its capacity is 2", max([4, 1, 1, 3, 2])],
+            ["node 1 Balance: 3 leaves, its supply is 4", min([3, 0, 1, 2, 1], [4, 2, 1, 0])],
+            ["arc 1 NotTight: its reduced cost is 2, and it carries 2 of 0 to 4", min([2, 2, 2, 0, 4], [2, 2, 1, 0])],
+            ["node 3 NoTightArc: no arc from 2 gives its distance 8", paths([0, 5, 8], [0, 1, 2])],
+            ["arc 1 Escapes: its tail is at 0, its head isn't reached", paths([0, far, far], [0, 0, 0])],
+            ["arc 2 NotShortest: 5 and its weight 4 are less than 11", () => dimacs.certifyPathsArrays(graph, 1, [0, 5, 11])],
+            ["node 3 NodeRange: it isn't reached, and its predecessor is 2", paths([0, 5, far], [0, 1, 2])],
+            ["node 3 NodeRange: its predecessor is 9, and there are 3 nodes", paths([0, 5, 9], [0, 1, 9])],
+            ["arc 1 BoundOrder: its lower bound is 0, its capacity -4", () => dimacs.solveMaxArrays(below)],
+            [/^solution 0 0 NotMaximum: its value is 2, and that of a better flow [3-6]$/, () => certify([0, 2, 0, 0, 2])],
+            [/^solution 0 0 NotLeast: it costs 17, and a better flow 1[4-6]$/, () => dimacs.certifyMinArrays(IN_MIN, dear)],
+            ["limit: 0 flows that aren't maximum were found", () => dimacs.solveMaxArrays(IN_MAX, 0)],
+            ["limit: 0 flows that aren't maximum were found", () => dimacs.solveMax(MAX, 0)],
+            [`${steps} or a potential is out of range`, () => dimacs.solveMinArrays(IN_MIN, 0)],
+            [`${steps} is out of range`, () => dimacs.solveMin(MIN, 0)],
+            [/^two of the potentials .* are 2\^64 or more apart/, () => dimacs.certifyMinArrays(wide, [1, 1, 1])],
+            ["a distance is 2^63 - 1 or more", () => dimacs.solvePathsArrays({...graph, weights: [LARGE, LARGE]}, 1)],
+            ["flows[3]: 2.5 isn't a whole number", max([4, 2, 1, 2.5, 3])],
+            ["flows[1] is no number", max([4, "2", 1, 3, 3])],
+        ]) {
+            if (message instanceof RegExp) assert.match(thrown(call).message, message);
+            else assert.equal(thrown(call).message, message);
+        }
     },
     "what is said of the module": () => {
         assert.match(dimacs.version, /^\d+\.\d+\.\d+/);

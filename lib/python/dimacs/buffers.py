@@ -310,7 +310,7 @@ def gone_through(numbers: Any, name: Name) -> list[Any]:
     is_plain = is_numpy(numbers) and numbers.dtype.char in "?bBhHiIlLqQd"  # whose items are those of Python
     if not hasattr(numbers, "__iter__") and not hasattr(numbers, "__getitem__"):
         raise TypeError(f"{_array(name)} is {numbers!r}, not an array")
-    if isinstance(numbers, array.array) and numbers.typecode == "f" or isinstance(numbers, memoryview) and numbers.format == "f":
+    if "f" in (getattr(numbers, "typecode", None), getattr(numbers, "format", None)):  # of an array.array or a memoryview
         return list(map(_Single, numbers))
     return list(numbers.tolist() if is_plain else numbers)
 

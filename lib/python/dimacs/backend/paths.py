@@ -153,7 +153,7 @@ def dijkstra_path_length(G: Any, source: Any, target: Any, weight: Any = "weight
 
 
 def _from_each(graph: _Paths, show: Callable[[_Tree], Any]) -> Iterator[tuple[Any, Any]]:
-    """What `show` makes of the tree from each node. What a generator yields can't be left to networkx: Unable is raised before."""
+    """What `show` makes of the tree from each node. What is yielded can't be left to networkx: Unable is raised before."""
     longest = sum(map(abs, graph.weights.values))
     if longest > (MOST_FLOAT if graph.weights.are_floats else 2**60):  # then potentials and sums with them have 64 bits
         raise Unable(f"weights add up to {longest}, and what is answered later may be out of range")
