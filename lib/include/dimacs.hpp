@@ -383,6 +383,11 @@ struct GaveUp {
 class WrongLength : public std::invalid_argument {
   public:
     WrongLength() : std::invalid_argument("an array has another length than it has to have") {}
+
+    // "flows has 3 items, and there are 2 arcs".
+    WrongLength(std::string_view array, std::size_t items, std::size_t wanted, std::string_view each)
+        : std::invalid_argument(std::string(array) + " has " + std::to_string(items) + " items, and there are " +
+                                std::to_string(wanted) + " " + std::string(each)) {}
 };
 
 // The first number of an instance that is past its limit. Nothing was judged.
@@ -656,16 +661,36 @@ inline std::size_t room_for(std::uint32_t nodes) noexcept { return nodes <= (std
 inline dimacs_nodes array(Nodes it) noexcept { return {it.data(), it.size()}; }
 inline dimacs_numbers array(Numbers it) noexcept { return {it.data(), it.size()}; }
 
-inline dimacs_max arrays(const MaxInstance &it) noexcept {
+// The library tests lengths too, but doesn't report which one is wrong.
+template <class Instance, class Array>
+void test_by_arc(const Instance &instance, std::string_view name, const Array &it) {
+    if (it.size() != instance.tails.size()) throw WrongLength(name, it.size(), instance.tails.size(), "arcs");
+}
+
+template <class Instance, class Array>
+void test_by_node(const Instance &instance, std::string_view name, const Array &it) {
+    if (it.size() != instance.nodes) throw WrongLength(name, it.size(), instance.nodes, "nodes");
+}
+
+inline dimacs_max arrays(const MaxInstance &it) {
+    test_by_arc(it, "heads", it.heads);
+    test_by_arc(it, "caps", it.caps);
     return {it.nodes, it.source, it.sink, array(it.tails), array(it.heads), array(it.caps)};
 }
 
-inline dimacs_min arrays(const MinInstance &it) noexcept {
+inline dimacs_min arrays(const MinInstance &it) {
+    test_by_arc(it, "heads", it.heads);
+    test_by_arc(it, "lows", it.lows);
+    test_by_arc(it, "caps", it.caps);
+    test_by_arc(it, "costs", it.costs);
+    test_by_node(it, "supplies", it.supplies);
     return {it.nodes,       array(it.tails), array(it.heads),   array(it.lows),
             array(it.caps), array(it.costs), array(it.supplies)};
 }
 
-inline dimacs_graph arrays(const Graph &it) noexcept {
+inline dimacs_graph arrays(const Graph &it) {
+    test_by_arc(it, "heads", it.heads);
+    test_by_arc(it, "weights", it.weights);
     return {it.nodes, array(it.tails), array(it.heads), array(it.weights)};
 }
 
@@ -912,6 +937,8 @@ inline std::string explain(std::string_view command, std::string_view first, std
 // first test that fails; dimacs.h lists them. Each call over arrays throws WrongLength and PastLimit.
 inline Answer<JudgedFlow, Refused> judge_max(const MaxInstance &instance, Numbers flows, Marks inside) {
     const dimacs_max arrays = detail::arrays(instance);
+    detail::test_by_arc(instance, "flows", flows);
+    detail::test_by_node(instance, "inside", inside);
     detail::TextRoom line;
     const auto call = [&](auto... rooms) {
         return dimacs_judge_max_arrays(&arrays, flows.data(), flows.size(), inside.data(), inside.size(), rooms...);
@@ -924,6 +951,8 @@ inline Answer<JudgedFlow, Refused> judge_max(const MaxInstance &instance, Number
 // the potential of its tail, plus that of its head. Refused for the first test that fails.
 inline Answer<JudgedFlow, Refused> judge_min(const MinInstance &instance, Numbers flows, Numbers potentials) {
     const dimacs_min arrays = detail::arrays(instance);
+    detail::test_by_arc(instance, "flows", flows);
+    detail::test_by_node(instance, "potentials", potentials);
     detail::TextRoom line;
     const auto call = [&](auto... rooms) {
         return dimacs_judge_min_arrays(&arrays, flows.data(), flows.size(), potentials.data(), potentials.size(),
@@ -937,6 +966,7 @@ inline Answer<JudgedFlow, Refused> judge_min(const MinInstance &instance, Number
 // refused by `x certificate 0 0 NotViolated`, there may be no feasible flow all the same, by another set.
 inline Answer<Judged, Refused> judge_infeasible(const MinInstance &instance, Marks inside) {
     const dimacs_min arrays = detail::arrays(instance);
+    detail::test_by_node(instance, "inside", inside);
     detail::TextRoom line;
     const auto call = [&](auto... rooms) {
         return dimacs_judge_infeasible_arrays(&arrays, inside.data(), inside.size(), rooms...);
@@ -950,6 +980,8 @@ inline Answer<Judged, Refused> judge_infeasible(const MinInstance &instance, Mar
 inline Answer<Judged, Refused> judge_paths(const Graph &graph, std::uint32_t source, Numbers distances,
                                            Nodes predecessors) {
     const dimacs_graph arrays = detail::arrays(graph);
+    detail::test_by_node(graph, "distances", distances);
+    detail::test_by_node(graph, "predecessors", predecessors);
     detail::TextRoom line;
     const auto call = [&](auto... rooms) {
         return dimacs_judge_paths_arrays(&arrays, source, distances.data(), distances.size(), predecessors.data(),
@@ -965,6 +997,7 @@ inline Answer<Judged, Refused> judge_paths(const Graph &graph, std::uint32_t sou
 inline Answer<CertifiedMax<Inside>, NotOptimal<Flows>, Refused> certify_max(const MaxInstance &instance,
                                                                             Numbers flows) {
     const dimacs_max arrays = detail::arrays(instance);
+    detail::test_by_arc(instance, "flows", flows);
     detail::TextRoom line;
     detail::Room<std::uint8_t> inside(detail::room_for(instance.nodes));
     detail::Room<std::int64_t> better(flows.size());
@@ -984,6 +1017,7 @@ inline Answer<CertifiedMax<Inside>, NotOptimal<Flows>, Refused> certify_max(cons
 inline Answer<CertifiedMin<Potentials>, NotOptimal<Flows>, GaveUp, Refused> certify_min(const MinInstance &instance,
                                                                                         Numbers flows) {
     const dimacs_min arrays = detail::arrays(instance);
+    detail::test_by_arc(instance, "flows", flows);
     detail::TextRoom line;
     detail::Room<std::int64_t> potentials(detail::room_for(instance.nodes)), better(flows.size());
     const auto call = [&](auto... rooms) {
@@ -1015,6 +1049,7 @@ inline Answer<CertifiedInfeasible<Inside>, Feasible<Flows>> certify_infeasible(c
 inline Answer<CertifiedPaths<Predecessors>, Refused> certify_paths(const Graph &graph, std::uint32_t source,
                                                                    Numbers distances) {
     const dimacs_graph arrays = detail::arrays(graph);
+    detail::test_by_node(graph, "distances", distances);
     detail::TextRoom line;
     detail::Room<std::uint32_t> predecessors(detail::room_for(graph.nodes));
     const auto call = [&](auto... rooms) {

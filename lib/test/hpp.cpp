@@ -19,8 +19,8 @@ using Ids = std::vector<std::uint32_t>;
 using Amounts = std::vector<std::int64_t>;
 
 template <class Call>
-static void throws_length(const char *name, const Call &call) {
-    throws<dimacs::WrongLength>(name, call, "an array has another length than it has to have");
+static void throws_length(const char *name, const Call &call, const char *line) {
+    throws<dimacs::WrongLength>(name, call, line);
 }
 
 template <class Call>
@@ -195,12 +195,18 @@ static void maximum_flows() {
 
 static void misuses() {
     const Amounts flows{4, 2, 1, 3, 3};
-    throws_length("fewer flows", [&] { return dimacs::certify_max(network, Amounts{1}); });
-    throws_length("fewer heads", [&] { return dimacs::solve_max({4, 1, 4, tails, Ids{2}, caps}); });
-    throws_length("more marks", [&] { return dimacs::judge_infeasible(shipping, Inside(5)); });
-    throws_length("fewer potentials", [&] { return dimacs::judge_min(shipping, flows, Amounts(3)); });
-    throws_length("fewer distances", [&] { return dimacs::certify_paths({4, tails, heads, caps}, 1, Amounts(3)); });
-    throws_length("no kind", [&] { return dimacs::convert(static_cast<Text>(99), max); });
+    throws_length("fewer flows", [&] { return dimacs::certify_max(network, Amounts{1}); },
+                  "flows has 1 items, and there are 5 arcs");
+    throws_length("fewer heads", [&] { return dimacs::solve_max({4, 1, 4, tails, Ids{2}, caps}); },
+                  "heads has 1 items, and there are 5 arcs");
+    throws_length("more marks", [&] { return dimacs::judge_infeasible(shipping, Inside(5)); },
+                  "inside has 5 items, and there are 4 nodes");
+    throws_length("fewer potentials", [&] { return dimacs::judge_min(shipping, flows, Amounts(3)); },
+                  "potentials has 3 items, and there are 4 nodes");
+    throws_length("fewer distances", [&] { return dimacs::certify_paths({4, tails, heads, caps}, 1, Amounts(3)); },
+                  "distances has 3 items, and there are 4 nodes");
+    throws_length("no kind", [&] { return dimacs::convert(static_cast<Text>(99), max); },
+                  "an array has another length than it has to have");
     throws_limit(
         "a head",
         [&] {

@@ -115,22 +115,38 @@ pub struct SolvedPaths {
     pub predecessors: Vec<u32>,
 }
 
+/// The library tests lengths too, but doesn't report which one is wrong.
+fn test(array: &'static str, items: usize, wanted: usize) -> Result<(), Error> {
+    if items == wanted {
+        return Ok(());
+    }
+    Err(Error::WrongLength { array, items, wanted })
+}
+
 impl MaxInstance<'_> {
-    fn raw(&self) -> Max {
-        Max {
+    fn raw(&self) -> Result<Max, Error> {
+        let arcs = self.tails.len();
+        test("heads", self.heads.len(), arcs)?;
+        test("caps", self.caps.len(), arcs)?;
+        Ok(Max {
             nodes: self.nodes,
             source: self.source,
             sink: self.sink,
             tails: Array::of(self.tails),
             heads: Array::of(self.heads),
             caps: Array::of(self.caps),
-        }
+        })
     }
 }
 
 impl MinInstance<'_> {
-    fn raw(&self) -> Min {
-        Min {
+    fn raw(&self) -> Result<Min, Error> {
+        let by_arc = [("heads", self.heads.len()), ("lows", self.lows.len()), ("caps", self.caps.len())];
+        for (array, items) in by_arc.into_iter().chain([("costs", self.costs.len())]) {
+            test(array, items, self.tails.len())?;
+        }
+        test("supplies", self.supplies.len(), self.nodes as usize)?;
+        Ok(Min {
             nodes: self.nodes,
             tails: Array::of(self.tails),
             heads: Array::of(self.heads),
@@ -138,18 +154,20 @@ impl MinInstance<'_> {
             caps: Array::of(self.caps),
             costs: Array::of(self.costs),
             supplies: Array::of(self.supplies),
-        }
+        })
     }
 }
 
 impl Graph<'_> {
-    fn raw(&self) -> RawGraph {
-        RawGraph {
+    fn raw(&self) -> Result<RawGraph, Error> {
+        test("heads", self.heads.len(), self.tails.len())?;
+        test("weights", self.weights.len(), self.tails.len())?;
+        Ok(RawGraph {
             nodes: self.nodes,
             tails: Array::of(self.tails),
             heads: Array::of(self.heads),
             weights: Array::of(self.weights),
-        }
+        })
     }
 }
 
@@ -160,8 +178,7 @@ fn line_of(status: u32, line: Room<u8>) -> Result<String, Error> {
         DONE => Ok(line),
         GAVE_UP => Err(Error::GaveUp),
         NO_MEMORY => Err(Error::OutOfMemory),
-        MISUSED if line.is_empty() => Err(Error::WrongLength),
-        MISUSED => Err(Error::PastLimit(refused(&line)?)),
+        MISUSED if !line.is_empty() => Err(Error::PastLimit(refused(&line)?)),
         REFUSED => Err(Error::Refused(refused(&line)?)),
         _ => Ok(unknown_status(status)?),
     }
@@ -185,7 +202,9 @@ fn line_or_better(status: u32, line: Room<u8>, better: Room<i64>) -> Result<Stri
 /// assert_eq!(judge_max(&pipe, &[6], &[true, false]).unwrap_err().to_string(), "x arc 1 NotSaturated");
 /// ```
 pub fn judge_max(instance: &MaxInstance, flows: &[i64], inside: &[bool]) -> Result<i128, Error> {
-    let (instance, mut line) = (instance.raw(), Room::new(LINE)?);
+    test("flows", flows.len(), instance.tails.len())?;
+    test("inside", inside.len(), instance.nodes as usize)?;
+    let (instance, mut line) = (instance.raw()?, Room::new(LINE)?);
     // The pointers and lengths are those of slices that outlive the call, a bool is a byte that is 0 or 1, and what is
     // written is borrowed alone. So it is in all calls here.
     let status = unsafe {
@@ -215,7 +234,9 @@ pub fn judge_max(instance: &MaxInstance, flows: &[i64], inside: &[bool]) -> Resu
 /// assert_eq!(judge_min(&road, &[2, 3], &[2, 0]).unwrap_err().to_string(), "x arc 1 NotTight");
 /// ```
 pub fn judge_min(instance: &MinInstance, flows: &[i64], potentials: &[i64]) -> Result<i128, Error> {
-    let (instance, mut line) = (instance.raw(), Room::new(LINE)?);
+    test("flows", flows.len(), instance.tails.len())?;
+    test("potentials", potentials.len(), instance.nodes as usize)?;
+    let (instance, mut line) = (instance.raw()?, Room::new(LINE)?);
     let status = unsafe {
         ffi::dimacs_judge_min_arrays(
             &instance,
@@ -242,7 +263,8 @@ pub fn judge_min(instance: &MinInstance, flows: &[i64], potentials: &[i64]) -> R
 /// assert_eq!(judge_infeasible(&road, &[true, false]), Ok(()));
 /// ```
 pub fn judge_infeasible(instance: &MinInstance, inside: &[bool]) -> Result<(), Error> {
-    let (instance, mut line) = (instance.raw(), Room::new(LINE)?);
+    test("inside", inside.len(), instance.nodes as usize)?;
+    let (instance, mut line) = (instance.raw()?, Room::new(LINE)?);
     let status = unsafe {
         ffi::dimacs_judge_infeasible_arrays(
             &instance,
@@ -266,7 +288,9 @@ pub fn judge_infeasible(instance: &MinInstance, inside: &[bool]) -> Result<(), E
 /// assert_eq!(judge_paths(&street, 1, &[0, 299, UNREACHED], &[0, 1, 0]).unwrap_err().to_string(), "x node 2 NoTightArc");
 /// ```
 pub fn judge_paths(graph: &Graph, source: u32, distances: &[i64], predecessors: &[u32]) -> Result<(), Error> {
-    let (graph, mut line) = (graph.raw(), Room::new(LINE)?);
+    test("distances", distances.len(), graph.nodes as usize)?;
+    test("predecessors", predecessors.len(), graph.nodes as usize)?;
+    let (graph, mut line) = (graph.raw()?, Room::new(LINE)?);
     let status = unsafe {
         ffi::dimacs_judge_paths_arrays(
             &graph,
@@ -292,11 +316,12 @@ pub fn judge_paths(graph: &Graph, source: u32, distances: &[i64], predecessors: 
 /// let pipe = MaxInstance { nodes: 2, source: 1, sink: 2, tails: &[1], heads: &[2], caps: &[7] };
 /// assert_eq!(certify_max(&pipe, &[7]).unwrap().inside, [true, false]);
 /// assert_eq!(certify_max(&pipe, &[6]), Err(Error::NotOptimal(vec![7])));
-/// assert_eq!(certify_max(&pipe, &[]), Err(Error::WrongLength));
+/// assert_eq!(certify_max(&pipe, &[]), Err(Error::WrongLength { array: "flows", items: 0, wanted: 1 }));
 /// ```
 pub fn certify_max(instance: &MaxInstance, flows: &[i64]) -> Result<CertifiedMax, Error> {
+    test("flows", flows.len(), instance.tails.len())?;
     let (mut line, mut inside) = (Room::new(LINE)?, Room::<u8>::new(room_for(instance.nodes))?);
-    let (instance, mut better) = (instance.raw(), Room::new(flows.len())?);
+    let (instance, mut better) = (instance.raw()?, Room::new(flows.len())?);
     let status = unsafe {
         ffi::dimacs_certify_max_arrays(
             &instance,
@@ -331,8 +356,9 @@ pub fn certify_max(instance: &MaxInstance, flows: &[i64]) -> Result<CertifiedMax
 /// assert_eq!(certify_min(&road, &[3, 3]).unwrap_err().to_string(), "x node 1 Balance");
 /// ```
 pub fn certify_min(instance: &MinInstance, flows: &[i64]) -> Result<CertifiedMin, Error> {
+    test("flows", flows.len(), instance.tails.len())?;
     let (mut line, mut potentials) = (Room::new(LINE)?, Room::new(room_for(instance.nodes))?);
-    let (instance, mut better) = (instance.raw(), Room::new(flows.len())?);
+    let (instance, mut better) = (instance.raw()?, Room::new(flows.len())?);
     let status = unsafe {
         ffi::dimacs_certify_min_arrays(
             &instance,
@@ -367,7 +393,7 @@ pub fn certify_min(instance: &MinInstance, flows: &[i64]) -> Result<CertifiedMin
 /// ```
 pub fn certify_infeasible(instance: &MinInstance) -> Result<Vec<bool>, Error> {
     let (mut line, mut inside) = (Room::new(LINE)?, Room::<u8>::new(room_for(instance.nodes))?);
-    let (mut flows, instance) = (Room::new(instance.tails.len())?, instance.raw());
+    let (mut flows, instance) = (Room::new(instance.tails.len())?, instance.raw()?);
     let status = unsafe {
         ffi::dimacs_certify_infeasible_arrays(
             &instance,
@@ -400,8 +426,9 @@ pub fn certify_infeasible(instance: &MinInstance) -> Result<Vec<bool>, Error> {
 /// assert_eq!(certify_paths(&street, 1, &[0, 301, UNREACHED]).unwrap_err().to_string(), "x arc 1 NotShortest");
 /// ```
 pub fn certify_paths(graph: &Graph, source: u32, distances: &[i64]) -> Result<Vec<u32>, Error> {
+    test("distances", distances.len(), graph.nodes as usize)?;
     let (mut line, mut predecessors) = (Room::new(LINE)?, Room::new(room_for(graph.nodes))?);
-    let graph = graph.raw();
+    let graph = graph.raw()?;
     let status = unsafe {
         ffi::dimacs_certify_paths_arrays(
             &graph,
@@ -430,7 +457,7 @@ pub fn certify_paths(graph: &Graph, source: u32, distances: &[i64]) -> Result<Ve
 /// ```
 pub fn solve_max(instance: &MaxInstance, limit: u64) -> Result<SolvedMax, Error> {
     let (mut line, mut flows) = (Room::new(LINE)?, Room::new(instance.tails.len())?);
-    let (mut inside, instance) = (Room::<u8>::new(room_for(instance.nodes))?, instance.raw());
+    let (mut inside, instance) = (Room::<u8>::new(room_for(instance.nodes))?, instance.raw()?);
     let status = unsafe {
         ffi::dimacs_solve_max_arrays(
             &instance,
@@ -467,7 +494,7 @@ pub fn solve_min(instance: &MinInstance, limit: u64) -> Result<SolvedMin, Error>
     let (mut line, mut flows) = (Room::new(LINE)?, Room::new(instance.tails.len())?);
     let (mut potentials, mut inside) =
         (Room::new(room_for(instance.nodes))?, Room::<u8>::new(room_for(instance.nodes))?);
-    let instance = instance.raw();
+    let instance = instance.raw()?;
     let status = unsafe {
         ffi::dimacs_solve_min_arrays(
             &instance,
@@ -503,7 +530,7 @@ pub fn solve_min(instance: &MinInstance, limit: u64) -> Result<SolvedMin, Error>
 /// ```
 pub fn solve_paths(graph: &Graph, source: u32) -> Result<SolvedPaths, Error> {
     let (mut distances, mut predecessors) = (Room::new(room_for(graph.nodes))?, Room::new(room_for(graph.nodes))?);
-    let (mut line, graph) = (Room::new(LINE)?, graph.raw());
+    let (mut line, graph) = (Room::new(LINE)?, graph.raw()?);
     let status = unsafe {
         ffi::dimacs_solve_paths_arrays(
             &graph,

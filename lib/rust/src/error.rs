@@ -60,7 +60,14 @@ pub enum Error<Flow, Set> {
     /// A number of an instance in arrays is past its limit: the first one. Nothing was judged.
     PastLimit(Refused),
     /// An array has a wrong length. Nothing was judged.
-    WrongLength,
+    WrongLength {
+        /// The name of the array.
+        array: &'static str,
+        /// How many items it has.
+        items: usize,
+        /// How many there have to be: one for each arc, of which there are as many as tails, or for each node.
+        wanted: usize,
+    },
     /// The words that are to be explained aren't a command with its files.
     NoCommand,
     /// Out of memory: the claim is undecided.
@@ -76,9 +83,11 @@ impl<Flow, Set> fmt::Display for Error<Flow, Set> {
             Error::NotOptimal(_) => out.write_str("there is a better flow"),
             Error::Infeasible(_) => out.write_str("no flow is feasible"),
             Error::Feasible(_) => out.write_str("a flow is feasible"),
-            Error::GaveUp => out.write_str("a limit was reached"),
+            Error::GaveUp => out.write_str("the limit was reached, or what was found is out of range"),
             Error::PastLimit(refused) => write!(out, "a number is past its limit: {refused}"),
-            Error::WrongLength => out.write_str("an array has another length than it has to have"),
+            Error::WrongLength { array, items, wanted } => {
+                write!(out, "{array} has {items} items, and there have to be {wanted}")
+            }
             Error::NoCommand => out.write_str("the words aren't a command with its files"),
             Error::OutOfMemory => out.write_str("there was not enough memory"),
             Error::UnknownAnswer(answer) => write!(out, "libdimacs answers what the crate doesn't know: {answer}"),

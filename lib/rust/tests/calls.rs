@@ -25,7 +25,10 @@ fn refusals_have_places() {
 
 #[test]
 fn misuse_is_no_refusal() {
-    assert_eq!(arrays::judge_max(&ARC, &[7], &[true]), Err(Error::WrongLength));
+    assert_eq!(
+        arrays::judge_max(&ARC, &[7], &[true]),
+        Err(Error::WrongLength { array: "inside", items: 1, wanted: 2 })
+    );
     let below = MaxInstance { caps: &[-1], ..ARC };
     assert_eq!(arrays::solve_max(&below, 9), Err(Error::PastLimit(refused(Place::Arc(1), "BoundOrder"))));
     let many = MaxInstance { nodes: u32::MAX, ..ARC };

@@ -82,7 +82,6 @@ fn over_slices() {
     let counts = [
         refuse_each(|| arrays::judge_max(&PIPES, &[4, 4], &[true, true, false])),
         refuse_each(|| arrays::judge_max(&PIPES, &[4, 3], &[true, true, false])),
-        refuse_each(|| arrays::judge_max(&PIPES, &[4, 4], &[])),
         refuse_each(|| arrays::judge_max(&MaxInstance { sink: 1, ..PIPES }, &[4, 4], &[true; 3])),
         refuse_each(|| arrays::certify_max(&PIPES, &[4, 4])),
         refuse_each(|| arrays::certify_max(&PIPES, &[3, 3])),
