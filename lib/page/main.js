@@ -64,20 +64,28 @@ function about(slot, text, isBad = false) {
     place.classList.toggle("bad", isBad);
 }
 
-/** Hands a text to the worker, and shows what it says of it. With another instance the last one's certificate goes. */
-async function hold(source, name, slot, came) {
+/**
+ * Hands a text to the worker, and shows what it says of it, unless another one was typed after `at` changes. With another
+ * instance the last one's certificate goes.
+ */
+async function hold({source, name, slot, came, at}) {
+    const by = worker;
     try {
-        const got = await ask("hold", {source, file: name, slot});
-        const {instance, certificate} = slots, own = slots[got.slot];
-        if (!own.isHeld && own.source !== source) return;  // it was typed over meanwhile
+        const got = await ask("hold", {source, file: name, slot}), {instance, certificate} = slots;
+        if (slots[got.slot].typed > at) return;
         const isNext = got.slot === "instance" && instance.source !== "" && instance.came !== came;
         slots[got.slot] = {source, name, isHeld: true, came};
         show(got, source, name);
         if (isNext && certificate.source !== "" && certificate.came !== came) {
-            await hold("", "", "certificate", came);
+            await hold({source: "", name: "", slot: "certificate", came, at});
             about("certificate", "The last instance's certificate was removed.");
         }
     } catch (why) {
+        if (by !== worker) return;  // stopped: it is held before the next run
+        if (slot && slots[slot].source === source) {
+            slots[slot] = {...slots[slot], source: "", isHeld: true};
+            $(slot).value = "";
+        }
         about(slot ?? "instance", why.message, true);
     }
     ready();
@@ -101,7 +109,10 @@ function queue(work) {
     return pending;
 }
 
-const take = (source, name, slot, came) => queue(() => hold(source, name, slot, came));
+function take(source, name, slot, came) {
+    const at = changes;
+    return queue(() => hold({source, name, slot, came, at}));
+}
 
 /** Hands over what the worker doesn't have yet, as what was typed just now. */
 function flush() {
@@ -122,13 +133,15 @@ function give(files, slot) {
 
 function typed(slot) {
     clearTimeout(slots[slot].timer);
-    changed();
-    slots[slot] = {...slots[slot], source: $(slot).value, name: "", isHeld: false, timer: setTimeout(flush, PAUSE)};
+    const now = {source: $(slot).value, name: "", isHeld: false, typed: changed()};
+    slots[slot] = {...slots[slot], ...now, timer: setTimeout(flush, PAUSE)};
     ready();
 }
 
 function clear(slot) {
-    flush();
+    clearTimeout(slots[slot].timer);
+    slots[slot].isHeld = true;
+    $(slot).value = "";
     return take("", "", slot, changed());
 }
 
@@ -337,8 +350,9 @@ async function example({kind, texts}) {
     const came = changed();
     for (const slot of SLOTS) {
         const [name, text] = texts[slot] ?? ["", ""];
-        await take(text, name, slot, came);
+        take(text, name, slot, came);
     }
+    await pending;
     $("kind").value = kind;
 }
 

@@ -258,6 +258,9 @@ const TESTS = {
         await person.example("queries and labels");
         await person.drop(`[new File([${quoted(MAX)}], "one.max")]`, "instance");
         assert.equal(await person.page.evaluate(`${element("certificate")}.value`), "");
+        await person.example("queries and labels");
+        await person.clear("instance");
+        assert.equal(await person.page.evaluate(`${element("certificate")}.value`), "");
         const texts = {"one.cut": "p cut 2 1\nu 1\n", "one.max": MAX, "one.solution": "s 4\nf 1 2 4\n"};
         const files = Object.entries(texts).map(([name, content]) => `new File([${quoted(content)}], ${quoted(name)})`);
         await person.drop(`[${files}]`);
@@ -359,6 +362,12 @@ const TESTS = {
         await until(person.page, settled);
         await person.clear("instance");
         assert.equal(await person.page.evaluate(`${element("instance")}.value`), "");
+    },
+    "an example that is checked before it is read": async (person) => {
+        await person.example("a flow of least cost");
+        await person.page.evaluate(`void (${button("a maximum flow")}.click(), ${button("Check")}.click())`);
+        await until(person.page, `${settled} && !document.getElementById("answer").hidden`);
+        assert.equal((await person.answer()).line, "v max 12");
     },
     "keys and labels": async (person) => {
         await person.example("a maximum flow");
