@@ -44,7 +44,7 @@ struct LoneNode {
 /// Reads the first line, if it has the plain form.
 ///
 /// Each reading `R` has its own copy, in which the kind is a constant and the compiler drops the other forms.
-#[inline]
+#[inline(always)]
 pub(crate) fn plain_line<R: Reading>(kind: TextKind, bytes: &[u8]) -> Option<PlainLine>
     ensures { IfSome result (λ line. SpellsFirst kind bytes.now line.rec line.size) }
 {
