@@ -1,19 +1,18 @@
 -- One more record of labels while their text is read.
-use Rattle.std.proofs.Common.{◌≡◌, ◌≢◌, ℕ, zero, suc, ◌<◌, ◌≤◌, ◌+◌, ◌-◌, ◌∷◌, ◌++◌, [], List, true, false, inl, inr, Option, Some, None, length, map, refl, ap, ap₂, sym, ◌∙◌, subst, arith, append_assoc}
-use Rattle.std.specs.Prelude.{ℤ, IfSome, ◌||◌, not, pos, is_some, is_none, nat_le, slice_get, slice_index_or, slice_set, ◌==◌}
+use Rattle.std.proofs.Common.{◌≡◌, ℕ, zero, suc, ◌<◌, ◌≤◌, ◌+◌, ◌-◌, ◌∷◌, ◌++◌, [], List, Bool, true, false, inl, inr, Option, Some, None, length, drop, take, take_all, map, add-one, drop-cons, refl, ap, ap₂, sym, ◌∙◌, subst, arith, append_assoc}
+use Rattle.std.specs.Prelude.{ℤ, IfSome, ◌&&◌, ◌||◌, if◌then◌else◌, not, pos, is_some, is_none, nat_le, slice_get, slice_index_or, slice_set, ◌==◌}
 use Rattle.std.specs.List.{All, list_any}
 use Rattle.std.specs.Ordering.{nat_cmp}
+use Rattle.std.specs.Cmp.{nat_cmp_total, nat_eq_equiv, unsigned_tied}
+use Rattle.std.specs.FinSet.{FinSet, contains, same_set, nat_cmp-IsAntisymmetric}
 use Rattle.std.specs.FinSet as set
-use Rattle.std.proofs.Math.Bool.{or-false, or-true}
 use Rattle.std.proofs.Math.Seq.{get_or-append_seam, set-append_seam}
 use Rattle.std.proofs.lemmas.Bool.{cases_eq, eq-eqb, le-leb, leb-false, lt-leb, ltb-false, ne_eqb, not-false, or_parts}
-use Rattle.std.proofs.lemmas.Bool.Decides.{nat_tests}
-use Rattle.std.proofs.lemmas.List.{length-append, length-map}
+use Rattle.std.proofs.lemmas.List.{drop_all, length-append, length-map, take-append-le}
 use Rattle.std.proofs.lemmas.List.Elements.{All-pop, All-push, All-nil}
 use Rattle.std.proofs.lemmas.List.Folds.{list_any-append}
 use Rattle.dimacs_lines.specs.Limits.{most_count, most_nodes}
-use Rattle.dimacs_network.specs.declared.node_table.NodeTable.{NodeTable}
-use Rattle.dimacs_network.specs.Tables.{value_of}
+use Rattle.dimacs_network.proofs.Nodes.{contains-empty, contains-insert}
 use Rattle.dimacs_records.specs.declared.kinds.TextKind.TheVariants.{Labels}
 use Rattle.dimacs_records.specs.declared.order.Earlier.{Earlier}
 use Rattle.dimacs_records.specs.declared.records.Record.{Record}
@@ -25,7 +24,7 @@ use Rattle.dimacs_records.specs.Readings.{LineRecord, records_of}
 use Rattle.dimacs_records.specs.Spelling.{kind_of}
 use Rattle.dimacs_records.specs.Tests.{Passes, PassesEnd, after_records, earlier_of, noted_at_end, noted_before}
 use Rattle.dimacs_claims.specs.declared.block.Label.{Label}
-use Rattle.dimacs_claims.specs.Labels.{AreSources, BlockValue, EachAfter, IsBlock, IsNewSource, distance_in, label, with_label, has_source}
+use Rattle.dimacs_claims.specs.Labels.{AreSources, BlockValue, EachAfter, IsBlock, IsNewSource, distance_in, label, no_label, with_label, has_source}
 use Rattle.dimacs_claims.specs.LabelTexts.{GivesLabels, label_line}
 use Rattle.dimacs_claims.specs.LabelsReading.{LabelsBegun, lines_of_blocks, labels_begun_records, after_lines, before, before_end}
 use Rattle.dimacs_claims.specs.inside.LabelsReading.{AreLabelled, AreLabelsBegun}
@@ -199,50 +198,85 @@ added_last items new now n l len got is front b e =
     let same : now ≡ b = got ∙ (ap₂ (λ xs k. slice_index_or xs k now) e at ∙ get_or-append_seam front b [] now) in
     ap₂ (λ xs k. slice_set xs k new) e at ∙ (set-append_seam front b [] new ∙ ap (λ x. front ++ x ∷ []) (is ∙ ap (λ x. with_label x l) same))
 
--- ---- the number of the last block with a label of a node
-pub labelled_none : (labelled : NodeTable ℕ) → ((id : ℕ) → value_of labelled id ≡ 0) → AreLabelled labelled []
-labelled_none labelled none = record {
-  few = λ id. omega (arith, none id);
-  last = λ front b is. absurd (omega (arith, ap length is, length-append front (b ∷ [])));
-}
+-- ---- the nodes with a label in the last block
+pub labelled_none : AreLabelled set.empty []
+labelled_none = record { none = λ _. refl; last = λ front b is. absurd (omega (arith, ap length is, length-append front (b ∷ []))) }
 
-pub labelled_opened : (labelled : NodeTable ℕ) (blocks : List BlockValue) (source : ℕ) (radius : Option ℤ) → AreLabelled labelled blocks → AreLabelled labelled (blocks ++ record { source = source; radius = radius; labels = [] } ∷ [])
-labelled_opened labelled blocks source radius are =
+pub labelled_opened : (blocks : List BlockValue) (source : ℕ) (radius : Option ℤ) → AreLabelled set.empty (blocks ++ record { source = source; radius = radius; labels = [] } ∷ [])
+labelled_opened blocks source radius =
     let opened : BlockValue = record { source = source; radius = radius; labels = [] } in
-    let size : length (blocks ++ opened ∷ []) ≡ length blocks + 1 = omega (arith, length-append blocks (opened ∷ [])) in
     record {
-      few = λ id. omega (arith, size, are.few id);
+      none = λ _. refl;
       last = λ front b is id.
           let none : b.labels ≡ [] = sym (ap (λ (x : BlockValue). x.labels) (push_same blocks front opened b is)) in
-          rw none (unequal (value_of labelled id) _ (omega (arith, size, are.few id)));
+          rw none (contains-empty id);
     }
-  where
-    unequal : (m n : ℕ) → m < n → (m == n) ≡ false
-    unequal m n less = grind (arith, nat_tests, less)
+
+or_swapped : (s t : Bool) → (s || t) ≡ (t || s)
+or_swapped true true = refl
+or_swapped true false = refl
+or_swapped false true = refl
+or_swapped false false = refl
 
 -- the last block has one more label
-pub labelled_more : (old new : NodeTable ℕ) (blocks front : List BlockValue) (b : BlockValue) (l : Label) → blocks ≡ front ++ b ∷ [] → AreLabelled old blocks → value_of new l.id ≡ length blocks → ((id : ℕ) → id ≢ l.id → value_of new id ≡ value_of old id) → AreLabelled new (front ++ with_label b l ∷ [])
-labelled_more old new blocks front b l is are here others =
-    let size : length (front ++ with_label b l ∷ []) ≡ length blocks = omega (arith, ap length is, length-append front (b ∷ []), length-append front (with_label b l ∷ [])) in
-    record {
-      few = λ id. elim (cases_eq id l.id) [
-        | inl same ↦ omega (arith, ap (value_of new) same, here, size)
-        | inr off ↦ omega (arith, others id off, are.few id, size)
-      ];
-      last = λ f last last_is id.
-          let with_is : b.labels ++ l ∷ [] ≡ last.labels = ap (λ (x : BlockValue). x.labels) (push_same front f (with_label b l) last last_is) in
-          rw (size, ← with_is) (elim (cases_eq id l.id) [
-            | inl same ↦
-                eq-eqb (value_of new id) (length blocks) (ap (value_of new) same ∙ here)
-                ∙ sym (is_some-push b.labels l id ∙ (ap (λ t. is_some (distance_in b.labels id) || t) (eq-eqb l.id id (sym same)) ∙ or-true (is_some (distance_in b.labels id))))
-            | inr off ↦
-                ap (λ n. n == length blocks) (others id off)
-                ∙ (are.last front b is id ∙ sym (is_some-push b.labels l id ∙ (ap (λ t. is_some (distance_in b.labels id) || t) (ne_eqb l.id id (λ e. off (sym e))) ∙ or-false (is_some (distance_in b.labels id)))))
-          ]);
-    }
+pub labelled_more : (labelled : FinSet nat_cmp) (blocks front : List BlockValue) (b : BlockValue) (l : Label) → blocks ≡ front ++ b ∷ [] → AreLabelled labelled blocks → AreLabelled (set.insert labelled l.id) (front ++ with_label b l ∷ [])
+labelled_more labelled blocks front b l is are = record {
+  none = λ e. absurd (omega (arith, ap length e, length-append front (with_label b l ∷ [])));
+  last = λ f last last_is id.
+      let with_is : b.labels ++ l ∷ [] ≡ last.labels = ap (λ (x : BlockValue). x.labels) (push_same front f (with_label b l) last last_is) in
+      rw (← with_is) (
+      contains-insert labelled l.id id
+      ∙ ap₂ (λ t u. t || u) (nat_eq_equiv.symm id l.id) (are.last front b is id)
+      ∙ or_swapped (l.id == id) (is_some (distance_in b.labels id))
+      ∙ sym (is_some-push b.labels l id));
+}
 
-pub begun_has_label : (labelled : NodeTable ℕ) (blocks front : List BlockValue) (b : BlockValue) (id : ℕ) → AreLabelled labelled blocks → blocks ≡ front ++ b ∷ [] → ((b.source == id) || (value_of labelled id == length blocks)) ≡ is_some (label b id)
+insert_removed : (nodes : FinSet nat_cmp) (id : ℕ) → contains nodes id ≡ false → set.remove (set.insert nodes id) id ≡ nodes
+insert_removed nodes id fresh =
+    same_set nat_cmp_total nat_cmp-IsAntisymmetric _ _ (λ q.
+    elim (cases_eq q id) [
+      | inl same ↦ removed nodes id q true (eq-eqb q id same) ∙ sym (ap (contains nodes) same ∙ fresh)
+      | inr apart ↦ removed nodes id q false (ne_eqb q id apart)
+    ])
+  where
+    removed : (nodes : FinSet nat_cmp) (id q : ℕ) (t : Bool) → (q == id) ≡ t → contains (set.remove (set.insert nodes id) id) q ≡ (not t && (t || contains nodes q))
+    removed nodes id q t is =
+        set.contains-remove nat_cmp_total (set.insert nodes id) id q
+        ∙ ap₂ (λ s u. not s && u) (unsigned_tied q id ∙ is) (contains-insert nodes id q ∙ ap (λ s. s || contains nodes q) is)
+
+-- a label that could not be added is forgotten
+pub labelled_again : (labelled : FinSet nat_cmp) (blocks front : List BlockValue) (b : BlockValue) (id : ℕ) → blocks ≡ front ++ b ∷ [] → is_some (label b id) ≡ false → AreLabelled labelled blocks → AreLabelled (set.remove (set.insert labelled id) id) blocks
+labelled_again labelled blocks front b id is fresh are =
+    rw (insert_removed labelled id (are.last front b is id ∙ (or_parts (b.source == id) _ (sym (some_if (b.source == id) (pos 0) (distance_in b.labels id)) ∙ fresh)).1)) are
+
+pub begun_has_label : (labelled : FinSet nat_cmp) (blocks front : List BlockValue) (b : BlockValue) (id : ℕ) → AreLabelled labelled blocks → blocks ≡ front ++ b ∷ [] → ((b.source == id) || contains labelled id) ≡ is_some (label b id)
 begun_has_label labelled blocks front b id are is = ap (λ t. (b.source == id) || t) (are.last front b is id) ∙ sym (some_if (b.source == id) (pos 0) (distance_in b.labels id))
+
+pub take_before : {X : Type 0} (xs : List X) (x : X) (n : ℕ) → n ≡ length xs → take n (xs ++ x ∷ []) ≡ xs
+take_before xs x n is = rw is (take-append-le (length xs) xs (x ∷ []) (omega arith) ∙ take_all (length xs) xs (omega arith))
+
+-- nodes with a label from place i on, one of which is removed
+pub removed_more : (labels : List Label) (i : ℕ) (nodes : FinSet nat_cmp) → i < length labels → ((id : ℕ) → contains nodes id ≡ true → is_some (distance_in (drop i labels) id) ≡ true)
+    → (id : ℕ) → contains (set.remove nodes (slice_index_or labels i no_label).id) id ≡ true → is_some (distance_in (drop (i + 1) labels) id) ≡ true
+removed_more labels i nodes inside have id there =
+    let l = slice_index_or labels i no_label in
+    let stays : (not (id == l.id) && contains nodes id) ≡ true =
+    ap (λ t. not t && contains nodes id) (sym (unsigned_tied id l.id)) ∙ sym (set.contains-remove nat_cmp_total nodes l.id id) ∙ there in
+    elim (cases_eq id l.id) [
+      | inl same ↦ absurd (cc (stays, eq-eqb id l.id same))
+      | inr apart ↦
+          let had = have id (ap (λ t. not t && contains nodes id) (sym (ne_eqb id l.id apart)) ∙ stays) in
+          let split : drop i labels ≡ l ∷ drop (i + 1) labels = drop-cons labels i no_label inside ∙ ap (λ k. l ∷ drop k labels) (sym (add-one i)) in
+          sym (ap (λ ls. is_some (distance_in ls id)) split ∙ ap (λ t. is_some (if t then Some l.dist else distance_in (drop (i + 1) labels) id)) (ne_eqb l.id id (λ e. apart (sym e)))) ∙ had
+    ]
+
+pub removed_all : (labels : List Label) (n : ℕ) (nodes : FinSet nat_cmp) → length labels ≤ n → ((id : ℕ) → contains nodes id ≡ true → is_some (distance_in (drop n labels) id) ≡ true) → nodes ≡ set.empty
+removed_all labels n nodes past have =
+    same_set nat_cmp_total nat_cmp-IsAntisymmetric _ _ (λ id. absent (contains nodes id) (λ there. sym (ap (λ ls. is_some (distance_in ls id)) (drop_all n labels past)) ∙ have id there) ∙ sym (contains-empty id))
+  where
+    absent : (t : Bool) → (t ≡ true → false ≡ true) → t ≡ false
+    absent true none = absurd (cc (none refl))
+    absent false none = refl
 
 pub unlabelled : (x : Option ℤ) → is_some x ≡ false → x ≡ None
 unlabelled None e = refl

@@ -1,6 +1,6 @@
 //! Labels: claimed distances with predecessors.
 
-ghost use Rattle.std.specs.Prelude.{◌≡◌, ◌<◌, ◌≤◌, ◌++◌, ◌∷◌, [], ℕ, ℤ, List, Option, Some, None, OnOk, OnErr, IfOk, IfSome, is_some, length, map, option_map, refl, slice_get};
+ghost use Rattle.std.specs.Prelude.{◌≡◌, ◌<◌, ◌≤◌, ◌++◌, ◌∷◌, [], ℕ, ℤ, List, Option, Some, None, OnOk, OnErr, IfOk, IfSome, IsTrue, is_some, length, map, option_map, refl, slice_get, take};
 ghost use Rattle.dimacs_lines.specs.Limits.{most_count, most_nodes};
 ghost use Rattle.dimacs_lines.specs.Lines.{lines};
 ghost use Rattle.dimacs_lines.specs.OutputBuffers.{Appends};
@@ -14,7 +14,7 @@ ghost use Rattle.dimacs_records.specs.Tests.{Passes, PassesEnd};
 ghost use Rattle.dimacs_records.specs.Texts.{Reads};
 ghost use Rattle.dimacs_claims.specs.inside.ById.{AreIndexed};
 ghost use Rattle.dimacs_claims.specs.Labels as claims;
-ghost use Rattle.dimacs_claims.specs.Labels.{AreLabels, AreSources, BlockValue, IsBlock, IsNewSource, LabelsValue, label_at, with_block, with_label};
+ghost use Rattle.dimacs_claims.specs.Labels.{AreLabels, AreSources, BlockValue, IsBlock, IsNewSource, LabelsValue, distance_in, label_at, with_block, with_label};
 ghost use Rattle.std.specs.FinSet as set;
 ghost use Rattle.std.specs.List.{All};
 ghost use Rattle.std.specs.Ordering.{nat_cmp};
@@ -23,12 +23,13 @@ ghost use Rattle.dimacs_claims.specs.DistanceTexts.{bare};
 ghost use Rattle.dimacs_claims.specs.LabelTexts.{FitText, GivesLabels, SpellsLabels, block_lines, canonical_labels, label_line, label_records};
 ghost use Rattle.dimacs_claims.specs.inside.Lines.{in_kind, line_in_kind};
 ghost use Rattle.dimacs_claims.specs.LabelsReading.{labels_begun_records, after_lines, before, before_end};
-ghost use Rattle.dimacs_claims.specs.inside.LabelsReading.{AreLabelsBegun};
+ghost use Rattle.dimacs_claims.specs.inside.LabelsReading.{AreLabelled, AreLabelsBegun};
 
 use crate::block::{Block, Label};
 use crate::by_id::{ById, distance_by};
+use crate::label_list::LabelList;
 use dimacs_lines::{DeviceFault, Memory, OutputBuffer, Sink, Source};
-use dimacs_network::{NodeSet, NodeTable};
+use dimacs_network::NodeSet;
 use dimacs_records::{
     Builder, CountedReading, Declared, Earlier, ReadError, Record, TextKind, read_counted,
     write_lines, write_record,
@@ -147,8 +148,8 @@ pub struct LabelsBuilder {
     /// How many labels the last block still lacks.
     missing: u32,
     sources: NodeSet,
-    /// For each node, the number of the last block with a label of it, from 1; 0 for none.
-    labelled: NodeTable<u32>,
+    /// The nodes with a label in the last block.
+    labelled: NodeSet,
     blocks: Vec<Block>,
 }
 
@@ -178,7 +179,7 @@ impl LabelsBuilder {
             declared,
             missing: 0,
             sources: NodeSet::new(alloc),
-            labelled: NodeTable::new(alloc, 0),
+            labelled: NodeSet::new(alloc),
             blocks: Vec::new(alloc),
         }
     }
@@ -210,7 +211,7 @@ impl LabelsBuilder {
         ensures { (front : List BlockValue) (b : BlockValue) → self.now.blocks ≡ front ++ b ∷ [] → b.source ≡ source
             → result ≡ is_some (claims.label b id) }
     {
-        source == id || self.labelled.get(id) == self.len()
+        source == id || self.labelled.contains(id)
     }
 
     /// The source of the last block; 0 without blocks.
@@ -284,11 +285,13 @@ impl LabelsBuilder {
         ensures unchanged { OnErr result (self.new ≡ self.old) }
     {
         let block = Block::within(*self.blocks.allocator(), source, radius);
+        let count_before = self.blocks.len();
         self.blocks.push(block)?;
         let Ok(()) = self.sources.insert(source) else {
             self.blocks.pop();
             return Err(Memory);
         };
+        forget_labels(&mut self.labelled, &self.blocks, count_before);
         self.missing = count;
         Ok(())
     }
@@ -305,12 +308,38 @@ impl LabelsBuilder {
             → self.new.blocks ≡ front ++ with_label b label ∷ []) }
         ensures unchanged { OnErr result (self.new ≡ self.old) }
     {
-        let number = self.len();
-        let place = self.labelled.reserve(label.id)?;
-        add_to_last(&mut self.blocks, label)?;
-        self.labelled.put(place, number);
+        self.labelled.insert(label.id)?;
+        let Ok(()) = add_to_last(&mut self.blocks, label) else {
+            self.labelled.remove(label.id);
+            return Err(Memory);
+        };
         self.missing -= 1;
         Ok(())
+    }
+}
+
+/// Removes all nodes of a set: those with a label in the last of the first `count` blocks.
+fn forget_labels(labelled: &mut NodeSet, blocks: &[Block], count: usize)
+    requires within { count ≤ length blocks.now }
+    requires labelled { AreLabelled labelled.old (take count blocks.now) }
+    ensures { labelled.new ≡ set.empty }
+{
+    if count > 0 {
+        remove_all(labelled, blocks[count - 1].labels());
+    }
+}
+
+/// Removes all nodes of a set, each of which has one of these labels: one by one, if that is faster.
+fn remove_all(nodes: &mut NodeSet, labels: &LabelList)
+    requires { (id : ℕ) → IsTrue (set.contains nodes.old id) → IsTrue (is_some (distance_in labels.now id)) }
+    ensures { nodes.new ≡ set.empty }
+{
+    if labels.len() >= nodes.bytes() / 64 {
+        nodes.clear();
+        return;
+    }
+    for place in 0..labels.len() {
+        nodes.remove(labels.at(place).id);
     }
 }
 

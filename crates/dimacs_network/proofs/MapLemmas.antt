@@ -40,11 +40,12 @@ module _ {T : Type 0} where
         | inr apart ↦ get-with_option_other (values_below f n) n id (f n) apart ∙ get-values_below f n id (omega arith)
       ]
 
-module _ {A T : Type 0} (make : A → Option T) where
-  value_of-past : (table : NodeTable A) (id : ℕ) → 64 * reach_of table ≤ id → value_of table id ≡ blank_of table
+module _ {A : Type 0} where
+  pub value_of-past : (table : NodeTable A) (id : ℕ) → 64 * reach_of table ≤ id → value_of table id ≡ blank_of table
   value_of-past table id past =
       slot_value-no_page table.blank table.directory.items table.slots.items id table.numbered (get_or_past table.directory.items (id / 64) NO_PAGE (omega (arith, past)))
 
+module _ {A T : Type 0} (make : A → Option T) where
   pub get-made_of : (table : NodeTable A) (id : ℕ) → make (blank_of table) ≡ None → get (made_of make table) id ≡ make (value_of table id)
   unfolding made_of
   get-made_of table id blank =

@@ -63,6 +63,11 @@ module _ {T : Type 0} (blank : T) where
   unfolding slot_value
   slot_value-put_other directory slots id other value is inside apart = get_or-set_other slots (place_of directory id) (place_of directory other) value blank (λ same. apart (apart_places directory (length slots) id other is inside same))
 
+  -- the values of IDs with another slot, or none
+  pub slot_value-put_elsewhere : (directory : List ℕ) (slots : List T) (place other : ℕ) (value : T) → place < length slots → ¬ ((place ≡ place_of directory other) × (place_of directory other < length slots)) → slot_value blank directory (set slots place value) other ≡ slot_value blank directory slots other
+  unfolding slot_value
+  slot_value-put_elsewhere directory slots place other value inside off = get_or-set_other slots place (place_of directory other) value blank (λ same. off (sym same, omega (arith, same, inside)))
+
   pub replicate_blank : (n i : ℕ) → get_or (replicate n blank) i blank ≡ blank
   replicate_blank n i = elim (cases_lt i n) [
     | inl inside ↦ get_or-replicate n i blank blank inside

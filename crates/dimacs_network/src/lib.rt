@@ -1,9 +1,9 @@
 //! Nodes and networks: values by node, sets of nodes, and how arcs are stored and found by their ends.
 //!
-//! Values are kept in pages of 64 IDs. Memory is allocated only for pages in use, and for a directory up to the
-//! greatest of them: never for a count that a text merely declares. A network is a list of arcs in the order of the
-//! text. Judges use only the trait `Network`, whose implementations may store arcs as they like. A contract has a table
-//! as a function of the ID, and a network as its list.
+//! Values are kept in pages of 64 IDs, sets, with a bit for each node, in pages of 512. Memory is allocated only for
+//! pages in use, and for a directory up to the greatest of them: never for a count that a text merely declares. A
+//! network is a list of arcs in the order of the text. Judges use only the trait `Network`, whose implementations may
+//! store arcs as they like. A contract has a table as a function of the ID, and a network as its list.
 #![tactic(auto)]
 
 mod adjacency_lists;

@@ -112,6 +112,7 @@ impl<T: Copy> NodeTable<T> {
         requires { place < slots_in self.old }
         ensures set { (id : ℕ) → IsSlot self.old id place → value_of self.new id ≡ value }
         ensures others { (id other : ℕ) → IsSlot self.old id place → other ≢ id → value_of self.new other ≡ value_of self.old other }
+        ensures elsewhere { (other : ℕ) → ¬ IsSlot self.old other place → value_of self.new other ≡ value_of self.old other }
         ensures slots_stay { (other : ℕ) → HasSlot self.old other → HasSlot self.new other }
         ensures same_blank { blank_of self.new ≡ blank_of self.old }
         ensures no_memory { (reach_of self.new ≡ reach_of self.old) × (slots_in self.new ≡ slots_in self.old) }

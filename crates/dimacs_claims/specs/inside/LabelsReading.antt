@@ -1,9 +1,9 @@
 -- Inside: labels while their text is read.
-use Rattle.std.specs.Prelude.{ℕ, ◌≡◌, ◌≤◌, ◌+◌, List, [], ◌∷◌, ◌++◌, length, is_some, ◌==◌}
+use Rattle.std.specs.Prelude.{ℕ, ◌≡◌, ◌≤◌, ◌+◌, List, [], ◌∷◌, ◌++◌, length, is_some}
 use Rattle.std.specs.List.{All}
+use Rattle.std.specs.Ordering.{nat_cmp}
+use Rattle.std.specs.FinSet.{FinSet, contains, empty}
 use Rattle.dimacs_lines.specs.Limits.{most_count, most_nodes}
-use Rattle.dimacs_network.specs.declared.node_table.NodeTable.{NodeTable}
-use Rattle.dimacs_network.specs.Tables.{value_of}
 use Rattle.dimacs_claims.specs.Labels.{BlockValue, EachAfter, IsBlock, IsNewSource, distance_in}
 use Rattle.dimacs_claims.specs.LabelsReading.{LabelsBegun}
 
@@ -21,8 +21,8 @@ pub record AreLabelsBegun (begun : LabelsBegun) : Type 0 where
   pub blocks : All (IsBlock begun.nodes) begun.blocks
   pub sources : EachAfter IsNewSource begun.blocks
 
--- the table has for each node the number of the last block with a label of it, from 1
-pub record AreLabelled (labelled : NodeTable ℕ) (blocks : List BlockValue) : Type 0 where
-  pub few : (id : ℕ) → value_of labelled id ≤ length blocks
+-- the set has the nodes with a label in the last block
+pub record AreLabelled (labelled : FinSet nat_cmp) (blocks : List BlockValue) : Type 0 where
+  pub none : blocks ≡ [] → labelled ≡ empty
   pub last : (front : List BlockValue) (b : BlockValue) → blocks ≡ front ++ b ∷ [] → (id : ℕ)
-      → (value_of labelled id == length blocks) ≡ is_some (distance_in b.labels id)
+      → contains labelled id ≡ is_some (distance_in b.labels id)

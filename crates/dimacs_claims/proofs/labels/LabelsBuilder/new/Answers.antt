@@ -5,4 +5,4 @@ use Rattle.dimacs_claims.proofs.labels.LabelsBuilder.new.Goals as goal
 
 pub invariant_of-result : goal.invariant_of-result
 invariant_of-result c =
-    rw (c.new.ensures, c.new-3.ensures.items) (nothing_begun c.args.nodes c.args.declared c.requires.nodes c.requires.declared, λ id. contains-empty nat_cmp id, labelled_none _ c.new-2.ensures.values)
+    rw (c.new.ensures, c.new-2.ensures, c.new-3.ensures.items) (nothing_begun c.args.nodes c.args.declared c.requires.nodes c.requires.declared, λ id. contains-empty nat_cmp id, labelled_none)

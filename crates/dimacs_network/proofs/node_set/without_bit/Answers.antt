@@ -1,0 +1,9 @@
+use Rattle.std.proofs.Common.{w8, ap, ◌%◌, ◌==◌, arith}
+use Rattle.std.proofs.lemmas.Nat.Bits.{bit_at_clear_same, bit_at_clear_other}
+use Rattle.dimacs_network.proofs.node_set.without_bit.Goals as goal
+
+pub returns : goal.returns
+returns c = record {
+  clear = ap (λ b. b == 1) (bit_at_clear_same w8 c.args.byte (c.args.id % 8) (omega arith));
+  others = λ other off. ap (λ b. b == 1) (bit_at_clear_other w8 c.args.byte (c.args.id % 8) (omega arith) (other % 8) (omega arith) off);
+}
