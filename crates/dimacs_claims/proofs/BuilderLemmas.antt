@@ -14,7 +14,7 @@ use Rattle.std.proofs.lemmas.List.Folds.{list_any-append}
 use Rattle.dimacs_lines.specs.Limits.{most_count, most_nodes}
 use Rattle.dimacs_network.proofs.Nodes.{contains-empty, contains-insert}
 use Rattle.dimacs_records.specs.declared.kinds.TextKind.TheVariants.{Labels}
-use Rattle.dimacs_records.specs.declared.order.Earlier.{Earlier}
+use Rattle.dimacs_records.specs.declared.order.Context.{Context}
 use Rattle.dimacs_records.specs.declared.records.Record.{Record}
 use Rattle.dimacs_records.specs.declared.records.Record.TheVariants.{LabelsProblem, LabelsBlock, LabelsNode}
 use Rattle.dimacs_records.specs.Blocks.{block_in, is_full_block, is_labelled, is_past, is_past_block, is_short_block}
@@ -22,46 +22,46 @@ use Rattle.dimacs_records.specs.Earlier.{is_short, names}
 use Rattle.dimacs_records.specs.Ranges.{IsRadius, IsWide}
 use Rattle.dimacs_records.specs.Readings.{LineRecord, records_of}
 use Rattle.dimacs_records.specs.Spelling.{kind_of}
-use Rattle.dimacs_records.specs.Tests.{Passes, PassesEnd, after_records, earlier_of, noted_at_end, noted_before}
+use Rattle.dimacs_records.specs.Tests.{Passes, PassesEnd, plain_context_after, plain_context_of, end_context_of, context_after}
 use Rattle.dimacs_claims.specs.declared.block.Label.{Label}
 use Rattle.dimacs_claims.specs.Labels.{AreSources, BlockValue, EachAfter, IsBlock, IsNewSource, distance_in, label, no_label, with_label, has_source}
 use Rattle.dimacs_claims.specs.LabelTexts.{GivesLabels, label_line}
-use Rattle.dimacs_claims.specs.LabelsReading.{LabelsBegun, lines_of_blocks, labels_begun_records, after_lines, before, before_end}
+use Rattle.dimacs_claims.specs.LabelsReading.{LabelsBegun, lines_of_blocks, labels_begun_records, plain_context, context, end_context}
 use Rattle.dimacs_claims.specs.inside.LabelsReading.{AreLabelled, AreLabelsBegun}
 use Rattle.dimacs_claims.proofs.BlockLemmas.{label_id, near_radius, is_some-label, is_some-push, some_if, block_empty, block_push, each_after_nil, each_after_push}
-use Rattle.dimacs_claims.proofs.LabelRecords.{source_of, opened_with, last_after, last_cases, last_is, say_taken, short_noted, list_any-has_source, lines_of_blocks-push_block, lines_of_blocks-push_label, lines_of_blocks-zero, new_source, push_same}
+use Rattle.dimacs_claims.proofs.LabelRecords.{source_of, opened_with, last_after, last_cases, last_is, say_taken, short_by_records, list_any-has_source, lines_of_blocks-push_block, lines_of_blocks-push_label, lines_of_blocks-zero, new_source, push_same}
 
 -- what the tests know follows from the records
-pub lines_noted : (b : LabelsBegun) → after_lines b ≡ after_records (labels_begun_records b)
-lines_noted b = ap (earlier_of (after_lines b).problem) (sym ((say_taken b).counted ∙ length-map b.blocks source_of))
+pub plain_context_by_records : (b : LabelsBegun) → plain_context b ≡ plain_context_after (labels_begun_records b)
+plain_context_by_records b = ap (plain_context_of (plain_context b).problem) (sym ((say_taken b).counted ∙ length-map b.blocks source_of))
 
-pub source_noted : (begun : LabelsBegun) (source : ℕ) → list_any (names source) (labels_begun_records begun) ≡ list_any (has_source source) begun.blocks
-source_noted begun source = (say_taken begun).named source ∙ sym (list_any-has_source source begun.blocks)
+pub source_by_records : (begun : LabelsBegun) (source : ℕ) → list_any (names source) (labels_begun_records begun) ≡ list_any (has_source source) begun.blocks
+source_by_records begun source = (say_taken begun).named source ∙ sym (list_any-has_source source begun.blocks)
 
-pub before_noted : (b : LabelsBegun) (r : Record) → kind_of r ≡ Labels → before b r ≡ noted_before (labels_begun_records b) r
-before_noted b (LabelsProblem nodes blocks) of_kind = lines_noted b
-before_noted b (LabelsBlock source count radius) of_kind = ap (λ (e : Earlier). record (before b (LabelsBlock source count radius)) { problem = e.problem; counted = e.counted }) (lines_noted b)
-before_noted b (LabelsNode id dist pred) of_kind = ap (λ (e : Earlier). record (before b (LabelsNode id dist pred)) { problem = e.problem; counted = e.counted }) (lines_noted b)
-before_noted b r of_kind = absurd (cc)
+pub context_by_records : (b : LabelsBegun) (r : Record) → kind_of r ≡ Labels → context b r ≡ context_after (labels_begun_records b) r
+context_by_records b (LabelsProblem nodes blocks) of_kind = plain_context_by_records b
+context_by_records b (LabelsBlock source count radius) of_kind = ap (λ (e : Context). record (context b (LabelsBlock source count radius)) { problem = e.problem; counted = e.counted }) (plain_context_by_records b)
+context_by_records b (LabelsNode id dist pred) of_kind = ap (λ (e : Context). record (context b (LabelsNode id dist pred)) { problem = e.problem; counted = e.counted }) (plain_context_by_records b)
+context_by_records b r of_kind = absurd (cc)
 
-pub end_noted : (b : LabelsBegun) → before_end b ≡ noted_at_end Labels (labels_begun_records b)
-end_noted b = ap (λ (e : Earlier). record (before_end b) { problem = e.problem; counted = e.counted }) (lines_noted b)
+pub end_context_by_records : (b : LabelsBegun) → end_context b ≡ end_context_of Labels (labels_begun_records b)
+end_context_by_records b = ap (λ (e : Context). record (end_context b) { problem = e.problem; counted = e.counted }) (plain_context_by_records b)
 
 -- a complete state gives its labels
-pub gives_labels : (b : LabelsBegun) → AreLabelsBegun b → PassesEnd Labels (before_end b) → (rs : List LineRecord) → records_of rs ≡ labels_begun_records b → GivesLabels rs (record { nodes = b.nodes; blocks = b.blocks })
+pub gives_labels : (b : LabelsBegun) → AreLabelsBegun b → PassesEnd Labels (end_context b) → (rs : List LineRecord) → records_of rs ≡ labels_begun_records b → GivesLabels rs (record { nodes = b.nodes; blocks = b.blocks })
 gives_labels begun are passes rs is =
-    let parts = or_parts (is_short_block (block_in (labels_begun_records begun))) (is_short (after_lines begun).problem (length begun.blocks)) passes.finished in
+    let parts = or_parts (is_short_block (block_in (labels_begun_records begun))) (is_short (plain_context begun).problem (length begun.blocks)) passes.finished in
     let full : begun.declared ≡ length begun.blocks = omega (arith, ltb-false (length begun.blocks) begun.declared parts.1, are.no_more) in
-    let none : begun.missing ≡ 0 = omega (arith, ltb-false 0 begun.missing (sym (short_noted begun are.none_lack) ∙ parts.0)) in (
+    let none : begun.missing ≡ 0 = omega (arith, ltb-false 0 begun.missing (sym (short_by_records begun are.none_lack) ∙ parts.0)) in (
       is ∙ ap₂ (λ n rs. LabelsProblem begun.nodes n ∷ rs) full (ap (λ m. lines_of_blocks m begun.blocks) none ∙ lines_of_blocks-zero begun.blocks),
       record { nodes_few = are.nodes_few; blocks_few = omega (arith, are.no_more, are.blocks_few); blocks = are.blocks; sources = are.sources },
     )
 
-pub passes_of : (b c : LabelsBegun) (r : Record) → b ≡ c → Passes (before c r) r → Passes (before b r) r
-passes_of b c r same passes = subst (λ (t : LabelsBegun). Passes (before t r) r) (sym same) passes
+pub passes_of : (b c : LabelsBegun) (r : Record) → b ≡ c → Passes (context c r) r → Passes (context b r) r
+passes_of b c r same passes = subst (λ (t : LabelsBegun). Passes (context t r) r) (sym same) passes
 
 -- one more block, which passes the tests and has no labels yet
-module _ (begun : LabelsBegun) (are : AreLabelsBegun begun) (source count : ℕ) (radius : Option ℤ) (passes : Passes (before begun (LabelsBlock source count radius)) (LabelsBlock source count radius)) where
+module _ (begun : LabelsBegun) (are : AreLabelsBegun begun) (source count : ℕ) (radius : Option ℤ) (passes : Passes (context begun (LabelsBlock source count radius)) (LabelsBlock source count radius)) where
   abbrev pub opened_block : BlockValue
   opened_block = record { source = source; radius = radius; labels = [] }
 
@@ -71,7 +71,7 @@ module _ (begun : LabelsBegun) (are : AreLabelsBegun begun) (source count : ℕ)
   pub begun_block : 1 ≤ source → count ≤ most_count → IfSome radius IsRadius → AreLabelsBegun with_opened
   begun_block least few radius_within =
       let within = ltb-false begun.nodes source passes.second_within in
-      let new = sym (source_noted begun source) ∙ passes.new_node in
+      let new = sym (source_by_records begun source) ∙ passes.new_node in
       let room = leb-false begun.declared (length begun.blocks) passes.room in
       let longer = length-append begun.blocks (opened_block ∷ []) in
       record {
@@ -86,7 +86,7 @@ module _ (begun : LabelsBegun) (are : AreLabelsBegun begun) (source count : ℕ)
 
   pub pushed_block : labels_begun_records with_opened ≡ labels_begun_records begun ++ LabelsBlock source count radius ∷ []
   pushed_block =
-      let none : begun.missing ≡ 0 = omega (arith, ltb-false _ _ (sym (short_noted begun are.none_lack) ∙ passes.full_block)) in
+      let none : begun.missing ≡ 0 = omega (arith, ltb-false _ _ (sym (short_by_records begun are.none_lack) ∙ passes.full_block)) in
       ap (λ rs. LabelsProblem begun.nodes begun.declared ∷ rs) (lines_of_blocks-push_block begun.blocks source count radius ∙ ap (λ m. lines_of_blocks m begun.blocks ++ LabelsBlock source count radius ∷ []) (sym none))
 
 -- if b is the last block
@@ -94,8 +94,8 @@ module _ (begun : LabelsBegun) (front : List BlockValue) (b : BlockValue) (is : 
   pub in_last : block_in (labels_begun_records begun) ≡ Some (opened_with begun.missing b)
   in_last = (say_taken begun).block ∙ last_is begun.blocks begun.missing (front, b, is)
 
-  pub label_noted : record (after_lines begun) { named = is_some (label b l.id); block_full = begun.missing == 0; pred_unknown = not (is_some (label b l.pred)); past_radius = is_past b.radius l.dist } ≡ before begun (label_line l)
-  label_noted = rw (in_last, is_some-label b l.id, is_some-label b l.pred, full (length b.labels) begun.missing (length (map label_id b.labels)) (length-map b.labels label_id)) refl
+  pub label_by_records : record (plain_context begun) { named = is_some (label b l.id); block_full = begun.missing == 0; pred_unknown = not (is_some (label b l.pred)); past_radius = is_past b.radius l.dist } ≡ context begun (label_line l)
+  label_by_records = rw (in_last, is_some-label b l.id, is_some-label b l.pred, full (length b.labels) begun.missing (length (map label_id b.labels)) (length-map b.labels label_id)) refl
     where
       full : (n m k : ℕ) → k ≡ n → nat_le (n + m) k ≡ (m == 0)
       full n zero k same = le-leb (n + 0) k (omega (arith, same))
@@ -113,7 +113,7 @@ pub record Fits (begun : LabelsBegun) (l : Label) : Type 0 where
   pub known : is_some (label b l.pred) ≡ true
   pub within_radius : is_past b.radius l.dist ≡ false
 
-pub fits : (begun : LabelsBegun) (l : Label) → Passes (before begun (label_line l)) (label_line l) → Fits begun l
+pub fits : (begun : LabelsBegun) (l : Label) → Passes (context begun (label_line l)) (label_line l) → Fits begun l
 fits begun l passes = elim (last_cases begun.blocks) [
   | inl none ↦ absurd (cc (passes.placed, ap is_none ((say_taken begun).block ∙ ap (last_after begun.missing None) none)))
   | inr h ↦

@@ -17,7 +17,7 @@ use Rattle.dimacs_network.proofs.Nodes.{contains-insert, contains-empty}
 use Rattle.dimacs_records.specs.declared.kinds.TextKind.TheVariants as kinds
 use Rattle.dimacs_records.specs.declared.records.Record.{Record}
 use Rattle.dimacs_records.specs.declared.records.Record.TheVariants.{CutProblem, CutNode}
-use Rattle.dimacs_records.specs.declared.order.Earlier.{Earlier}
+use Rattle.dimacs_records.specs.declared.order.Context.{Context}
 use Rattle.dimacs_records.specs.Earlier.{names, counted_in}
 use Rattle.dimacs_records.specs.Canonical.{CanBeSpelled}
 use Rattle.dimacs_records.specs.Forms.{form, Word, Nodes, Count, Id}
@@ -27,8 +27,8 @@ use Rattle.dimacs_records.proofs.CanonicalLaws.{canonical_spelled, numbered_all}
 use Rattle.dimacs_records.proofs.ConditionLemmas.{is_allowed, is_complete, allowed_at}
 use Rattle.dimacs_records.proofs.SplitLemmas.{image_at, All-at}
 use Rattle.dimacs_claims.specs.Cuts.{CutValue, IsCut, AreNamed, GivesCut, SpellsCut, canonical_cut, cut_records, empty_cut, ids_in, is_id, with_node}
-use Rattle.dimacs_records.specs.Tests.{Passes, after_records, earlier_of, noted_before}
-use Rattle.dimacs_claims.specs.CutReading.{CutBegun, IsCutBegunBy, after_lines, before}
+use Rattle.dimacs_records.specs.Tests.{Passes, plain_context_after, plain_context_of, context_after}
+use Rattle.dimacs_claims.specs.CutReading.{CutBegun, IsCutBegunBy, plain_context, context}
 use Rattle.dimacs_records.specs.Spelling.{kind_of}
 use Rattle.dimacs_claims.proofs.NodeLists.{passing_once, passing_few, none_passing, All-passing, passing_listed, passing_more}
 use Rattle.dimacs_records.proofs.CountLemmas.{once_before, once_more}
@@ -89,16 +89,16 @@ law_with_node c id law node = record { nodes_few = law.nodes_few; within = λ ot
     by_test other false apart e = law.within other (sym (ap (λ b. b || contains c.ids other) apart) ∙ e)
 
 -- what the tests know follows from the records
-pub lines_noted : (b : CutBegun) (rs : List Record) → IsCutBegunBy b rs → after_lines b ≡ after_records rs
-lines_noted b rs h = rw h.records (ap (earlier_of (after_lines b).problem) (h.count ∙ sym (counted h.named)))
+pub plain_context_by_records : (b : CutBegun) (rs : List Record) → IsCutBegunBy b rs → plain_context b ≡ plain_context_after rs
+plain_context_by_records b rs h = rw h.records (ap (plain_context_of (plain_context b).problem) (h.count ∙ sym (counted h.named)))
 
-named_noted : (b : CutBegun) (rs : List Record) (id : ℕ) → IsCutBegunBy b rs → list_any (names id) rs ≡ contains b.cut.ids id
-named_noted b rs id h = rw h.records (any_names id h.named ∙ sym (contains_named b.cut.ids h.named id h.ids))
+named_by_records : (b : CutBegun) (rs : List Record) (id : ℕ) → IsCutBegunBy b rs → list_any (names id) rs ≡ contains b.cut.ids id
+named_by_records b rs id h = rw h.records (any_names id h.named ∙ sym (contains_named b.cut.ids h.named id h.ids))
 
-pub before_noted : (b : CutBegun) (r : Record) → kind_of r ≡ kinds.Cut → (rs : List Record) → IsCutBegunBy b rs → before b r ≡ noted_before rs r
-before_noted b (CutProblem n k) of_kind rs h = lines_noted b rs h
-before_noted b (CutNode id) of_kind rs h = ap₂ (λ (e : Earlier) t. record e { named = t }) (lines_noted b rs h) (sym (named_noted b rs id h))
-before_noted b r of_kind rs h = absurd (cc)
+pub context_by_records : (b : CutBegun) (r : Record) → kind_of r ≡ kinds.Cut → (rs : List Record) → IsCutBegunBy b rs → context b r ≡ context_after rs r
+context_by_records b (CutProblem n k) of_kind rs h = plain_context_by_records b rs h
+context_by_records b (CutNode id) of_kind rs h = ap₂ (λ (e : Context) t. record e { named = t }) (plain_context_by_records b rs h) (sym (named_by_records b rs id h))
+context_by_records b r of_kind rs h = absurd (cc)
 
 -- the state after a problem line
 pub begins : (n k : ℕ) → n ≤ most_nodes → IsCutBegunBy (record { declared = k; cut = empty_cut n }) (CutProblem n k ∷ [])
@@ -113,7 +113,7 @@ begins n k few = record {
 }
 
 -- one more node, which passes the tests
-pub more : (b : CutBegun) (id : ℕ) → 1 ≤ id → Passes (before b (CutNode id)) (CutNode id) → (rs : List Record) → IsCutBegunBy b rs
+pub more : (b : CutBegun) (id : ℕ) → 1 ≤ id → Passes (context b (CutNode id)) (CutNode id) → (rs : List Record) → IsCutBegunBy b rs
     → IsCutBegunBy (record b { cut = with_node b.cut id }) (rs ++ CutNode id ∷ [])
 more b id least p rs h =
     let node : IsNode b.cut.nodes id = (least, grind (arith, nat_tests, p.second_within)) in

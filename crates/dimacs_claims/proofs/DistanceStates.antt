@@ -5,44 +5,44 @@ use Rattle.std.specs.List.{All}
 use Rattle.std.proofs.lemmas.Bool.{eq-eqb, le-ltb}
 use Rattle.std.proofs.lemmas.List.Elements.{All-nil, All-pop, All-push}
 use Rattle.dimacs_records.specs.declared.kinds.TextKind.TheVariants.{Labels, Distances}
-use Rattle.dimacs_records.specs.declared.order.Earlier.{Earlier}
+use Rattle.dimacs_records.specs.declared.order.Context.{Context}
 use Rattle.dimacs_records.specs.declared.records.Record.{Record}
 use Rattle.dimacs_records.specs.declared.records.Record.TheVariants.{LabelsBlock, LabelsNode, DistancesProblem, DistancesBlock, DistancesNode}
 use Rattle.dimacs_records.specs.Blocks.{block_in, is_labelled, is_past, is_past_block}
 use Rattle.dimacs_records.specs.Readings.{LineRecord, numbered, records_of}
 use Rattle.dimacs_records.specs.Spelling.{kind_of}
-use Rattle.dimacs_records.specs.Tests.{Passes, PassesEnd, noted_at_end, noted_before}
+use Rattle.dimacs_records.specs.Tests.{Passes, PassesEnd, end_context_of, context_after}
 use Rattle.dimacs_records.proofs.CanonicalLaws.{numbered_all}
 use Rattle.dimacs_claims.specs.declared.block.Label.{Label}
 use Rattle.dimacs_claims.specs.DistanceTexts.{AreBare, GivesDistances, IsBare, bare}
 use Rattle.dimacs_claims.specs.Labels.{BlockValue, IsBlock, LabelsValue, with_block, with_label}
 use Rattle.dimacs_claims.specs.LabelTexts.{GivesLabels}
-use Rattle.dimacs_claims.specs.LabelsReading.{LabelsBegun, before, before_bare, before_end, labels_begun_records}
+use Rattle.dimacs_claims.specs.LabelsReading.{LabelsBegun, context, bare_context, end_context, labels_begun_records}
 use Rattle.dimacs_claims.specs.inside.LabelsReading.{AreLabelsBegun}
-use Rattle.dimacs_claims.proofs.BuilderLemmas.{end_noted, in_last, lines_noted, before_noted}
+use Rattle.dimacs_claims.proofs.BuilderLemmas.{end_context_by_records, in_last, plain_context_by_records, context_by_records}
 use Rattle.dimacs_claims.proofs.DistanceLaws.{bare_counted_in, bare_full, bare_labelled, bare_misplaced, bare_named, bare_problem_in, bare_short}
 use Rattle.dimacs_claims.proofs.LabelRecords.{HasLast, last_after, last_cases, say_taken}
 
 -- what the tests know follows from the records
-pub bare_noted : (b : LabelsBegun) (r : Record) → kind_of r ≡ Distances → before_bare b r ≡ noted_before (map bare (labels_begun_records b)) r
-bare_noted b (DistancesProblem nodes blocks) is =
+pub bare_by_records : (b : LabelsBegun) (r : Record) → kind_of r ≡ Distances → bare_context b r ≡ context_after (map bare (labels_begun_records b)) r
+bare_by_records b (DistancesProblem nodes blocks) is =
     let rs = labels_begun_records b in
-    rw (bare_problem_in rs, bare_counted_in rs) (lines_noted b)
-bare_noted b (DistancesBlock source count) is =
+    rw (bare_problem_in rs, bare_counted_in rs) (plain_context_by_records b)
+bare_by_records b (DistancesBlock source count) is =
     let rs = labels_begun_records b in
-    rw (bare_problem_in rs, bare_counted_in rs, bare_named source rs, bare_short rs) (before_noted b (LabelsBlock source count None) refl)
-bare_noted b (DistancesNode id dist) is =
+    rw (bare_problem_in rs, bare_counted_in rs, bare_named source rs, bare_short rs) (context_by_records b (LabelsBlock source count None) refl)
+bare_by_records b (DistancesNode id dist) is =
     let rs = labels_begun_records b in
-    rw (bare_problem_in rs, bare_counted_in rs, bare_misplaced rs, bare_labelled id rs, bare_full rs) (ap (λ (e : Earlier). record e { pred_unknown = false; past_radius = false }) (before_noted b (LabelsNode id dist id) refl))
-bare_noted b r is = absurd (cc)
+    rw (bare_problem_in rs, bare_counted_in rs, bare_misplaced rs, bare_labelled id rs, bare_full rs) (ap (λ (e : Context). record e { pred_unknown = false; past_radius = false }) (context_by_records b (LabelsNode id dist id) refl))
+bare_by_records b r is = absurd (cc)
 
-pub bare_end_noted : (b : LabelsBegun) → before_end b ≡ noted_at_end Distances (map bare (labels_begun_records b))
-bare_end_noted b =
+pub bare_end_context_by_records : (b : LabelsBegun) → end_context b ≡ end_context_of Distances (map bare (labels_begun_records b))
+bare_end_context_by_records b =
     let rs = labels_begun_records b in
-    rw (bare_problem_in rs, bare_counted_in rs, bare_short rs) (end_noted b)
+    rw (bare_problem_in rs, bare_counted_in rs, bare_short rs) (end_context_by_records b)
 
 -- distances that pass the tests at the end pass them as labels
-pub whole_passes : (e : Earlier) → PassesEnd Distances e → PassesEnd Labels e
+pub whole_passes : (e : Context) → PassesEnd Distances e → PassesEnd Labels e
 whole_passes e p = record { problem = p.problem; ends = p.ends; finished = p.finished; value = refl }
 
 pub gives_distances : (begun : LabelsBegun) (labels : LabelsValue) → ((rs : List LineRecord) → records_of rs ≡ labels_begun_records begun → GivesLabels rs labels) → AreBare labels
@@ -74,7 +74,7 @@ bare_more blocks front b l is all same =
 
 -- a line of distances that passes the tests passes them as a label whose predecessor is the source
 pub label_passes : (begun : LabelsBegun) (id : ℕ) (dist : ℤ) (pred : ℕ) → AreLabelsBegun begun → All IsBare begun.blocks → ((front : List BlockValue) (b : BlockValue) → begun.blocks ≡ front ++ b ∷ [] → pred ≡ b.source)
-    → Passes (before_bare begun (DistancesNode id dist)) (DistancesNode id dist) → Passes (before begun (LabelsNode id dist pred)) (LabelsNode id dist pred)
+    → Passes (bare_context begun (DistancesNode id dist)) (DistancesNode id dist) → Passes (context begun (LabelsNode id dist pred)) (LabelsNode id dist pred)
 label_passes begun id dist pred are bare_ones last p =
     let h = has_last begun p.placed in
     let b = h.1 in

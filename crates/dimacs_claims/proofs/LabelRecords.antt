@@ -110,8 +110,8 @@ pub last_is : (blocks : List BlockValue) (missing : ℕ) (h : HasLast blocks) �
 last_is blocks missing h = ap (last_after missing None) h.2 ∙ last_after-push h.0 h.1 missing None
 
 -- the last block is short if it lacks labels
-pub short_noted : (begun : LabelsBegun) → (begun.blocks ≡ [] → begun.missing ≡ 0) → is_short_block (block_in (labels_begun_records begun)) ≡ nat_lt 0 begun.missing
-short_noted begun only = ap is_short_block (say_taken begun).block ∙ (elim (last_cases begun.blocks) [
+pub short_by_records : (begun : LabelsBegun) → (begun.blocks ≡ [] → begun.missing ≡ 0) → is_short_block (block_in (labels_begun_records begun)) ≡ nat_lt 0 begun.missing
+short_by_records begun only = ap is_short_block (say_taken begun).block ∙ (elim (last_cases begun.blocks) [
   | inl none ↦ ap (λ bs. is_short_block (last_after begun.missing None bs)) none ∙ sym (ap (nat_lt 0) (only none))
   | inr h ↦ ap is_short_block (last_is begun.blocks begun.missing h) ∙ fewer (length h.1.labels) begun.missing (length (map label_id h.1.labels)) (length-map h.1.labels label_id)
 ])

@@ -16,7 +16,7 @@ use Rattle.dimacs_lines.specs.Limits.{most_count, most_nodes, IsNode}
 use Rattle.dimacs_records.specs.declared.kinds.TextKind.TheVariants as kinds
 use Rattle.dimacs_records.specs.declared.records.Record.{Record}
 use Rattle.dimacs_records.specs.declared.records.Record.TheVariants.{PotentialsProblem, PotentialsNode}
-use Rattle.dimacs_records.specs.declared.order.Earlier.{Earlier}
+use Rattle.dimacs_records.specs.declared.order.Context.{Context}
 use Rattle.dimacs_records.specs.Earlier.{names, counted_in}
 use Rattle.dimacs_records.specs.Canonical.{CanBeSpelled, AreLines, records_of_line}
 use Rattle.dimacs_records.specs.Forms.{form, Word, Nodes, Count, Id, Wide}
@@ -29,9 +29,9 @@ use Rattle.dimacs_claims.specs.Cuts.{is_id}
 use Rattle.dimacs_records.specs.Ranges.{IsWide}
 use Rattle.dimacs_claims.specs.Potentials.{PotentialsValue, ArePotentials, GivesPotentials, SpellsPotentials, canonical_potentials, node_line, nonzero_ids, potential_of, potentials_records, with_values, zero_potentials}
 use Rattle.dimacs_records.specs.NodeValues.{NameNodes, has_value, is_nonzero, is_of, without_zeros}
-use Rattle.dimacs_claims.specs.PotentialsReading.{PotentialsBegun, ArePotentialsBegunBy, after_lines, before, has_line}
+use Rattle.dimacs_claims.specs.PotentialsReading.{PotentialsBegun, ArePotentialsBegunBy, plain_context, context, has_line}
 use Rattle.dimacs_claims.specs.inside.PotentialsReading.{potentials_begun}
-use Rattle.dimacs_records.specs.Tests.{Passes, PassesEnd, after_records, earlier_of, noted_before}
+use Rattle.dimacs_records.specs.Tests.{Passes, PassesEnd, plain_context_after, plain_context_of, context_after}
 use Rattle.dimacs_records.specs.Spelling.{kind_of}
 use Rattle.dimacs_claims.proofs.NodeLists.{All-passing, count_map, passing, passing_below, passing_few, passing_listed, passing_once, lines_of_passing}
 use Rattle.dimacs_records.proofs.CountLemmas.{once_before, same_test}
@@ -65,19 +65,19 @@ allows_problem : (n k : ℕ) → IsAllowed [] (PotentialsProblem n k)
 allows_problem n k = is_allowed [] (PotentialsProblem n k) refl
 
 -- what the tests know follows from the records
-pub lines_noted : (b : PotentialsBegun) (rs : List Record) → ArePotentialsBegunBy b rs → after_lines b ≡ after_records rs
-lines_noted b rs h = rw h.records (ap (earlier_of (after_lines b).problem) (h.count ∙ sym (counted h.named)))
+pub plain_context_by_records : (b : PotentialsBegun) (rs : List Record) → ArePotentialsBegunBy b rs → plain_context b ≡ plain_context_after rs
+plain_context_by_records b rs h = rw h.records (ap (plain_context_of (plain_context b).problem) (h.count ∙ sym (counted h.named)))
 
 has_named : (b : PotentialsBegun) (id : ℕ) {rs : List Record} (h : ArePotentialsBegunBy b rs) → has_line b id ≡ list_any (is_of id) h.named
 has_named b id h = ap (λ m. is_some (get m id)) h.values ∙ has-from_entries h.named id
 
-named_noted : (b : PotentialsBegun) (rs : List Record) (id : ℕ) → ArePotentialsBegunBy b rs → list_any (names id) rs ≡ has_line b id
-named_noted b rs id h = rw h.records (any_names id h.named ∙ sym (has_named b id h))
+named_by_records : (b : PotentialsBegun) (rs : List Record) (id : ℕ) → ArePotentialsBegunBy b rs → list_any (names id) rs ≡ has_line b id
+named_by_records b rs id h = rw h.records (any_names id h.named ∙ sym (has_named b id h))
 
-pub before_noted : (b : PotentialsBegun) (r : Record) → kind_of r ≡ kinds.Potentials → (rs : List Record) → ArePotentialsBegunBy b rs → before b r ≡ noted_before rs r
-before_noted b (PotentialsProblem n k) of_kind rs h = lines_noted b rs h
-before_noted b (PotentialsNode id v) of_kind rs h = ap₂ (λ (e : Earlier) t. record e { named = t }) (lines_noted b rs h) (sym (named_noted b rs id h))
-before_noted b r of_kind rs h = absurd (cc)
+pub context_by_records : (b : PotentialsBegun) (r : Record) → kind_of r ≡ kinds.Potentials → (rs : List Record) → ArePotentialsBegunBy b rs → context b r ≡ context_after rs r
+context_by_records b (PotentialsProblem n k) of_kind rs h = plain_context_by_records b rs h
+context_by_records b (PotentialsNode id v) of_kind rs h = ap₂ (λ (e : Context) t. record e { named = t }) (plain_context_by_records b rs h) (sym (named_by_records b rs id h))
+context_by_records b r of_kind rs h = absurd (cc)
 
 -- the state after a problem line
 pub begins : (n k : ℕ) → ArePotentialsBegunBy (record { nodes = n; declared = k; taken = 0; values = empty }) (PotentialsProblem n k ∷ [])
@@ -91,7 +91,7 @@ begins n k = record {
 }
 
 -- one more node, which passes the tests
-module _ (b : PotentialsBegun) (id : ℕ) (v : ℤ) (least : 1 ≤ id) (noted : Passes (before b (PotentialsNode id v)) (PotentialsNode id v)) where
+module _ (b : PotentialsBegun) (id : ℕ) (v : ℤ) (least : 1 ≤ id) (noted : Passes (context b (PotentialsNode id v)) (PotentialsNode id v)) where
   pub node : IsNode b.nodes id
   node = (least, grind (arith, nat_tests, noted.second_within))
 
@@ -111,7 +111,7 @@ module _ (b : PotentialsBegun) (id : ℕ) (v : ℤ) (least : 1 ≤ id) (noted : 
       }
 
 -- a complete state gives its potentials
-pub gives_potentials : (b : PotentialsBegun) → ArePotentials (potentials_begun b) → PassesEnd kinds.Potentials (after_lines b) → (rs : List LineRecord) → ArePotentialsBegunBy b (records_of rs)
+pub gives_potentials : (b : PotentialsBegun) → ArePotentials (potentials_begun b) → PassesEnd kinds.Potentials (plain_context b) → (rs : List LineRecord) → ArePotentialsBegunBy b (records_of rs)
     → GivesPotentials rs (potentials_begun b)
 gives_potentials b law p rs h =
     let full : b.declared ≡ length h.named = grind (arith, nat_tests, p.finished, h.count, h.no_more) in

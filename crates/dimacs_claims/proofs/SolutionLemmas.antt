@@ -20,12 +20,12 @@ use Rattle.dimacs_records.specs.Spelling.{parts_of, texts_in}
 use Rattle.dimacs_records.specs.Forms.{form, Wide, Id, Whole}
 use Rattle.dimacs_records.specs.Canonical.{CanBeSpelled, FitAll, canonical_text}
 use Rattle.dimacs_records.specs.Readings.{LineRecord, AreSpelledBefore, IsOfKind, ReadsLines, IsAllowed, on_line, records_of, numbered}
-use Rattle.dimacs_records.specs.Tests.{Passes, noted_at_end, noted_before}
+use Rattle.dimacs_records.specs.Tests.{Passes, end_context_of, context_after}
 use Rattle.dimacs_records.specs.Texts.{AreSpelled, AreFaultless}
 use Rattle.dimacs_records.proofs.CanonicalLaws.{canonical_spelled}
 use Rattle.dimacs_records.proofs.ConditionLemmas.{is_allowed, is_complete}
 use Rattle.dimacs_records.proofs.FitLaws.{fits_of}
-use Rattle.dimacs_records.proofs.OrderLemmas.{allowed_noted}
+use Rattle.dimacs_records.proofs.OrderLemmas.{allowed_by_records}
 use Rattle.dimacs_records.proofs.ReadLaws.{reads_exactly, spelled_of_faultless}
 use Rattle.dimacs_records.proofs.SplitLemmas.{image_at}
 use Rattle.dimacs_claims.specs.declared.solution.Entry.{Entry}
@@ -33,7 +33,7 @@ use Rattle.dimacs_claims.specs.declared.solution.Solution.{Solution}
 use Rattle.dimacs_claims.specs.declared.solution.ValueLine.{ValueLine}
 use Rattle.dimacs_claims.specs.SolutionTexts.{SolutionValue, GivesSolution, SpellsSolution, IsLawful, IsLawfulEntry, canonical_solution, claimed, entry_line, entry_record, on_lines_from, renumbered, solution_records}
 use Rattle.dimacs_claims.specs.SolutionReading.{AreTaken, StandsForSolution, GivesPlaced, IsPlaced, IsPlacedLawful, AnswersAlike, ReadsLike}
-use Rattle.dimacs_claims.specs.inside.SolutionReading.{earlier_value}
+use Rattle.dimacs_claims.specs.inside.SolutionReading.{value_context}
 
 abbrev IsSolutionLine : LineRecord → Type 0
 IsSolutionLine r = IsOfKind kinds.Solution r.spells
@@ -277,15 +277,15 @@ module _ (holds : List Entry → Type 0) (rs : List LineRecord) where
   say None h = rw h.2 (entries_say h.0)
   say (Some v) h = rw h.2.all_are (value_says h.0 h.2.before h.2.after v.line v.value h.2.others_are)
 
-  pub value_noted : (value : Option ValueLine) (other : ℤ) → StandsForSolution value holds rs → earlier_value value ≡ noted_before (records_of rs) (value_record other)
-  value_noted value other h = let spells = say value h in rw (spells.0, spells.1.0, spells.1.1) refl
+  pub value_by_records : (value : Option ValueLine) (other : ℤ) → StandsForSolution value holds rs → value_context value ≡ context_after (records_of rs) (value_record other)
+  value_by_records value other h = let spells = say value h in rw (spells.0, spells.1.0, spells.1.1) refl
 
-  pub end_noted : (value : Option ValueLine) → StandsForSolution value holds rs → earlier_value value ≡ noted_at_end kinds.Solution (records_of rs)
-  end_noted value h = let spells = say value h in rw (spells.0, spells.1.0, spells.1.1) refl
+  pub end_context_by_records : (value : Option ValueLine) → StandsForSolution value holds rs → value_context value ≡ end_context_of kinds.Solution (records_of rs)
+  end_context_by_records value h = let spells = say value h in rw (spells.0, spells.1.0, spells.1.1) refl
 
-  pub value_placed : (value : Option ValueLine) (line : ℕ) (number : ℤ) → Passes (earlier_value value) (value_record number) → StandsForSolution value holds rs
+  pub value_placed : (value : Option ValueLine) (line : ℕ) (number : ℤ) → Passes (value_context value) (value_record number) → StandsForSolution value holds rs
       → IsAllowed (records_of rs) (value_record number) × StandsForSolution (Some (record { value = number; line = line })) holds (rs ++ on_line line (value_record number) ∷ [])
-  value_placed None line number p h = (allowed_noted (earlier_value None) (records_of rs) (value_record number) p (value_noted None number h), (h.0, h.1, record { before = rs; after = []; others_are = sym h.2 ∙ sym (append-nil rs); all_are = refl }))
+  value_placed None line number p h = (allowed_by_records (value_context None) (records_of rs) (value_record number) p (value_by_records None number h), (h.0, h.1, record { before = rs; after = []; others_are = sym h.2 ∙ sym (append-nil rs); all_are = refl }))
   value_placed (Some v) line number p h = absurd (cc (p.one_value))
 
   pub entry_placed : (value : Option ValueLine) (e : Entry) (more : List Entry → Type 0) → ((es : List Entry) → holds es → more (es ++ e ∷ [])) → StandsForSolution value holds rs

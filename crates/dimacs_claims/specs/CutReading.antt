@@ -6,9 +6,9 @@ use Rattle.std.specs.FinSet.{FinSet, from_list, contains}
 use Rattle.std.specs.FinSet as set
 use Rattle.dimacs_records.specs.declared.records.Record.{Record}
 use Rattle.dimacs_claims.specs.Cuts.{CutValue, IsCut, AreNamed, cut_records, ids_in}
-use Rattle.dimacs_records.specs.declared.order.Earlier.{Earlier}
+use Rattle.dimacs_records.specs.declared.order.Context.{Context}
 use Rattle.dimacs_records.specs.declared.records.Record.TheVariants.{CutNode}
-use Rattle.dimacs_records.specs.Tests.{earlier_of}
+use Rattle.dimacs_records.specs.Tests.{plain_context_of}
 
 -- the declared count, and the nodes so far
 pub record CutBegun : Type 0 where
@@ -32,10 +32,10 @@ abbrev pub begun_code : Coded CutBegun
 begun_code = code_by (ℕ × CutValue) (coded× coded_ℕ cut_code) (λ b. (b.declared, b.cut)) (λ p. record { declared = p.0; cut = p.1 }) (λ _. refl)
 
 -- what the tests need after the problem line and these nodes
-abbrev pub after_lines : CutBegun → Earlier
-after_lines begun = earlier_of (Some (record { nodes = Some begun.cut.nodes; count = begun.declared })) (length (ids_in begun.cut))
+abbrev pub plain_context : CutBegun → Context
+plain_context begun = plain_context_of (Some (record { nodes = Some begun.cut.nodes; count = begun.declared })) (length (ids_in begun.cut))
 
 -- the same for one more record
-abbrev pub before : CutBegun → Record → Earlier
-before begun (CutNode id) = record (after_lines begun) { named = contains begun.cut.ids id }
-before begun r = after_lines begun
+abbrev pub context : CutBegun → Record → Context
+context begun (CutNode id) = record (plain_context begun) { named = contains begun.cut.ids id }
+context begun r = plain_context begun

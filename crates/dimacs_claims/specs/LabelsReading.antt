@@ -5,10 +5,10 @@ use Rattle.dimacs_records.specs.declared.records.Record.{Record}
 use Rattle.dimacs_records.specs.declared.records.Record.TheVariants.{LabelsProblem, LabelsBlock, LabelsNode, DistancesBlock, DistancesNode}
 use Rattle.dimacs_claims.specs.Labels.{BlockValue}
 use Rattle.dimacs_claims.specs.LabelTexts.{label_line}
-use Rattle.dimacs_records.specs.declared.order.Earlier.{Earlier}
+use Rattle.dimacs_records.specs.declared.order.Context.{Context}
 use Rattle.dimacs_records.specs.Blocks.{block_in, is_full_block, is_labelled, is_past_block, is_short_block}
 use Rattle.dimacs_records.specs.Earlier.{names}
-use Rattle.dimacs_records.specs.Tests.{earlier_of}
+use Rattle.dimacs_records.specs.Tests.{plain_context_of}
 
 -- the declared numbers, the blocks so far, and how many labels the last block still lacks
 pub record LabelsBegun : Type 0 where
@@ -36,29 +36,29 @@ abbrev pub labels_begun_records : LabelsBegun → List Record
 labels_begun_records begun = LabelsProblem begun.nodes begun.declared ∷ lines_of_blocks begun.missing begun.blocks
 
 -- what the tests need if blocks don't matter
-abbrev pub after_lines : LabelsBegun → Earlier
-after_lines begun = earlier_of (Some (record { nodes = Some begun.nodes; count = begun.declared })) (length begun.blocks)
+abbrev pub plain_context : LabelsBegun → Context
+plain_context begun = plain_context_of (Some (record { nodes = Some begun.nodes; count = begun.declared })) (length begun.blocks)
 
 -- the same at the end
-abbrev pub before_end : LabelsBegun → Earlier
-before_end begun = record (after_lines begun) { block_short = is_short_block (block_in (labels_begun_records begun)) }
+abbrev pub end_context : LabelsBegun → Context
+end_context begun = record (plain_context begun) { block_short = is_short_block (block_in (labels_begun_records begun)) }
 
 -- the same for one more record
-abbrev pub before : LabelsBegun → Record → Earlier
-before begun (LabelsBlock source count radius) = record (before_end begun) { named = list_any (names source) (labels_begun_records begun) }
-before begun (LabelsNode id dist pred) =
+abbrev pub context : LabelsBegun → Record → Context
+context begun (LabelsBlock source count radius) = record (end_context begun) { named = list_any (names source) (labels_begun_records begun) }
+context begun (LabelsNode id dist pred) =
     let block = block_in (labels_begun_records begun) in
-    record (after_lines begun) {
+    record (plain_context begun) {
       misplaced = is_none block;
       named = is_labelled block id;
       block_full = is_full_block block;
       pred_unknown = not (is_labelled block pred);
       past_radius = is_past_block block dist;
     }
-before begun r = after_lines begun
+context begun r = plain_context begun
 
 -- the same for a line of distances, which has no PRED and no RADIUS
-abbrev pub before_bare : LabelsBegun → Record → Earlier
-before_bare begun (DistancesBlock source count) = before begun (LabelsBlock source count None)
-before_bare begun (DistancesNode id dist) = record (before begun (LabelsNode id dist id)) { pred_unknown = false; past_radius = false }
-before_bare begun r = after_lines begun
+abbrev pub bare_context : LabelsBegun → Record → Context
+bare_context begun (DistancesBlock source count) = context begun (LabelsBlock source count None)
+bare_context begun (DistancesNode id dist) = record (context begun (LabelsNode id dist id)) { pred_unknown = false; past_radius = false }
+bare_context begun r = plain_context begun

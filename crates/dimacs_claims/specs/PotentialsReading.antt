@@ -7,9 +7,9 @@ use Rattle.std.specs.FinMap as map
 use Rattle.dimacs_records.specs.declared.records.Record.{Record}
 use Rattle.dimacs_claims.specs.Potentials.{PotentialsValue, potentials_records}
 use Rattle.dimacs_records.specs.NodeValues.{NameNodes}
-use Rattle.dimacs_records.specs.declared.order.Earlier.{Earlier}
+use Rattle.dimacs_records.specs.declared.order.Context.{Context}
 use Rattle.dimacs_records.specs.declared.records.Record.TheVariants.{PotentialsNode}
-use Rattle.dimacs_records.specs.Tests.{earlier_of}
+use Rattle.dimacs_records.specs.Tests.{plain_context_of}
 
 -- the declared numbers, how many lines came, and the potentials on them
 pub record PotentialsBegun : Type 0 where
@@ -41,10 +41,10 @@ abbrev pub has_line : PotentialsBegun → ℕ → Bool
 has_line begun id = is_some (get begun.values id)
 
 -- what the tests need after the problem line and these lines
-abbrev pub after_lines : PotentialsBegun → Earlier
-after_lines begun = earlier_of (Some (record { nodes = Some begun.nodes; count = begun.declared })) begun.taken
+abbrev pub plain_context : PotentialsBegun → Context
+plain_context begun = plain_context_of (Some (record { nodes = Some begun.nodes; count = begun.declared })) begun.taken
 
 -- the same for one more record
-abbrev pub before : PotentialsBegun → Record → Earlier
-before begun (PotentialsNode id value) = record (after_lines begun) { named = has_line begun id }
-before begun r = after_lines begun
+abbrev pub context : PotentialsBegun → Record → Context
+context begun (PotentialsNode id value) = record (plain_context begun) { named = has_line begun id }
+context begun r = plain_context begun

@@ -11,12 +11,12 @@ ghost use Rattle.dimacs_records.specs.Faults.{Fault};
 ghost use Rattle.dimacs_records.specs.Readings.{CountsRead};
 ghost use Rattle.dimacs_records.specs.Texts.{Reads};
 ghost use Rattle.dimacs_claims.specs.Cuts.{CutValue, IsCut, GivesCut, SpellsCut, canonical_cut, empty_cut, ids_in, with_node};
-ghost use Rattle.dimacs_claims.specs.CutReading.{IsCutBegunBy, after_lines, before};
+ghost use Rattle.dimacs_claims.specs.CutReading.{IsCutBegunBy, plain_context, context};
 
 use dimacs_lines::{DeviceFault, Memory, Sink, Source};
 use dimacs_network::NodeSet;
 use dimacs_records::{
-    Builder, CountedReading, Declared, Earlier, ReadError, Record, TextKind, put_text, read_counted,
+    Builder, Context, CountedReading, Declared, ReadError, Record, TextKind, put_text, read_counted,
 };
 use std::alloc::Global;
 use std::marker::Model;
@@ -123,9 +123,9 @@ impl Builder for CutBuilder {
 
     ghost built_from = { λ begun rs. IsCutBegunBy begun rs };
 
-    ghost noted = { λ begun r. before begun r };
+    ghost context = { λ begun r. context begun r };
 
-    ghost noted_end = { λ begun. after_lines begun };
+    ghost end_context = { λ begun. plain_context begun };
 
     ghost gives = { λ rs c. GivesCut rs c };
 
@@ -145,13 +145,13 @@ impl Builder for CutBuilder {
     }
 
     #[inline(always)]
-    fn before(&self, rec: Record) -> Earlier {
+    fn context(&self, rec: Record) -> Context {
         match rec {
-            Record::CutNode { id } => Earlier {
+            Record::CutNode { id } => Context {
                 named: self.cut.contains(id),
-                ..self.before_end()
+                ..self.end_context()
             },
-            Record::CutProblem { .. } => self.before_end(),
+            Record::CutProblem { .. } => self.end_context(),
             _ => unreachable!(),
         }
     }
@@ -165,10 +165,10 @@ impl Builder for CutBuilder {
     }
 
     #[inline(always)]
-    fn before_end(&self) -> Earlier {
+    fn end_context(&self) -> Context {
         let nodes = Some(self.cut.nodes());
         let count = self.declared;
-        Earlier::of(Some(Declared { nodes, count }), self.cut.len())
+        Context::of(Some(Declared { nodes, count }), self.cut.len())
     }
 
     fn value(self, _alloc: Global) -> Result<Cut, Memory> {

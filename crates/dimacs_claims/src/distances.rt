@@ -13,12 +13,12 @@ ghost use Rattle.dimacs_records.specs.Texts.{Reads};
 ghost use Rattle.dimacs_claims.specs.DistanceTexts.{AreBare, GivesDistances, IsBare, SpellsDistances, bare, canonical_distances};
 ghost use Rattle.dimacs_claims.specs.Labels.{AreLabels, IsBlock, IsNewSource, LabelsValue, label_at, with_block};
 ghost use Rattle.dimacs_claims.specs.LabelTexts.{FitText};
-ghost use Rattle.dimacs_claims.specs.LabelsReading.{before_bare, before_end, labels_begun_records};
+ghost use Rattle.dimacs_claims.specs.LabelsReading.{bare_context, end_context, labels_begun_records};
 
 use crate::block::{Block, Label};
 use crate::labels::{Labels, LabelsBuilder, write_in_kind};
 use dimacs_lines::{DeviceFault, Memory, Sink, Source};
-use dimacs_records::{Builder, CountedReading, Earlier, ReadError, Record, TextKind, read_counted};
+use dimacs_records::{Builder, Context, CountedReading, ReadError, Record, TextKind, read_counted};
 use std::alloc::Global;
 use std::marker::Model;
 
@@ -130,9 +130,9 @@ impl Builder for DistancesBuilder {
 
     ghost built_from = { λ begun rs. rs ≡ map bare (labels_begun_records begun) };
 
-    ghost noted = { λ begun r. before_bare begun r };
+    ghost context = { λ begun r. bare_context begun r };
 
-    ghost noted_end = { λ begun. before_end begun };
+    ghost end_context = { λ begun. end_context begun };
 
     ghost gives = { λ rs distances. GivesDistances rs distances };
 
@@ -151,15 +151,15 @@ impl Builder for DistancesBuilder {
     }
 
     #[inline(always)]
-    fn before(&self, rec: Record) -> Earlier {
+    fn context(&self, rec: Record) -> Context {
         match rec {
-            Record::DistancesNode { id, dist } => Earlier {
+            Record::DistancesNode { id, dist } => Context {
                 pred_unknown: false,
                 past_radius: false,
-                ..self.labels.before_label(Label { dist, id, pred: id })
+                ..self.labels.label_context(Label { dist, id, pred: id })
             },
-            Record::DistancesBlock { source, .. } => self.labels.before_block(source),
-            Record::DistancesProblem { .. } => self.labels.after_lines(),
+            Record::DistancesBlock { source, .. } => self.labels.block_context(source),
+            Record::DistancesProblem { .. } => self.labels.plain_context(),
             _ => unreachable!(),
         }
     }
@@ -176,10 +176,10 @@ impl Builder for DistancesBuilder {
         }
     }
 
-    #[tactic(auto, using(crate::proofs::DistanceStates::bare_end_noted))]
+    #[tactic(auto, using(crate::proofs::DistanceStates::bare_end_context_by_records))]
     #[inline(always)]
-    fn before_end(&self) -> Earlier {
-        self.labels.before_end()
+    fn end_context(&self) -> Context {
+        self.labels.end_context()
     }
 
     fn value(self, alloc: Global) -> Result<Distances, Memory> {

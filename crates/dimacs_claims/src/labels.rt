@@ -22,7 +22,7 @@ ghost use Rattle.dimacs_records.specs.Ranges.{IsRadius, IsWide};
 ghost use Rattle.dimacs_claims.specs.DistanceTexts.{bare};
 ghost use Rattle.dimacs_claims.specs.LabelTexts.{FitText, GivesLabels, SpellsLabels, block_lines, canonical_labels, label_line, label_records};
 ghost use Rattle.dimacs_claims.specs.inside.Lines.{in_kind, line_in_kind};
-ghost use Rattle.dimacs_claims.specs.LabelsReading.{labels_begun_records, after_lines, before, before_end};
+ghost use Rattle.dimacs_claims.specs.LabelsReading.{labels_begun_records, plain_context, context, end_context};
 ghost use Rattle.dimacs_claims.specs.inside.LabelsReading.{AreLabelled, AreLabelsBegun};
 
 use crate::block::{Block, Label};
@@ -31,7 +31,7 @@ use crate::label_list::LabelList;
 use dimacs_lines::{DeviceFault, Memory, OutputBuffer, Sink, Source};
 use dimacs_network::NodeSet;
 use dimacs_records::{
-    Builder, CountedReading, Declared, Earlier, ReadError, Record, TextKind, read_counted,
+    Builder, Context, CountedReading, Declared, ReadError, Record, TextKind, read_counted,
     write_lines, write_record,
 };
 use std::alloc::Global;
@@ -187,7 +187,7 @@ impl LabelsBuilder {
     /// The labels, after the end of the text has passed its tests.
     #[tactic(auto, using(crate::proofs::BuilderLemmas::gives_labels))]
     pub(crate) fn labels(self, alloc: Global) -> Labels
-        requires { PassesEnd kinds.Labels (before_end self) }
+        requires { PassesEnd kinds.Labels (end_context self) }
         ensures labels { result ≡ record { nodes = self.nodes; blocks = self.blocks } }
         ensures gives { (rs : List LineRecord) → records_of rs ≡ labels_begun_records self → GivesLabels rs result }
     {
@@ -226,46 +226,46 @@ impl LabelsBuilder {
         }
     }
 
-    /// What the tests need if blocks don't matter.
+    /// The context if blocks don't matter.
     #[inline(always)]
-    pub(crate) fn after_lines(&self) -> Earlier
-        ensures { result ≡ after_lines self.now }
+    pub(crate) fn plain_context(&self) -> Context
+        ensures { result ≡ plain_context self.now }
     {
         let nodes = Some(self.nodes);
         let count = self.declared;
-        Earlier::of(Some(Declared { nodes, count }), self.len())
+        Context::of(Some(Declared { nodes, count }), self.len())
     }
 
-    /// What the tests of a new block of this source need.
+    /// The context of a new block of this source.
     #[inline(always)]
-    pub(crate) fn before_block(&self, source: u32) -> Earlier
-        ensures { (count : ℕ) (radius : Option ℤ) → result ≡ before self.now (LabelsBlock source count radius) }
+    pub(crate) fn block_context(&self, source: u32) -> Context
+        ensures { (count : ℕ) (radius : Option ℤ) → result ≡ context self.now (LabelsBlock source count radius) }
     {
-        Earlier {
+        Context {
             named: self.sources.contains(source),
-            ..self.before_end()
+            ..self.end_context()
         }
     }
 
-    /// What the tests of one more label need.
+    /// The context of one more label.
     #[inline(always)]
-    pub(crate) fn before_label(&self, label: Label) -> Earlier
-        ensures { result ≡ before self.now (label_line label) }
+    pub(crate) fn label_context(&self, label: Label) -> Context
+        ensures { result ≡ context self.now (label_line label) }
     {
         let Some(block) = self.blocks.last() else {
-            return Earlier {
+            return Context {
                 misplaced: true,
                 pred_unknown: true,
-                ..self.after_lines()
+                ..self.plain_context()
             };
         };
         let source = block.source();
-        Earlier {
+        Context {
             named: self.has_label(source, label.id),
             block_full: self.missing == 0,
             pred_unknown: !self.has_label(source, label.pred),
             past_radius: block.is_past(label.dist),
-            ..self.after_lines()
+            ..self.plain_context()
         }
     }
 
@@ -279,7 +279,7 @@ impl LabelsBuilder {
         requires source { 1 ≤ source }
         requires count { count ≤ most_count }
         requires radius { IfSome radius IsRadius }
-        requires passes { Passes (before self.old (LabelsBlock source count radius)) (LabelsBlock source count radius) }
+        requires passes { Passes (context self.old (LabelsBlock source count radius)) (LabelsBlock source count radius) }
         ensures opened { OnOk result (labels_begun_records self.new ≡ labels_begun_records self.old ++ LabelsBlock source count radius ∷ []) }
         ensures block { OnOk result (self.new.blocks ≡ self.old.blocks ++ record { source = source; radius = radius; labels = [] } ∷ []) }
         ensures unchanged { OnErr result (self.new ≡ self.old) }
@@ -302,7 +302,7 @@ impl LabelsBuilder {
         requires id { 1 ≤ label.id }
         requires pred { 1 ≤ label.pred }
         requires dist { IsWide label.dist }
-        requires passes { Passes (before self.old (label_line label)) (label_line label) }
+        requires passes { Passes (context self.old (label_line label)) (label_line label) }
         ensures added { OnOk result (labels_begun_records self.new ≡ labels_begun_records self.old ++ label_line label ∷ []) }
         ensures last { OnOk result ((front : List BlockValue) (b : BlockValue) → self.old.blocks ≡ front ++ b ∷ []
             → self.new.blocks ≡ front ++ with_label b label ∷ []) }
@@ -361,9 +361,9 @@ impl Builder for LabelsBuilder {
 
     ghost built_from = { λ begun rs. rs ≡ labels_begun_records begun };
 
-    ghost noted = { λ begun r. before begun r };
+    ghost context = { λ begun r. context begun r };
 
-    ghost noted_end = { λ begun. before_end begun };
+    ghost end_context = { λ begun. end_context begun };
 
     ghost gives = { λ rs labels. GivesLabels rs labels };
 
@@ -380,11 +380,11 @@ impl Builder for LabelsBuilder {
     }
 
     #[inline(always)]
-    fn before(&self, rec: Record) -> Earlier {
+    fn context(&self, rec: Record) -> Context {
         match rec {
-            Record::LabelsNode { id, dist, pred } => self.before_label(Label { dist, id, pred }),
-            Record::LabelsBlock { source, .. } => self.before_block(source),
-            Record::LabelsProblem { .. } => self.after_lines(),
+            Record::LabelsNode { id, dist, pred } => self.label_context(Label { dist, id, pred }),
+            Record::LabelsBlock { source, .. } => self.block_context(source),
+            Record::LabelsProblem { .. } => self.plain_context(),
             _ => unreachable!(),
         }
     }
@@ -403,10 +403,10 @@ impl Builder for LabelsBuilder {
     }
 
     #[inline(always)]
-    fn before_end(&self) -> Earlier {
-        Earlier {
+    fn end_context(&self) -> Context {
+        Context {
             block_short: self.missing > 0,
-            ..self.after_lines()
+            ..self.plain_context()
         }
     }
 

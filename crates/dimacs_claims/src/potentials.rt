@@ -12,12 +12,12 @@ ghost use Rattle.dimacs_records.specs.Texts.{Reads};
 ghost use Rattle.dimacs_records.specs.Ranges.{IsWide};
 ghost use Rattle.dimacs_claims.specs.Potentials.{PotentialsValue, ArePotentials, GivesPotentials, SpellsPotentials, canonical_potentials, nonzero_ids, potential_of, with_potential, zero_potentials};
 ghost use Rattle.dimacs_records.specs.NodeValues.{is_nonzero};
-ghost use Rattle.dimacs_claims.specs.PotentialsReading.{ArePotentialsBegunBy, after_lines, before};
+ghost use Rattle.dimacs_claims.specs.PotentialsReading.{ArePotentialsBegunBy, plain_context, context};
 
 use dimacs_lines::{DeviceFault, Memory, Sink, Source};
 use dimacs_network::WideMap;
 use dimacs_records::{
-    Builder, CountedReading, Declared, Earlier, ReadError, Record, TextKind, put_text, read_counted,
+    Builder, Context, CountedReading, Declared, ReadError, Record, TextKind, put_text, read_counted,
 };
 use std::alloc::Global;
 use std::marker::Model;
@@ -133,9 +133,9 @@ impl Builder for PotentialsBuilder {
 
     ghost built_from = { λ begun rs. ArePotentialsBegunBy begun rs };
 
-    ghost noted = { λ begun r. before begun r };
+    ghost context = { λ begun r. context begun r };
 
-    ghost noted_end = { λ begun. after_lines begun };
+    ghost end_context = { λ begun. plain_context begun };
 
     ghost gives = { λ rs p. GivesPotentials rs p };
 
@@ -156,13 +156,13 @@ impl Builder for PotentialsBuilder {
     }
 
     #[inline(always)]
-    fn before(&self, rec: Record) -> Earlier {
+    fn context(&self, rec: Record) -> Context {
         match rec {
-            Record::PotentialsNode { id, .. } => Earlier {
+            Record::PotentialsNode { id, .. } => Context {
                 named: self.values.get(id).is_some(),
-                ..self.before_end()
+                ..self.end_context()
             },
-            Record::PotentialsProblem { .. } => self.before_end(),
+            Record::PotentialsProblem { .. } => self.end_context(),
             _ => unreachable!(),
         }
     }
@@ -182,10 +182,10 @@ impl Builder for PotentialsBuilder {
     }
 
     #[inline(always)]
-    fn before_end(&self) -> Earlier {
+    fn end_context(&self) -> Context {
         let nodes = Some(self.nodes);
         let count = self.declared;
-        Earlier::of(Some(Declared { nodes, count }), self.taken)
+        Context::of(Some(Declared { nodes, count }), self.taken)
     }
 
     #[tactic(auto, using(crate::proofs::PotentialsLemmas::gives_potentials))]

@@ -11,12 +11,12 @@ ghost use Rattle.dimacs_records.specs.Readings.{CountsRead};
 ghost use Rattle.dimacs_records.specs.Texts.{Reads};
 ghost use Rattle.dimacs_claims.specs.SolutionTexts.{SolutionValue, IsLawful, SpellsSolution, canonical_solution, claimed, entry_line, entry_record, renumbered};
 ghost use Rattle.dimacs_claims.specs.SolutionReading.{GivesPlaced, IsPlaced, IsPlacedLawful, ReadsLike, StandsForSolution};
-ghost use Rattle.dimacs_claims.specs.inside.SolutionReading.{earlier_value};
+ghost use Rattle.dimacs_claims.specs.inside.SolutionReading.{value_context};
 
 use crate::place::{Place, Placed};
 use dimacs_lines::{DeviceFault, Sink, Source};
 use dimacs_records::{
-    Earlier, ReadError, Reading, Record, TakeError, TextKind, put_text, read_text, test_end,
+    Context, ReadError, Reading, Record, TakeError, TextKind, put_text, read_text, test_end,
     test_record,
 };
 use std::alloc::Global;
@@ -79,14 +79,14 @@ impl<P: Place> SolutionReading<P> {
         SolutionReading { value: None, place }
     }
 
-    /// What the tests of a value, or of the end, need.
+    /// The context of a value, or of the end.
     #[inline(always)]
-    fn earlier(&self) -> Earlier
-        ensures { result ≡ earlier_value self.now.value }
+    fn context(&self) -> Context
+        ensures { result ≡ value_context self.now.value }
     {
-        Earlier {
+        Context {
             valued: self.value.is_some(),
-            ..Earlier::of(None, 0)
+            ..Context::of(None, 0)
         }
     }
 }
@@ -106,7 +106,7 @@ impl<P: Place> Reading for SolutionReading<P> {
     fn take(&mut self, line: u64, rec: Record) -> Result<(), TakeError> {
         match rec {
             Record::SolutionValue { value } => {
-                test_record(self.earlier(), rec)?;
+                test_record(self.context(), rec)?;
                 self.value = Some(ValueLine { value, line });
             }
             Record::SolutionEntry { tail, head, flow } => {
@@ -123,7 +123,7 @@ impl<P: Place> Reading for SolutionReading<P> {
     }
 
     fn finish(self) -> Result<Placed<P>, TakeError> {
-        test_end(TextKind::Solution, self.earlier())?;
+        test_end(TextKind::Solution, self.context())?;
         let Some(line) = self.value else {
             unreachable!()
         };

@@ -13,7 +13,7 @@ use Rattle.dimacs_records.specs.declared.records.Record.{Record}
 use Rattle.dimacs_records.specs.declared.records.Record.TheVariants.{GraphProblem, GraphArc}
 use Rattle.dimacs_records.specs.Earlier.{counted_in}
 use Rattle.dimacs_records.specs.Spelling.{kind_of}
-use Rattle.dimacs_records.specs.Tests.{after_records, earlier_of, noted_before}
+use Rattle.dimacs_records.specs.Tests.{plain_context_after, plain_context_of, context_after}
 use Rattle.dimacs_records.specs.Readings.{IsAllowed, IsComplete, LineRecord, records_of}
 use Rattle.dimacs_records.proofs.ConditionLemmas.{is_allowed, is_complete}
 use Rattle.dimacs_network.specs.declared.network.ArcView.{ArcView}
@@ -25,7 +25,7 @@ use Rattle.dimacs_records.proofs.SplitLemmas.{image_at, All-at}
 use Rattle.dimacs_records.proofs.CanonicalLaws.{canonical_spelled, numbered_all}
 use Rattle.dimacs_network.specs.Arcs.{JoinsNodes, NetworkValue}
 use Rattle.dimacs_instance.specs.Graph.{IsGraph, HasWeightAlone, GivesGraph, SpellsGraph, canonical_graph, graph_records, graph_arc}
-use Rattle.dimacs_instance.specs.GraphReading.{GraphBegun, graph_begun_records, after_lines}
+use Rattle.dimacs_instance.specs.GraphReading.{GraphBegun, graph_begun_records, plain_context}
 
 counted_in-arcs : (arcs : List ArcView) → counted_in (map graph_arc arcs) ≡ length arcs
 counted_in-arcs [] = refl
@@ -50,13 +50,13 @@ pub first_problem : (n m : ℕ) → IsAllowed [] (GraphProblem n m)
 first_problem n m = is_allowed [] (GraphProblem n m) refl
 
 -- what the tests know follows from the records
-pub lines_noted : (b : GraphBegun) → after_lines b ≡ after_records (graph_begun_records b)
-lines_noted b = ap (earlier_of (after_lines b).problem) (sym (counted_in-arcs b.arcs))
+pub plain_context_by_records : (b : GraphBegun) → plain_context b ≡ plain_context_after (graph_begun_records b)
+plain_context_by_records b = ap (plain_context_of (plain_context b).problem) (sym (counted_in-arcs b.arcs))
 
-pub before_noted : (b : GraphBegun) (r : Record) → kind_of r ≡ Graph → after_lines b ≡ noted_before (graph_begun_records b) r
-before_noted b (GraphProblem n m) of_kind = lines_noted b
-before_noted b (GraphArc t h w) of_kind = lines_noted b
-before_noted b r of_kind = absurd (cc)
+pub context_by_records : (b : GraphBegun) (r : Record) → kind_of r ≡ Graph → plain_context b ≡ context_after (graph_begun_records b) r
+context_by_records b (GraphProblem n m) of_kind = plain_context_by_records b
+context_by_records b (GraphArc t h w) of_kind = plain_context_by_records b
+context_by_records b r of_kind = absurd (cc)
 
 arc_allowed : (nodes declared : ℕ) (arcs : List ArcView) (a : ArcView) (before : List Record) (r : Record) → before ≡ GraphProblem nodes declared ∷ map graph_arc arcs → r ≡ graph_arc a
     → JoinsNodes nodes a → length arcs < declared → IsAllowed before r

@@ -13,19 +13,19 @@ use Rattle.dimacs_records.specs.declared.records.Record.TheVariants.{MaxArc, Max
 use Rattle.dimacs_records.specs.Ranges.{IsWhole}
 use Rattle.dimacs_records.specs.Readings.{LineRecord, records_of}
 use Rattle.dimacs_records.specs.Spelling.{kind_of}
-use Rattle.dimacs_records.specs.Tests.{Passes, PassesEnd, noted_at_end, noted_before}
+use Rattle.dimacs_records.specs.Tests.{Passes, PassesEnd, end_context_of, context_after}
 use Rattle.dimacs_network.specs.declared.network.ArcView.{ArcView}
 use Rattle.dimacs_network.specs.Arcs.{JoinsNodes}
 use Rattle.dimacs_network.specs.KeptArcs.{capacity_arc}
 use Rattle.dimacs_instance.specs.MaxFlows.{HasCapacityAlone, MaxValue}
 use Rattle.dimacs_instance.specs.MaxTexts.{GivesMax, max_arc}
-use Rattle.dimacs_instance.specs.MaxReading.{MaxBegun, MaxCount, before, before_end, count_of, end_records, max_begun_records}
+use Rattle.dimacs_instance.specs.MaxReading.{MaxBegun, MaxCount, context, end_context, count_of, end_records, max_begun_records}
 use Rattle.dimacs_instance.specs.inside.MaxReading.{AreEnds, AreNodes, EndsAreDistinct, IsMaxBegun, IsMaxCountedBy}
 use Rattle.dimacs_instance.specs.Summaries.{SumsUpMax}
 use Rattle.dimacs_instance.specs.inside.Summaries.{GivesSummary}
 use Rattle.dimacs_instance.specs.declared.max.EndLines.{EndLines}
 use Rattle.dimacs_instance.specs.declared.max.EndLines.TheVariants.{Neither, One, Both}
-use Rattle.dimacs_instance.proofs.MaxLemmas.{end_noted, before_noted}
+use Rattle.dimacs_instance.proofs.MaxLemmas.{end_context_by_records, context_by_records}
 
 pub counted_none : (nodes declared : ℕ) → nodes ≤ most_nodes → declared ≤ most_count → IsMaxCountedBy (record { nodes = nodes; declared = declared; ends = Neither; arcs = 0 }) (MaxProblem nodes declared ∷ [])
 counted_none nodes declared nodes_few arcs_few = record {
@@ -48,13 +48,13 @@ pub counted_begun : (b : MaxBegun) → IsMaxBegun b → IsMaxCountedBy (count_of
 counted_begun b is = record { begun = b; is_begun = is; records = refl; counts = refl }
 
 module _ (c : MaxCount) (rs : List Record) (counted : IsMaxCountedBy c rs) where
-  pub counted_noted : (r : Record) → kind_of r ≡ Max → before c r ≡ noted_before rs r
-  counted_noted r of_kind = rw (counted.counts, counted.records) (before_noted counted.begun r of_kind)
+  pub counted_by_records : (r : Record) → kind_of r ≡ Max → context c r ≡ context_after rs r
+  counted_by_records r of_kind = rw (counted.counts, counted.records) (context_by_records counted.begun r of_kind)
 
-  pub counted_end_noted : before_end c ≡ noted_at_end Max rs
-  counted_end_noted = rw (counted.counts, counted.records) (end_noted counted.begun)
+  pub counted_end_by_records : end_context c ≡ end_context_of Max rs
+  counted_end_by_records = rw (counted.counts, counted.records) (end_context_by_records counted.begun)
 
-  module _ (tail head : ℕ) (cap : ℤ) (passes : Passes (before c (MaxArc tail head cap)) (MaxArc tail head cap)) where
+  module _ (tail head : ℕ) (cap : ℤ) (passes : Passes (context c (MaxArc tail head cap)) (MaxArc tail head cap)) where
     arc_room : c.arcs < c.declared
     arc_room = grind (arith, nat_tests, passes.room)
 
@@ -104,7 +104,7 @@ module _ (c : MaxCount) (rs : List Record) (counted : IsMaxCountedBy c rs) where
       no_third (One a) e = cc
       no_third (Both a b) e = cc
 
-  module _ (id : ℕ) (end : End) (passes : Passes (before c (MaxNode id end)) (MaxNode id end)) where
+  module _ (id : ℕ) (end : End) (passes : Passes (context c (MaxNode id end)) (MaxNode id end)) where
     no_arcs : c.arcs ≤ 0
     no_arcs = grind (arith, nat_tests, passes.placed)
 
@@ -169,7 +169,7 @@ module _ (b : MaxBegun) (is : IsMaxBegun b) (full : b.declared ≡ length b.arcs
         },
       )
 
-pub gives_max_summary : (c : MaxCount) → PassesEnd Max (before_end c) → (source sink : ℕ) → AreEnds c.ends source sink → (rs : List LineRecord) → IsMaxCountedBy c (records_of rs)
+pub gives_max_summary : (c : MaxCount) → PassesEnd Max (end_context c) → (source sink : ℕ) → AreEnds c.ends source sink → (rs : List LineRecord) → IsMaxCountedBy c (records_of rs)
     → GivesSummary GivesMax SumsUpMax rs (record { nodes = c.nodes; arcs = c.arcs; source = source; sink = sink })
 gives_max_summary c p source sink ends rs counted =
     let b = counted.begun in

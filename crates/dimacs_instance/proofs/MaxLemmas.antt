@@ -8,7 +8,7 @@ use Rattle.std.proofs.lemmas.Bool.Decides.{nat_tests}
 use Rattle.std.proofs.lemmas.List.Folds.{list_any-append}
 use Rattle.std.proofs.lemmas.List.Sums.{length-filter}
 use Rattle.dimacs_records.specs.declared.kinds.TextKind.TheVariants.{Max}
-use Rattle.dimacs_records.specs.declared.order.Earlier.{Earlier}
+use Rattle.dimacs_records.specs.declared.order.Context.{Context}
 use Rattle.dimacs_records.specs.declared.records.End.{End}
 use Rattle.dimacs_records.specs.declared.records.End.TheVariants.{Source, Sink}
 use Rattle.dimacs_records.specs.declared.records.Record.{Record}
@@ -16,7 +16,7 @@ use Rattle.dimacs_records.specs.declared.records.Record.TheVariants.{MaxProblem,
 use Rattle.dimacs_records.specs.Earlier.{counted_in, is_counted, names, is_end_node, is_flow_arc, is_max_node}
 use Rattle.dimacs_records.specs.Conditions.{lacks_end}
 use Rattle.dimacs_records.specs.Readings.{IsAllowed, IsComplete}
-use Rattle.dimacs_records.specs.Tests.{after_records, earlier_of, noted_at_end, noted_before}
+use Rattle.dimacs_records.specs.Tests.{plain_context_after, plain_context_of, end_context_of, context_after}
 use Rattle.dimacs_records.proofs.ConditionLemmas.{is_allowed, is_complete}
 use Rattle.dimacs_records.specs.Spelling.{kind_of}
 use Rattle.dimacs_network.specs.declared.network.ArcView.{ArcView}
@@ -24,7 +24,7 @@ use Rattle.dimacs_instance.specs.declared.max.EndLine.{EndLine}
 use Rattle.dimacs_instance.specs.declared.max.EndLines.{EndLines}
 use Rattle.dimacs_instance.specs.declared.max.EndLines.TheVariants.{Neither, One, Both}
 use Rattle.dimacs_instance.specs.MaxTexts.{max_arc}
-use Rattle.dimacs_instance.specs.MaxReading.{MaxBegun, end_records, max_begun_records, max_node, after_lines, before, before_end, count_of}
+use Rattle.dimacs_instance.specs.MaxReading.{MaxBegun, end_records, max_begun_records, max_node, plain_context, context, end_context, count_of}
 
 none_of_arcs : (test : Record → Bool) → ((a : ArcView) → test (max_arc a) ≡ false) → (arcs : List ArcView) → list_any test (map max_arc arcs) ≡ false
 none_of_arcs test none [] = refl
@@ -113,15 +113,15 @@ pub first_problem : (n m : ℕ) → IsAllowed [] (MaxProblem n m)
 first_problem n m = is_allowed [] (MaxProblem n m) refl
 
 -- what the tests know follows from the records
-lines_noted : (b : MaxBegun) → after_lines (count_of b) ≡ after_records (max_begun_records b)
-lines_noted b = ap (earlier_of (after_lines (count_of b)).problem) (sym (counted b.nodes b.declared b.ends b.arcs))
+plain_context_by_records : (b : MaxBegun) → plain_context (count_of b) ≡ plain_context_after (max_begun_records b)
+plain_context_by_records b = ap (plain_context_of (plain_context (count_of b)).problem) (sym (counted b.nodes b.declared b.ends b.arcs))
 
-pub end_noted : (b : MaxBegun) → before_end (count_of b) ≡ noted_at_end Max (max_begun_records b)
-end_noted b = ap₂ (λ (e : Earlier) t. record e { lacks_end = t }) (lines_noted b) (sym (lacking b.nodes b.declared b.ends b.arcs))
+pub end_context_by_records : (b : MaxBegun) → end_context (count_of b) ≡ end_context_of Max (max_begun_records b)
+end_context_by_records b = ap₂ (λ (e : Context) t. record e { lacks_end = t }) (plain_context_by_records b) (sym (lacking b.nodes b.declared b.ends b.arcs))
 
-pub before_noted : (b : MaxBegun) (r : Record) → kind_of r ≡ Max → before (count_of b) r ≡ noted_before (max_begun_records b) r
-before_noted b (MaxProblem n m) of_kind = lines_noted b
-before_noted b (MaxNode id end) of_kind =
+pub context_by_records : (b : MaxBegun) (r : Record) → kind_of r ≡ Max → context (count_of b) r ≡ context_after (max_begun_records b) r
+context_by_records b (MaxProblem n m) of_kind = plain_context_by_records b
+context_by_records b (MaxNode id end) of_kind =
     rw (any_flow_arc b.nodes b.declared b.ends b.arcs, named b.nodes b.declared b.ends b.arcs id, ended b.nodes b.declared b.ends b.arcs end, counted b.nodes b.declared b.ends b.arcs) refl
-before_noted b (MaxArc t h cap) of_kind = end_noted b
-before_noted b r of_kind = absurd (cc)
+context_by_records b (MaxArc t h cap) of_kind = end_context_by_records b
+context_by_records b r of_kind = absurd (cc)

@@ -12,15 +12,15 @@ use Rattle.dimacs_records.specs.NodeValues.{without_zeros}
 use Rattle.dimacs_records.specs.Ranges.{IsWhole}
 use Rattle.dimacs_records.specs.Readings.{LineRecord, records_of}
 use Rattle.dimacs_records.specs.Spelling.{kind_of}
-use Rattle.dimacs_records.specs.Tests.{Passes, PassesEnd, after_records, noted_before}
+use Rattle.dimacs_records.specs.Tests.{Passes, PassesEnd, plain_context_after, context_after}
 use Rattle.dimacs_network.specs.declared.network.ArcView.{ArcView}
 use Rattle.dimacs_instance.specs.MinFlows.{IsMin, demand_sum, supply_sum}
 use Rattle.dimacs_instance.specs.MinTexts.{GivesMin, min_arc, min_node, min_records}
-use Rattle.dimacs_instance.specs.MinReading.{MinCount, after_lines, before, count_of}
+use Rattle.dimacs_instance.specs.MinReading.{MinCount, plain_context, context, count_of}
 use Rattle.dimacs_instance.specs.inside.MinReading.{IsMinBegun, IsMinCountedBy, without_arcs}
 use Rattle.dimacs_instance.specs.Summaries.{SumsUpMin}
 use Rattle.dimacs_instance.specs.inside.Summaries.{GivesSummary}
-use Rattle.dimacs_instance.proofs.MinLemmas.{arc_bounds, arc_joins, arc_room, begins, gives_min, law_with_arc, law_with_supply, lines_noted, min_law, names_one, new_law, node, before_noted, with_arc}
+use Rattle.dimacs_instance.proofs.MinLemmas.{arc_bounds, arc_joins, arc_room, begins, gives_min, law_with_arc, law_with_supply, plain_context_by_records, min_law, names_one, new_law, node, context_by_records, with_arc}
 
 pub counted_none : (nodes declared : ℕ) → nodes ≤ most_nodes → declared ≤ most_count → IsMinCountedBy (record { nodes = nodes; declared = declared; supplies = empty; arcs = 0 }) (MinProblem nodes declared ∷ [])
 counted_none nodes declared nodes_few arcs_few = record {
@@ -36,18 +36,18 @@ arc_records nodes declared named arcs a =
     (append_assoc (map min_node named) (map min_arc arcs) (min_arc a ∷ []) ∙ ap (λ (later : List Record). map min_node named ++ later) (sym (map-append min_arc arcs (a ∷ []))))
 
 module _ (c : MinCount) (rs : List Record) (counted : IsMinCountedBy c rs) where
-  pub counted_noted : (r : Record) → kind_of r ≡ Min → before c r ≡ noted_before rs r
-  counted_noted r of_kind = rw counted.counts (before_noted counted.begun r of_kind rs counted.built_from)
+  pub counted_by_records : (r : Record) → kind_of r ≡ Min → context c r ≡ context_after rs r
+  counted_by_records r of_kind = rw counted.counts (context_by_records counted.begun r of_kind rs counted.built_from)
 
-  pub counted_lines_noted : after_lines c ≡ after_records rs
-  counted_lines_noted = rw counted.counts (lines_noted counted.begun rs counted.built_from)
+  pub counted_lines_by_records : plain_context c ≡ plain_context_after rs
+  counted_lines_by_records = rw counted.counts (plain_context_by_records counted.begun rs counted.built_from)
 
-  pub one_more_arc : (a : ArcView) → Passes (after_lines c) (min_arc a) → 1 ≤ a.tail → 1 ≤ a.head → IsWhole a.cap → IsWhole a.cost
+  pub one_more_arc : (a : ArcView) → Passes (plain_context c) (min_arc a) → 1 ≤ a.tail → 1 ≤ a.head → IsWhole a.cap → IsWhole a.cost
       → IsMinCountedBy (record { nodes = c.nodes; declared = c.declared; supplies = c.supplies; arcs = c.arcs + 1 }) (rs ++ min_arc a ∷ [])
   one_more_arc a passes tail head cap cost =
       let b = counted.begun in
       let by = counted.built_from in
-      let its : Passes (after_lines (count_of b)) (min_arc a) = rw counted.counts at passes in
+      let its : Passes (plain_context (count_of b)) (min_arc a) = rw counted.counts at passes in
       record {
         begun = with_arc b a;
         is_begun = law_with_arc b a counted.is_begun (arc_joins b a its tail head) (arc_bounds b a its cap cost) (arc_room b a its);
@@ -60,11 +60,11 @@ module _ (c : MinCount) (rs : List Record) (counted : IsMinCountedBy c rs) where
         counts = rw (counted.counts, length-append b.arcs (a ∷ [])) refl;
       }
 
-  pub one_more_node : (id : ℕ) (s : ℤ) → Passes (before c (MinNode id s)) (MinNode id s) → 1 ≤ id → IsWhole s
+  pub one_more_node : (id : ℕ) (s : ℤ) → Passes (context c (MinNode id s)) (MinNode id s) → 1 ≤ id → IsWhole s
       → IsMinCountedBy (record { nodes = c.nodes; declared = c.declared; supplies = insert c.supplies id s; arcs = c.arcs }) (rs ++ MinNode id s ∷ [])
   one_more_node id s passes least whole =
       let b = counted.begun in
-      let its : Passes (before (count_of b) (MinNode id s)) (MinNode id s) = rw counted.counts at passes in
+      let its : Passes (context (count_of b) (MinNode id s)) (MinNode id s) = rw counted.counts at passes in
       record {
         begun = record b { supplies = insert b.supplies id s };
         is_begun = law_with_supply b id s counted.is_begun (node b id s least its) whole;
@@ -73,14 +73,14 @@ module _ (c : MinCount) (rs : List Record) (counted : IsMinCountedBy c rs) where
       }
 
 -- a node line that passes the tests names a node of the instance
-pub counted_node : (c : MinCount) (id : ℕ) (s : ℤ) → Passes (before c (MinNode id s)) (MinNode id s) → 1 ≤ id → IsNode c.nodes id
+pub counted_node : (c : MinCount) (id : ℕ) (s : ℤ) → Passes (context c (MinNode id s)) (MinNode id s) → 1 ≤ id → IsNode c.nodes id
 counted_node c id s passes least = (least, grind (arith, nat_tests, passes.second_within))
 
 -- the instance without its arcs is lawful
 pub supplies_law : (c : MinCount) → IsMinBegun (without_arcs c) → IsMin (record { nodes = c.nodes; supplies = without_zeros c.supplies; arcs = [] })
 supplies_law c law = min_law (without_arcs c) law
 
-pub gives_min_summary : (c : MinCount) → PassesEnd Min (after_lines c) → (rs : List LineRecord) → IsMinCountedBy c (records_of rs) → (supplied demanded : ℤ)
+pub gives_min_summary : (c : MinCount) → PassesEnd Min (plain_context c) → (rs : List LineRecord) → IsMinCountedBy c (records_of rs) → (supplied demanded : ℤ)
     → supplied ≡ pos (supply_sum (record { nodes = c.nodes; supplies = without_zeros c.supplies; arcs = [] }))
     → demanded ≡ pos (demand_sum (record { nodes = c.nodes; supplies = without_zeros c.supplies; arcs = [] }))
     → GivesSummary GivesMin SumsUpMin rs (record { nodes = c.nodes; arcs = c.arcs; supplied = supplied; demanded = demanded })

@@ -12,12 +12,12 @@ use Rattle.std.proofs.lemmas.Bool.Decides.{nat_tests}
 use Rattle.dimacs_lines.specs.Limits.{most_count, most_nodes, IsNode}
 use Rattle.dimacs_network.proofs.Entries.{All-empty, All-entries, All-get, All-insert}
 use Rattle.dimacs_records.specs.declared.kinds.TextKind.TheVariants.{Min}
-use Rattle.dimacs_records.specs.declared.order.Earlier.{Earlier}
+use Rattle.dimacs_records.specs.declared.order.Context.{Context}
 use Rattle.dimacs_records.specs.declared.records.Record.{Record}
 use Rattle.dimacs_records.specs.declared.records.Record.TheVariants.{MinArc, MinProblem, MinNode}
 use Rattle.dimacs_records.specs.Earlier.{is_flow_arc, names, counted_in}
 use Rattle.dimacs_records.specs.Readings.{LineRecord, IsAllowed, IsComplete, records_of}
-use Rattle.dimacs_records.specs.Tests.{Passes, PassesEnd, after_records, earlier_of, noted_before}
+use Rattle.dimacs_records.specs.Tests.{Passes, PassesEnd, plain_context_after, plain_context_of, context_after}
 use Rattle.dimacs_records.proofs.ConditionLemmas.{is_allowed, is_complete}
 use Rattle.dimacs_network.specs.declared.network.ArcView.{ArcView}
 use Rattle.dimacs_network.specs.Arcs.{JoinsNodes, NetworkValue}
@@ -25,7 +25,7 @@ use Rattle.dimacs_records.specs.Ranges.{IsWhole}
 use Rattle.dimacs_instance.specs.MinFlows.{IsMin, IsSupply, HasBounds}
 use Rattle.dimacs_instance.specs.MinTexts.{GivesMin, min_node, min_arc, min_records}
 use Rattle.dimacs_records.specs.NodeValues.{is_of, without_zeros}
-use Rattle.dimacs_instance.specs.MinReading.{MinBegun, IsMinBegunBy, after_lines, before, count_of, has_line}
+use Rattle.dimacs_instance.specs.MinReading.{MinBegun, IsMinBegunBy, plain_context, context, count_of, has_line}
 use Rattle.dimacs_instance.specs.inside.MinReading.{IsMinBegun, IsNamed}
 use Rattle.dimacs_records.specs.Spelling.{kind_of}
 use Rattle.dimacs_records.proofs.NameLemmas.{get_nonzero, has-from_entries, map_more, named_more, without_zeros-named}
@@ -74,23 +74,23 @@ pub allows_problem : (n m : ℕ) → IsAllowed [] (MinProblem n m)
 allows_problem n m = is_allowed [] (MinProblem n m) refl
 
 -- what the tests know follows from the records
-pub lines_noted : (b : MinBegun) (rs : List Record) → IsMinBegunBy b rs → after_lines (count_of b) ≡ after_records rs
-lines_noted b rs h = rw h.records (ap (earlier_of (after_lines (count_of b)).problem) (sym (counted h.named b.arcs)))
+pub plain_context_by_records : (b : MinBegun) (rs : List Record) → IsMinBegunBy b rs → plain_context (count_of b) ≡ plain_context_after rs
+plain_context_by_records b rs h = rw h.records (ap (plain_context_of (plain_context (count_of b)).problem) (sym (counted h.named b.arcs)))
 
 has_named : (b : MinBegun) (id : ℕ) {rs : List Record} (h : IsMinBegunBy b rs) → has_line (count_of b) id ≡ list_any (is_of id) h.named
 has_named b id h = ap (λ m. is_some (get m id)) h.supplies ∙ has-from_entries h.named id
 
-arcs_noted : (b : MinBegun) (rs : List Record) → IsMinBegunBy b rs → list_any is_flow_arc rs ≡ nat_lt 0 (length b.arcs)
-arcs_noted b rs h = rw h.records (any_flow_arc h.named b.arcs)
+arcs_by_records : (b : MinBegun) (rs : List Record) → IsMinBegunBy b rs → list_any is_flow_arc rs ≡ nat_lt 0 (length b.arcs)
+arcs_by_records b rs h = rw h.records (any_flow_arc h.named b.arcs)
 
-named_noted : (b : MinBegun) (rs : List Record) (id : ℕ) → IsMinBegunBy b rs → list_any (names id) rs ≡ has_line (count_of b) id
-named_noted b rs id h = rw h.records (any_names id h.named b.arcs ∙ sym (has_named b id h))
+named_by_records : (b : MinBegun) (rs : List Record) (id : ℕ) → IsMinBegunBy b rs → list_any (names id) rs ≡ has_line (count_of b) id
+named_by_records b rs id h = rw h.records (any_names id h.named b.arcs ∙ sym (has_named b id h))
 
-pub before_noted : (b : MinBegun) (r : Record) → kind_of r ≡ Min → (rs : List Record) → IsMinBegunBy b rs → before (count_of b) r ≡ noted_before rs r
-before_noted b (MinProblem n m) of_kind rs h = lines_noted b rs h
-before_noted b (MinNode id s) of_kind rs h = rw (arcs_noted b rs h, named_noted b rs id h) (ap (λ (e : Earlier). record (before (count_of b) (MinNode id s)) { problem = e.problem; counted = e.counted }) (lines_noted b rs h))
-before_noted b (MinArc tail head low cap cost) of_kind rs h = lines_noted b rs h
-before_noted b r of_kind rs h = absurd (cc)
+pub context_by_records : (b : MinBegun) (r : Record) → kind_of r ≡ Min → (rs : List Record) → IsMinBegunBy b rs → context (count_of b) r ≡ context_after rs r
+context_by_records b (MinProblem n m) of_kind rs h = plain_context_by_records b rs h
+context_by_records b (MinNode id s) of_kind rs h = rw (arcs_by_records b rs h, named_by_records b rs id h) (ap (λ (e : Context). record (context (count_of b) (MinNode id s)) { problem = e.problem; counted = e.counted }) (plain_context_by_records b rs h))
+context_by_records b (MinArc tail head low cap cost) of_kind rs h = plain_context_by_records b rs h
+context_by_records b r of_kind rs h = absurd (cc)
 
 -- the state after a problem line
 pub begins : (n m : ℕ) → IsMinBegunBy (record { nodes = n; declared = m; supplies = empty; arcs = [] }) (MinProblem n m ∷ [])
@@ -111,7 +111,7 @@ records_more nodes declared id s rs named arcs is none =
     ∙ ap (λ (arcs : List ArcView). min_records nodes declared (named ++ (id, s) ∷ []) arcs) (sym none)
 
 -- one more node, which passes the tests
-module _ (b : MinBegun) (id : ℕ) (s : ℤ) (least : 1 ≤ id) (passes : Passes (before (count_of b) (MinNode id s)) (MinNode id s)) where
+module _ (b : MinBegun) (id : ℕ) (s : ℤ) (least : 1 ≤ id) (passes : Passes (context (count_of b) (MinNode id s)) (MinNode id s)) where
   pub node : IsNode b.nodes id
   node = (least, grind (arith, nat_tests, passes.second_within))
 
@@ -134,7 +134,7 @@ not_below : (x y : ℤ) → int_lt x y ≡ false → y ≤ℤ x
 not_below x y test = grind (arith, ints)
 
 -- an arc that passes the tests joins nodes, has bounds and is no more than declared
-module _ (b : MinBegun) (a : ArcView) (passes : Passes (after_lines (count_of b)) (min_arc a)) where
+module _ (b : MinBegun) (a : ArcView) (passes : Passes (plain_context (count_of b)) (min_arc a)) where
   pub arc_joins : 1 ≤ a.tail → 1 ≤ a.head → JoinsNodes b.nodes a
   arc_joins tail head = ((tail, grind (arith, nat_tests, passes.second_within)), (head, grind (arith, nat_tests, passes.third_within)))
 
@@ -166,7 +166,7 @@ module _ (b : MinBegun) (law : IsMinBegun b) where
   }
 
 -- a complete state gives its instance
-pub gives_min : (b : MinBegun) → IsMinBegun b → PassesEnd Min (after_lines (count_of b)) → (rs : List LineRecord) → IsMinBegunBy b (records_of rs)
+pub gives_min : (b : MinBegun) → IsMinBegun b → PassesEnd Min (plain_context (count_of b)) → (rs : List LineRecord) → IsMinBegunBy b (records_of rs)
     → GivesMin rs (record { nodes = b.nodes; supplies = without_zeros b.supplies; arcs = b.arcs })
 gives_min b law p rs h =
     let full : b.declared ≡ length b.arcs = grind (arith, nat_tests, p.finished, law.no_more) in

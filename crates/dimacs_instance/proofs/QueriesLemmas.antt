@@ -9,7 +9,7 @@ use Rattle.std.proofs.lemmas.Simd.{map-map}
 use Rattle.std.proofs.lemmas.Bool.Decides.{nat_tests}
 use Rattle.dimacs_lines.specs.Limits.{most_count}
 use Rattle.dimacs_records.specs.declared.kinds.TextKind.TheVariants as kinds
-use Rattle.dimacs_records.specs.declared.order.Earlier.{Earlier}
+use Rattle.dimacs_records.specs.declared.order.Context.{Context}
 use Rattle.dimacs_records.specs.declared.records.QueryKind.{QueryKind}
 use Rattle.dimacs_records.specs.declared.records.QueryKind.TheVariants as asks
 use Rattle.dimacs_records.specs.declared.records.Record.{Record}
@@ -20,13 +20,13 @@ use Rattle.dimacs_records.specs.Canonical.{CanBeSpelled}
 use Rattle.dimacs_records.specs.Ranges.{IsId}
 use Rattle.dimacs_records.specs.Readings.{LineRecord, IsAllowed, IsComplete, records_of}
 use Rattle.dimacs_records.specs.Spelling.{kind_of, query_word}
-use Rattle.dimacs_records.specs.Tests.{after_records, earlier_of, noted_before}
+use Rattle.dimacs_records.specs.Tests.{plain_context_after, plain_context_of, context_after}
 use Rattle.dimacs_records.specs.Texts.{AreFaultless}
 use Rattle.dimacs_records.proofs.CanonicalLaws.{canonical_spelled, numbered_all}
 use Rattle.dimacs_records.proofs.ConditionLemmas.{is_allowed, is_complete, allowed_at}
 use Rattle.dimacs_records.proofs.SplitLemmas.{image_at}
 use Rattle.dimacs_instance.specs.QueryTexts.{QueriesValue, Sources, Pairs, AreIds, AreLawful, GivesQueries, HaveIds, SpellsQueries, canonical_queries, kind_asked, pair_query, query_lines, query_records}
-use Rattle.dimacs_instance.specs.QueriesReading.{QueriesBegun, queries_begun_records, after_lines, are_others, before}
+use Rattle.dimacs_instance.specs.QueriesReading.{QueriesBegun, queries_begun_records, plain_context, are_others, context}
 
 all_counted : {X : Type 0} (say : X → Record) → ((x : X) → is_counted (say x) ≡ true) → (xs : List X) → counted_in (map say xs) ≡ length (map say xs)
 all_counted say each [] = refl
@@ -59,23 +59,23 @@ module _ (n : ℕ) (queries : QueriesValue) where
       is_complete kinds.Queries earlier (rw counted refl)
 
 -- what the tests know follows from the records
-pub lines_noted : (b : QueriesBegun) → after_lines b ≡ after_records (queries_begun_records b)
-lines_noted b = ap (earlier_of (after_lines b).problem) (sym (counted_in-query_lines b.queries))
+pub plain_context_by_records : (b : QueriesBegun) → plain_context b ≡ plain_context_after (queries_begun_records b)
+plain_context_by_records b = ap (plain_context_of (plain_context b).problem) (sym (counted_in-query_lines b.queries))
 
 -- only the problem line announces the kind of query
-source_noted : (id n : ℕ) (queries : QueriesValue) → list_any (asks_for asks.Pairs) (earlier n queries) ≡ are_others (SourceQuery id) queries
-source_noted id n (Sources ids) = no_problem_in_sources ids
-source_noted id n (Pairs pairs) = refl
+source_by_records : (id n : ℕ) (queries : QueriesValue) → list_any (asks_for asks.Pairs) (earlier n queries) ≡ are_others (SourceQuery id) queries
+source_by_records id n (Sources ids) = no_problem_in_sources ids
+source_by_records id n (Pairs pairs) = refl
 
-pair_noted : (from to n : ℕ) (queries : QueriesValue) → list_any (asks_for asks.Sources) (earlier n queries) ≡ are_others (PairQuery from to) queries
-pair_noted from to n (Sources ids) = refl
-pair_noted from to n (Pairs pairs) = no_problem_in_pairs pairs
+pair_by_records : (from to n : ℕ) (queries : QueriesValue) → list_any (asks_for asks.Sources) (earlier n queries) ≡ are_others (PairQuery from to) queries
+pair_by_records from to n (Sources ids) = refl
+pair_by_records from to n (Pairs pairs) = no_problem_in_pairs pairs
 
-pub before_noted : (b : QueriesBegun) (r : Record) → kind_of r ≡ kinds.Queries → before b r ≡ noted_before (queries_begun_records b) r
-before_noted b (QueriesProblem kind n) of_kind = lines_noted b
-before_noted b (SourceQuery id) of_kind = ap₂ (λ (e : Earlier) t. record e { misplaced = t }) (lines_noted b) (sym (source_noted id b.declared b.queries))
-before_noted b (PairQuery from to) of_kind = ap₂ (λ (e : Earlier) t. record e { misplaced = t }) (lines_noted b) (sym (pair_noted from to b.declared b.queries))
-before_noted b r of_kind = absurd (cc)
+pub context_by_records : (b : QueriesBegun) (r : Record) → kind_of r ≡ kinds.Queries → context b r ≡ context_after (queries_begun_records b) r
+context_by_records b (QueriesProblem kind n) of_kind = plain_context_by_records b
+context_by_records b (SourceQuery id) of_kind = ap₂ (λ (e : Context) t. record e { misplaced = t }) (plain_context_by_records b) (sym (source_by_records id b.declared b.queries))
+context_by_records b (PairQuery from to) of_kind = ap₂ (λ (e : Context) t. record e { misplaced = t }) (plain_context_by_records b) (sym (pair_by_records from to b.declared b.queries))
+context_by_records b r of_kind = absurd (cc)
 
 -- the records of queries have no fault
 source_allowed : (n : ℕ) (ids : List ℕ) (id : ℕ) → length (map SourceQuery ids) < n → IsAllowed (earlier n (Sources ids)) (SourceQuery id)

@@ -13,7 +13,7 @@ use Rattle.dimacs_records.specs.declared.records.Record.{Record}
 use Rattle.dimacs_records.specs.declared.records.Record.TheVariants.{GraphArc, GraphProblem}
 use Rattle.dimacs_records.specs.Ranges.{IsWhole}
 use Rattle.dimacs_records.specs.Readings.{LineRecord, records_of}
-use Rattle.dimacs_records.specs.Tests.{Passes, PassesEnd, after_records}
+use Rattle.dimacs_records.specs.Tests.{Passes, PassesEnd, plain_context_after}
 use Rattle.dimacs_records.specs.Texts.{Reads, SpellsValue}
 use Rattle.dimacs_records.proofs.ReadLaws.{spells_one_value}
 use Rattle.dimacs_records.specs.declared.kinds.TextKind.{TextKind}
@@ -24,7 +24,7 @@ use Rattle.dimacs_instance.specs.Graph.{GivesGraph, HasWeightAlone, graph_arc}
 use Rattle.dimacs_instance.specs.Summaries.{ReadsSummary, SumsUpGraph}
 use Rattle.dimacs_instance.specs.inside.Summaries.{GivesSummary, IsGraphCountedBy, counted_lines}
 use Rattle.dimacs_instance.specs.declared.summaries.graph.CountedGraph.{CountedGraph}
-use Rattle.dimacs_instance.proofs.GraphLemmas.{lines_noted}
+use Rattle.dimacs_instance.proofs.GraphLemmas.{plain_context_by_records}
 
 -- ---- a graph
 pub counted_none : (nodes declared : ℕ) → nodes ≤ most_nodes → declared ≤ most_count → IsGraphCountedBy (record { nodes = nodes; declared = declared; arcs = 0 }) (GraphProblem nodes declared ∷ [])
@@ -64,8 +64,8 @@ module _ (c : CountedGraph) (tail head : ℕ) (weight : ℤ) (passes : Passes (c
         arcs = omega (arith, length-append b.arcs (arc ∷ []), counted.arcs);
       }
 
-pub counted_noted : (c : CountedGraph) (rs : List Record) → IsGraphCountedBy c rs → counted_lines c ≡ after_records rs
-counted_noted c rs counted = rw (counted.nodes, counted.declared, counted.arcs, counted.records) (lines_noted counted.begun)
+pub counted_by_records : (c : CountedGraph) (rs : List Record) → IsGraphCountedBy c rs → counted_lines c ≡ plain_context_after rs
+counted_by_records c rs counted = rw (counted.nodes, counted.declared, counted.arcs, counted.records) (plain_context_by_records counted.begun)
 
 pub gives_graph_summary : (c : CountedGraph) → PassesEnd Graph (counted_lines c) → (rs : List LineRecord) → IsGraphCountedBy c (records_of rs) → GivesSummary GivesGraph SumsUpGraph rs (record { nodes = c.nodes; arcs = c.arcs })
 gives_graph_summary c p rs counted =

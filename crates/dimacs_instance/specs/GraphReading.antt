@@ -4,8 +4,8 @@ use Rattle.dimacs_records.specs.declared.records.Record.{Record}
 use Rattle.dimacs_records.specs.declared.records.Record.TheVariants.{GraphProblem}
 use Rattle.dimacs_network.specs.declared.network.ArcView.{ArcView}
 use Rattle.dimacs_instance.specs.Graph.{graph_arc}
-use Rattle.dimacs_records.specs.declared.order.Earlier.{Earlier}
-use Rattle.dimacs_records.specs.Tests.{earlier_of}
+use Rattle.dimacs_records.specs.declared.order.Context.{Context}
+use Rattle.dimacs_records.specs.Tests.{plain_context_of}
 
 -- the declared numbers, and the arcs so far
 pub record GraphBegun : Type 0 where
@@ -18,5 +18,5 @@ abbrev pub graph_begun_records : GraphBegun → List Record
 graph_begun_records begun = GraphProblem begun.nodes begun.declared ∷ map graph_arc begun.arcs
 
 -- what the tests need after the problem line and these arcs
-abbrev pub after_lines : GraphBegun → Earlier
-after_lines begun = earlier_of (Some (record { nodes = Some begun.nodes; count = begun.declared })) (length begun.arcs)
+abbrev pub plain_context : GraphBegun → Context
+plain_context begun = plain_context_of (Some (record { nodes = Some begun.nodes; count = begun.declared })) (length begun.arcs)

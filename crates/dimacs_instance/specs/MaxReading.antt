@@ -8,10 +8,10 @@ use Rattle.dimacs_instance.specs.declared.max.EndLine.{EndLine}
 use Rattle.dimacs_instance.specs.declared.max.EndLines.{EndLines}
 use Rattle.dimacs_instance.specs.declared.max.EndLines.TheVariants.{Neither, One, Both}
 use Rattle.dimacs_instance.specs.MaxTexts.{max_arc}
-use Rattle.dimacs_records.specs.declared.order.Earlier.{Earlier}
+use Rattle.dimacs_records.specs.declared.order.Context.{Context}
 use Rattle.dimacs_records.specs.Conditions.{lacks_end}
 use Rattle.dimacs_records.specs.Earlier.{is_end_node, names}
-use Rattle.dimacs_records.specs.Tests.{earlier_of}
+use Rattle.dimacs_records.specs.Tests.{plain_context_of}
 
 -- the declared numbers, and the node lines and arcs so far
 pub record MaxBegun : Type 0 where
@@ -43,19 +43,19 @@ abbrev pub count_of : MaxBegun → MaxCount
 count_of begun = record { nodes = begun.nodes; declared = begun.declared; ends = begun.ends; arcs = length begun.arcs }
 
 -- what the tests need if source and sink don't matter
-abbrev pub after_lines : MaxCount → Earlier
-after_lines counted = earlier_of (Some (record { nodes = Some counted.nodes; count = counted.declared })) counted.arcs
+abbrev pub plain_context : MaxCount → Context
+plain_context counted = plain_context_of (Some (record { nodes = Some counted.nodes; count = counted.declared })) counted.arcs
 
 -- the same at the end
-abbrev pub before_end : MaxCount → Earlier
-before_end counted = record (after_lines counted) { lacks_end = lacks_end (end_records counted.ends) }
+abbrev pub end_context : MaxCount → Context
+end_context counted = record (plain_context counted) { lacks_end = lacks_end (end_records counted.ends) }
 
 -- the same for one more record
-abbrev pub before : MaxCount → Record → Earlier
-before counted (MaxNode id end) = record (after_lines counted) {
+abbrev pub context : MaxCount → Record → Context
+context counted (MaxNode id end) = record (plain_context counted) {
   misplaced = nat_lt 0 counted.arcs;
   named = list_any (names id) (end_records counted.ends);
   end_named = list_any (is_end_node end) (end_records counted.ends);
 }
-before counted (MaxArc tail head cap) = before_end counted
-before counted r = after_lines counted
+context counted (MaxArc tail head cap) = end_context counted
+context counted r = plain_context counted

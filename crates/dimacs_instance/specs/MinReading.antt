@@ -6,9 +6,9 @@ use Rattle.dimacs_records.specs.declared.records.Record.{Record}
 use Rattle.dimacs_network.specs.declared.network.ArcView.{ArcView}
 use Rattle.dimacs_instance.specs.MinTexts.{min_records}
 use Rattle.dimacs_records.specs.NodeValues.{NameNodes}
-use Rattle.dimacs_records.specs.declared.order.Earlier.{Earlier}
+use Rattle.dimacs_records.specs.declared.order.Context.{Context}
 use Rattle.dimacs_records.specs.declared.records.Record.TheVariants.{MinNode}
-use Rattle.dimacs_records.specs.Tests.{earlier_of}
+use Rattle.dimacs_records.specs.Tests.{plain_context_of}
 
 -- the declared numbers, the supplies of the named nodes, and the arcs so far
 pub record MinBegun : Type 0 where
@@ -38,10 +38,10 @@ abbrev pub has_line : MinCount → ℕ → Bool
 has_line counted id = is_some (get counted.supplies id)
 
 -- what the tests need after the problem line, these node lines and arcs
-abbrev pub after_lines : MinCount → Earlier
-after_lines counted = earlier_of (Some (record { nodes = Some counted.nodes; count = counted.declared })) counted.arcs
+abbrev pub plain_context : MinCount → Context
+plain_context counted = plain_context_of (Some (record { nodes = Some counted.nodes; count = counted.declared })) counted.arcs
 
 -- the same for one more record
-abbrev pub before : MinCount → Record → Earlier
-before counted (MinNode id supply) = record (after_lines counted) { misplaced = nat_lt 0 counted.arcs; named = has_line counted id }
-before counted r = after_lines counted
+abbrev pub context : MinCount → Record → Context
+context counted (MinNode id supply) = record (plain_context counted) { misplaced = nat_lt 0 counted.arcs; named = has_line counted id }
+context counted r = plain_context counted

@@ -3,8 +3,8 @@ use Rattle.std.specs.Prelude.{ℕ, List, ◌∷◌, length, Bool, false, true, N
 use Rattle.dimacs_records.specs.declared.records.Record.{Record}
 use Rattle.dimacs_records.specs.declared.records.Record.TheVariants.{QueriesProblem, SourceQuery, PairQuery}
 use Rattle.dimacs_instance.specs.QueryTexts.{QueriesValue, kind_asked, query_lines, Sources, Pairs}
-use Rattle.dimacs_records.specs.declared.order.Earlier.{Earlier}
-use Rattle.dimacs_records.specs.Tests.{earlier_of}
+use Rattle.dimacs_records.specs.declared.order.Context.{Context}
+use Rattle.dimacs_records.specs.Tests.{plain_context_of}
 
 -- the declared number, and the queries so far
 pub record QueriesBegun : Type 0 where
@@ -22,9 +22,9 @@ are_others (PairQuery from to) (Sources ids) = true
 are_others r queries = false
 
 -- what the tests need after the problem line and these queries
-abbrev pub after_lines : QueriesBegun → Earlier
-after_lines begun = earlier_of (Some (record { nodes = None; count = begun.declared })) (length (query_lines begun.queries))
+abbrev pub plain_context : QueriesBegun → Context
+plain_context begun = plain_context_of (Some (record { nodes = None; count = begun.declared })) (length (query_lines begun.queries))
 
 -- the same for one more record
-abbrev pub before : QueriesBegun → Record → Earlier
-before begun r = record (after_lines begun) { misplaced = are_others r begun.queries }
+abbrev pub context : QueriesBegun → Record → Context
+context begun r = record (plain_context begun) { misplaced = are_others r begun.queries }

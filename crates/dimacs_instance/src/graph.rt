@@ -11,14 +11,14 @@ ghost use Rattle.dimacs_lines.specs.Lines.{lines};
 ghost use Rattle.dimacs_instance.specs.Graph.{IsGraph, GivesGraph, SpellsGraph, canonical_graph, graph_arc};
 ghost use Rattle.dimacs_network.specs.Arcs.{NetworkValue};
 ghost use Rattle.dimacs_network.specs.KeptArcs.{weight_arc};
-ghost use Rattle.dimacs_instance.specs.GraphReading.{graph_begun_records, after_lines};
+ghost use Rattle.dimacs_instance.specs.GraphReading.{graph_begun_records, plain_context};
 
 use dimacs_lines::{DeviceFault, Memory, Sink, Source};
 use dimacs_network::{
     ArcView, ForwardStar, Network, OfWeightArcs, PlainArcs, StoredArc, WeightArc,
 };
 use dimacs_records::{
-    Builder, CountedReading, Declared, Earlier, ReadError, Record, TextKind, put_text, read_counted,
+    Builder, Context, CountedReading, Declared, ReadError, Record, TextKind, put_text, read_counted,
 };
 use std::alloc::Global;
 use std::marker::{Model, PhantomData};
@@ -137,9 +137,9 @@ impl<N: OfWeightArcs> Builder for GraphBuilder<N> {
 
     ghost built_from = { λ begun rs. rs ≡ graph_begun_records begun };
 
-    ghost noted = { λ begun r. after_lines begun };
+    ghost context = { λ begun r. plain_context begun };
 
-    ghost noted_end = { λ begun. after_lines begun };
+    ghost end_context = { λ begun. plain_context begun };
 
     ghost gives = { λ rs g. GivesGraph rs g };
 
@@ -159,10 +159,10 @@ impl<N: OfWeightArcs> Builder for GraphBuilder<N> {
         }
     }
 
-    #[tactic(auto, using(crate::proofs::GraphLemmas::before_noted))]
+    #[tactic(auto, using(crate::proofs::GraphLemmas::context_by_records))]
     #[inline(always)]
-    fn before(&self, _rec: Record) -> Earlier {
-        self.before_end()
+    fn context(&self, _rec: Record) -> Context {
+        self.end_context()
     }
 
     #[inline(always)]
@@ -173,12 +173,12 @@ impl<N: OfWeightArcs> Builder for GraphBuilder<N> {
         self.arcs.push(WeightArc { tail, head, weight })
     }
 
-    #[tactic(auto, using(crate::proofs::GraphLemmas::lines_noted))]
+    #[tactic(auto, using(crate::proofs::GraphLemmas::plain_context_by_records))]
     #[inline(always)]
-    fn before_end(&self) -> Earlier {
+    fn end_context(&self) -> Context {
         let nodes = Some(self.arcs.nodes());
         let count = self.declared;
-        Earlier::of(Some(Declared { nodes, count }), self.arcs.arcs())
+        Context::of(Some(Declared { nodes, count }), self.arcs.arcs())
     }
 
     fn value(self, alloc: Global) -> Result<Graph<N>, Memory> {

@@ -14,7 +14,7 @@ ghost use Rattle.dimacs_records.specs.Texts.{Reads};
 ghost use Rattle.dimacs_network.specs.KeptArcs.{capacity_arc};
 ghost use Rattle.dimacs_instance.specs.MaxFlows.{MaxValue, IsMax};
 ghost use Rattle.dimacs_instance.specs.MaxTexts.{GivesMax, SpellsMax, canonical_max, max_arc, nodes_by_id};
-ghost use Rattle.dimacs_instance.specs.MaxReading.{before, before_end, count_of, end_records, max_begun_records, max_node};
+ghost use Rattle.dimacs_instance.specs.MaxReading.{context, end_context, count_of, end_records, max_begun_records, max_node};
 ghost use Rattle.dimacs_instance.specs.inside.MaxReading.{AreEnds, EndsAreDistinct};
 
 use crate::summaries::CountedMax;
@@ -23,7 +23,7 @@ use dimacs_network::{
     ArcView, CapacityArc, ForwardStar, Network, OfCapacityArcs, PlainArcs, StoredArc,
 };
 use dimacs_records::{
-    Builder, CountedReading, Earlier, End, ReadError, Record, TextKind, put_text, read_counted,
+    Builder, Context, CountedReading, End, ReadError, Record, TextKind, put_text, read_counted,
 };
 use std::alloc::Global;
 use std::marker::{Model, PhantomData};
@@ -249,7 +249,7 @@ impl<N: OfCapacityArcs> Model for MaxBuilder<N> {
 
 impl<N: OfCapacityArcs> MaxBuilder<N> {
     #[inline(always)]
-    fn counted(&self) -> CountedMax
+    fn with_arcs_counted(&self) -> CountedMax
         ensures { result ≡ count_of self.now }
     {
         CountedMax {
@@ -268,9 +268,9 @@ impl<N: OfCapacityArcs> Builder for MaxBuilder<N> {
 
     ghost built_from = { λ begun rs. rs ≡ max_begun_records begun };
 
-    ghost noted = { λ begun r. before (count_of begun) r };
+    ghost context = { λ begun r. context (count_of begun) r };
 
-    ghost noted_end = { λ begun. before_end (count_of begun) };
+    ghost end_context = { λ begun. end_context (count_of begun) };
 
     ghost gives = { λ rs m. GivesMax rs m };
 
@@ -291,10 +291,10 @@ impl<N: OfCapacityArcs> Builder for MaxBuilder<N> {
         }
     }
 
-    #[tactic(auto, using(crate::proofs::MaxLemmas::before_noted))]
+    #[tactic(auto, using(crate::proofs::MaxLemmas::context_by_records))]
     #[inline(always)]
-    fn before(&self, rec: Record) -> Earlier {
-        self.counted().before(rec)
+    fn context(&self, rec: Record) -> Context {
+        self.with_arcs_counted().context(rec)
     }
 
     #[inline(always)]
@@ -312,10 +312,10 @@ impl<N: OfCapacityArcs> Builder for MaxBuilder<N> {
         }
     }
 
-    #[tactic(auto, using(crate::proofs::MaxLemmas::end_noted))]
+    #[tactic(auto, using(crate::proofs::MaxLemmas::end_context_by_records))]
     #[inline(always)]
-    fn before_end(&self) -> Earlier {
-        self.counted().before_end()
+    fn end_context(&self) -> Context {
+        self.with_arcs_counted().end_context()
     }
 
     fn value(self, alloc: Global) -> Result<MaxInstance<N>, Memory> {

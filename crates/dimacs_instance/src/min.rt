@@ -15,12 +15,12 @@ ghost use Rattle.dimacs_network.specs.Arcs.{JoinsNodes};
 ghost use Rattle.dimacs_instance.specs.MinFlows.{MinValue, IsMin, supply_of, positive_part, negative_part, supply_sum, demand_sum, HasBounds, with_supply};
 ghost use Rattle.dimacs_instance.specs.MinTexts.{GivesMin, SpellsMin, canonical_min, min_arc};
 ghost use Rattle.dimacs_records.specs.NodeValues.{is_nonzero};
-ghost use Rattle.dimacs_instance.specs.MinReading.{IsMinBegunBy, after_lines, before, count_of};
+ghost use Rattle.dimacs_instance.specs.MinReading.{IsMinBegunBy, plain_context, context, count_of};
 
 use dimacs_lines::{DeviceFault, Memory, OutputBuffer, Sink, Source};
 use dimacs_network::{ArcView, ForwardStar, Network, NodeMap, OfCostArcs, PlainArcs, StoredArc};
 use dimacs_records::{
-    Builder, CountedReading, Declared, Earlier, ReadError, Record, TextKind, read_counted,
+    Builder, Context, CountedReading, Declared, ReadError, Record, TextKind, read_counted,
     write_lines, write_record,
 };
 use std::alloc::Global;
@@ -223,9 +223,9 @@ impl<N: OfCostArcs> Builder for MinBuilder<N> {
 
     ghost built_from = { λ begun rs. IsMinBegunBy begun rs };
 
-    ghost noted = { λ begun r. before (count_of begun) r };
+    ghost context = { λ begun r. context (count_of begun) r };
 
-    ghost noted_end = { λ begun. after_lines (count_of begun) };
+    ghost end_context = { λ begun. plain_context (count_of begun) };
 
     ghost gives = { λ rs m. GivesMin rs m };
 
@@ -246,13 +246,13 @@ impl<N: OfCostArcs> Builder for MinBuilder<N> {
     }
 
     #[inline(always)]
-    fn before(&self, rec: Record) -> Earlier {
+    fn context(&self, rec: Record) -> Context {
         match rec {
-            Record::MinArc { .. } | Record::MinProblem { .. } => self.before_end(),
-            Record::MinNode { id, .. } => Earlier {
+            Record::MinArc { .. } | Record::MinProblem { .. } => self.end_context(),
+            Record::MinNode { id, .. } => Context {
                 misplaced: self.arcs.arcs() > 0,
                 named: self.supplies.get(id).is_some(),
-                ..self.before_end()
+                ..self.end_context()
             },
             _ => unreachable!(),
         }
@@ -286,10 +286,10 @@ impl<N: OfCostArcs> Builder for MinBuilder<N> {
     }
 
     #[inline(always)]
-    fn before_end(&self) -> Earlier {
+    fn end_context(&self) -> Context {
         let nodes = Some(self.arcs.nodes());
         let count = self.declared;
-        Earlier::of(Some(Declared { nodes, count }), self.arcs.arcs())
+        Context::of(Some(Declared { nodes, count }), self.arcs.arcs())
     }
 
     #[tactic(auto, using(crate::proofs::MinLemmas::gives_min, crate::proofs::MinLemmas::min_law))]

@@ -12,11 +12,11 @@ ghost use Rattle.dimacs_records.specs.Faults.{Fault};
 ghost use Rattle.dimacs_records.specs.Readings.{CountsRead};
 ghost use Rattle.dimacs_records.specs.Texts.{Reads};
 ghost use Rattle.dimacs_instance.specs.QueryTexts.{QueriesValue, AreLawful, GivesQueries, SpellsQueries, asked, canonical_queries, kind_asked, query_lines};
-ghost use Rattle.dimacs_instance.specs.QueriesReading.{queries_begun_records, after_lines, are_others, before};
+ghost use Rattle.dimacs_instance.specs.QueriesReading.{queries_begun_records, plain_context, are_others, context};
 
 use dimacs_lines::{DeviceFault, Memory, OutputBuffer, Sink, Source};
 use dimacs_records::{
-    Builder, CountedReading, Declared, Earlier, Part, QueryKind, ReadError, Record, TextKind,
+    Builder, Context, CountedReading, Declared, Part, QueryKind, ReadError, Record, TextKind,
     read_counted, write_line, write_lines,
 };
 use std::alloc::Global;
@@ -134,9 +134,9 @@ impl Builder for QueriesBuilder {
 
     ghost built_from = { λ begun rs. rs ≡ queries_begun_records begun };
 
-    ghost noted = { λ begun r. before begun r };
+    ghost context = { λ begun r. context begun r };
 
-    ghost noted_end = { λ begun. after_lines begun };
+    ghost end_context = { λ begun. plain_context begun };
 
     ghost gives = { λ rs queries. GivesQueries rs queries };
 
@@ -159,12 +159,12 @@ impl Builder for QueriesBuilder {
         }
     }
 
-    #[tactic(auto, using(crate::proofs::QueriesLemmas::before_noted))]
+    #[tactic(auto, using(crate::proofs::QueriesLemmas::context_by_records))]
     #[inline(always)]
-    fn before(&self, rec: Record) -> Earlier {
-        Earlier {
+    fn context(&self, rec: Record) -> Context {
+        Context {
             misplaced: self.queries.are_others(rec),
-            ..self.before_end()
+            ..self.end_context()
         }
     }
 
@@ -188,11 +188,11 @@ impl Builder for QueriesBuilder {
         Ok(())
     }
 
-    #[tactic(auto, using(crate::proofs::QueriesLemmas::lines_noted))]
+    #[tactic(auto, using(crate::proofs::QueriesLemmas::plain_context_by_records))]
     #[inline(always)]
-    fn before_end(&self) -> Earlier {
+    fn end_context(&self) -> Context {
         let count = self.declared;
-        Earlier::of(
+        Context::of(
             Some(Declared { nodes: None, count }),
             self.queries.len() as u32,
         )

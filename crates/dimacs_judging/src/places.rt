@@ -346,5 +346,5 @@ fn room_for_index<N: Network>(alloc: Global, network: &N) -> Result<Option<ArcIn
     if network.is_indexed() {
         return Ok(None);
     }
-    Ok(Some(ArcIndex::room(alloc, network)?))
+    Ok(Some(ArcIndex::with_room_for(alloc, network)?))
 }

@@ -14,7 +14,7 @@ use std::alloc::Global;
 
 /// A forward star apart from its network: the arcs ordered by tail, then head.
 ///
-/// `room` allocates all memory: at most 16 bytes an arc, 12 for the order and 4 for the starts. The system assigns a
+/// `with_room_for` allocates all memory: at most 16 bytes an arc, 12 for the order and 4 for the starts. The system assigns a
 /// page only when `fill` writes it; `fill` allocates nothing.
 #[derive(Drop)]
 pub struct ArcIndex {
@@ -26,16 +26,16 @@ pub struct ArcIndex {
 
 impl ArcIndex {
     /// Allocates an empty index with room for the arcs of this network.
-    pub fn room<N: Network>(alloc: Global, network: &N) -> Result<ArcIndex, Memory>
+    pub fn with_room_for<N: Network>(alloc: Global, network: &N) -> Result<ArcIndex, Memory>
         ensures { IfOk result (HasRoom (N.list network.now)) }
     {
         Ok(ArcIndex {
             outs: Vec::with_capacity(alloc, network.arcs() as usize)?,
-            starts: TailStarts::room(alloc, network.nodes(), network.arcs())?,
+            starts: TailStarts::with_room(alloc, network.nodes(), network.arcs())?,
         })
     }
 
-    /// Fills the index with the arcs of the network that `room` was called for.
+    /// Fills the index with the arcs of the network that `with_room_for` was called for.
     #[inline(never)]
     pub fn fill<N: Network>(&mut self, network: &N)
         requires { HasRoom (N.list network.now) self.old }

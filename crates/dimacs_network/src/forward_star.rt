@@ -38,7 +38,7 @@ impl<A: StoredArc> ForwardStar<A> {
         ensures same { IfOk result (λ star. star ≡ arcs) }
         ensures unchanged { IfErr result (λ refused. refused.0 ≡ arcs) }
     {
-        let Ok(mut index) = ArcIndex::room(alloc, &arcs) else {
+        let Ok(mut index) = ArcIndex::with_room_for(alloc, &arcs) else {
             return Err((arcs, Memory));
         };
         index.fill(&arcs);

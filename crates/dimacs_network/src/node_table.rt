@@ -138,7 +138,7 @@ impl<T: Copy> NodeTable<T> {
     }
 
     /// An ID greater than all that were set; at most 2^32.
-    pub fn end(&self) -> usize
+    pub fn end_of_ids(&self) -> usize
         ensures within { result ≤ 4294967296 }
         ensures blank_after { (id : ℕ) → result ≤ id → value_of self.now id ≡ blank_of self.now }
     {

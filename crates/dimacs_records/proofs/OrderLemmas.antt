@@ -2,7 +2,7 @@
 use Rattle.std.proofs.Common.{◌≡◌, [], List, false, true, Option, Some, None, Err, refl, ◌∙◌}
 use Rattle.dimacs_records.specs.declared.kinds.TextKind.{TextKind}
 use Rattle.dimacs_records.specs.declared.kinds.TextKind.TheVariants.{Max, Labels, Distances, Solution}
-use Rattle.dimacs_records.specs.declared.order.Earlier.{Earlier}
+use Rattle.dimacs_records.specs.declared.order.Context.{Context}
 use Rattle.dimacs_records.specs.declared.records.Record.{Record}
 use Rattle.dimacs_records.specs.declared.records.Record.TheVariants.{CutProblem, DistancesNode, DistancesProblem, GraphProblem, LabelsNode, LabelsProblem, MaxProblem, MinProblem, PotentialsProblem, QueriesProblem}
 use Rattle.dimacs_records.specs.declared.reasons.Reason.{Reason}
@@ -15,11 +15,11 @@ use Rattle.dimacs_records.specs.Faults.{FirstAtEnd}
 use Rattle.dimacs_records.specs.Order.{FaultPlace}
 use Rattle.dimacs_records.specs.Readings.{IsAllowed, IsComplete, IsFirstCondition, RefusesEnd, RefusesRecord}
 use Rattle.dimacs_records.specs.Spelling.{kind_of}
-use Rattle.dimacs_records.specs.Tests.{Passes, PassesEnd, answer_at, answer_at_end, place_by, reason_by, noted_at_end, noted_before}
+use Rattle.dimacs_records.specs.Tests.{Passes, PassesEnd, answer_at, answer_at_end, place_by, reason_by, end_context_of, context_after}
 use Rattle.dimacs_records.proofs.ConditionLemmas.{first_place, first_reason_at_end, is_allowed, is_complete, is_first_at_end, is_first_condition}
 
 -- what the tests know gives the first condition
-noted : (e : Earlier) (earlier : List Record) (r : Record) → e ≡ noted_before earlier r → first_place earlier r ≡ place_by e r
+noted : (e : Context) (earlier : List Record) (r : Record) → e ≡ context_after earlier r → first_place earlier r ≡ place_by e r
 noted e earlier (LabelsNode id dist pred) so = rw so refl
 noted e earlier (DistancesNode id dist) so = rw so refl
 noted e earlier r so = rw so refl
@@ -30,22 +30,22 @@ refused_at earlier r (Some p) error is answer =
     let same : error ≡ Refused (record { field = p.field; reason = p.reason }) = cc in
     rw same (is_first_condition earlier r (record { field = p.field; reason = p.reason }) is)
 
-pub refused_noted : (e : Earlier) (earlier : List Record) (r : Record) (error : TakeError) → Err error ≡ answer_at (place_by e r) → e ≡ noted_before earlier r → RefusesRecord earlier r error
-refused_noted e earlier r error answer so = refused_at earlier r (place_by e r) error (noted e earlier r so) answer
+pub refused_by_records : (e : Context) (earlier : List Record) (r : Record) (error : TakeError) → Err error ≡ answer_at (place_by e r) → e ≡ context_after earlier r → RefusesRecord earlier r error
+refused_by_records e earlier r error answer so = refused_at earlier r (place_by e r) error (noted e earlier r so) answer
 
 -- a record that passes the tests is allowed
-pub allowed_noted : (e : Earlier) (earlier : List Record) (r : Record) → Passes e r → e ≡ noted_before earlier r → IsAllowed earlier r
-allowed_noted e earlier r p so =
+pub allowed_by_records : (e : Context) (earlier : List Record) (r : Record) → Passes e r → e ≡ context_after earlier r → IsAllowed earlier r
+allowed_by_records e earlier r p so =
     is_allowed earlier r (noted e earlier r so
     ∙ rw (p.after_problem, p.one_problem, p.placed, p.second_within, p.third_within, p.fourth_within, p.new_node, p.new_end, p.both_ends, p.low, p.cap, p.room, p.full_block, p.one_value, p.pred_known, p.within_radius) refl)
 
 -- the same at the end
-end_noted : (kind : TextKind) (e : Earlier) (all : List Record) → e ≡ noted_at_end kind all → first_reason_at_end kind all ≡ reason_by kind e
-end_noted Max e all so = rw so refl
-end_noted Labels e all so = rw so refl
-end_noted Distances e all so = rw so refl
-end_noted Solution e all so = rw so refl
-end_noted kind e all so = rw so refl
+end_context_by_records : (kind : TextKind) (e : Context) (all : List Record) → e ≡ end_context_of kind all → first_reason_at_end kind all ≡ reason_by kind e
+end_context_by_records Max e all so = rw so refl
+end_context_by_records Labels e all so = rw so refl
+end_context_by_records Distances e all so = rw so refl
+end_context_by_records Solution e all so = rw so refl
+end_context_by_records kind e all so = rw so refl
 
 refused_at_end : (kind : TextKind) (all : List Record) (reason : Option Reason) (error : TakeError) → first_reason_at_end kind all ≡ reason → Err error ≡ answer_at_end reason → RefusesEnd kind all error
 refused_at_end kind all None error is answer = absurd (cc)
@@ -53,11 +53,11 @@ refused_at_end kind all (Some reason) error is answer =
     let same : error ≡ Refused (record { field = 0; reason = reason }) = cc in
     rw same (refl, is_first_at_end kind all reason is)
 
-pub end_refused_noted : (kind : TextKind) (e : Earlier) (all : List Record) (error : TakeError) → Err error ≡ answer_at_end (reason_by kind e) → e ≡ noted_at_end kind all → RefusesEnd kind all error
-end_refused_noted kind e all error answer so = refused_at_end kind all (reason_by kind e) error (end_noted kind e all so) answer
+pub end_refused_by_records : (kind : TextKind) (e : Context) (all : List Record) (error : TakeError) → Err error ≡ answer_at_end (reason_by kind e) → e ≡ end_context_of kind all → RefusesEnd kind all error
+end_refused_by_records kind e all error answer so = refused_at_end kind all (reason_by kind e) error (end_context_by_records kind e all so) answer
 
-pub complete_noted : (kind : TextKind) (e : Earlier) (all : List Record) → PassesEnd kind e → e ≡ noted_at_end kind all → IsComplete kind all
-complete_noted kind e all p so = is_complete kind all (end_noted kind e all so ∙ rw (p.problem, p.ends, p.finished, p.value) refl)
+pub complete_by_records : (kind : TextKind) (e : Context) (all : List Record) → PassesEnd kind e → e ≡ end_context_of kind all → IsComplete kind all
+complete_by_records kind e all p so = is_complete kind all (end_context_by_records kind e all so ∙ rw (p.problem, p.ends, p.finished, p.value) refl)
 
 -- the first record of a text that begins without its problem line
 pub first_missing : (r : Record) → is_problem r ≡ false → needs_problem (kind_of r) ≡ true → IsFirstCondition [] r (record { field = 0; reason = ProblemMissing })

@@ -6,7 +6,7 @@ use Rattle.dimacs_records.specs.declared.faults.TakeError.TheVariants.{Refused}
 use Rattle.dimacs_records.specs.declared.kinds.TextKind.{TextKind}
 use Rattle.dimacs_records.specs.declared.kinds.TextKind.TheVariants.{Max, Labels, Distances, Solution}
 use Rattle.dimacs_records.specs.declared.order.Declared.{Declared}
-use Rattle.dimacs_records.specs.declared.order.Earlier.{Earlier}
+use Rattle.dimacs_records.specs.declared.order.Context.{Context}
 use Rattle.dimacs_records.specs.declared.reasons.Reason.{Reason}
 use Rattle.dimacs_records.specs.declared.reasons.Reason.TheVariants.{RecordOrder, NodeTwice, EndTwice, EndMissing, TooFew, SolutionTwice, PredUnknown, PastRadius}
 use Rattle.dimacs_records.specs.declared.records.Record.{Record}
@@ -18,8 +18,8 @@ use Rattle.dimacs_records.specs.Order.{FaultPlace, end_reasons, record_places}
 use Rattle.dimacs_records.specs.Spelling.{kind_of}
 
 -- after this problem line and so many lines that it counts
-abbrev pub earlier_of : Option Declared → ℕ → Earlier
-earlier_of problem counted = record {
+abbrev pub plain_context_of : Option Declared → ℕ → Context
+plain_context_of problem counted = record {
   problem = problem;
   counted = counted;
   misplaced = false;
@@ -34,8 +34,8 @@ earlier_of problem counted = record {
 }
 
 -- after these records, if only their number matters
-abbrev pub after_records : List Record → Earlier
-after_records rs = earlier_of (problem_in rs) (counted_in rs)
+abbrev pub plain_context_after : List Record → Context
+plain_context_after rs = plain_context_of (problem_in rs) (counted_in rs)
 
 -- the record is a label, and its block has as many as it declares
 abbrev pub is_full_label : List Record → Record → Bool
@@ -44,8 +44,8 @@ is_full_label earlier (DistancesNode id dist) = is_full_block (block_in earlier)
 is_full_label earlier r = false
 
 -- what the tests of record r need from the earlier records
-abbrev pub noted_before : List Record → Record → Earlier
-noted_before earlier r = record {
+abbrev pub context_after : List Record → Record → Context
+context_after earlier r = record {
   problem = problem_in earlier;
   counted = counted_in earlier;
   misplaced = is_refused_for RecordOrder earlier r;
@@ -60,14 +60,14 @@ noted_before earlier r = record {
 }
 
 -- what the tests at the end need from the records
-abbrev pub noted_at_end : TextKind → List Record → Earlier
-noted_at_end Max all = record (after_records all) { lacks_end = lacks_end all }
-noted_at_end Labels all = record (after_records all) { block_short = is_short_block (block_in all) }
-noted_at_end Distances all = record (after_records all) { block_short = is_short_block (block_in all) }
-noted_at_end Solution all = record (after_records all) { valued = list_any is_value all }
-noted_at_end kind all = after_records all
+abbrev pub end_context_of : TextKind → List Record → Context
+end_context_of Max all = record (plain_context_after all) { lacks_end = lacks_end all }
+end_context_of Labels all = record (plain_context_after all) { block_short = is_short_block (block_in all) }
+end_context_of Distances all = record (plain_context_after all) { block_short = is_short_block (block_in all) }
+end_context_of Solution all = record (plain_context_after all) { valued = list_any is_value all }
+end_context_of kind all = plain_context_after all
 
-abbrev pub passes_count : Earlier → Record → Bool
+abbrev pub passes_count : Context → Record → Bool
 passes_count e (LabelsNode id dist pred) = e.block_full
 passes_count e (DistancesNode id dist) = e.block_full
 passes_count e r = is_counted r && is_full e.problem e.counted
@@ -78,7 +78,7 @@ first_failing (x ∷ xs) (wrong ∷ more) = if wrong then Some x else first_fail
 first_failing xs tests = None
 
 -- the place of the first test of record r that fails
-abbrev pub place_by : Earlier → Record → Option FaultPlace
+abbrev pub place_by : Context → Record → Option FaultPlace
 place_by e r =
     first_failing record_places (
     ((needs_problem (kind_of r) && not (is_problem r)) && is_none e.problem) ∷ (is_problem r && is_some e.problem) ∷ e.misplaced
@@ -92,7 +92,7 @@ needs_value Solution = true
 needs_value kind = false
 
 -- the reason of the first test at the end that fails
-abbrev pub reason_by : TextKind → Earlier → Option Reason
+abbrev pub reason_by : TextKind → Context → Option Reason
 reason_by kind e =
     first_failing end_reasons (
     (needs_problem kind && is_none e.problem) ∷ e.lacks_end
@@ -109,7 +109,7 @@ answer_at_end None = Ok tt
 answer_at_end (Some reason) = Err (Refused (record { field = 0; reason = reason }))
 
 -- no test of record r fails
-pub record Passes (e : Earlier) (r : Record) : Type 0 where
+pub record Passes (e : Context) (r : Record) : Type 0 where
   pub after_problem : ((needs_problem (kind_of r) && not (is_problem r)) && is_none e.problem) ≡ false
   pub one_problem : (is_problem r && is_some e.problem) ≡ false
   pub placed : e.misplaced ≡ false
@@ -128,7 +128,7 @@ pub record Passes (e : Earlier) (r : Record) : Type 0 where
   pub within_radius : e.past_radius ≡ false
 
 -- no test at the end fails
-pub record PassesEnd (kind : TextKind) (e : Earlier) : Type 0 where
+pub record PassesEnd (kind : TextKind) (e : Context) : Type 0 where
   pub problem : (needs_problem kind && is_none e.problem) ≡ false
   pub ends : e.lacks_end ≡ false
   pub finished : (e.block_short || is_short e.problem e.counted) ≡ false

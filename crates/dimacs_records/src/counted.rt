@@ -3,7 +3,7 @@
 ghost use Rattle.std.specs.Prelude.{◌≡◌, ◌++◌, ◌∷◌, [], ℕ, List, None, Some, IfErr, IfOk, OnOk, OnErr, true};
 ghost use Rattle.dimacs_lines.specs.Lines.{lines};
 ghost use Rattle.dimacs_records.specs.declared.kinds.TextKind.{TextKind};
-ghost use Rattle.dimacs_records.specs.declared.order.Earlier.{Earlier};
+ghost use Rattle.dimacs_records.specs.declared.order.Context.{Context};
 ghost use Rattle.dimacs_records.specs.declared.records.Record.{Record};
 ghost use Rattle.dimacs_records.specs.Conditions.{needs_problem};
 ghost use Rattle.dimacs_records.specs.Earlier.{is_problem};
@@ -11,13 +11,13 @@ ghost use Rattle.dimacs_records.specs.Faults.{Fault};
 ghost use Rattle.dimacs_records.specs.Readings.{CountsRead, LineRecord, IsAllowed, IsOfKind, RefusesRecord, records_of};
 ghost use Rattle.dimacs_records.specs.Spelling.{kind_of};
 ghost use Rattle.dimacs_records.specs.Takings.{StandsFor};
-ghost use Rattle.dimacs_records.specs.Tests.{Passes, PassesEnd, noted_at_end, noted_before};
+ghost use Rattle.dimacs_records.specs.Tests.{Passes, PassesEnd, end_context_of, context_after};
 ghost use Rattle.dimacs_records.specs.Texts.{Reads, SpellsValue, AreFaultless};
 
 use crate::driver::read_text;
 use crate::faults::{ReadError, TakeError};
 use crate::kinds::TextKind;
-use crate::order::{Earlier, is_problem, test_end, test_record};
+use crate::order::{Context, is_problem, test_end, test_record};
 use crate::reading::Reading;
 use crate::reasons::Reason;
 use crate::records::Record;
@@ -35,11 +35,11 @@ pub trait Builder: Drop {
     /// Which records may lead to this state.
     ghost built_from: { Self → List Record → Type 0 };
 
-    /// What the tests of one more record need.
-    ghost noted: { Self → Record → Earlier };
+    /// The context of one more record.
+    ghost context: { Self → Record → Context };
 
-    /// What the tests at the end need.
-    ghost noted_end: { Self → Earlier };
+    /// The context of the end.
+    ghost end_context: { Self → Context };
 
     /// Which value the records of a text give.
     ghost gives: { List LineRecord → Self.Value → Type 0 };
@@ -56,27 +56,27 @@ pub trait Builder: Drop {
         requires problem_line { is_problem problem ≡ true }
         ensures { built_from result (problem ∷ []) };
 
-    /// What the tests of one more record need.
-    fn before(&self, rec: Record) -> Earlier
+    /// The context of one more record.
+    fn context(&self, rec: Record) -> Context
         requires { IsOfKind kind rec }
-        ensures noted { result ≡ noted self.now rec }
-        ensures of_records { (rs : List Record) → built_from self.now rs → result ≡ noted_before rs rec };
+        ensures context { result ≡ context self.now rec }
+        ensures of_records { (rs : List Record) → built_from self.now rs → result ≡ context_after rs rec };
 
     /// Adds a record that passed all tests.
     fn keep(&mut self, rec: Record) -> Result<(), Memory>
         requires of_kind { IsOfKind kind rec }
-        requires passes { Passes (noted self.old rec) rec }
+        requires passes { Passes (context self.old rec) rec }
         ensures added { OnOk result ((rs : List Record) → built_from self.old rs → built_from self.new (rs ++ rec ∷ [])) }
         ensures unchanged { OnErr result (self.new ≡ self.old) };
 
-    /// What the tests at the end need.
-    fn before_end(&self) -> Earlier
-        ensures noted { result ≡ noted_end self.now }
-        ensures of_records { (rs : List Record) → built_from self.now rs → result ≡ noted_at_end kind rs };
+    /// The context of the end.
+    fn end_context(&self) -> Context
+        ensures context { result ≡ end_context self.now }
+        ensures of_records { (rs : List Record) → built_from self.now rs → result ≡ end_context_of kind rs };
 
     /// The value of all records, after the tests at the end.
     fn value(self, alloc: Global) -> Result<Self::Value, Memory>
-        requires { PassesEnd kind (noted_end self) }
+        requires { PassesEnd kind (end_context self) }
         ensures { IfOk result (λ value. (rs : List LineRecord) → built_from self (records_of rs) → gives rs value) };
 
     /// This kind of text begins with a problem line.
@@ -115,7 +115,7 @@ impl<B: Builder> Reading for CountedReading<B> {
     fn take(&mut self, _line: u64, rec: Record) -> Result<(), TakeError> {
         match &mut self.builder {
             Some(builder) => {
-                test_record(builder.before(rec), rec)?;
+                test_record(builder.context(rec), rec)?;
                 builder.keep(rec)?;
             }
             None => {
@@ -131,7 +131,7 @@ impl<B: Builder> Reading for CountedReading<B> {
         let Some(builder) = self.builder else {
             return Err(TakeError::refused(0, Reason::ProblemMissing));
         };
-        test_end(B::kind(), builder.before_end())?;
+        test_end(B::kind(), builder.end_context())?;
         Ok(builder.value(alloc)?)
     }
 }

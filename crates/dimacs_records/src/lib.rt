@@ -29,7 +29,7 @@ pub use field_reader::{MAX_COUNT, MAX_NODES};
 pub use kinds::TextKind;
 pub use laws::{canonical_texts, no_fault, one_fault};
 pub use lines::record;
-pub use order::{Declared, Earlier, test_end, test_record};
+pub use order::{Context, Declared, test_end, test_record};
 pub use printed::{Part, put_line, write_line};
 pub use reading::Reading;
 pub use reasons::Reason;

@@ -8,7 +8,7 @@ ghost use Rattle.dimacs_records.specs.declared.records.Record.{Record};
 ghost use Rattle.dimacs_records.specs.Conditions.{is_above_at, bounded_ids, is_bound_wrong, needs_problem};
 ghost use Rattle.dimacs_records.specs.Earlier.{is_above, is_counted, is_full, is_problem, is_short, is_some_and};
 ghost use Rattle.dimacs_records.specs.Spelling.{kind_of};
-ghost use Rattle.dimacs_records.specs.Tests.{Passes, PassesEnd, answer_at, answer_at_end, earlier_of, passes_count, needs_value, place_by, reason_by};
+ghost use Rattle.dimacs_records.specs.Tests.{Passes, PassesEnd, answer_at, answer_at_end, plain_context_of, passes_count, needs_value, place_by, reason_by};
 
 use crate::faults::TakeError;
 use crate::kinds::TextKind;
@@ -22,10 +22,10 @@ pub struct Declared {
     pub count: u32,
 }
 
-/// What the tests of a record, or of the end, need from the earlier records. "The record" is the one that is tested.
+/// The context in which a record, or the end, is tested: what the tests need from the earlier records. "The record" is the one that is tested.
 /// Flags that its tests don't use are false.
 #[derive(Clone, Copy)]
-pub struct Earlier {
+pub struct Context {
     /// The problem line, if any.
     pub problem: Option<Declared>,
     /// The number of lines that the problem line counts.
@@ -50,13 +50,13 @@ pub struct Earlier {
     pub past_radius: bool,
 }
 
-impl Earlier {
-    /// After this problem line, if any, and `counted` of the lines that it counts. All flags are false.
+impl Context {
+    /// The context after this problem line, if any, and `counted` of the lines that it counts. All flags are false.
     #[inline(always)]
-    pub fn of(problem: Option<Declared>, counted: u32) -> Earlier
-        ensures { result ≡ earlier_of problem counted }
+    pub fn of(problem: Option<Declared>, counted: u32) -> Context
+        ensures { result ≡ plain_context_of problem counted }
     {
-        Earlier {
+        Context {
             problem,
             counted,
             misplaced: false,
@@ -177,41 +177,41 @@ impl Earlier {
     }
 }
 
-/// Tests a record after the earlier ones. Returns its first fault in the order of `docs/TEXTS.md`.
+/// Tests a record in its context. Returns its first fault in the order of `docs/TEXTS.md`.
 #[inline(always)]
-pub fn test_record(earlier: Earlier, rec: Record) -> Result<(), TakeError>
-    ensures passes { OnOk result (Passes earlier rec) }
-    ensures first_fault { result ≡ answer_at (place_by earlier rec) }
+pub fn test_record(context: Context, rec: Record) -> Result<(), TakeError>
+    ensures passes { OnOk result (Passes context rec) }
+    ensures first_fault { result ≡ answer_at (place_by context rec) }
 {
-    refuse_if(earlier.lacks_problem_before(rec), 0, Reason::ProblemMissing)?;
-    refuse_if(earlier.is_second_problem(rec), 0, Reason::ProblemTwice)?;
-    refuse_if(earlier.misplaced, 0, Reason::RecordOrder)?;
-    refuse_if(earlier.has_above(second_id(rec)), 2, Reason::NodeRange)?;
-    refuse_if(earlier.has_above(third_id(rec)), 3, Reason::NodeRange)?;
-    refuse_if(earlier.has_above(fourth_id(rec)), 4, Reason::NodeRange)?;
-    refuse_if(earlier.named, 2, Reason::NodeTwice)?;
-    refuse_if(earlier.end_named, 3, Reason::EndTwice)?;
-    refuse_if(earlier.lacks_end, 0, Reason::EndMissing)?;
+    refuse_if(context.lacks_problem_before(rec), 0, Reason::ProblemMissing)?;
+    refuse_if(context.is_second_problem(rec), 0, Reason::ProblemTwice)?;
+    refuse_if(context.misplaced, 0, Reason::RecordOrder)?;
+    refuse_if(context.has_above(second_id(rec)), 2, Reason::NodeRange)?;
+    refuse_if(context.has_above(third_id(rec)), 3, Reason::NodeRange)?;
+    refuse_if(context.has_above(fourth_id(rec)), 4, Reason::NodeRange)?;
+    refuse_if(context.named, 2, Reason::NodeTwice)?;
+    refuse_if(context.end_named, 3, Reason::EndTwice)?;
+    refuse_if(context.lacks_end, 0, Reason::EndMissing)?;
     refuse_if(has_wrong_low(rec), 4, Reason::BoundOrder)?;
     refuse_if(has_wrong_cap(rec), 5, Reason::BoundOrder)?;
-    refuse_if(earlier.is_full_for(rec), 0, Reason::TooMany)?;
-    refuse_if(earlier.block_short, 0, Reason::TooFew)?;
-    refuse_if(earlier.valued, 0, Reason::SolutionTwice)?;
-    refuse_if(earlier.pred_unknown, 0, Reason::PredUnknown)?;
-    refuse_if(earlier.past_radius, 3, Reason::PastRadius)?;
+    refuse_if(context.is_full_for(rec), 0, Reason::TooMany)?;
+    refuse_if(context.block_short, 0, Reason::TooFew)?;
+    refuse_if(context.valued, 0, Reason::SolutionTwice)?;
+    refuse_if(context.pred_unknown, 0, Reason::PredUnknown)?;
+    refuse_if(context.past_radius, 3, Reason::PastRadius)?;
     Ok(())
 }
 
 /// Tests the end of a text. Returns its first fault. Only a solution needs `valued`.
 #[inline(always)]
-pub fn test_end(kind: TextKind, earlier: Earlier) -> Result<(), TakeError>
-    ensures passes { OnOk result (PassesEnd kind earlier) }
-    ensures first_fault { result ≡ answer_at_end (reason_by kind earlier) }
+pub fn test_end(kind: TextKind, context: Context) -> Result<(), TakeError>
+    ensures passes { OnOk result (PassesEnd kind context) }
+    ensures first_fault { result ≡ answer_at_end (reason_by kind context) }
 {
-    refuse_if(earlier.lacks_problem(kind), 0, Reason::ProblemMissing)?;
-    refuse_if(earlier.lacks_end, 0, Reason::EndMissing)?;
-    refuse_if(earlier.is_unfinished(), 0, Reason::TooFew)?;
-    refuse_if(earlier.lacks_value(kind), 0, Reason::SolutionMissing)?;
+    refuse_if(context.lacks_problem(kind), 0, Reason::ProblemMissing)?;
+    refuse_if(context.lacks_end, 0, Reason::EndMissing)?;
+    refuse_if(context.is_unfinished(), 0, Reason::TooFew)?;
+    refuse_if(context.lacks_value(kind), 0, Reason::SolutionMissing)?;
     Ok(())
 }
 

@@ -32,7 +32,7 @@ impl<'a, N: Network> ArcsByEnds<'a, N> {
     pub(crate) fn of(alloc: Global, network: &'a N) -> Result<ArcsByEnds<'a, N>, Memory>
         ensures { IfOk result (λ arcs. arcs ≡ N.list network.now) }
     {
-        let mut index = ArcIndex::room(alloc, network)?;
+        let mut index = ArcIndex::with_room_for(alloc, network)?;
         index.fill(network);
         Ok(ArcsByEnds { network, index })
     }

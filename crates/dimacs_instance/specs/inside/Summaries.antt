@@ -1,9 +1,9 @@
 -- Inside: summaries of the instances that texts spell.
 use Rattle.std.specs.Prelude.{◌≡◌, List, length, Some}
-use Rattle.dimacs_records.specs.declared.order.Earlier.{Earlier}
+use Rattle.dimacs_records.specs.declared.order.Context.{Context}
 use Rattle.dimacs_records.specs.declared.records.Record.{Record}
 use Rattle.dimacs_records.specs.Readings.{LineRecord}
-use Rattle.dimacs_records.specs.Tests.{earlier_of}
+use Rattle.dimacs_records.specs.Tests.{plain_context_of}
 use Rattle.dimacs_instance.specs.GraphReading.{GraphBegun, graph_begun_records}
 use Rattle.dimacs_instance.specs.inside.GraphReading.{IsGraphBegun}
 use Rattle.dimacs_instance.specs.declared.summaries.graph.CountedGraph.{CountedGraph}
@@ -22,5 +22,5 @@ pub record IsGraphCountedBy (c : CountedGraph) (rs : List Record) : Type 0 where
   pub arcs : c.arcs ≡ length begun.arcs
 
 -- what the tests need after the problem line and these arcs
-abbrev pub counted_lines : CountedGraph → Earlier
-counted_lines c = earlier_of (Some (record { nodes = Some c.nodes; count = c.declared })) c.arcs
+abbrev pub counted_lines : CountedGraph → Context
+counted_lines c = plain_context_of (Some (record { nodes = Some c.nodes; count = c.declared })) c.arcs

@@ -10,7 +10,7 @@ ghost use Rattle.dimacs_instance.specs.inside.Summaries.{GivesSummary, IsGraphCo
 use crate::summaries::Summary;
 use dimacs_lines::{DeviceFault, Memory, Sink, Source};
 use dimacs_records::{
-    Builder, Declared, Earlier, Part, ReadError, Record, TextKind, put_line, read_counted,
+    Builder, Context, Declared, Part, ReadError, Record, TextKind, put_line, read_counted,
 };
 use std::alloc::Global;
 
@@ -70,9 +70,9 @@ impl Builder for CountedGraph {
 
     ghost built_from = { λ counted rs. IsGraphCountedBy counted rs };
 
-    ghost noted = { λ counted r. counted_lines counted };
+    ghost context = { λ counted r. counted_lines counted };
 
-    ghost noted_end = { λ counted. counted_lines counted };
+    ghost end_context = { λ counted. counted_lines counted };
 
     ghost gives = { λ rs summary. GivesSummary GivesGraph SumsUpGraph rs summary };
 
@@ -94,8 +94,8 @@ impl Builder for CountedGraph {
     }
 
     #[inline(always)]
-    fn before(&self, _rec: Record) -> Earlier {
-        self.before_end()
+    fn context(&self, _rec: Record) -> Context {
+        self.end_context()
     }
 
     #[inline(always)]
@@ -113,10 +113,10 @@ impl Builder for CountedGraph {
     }
 
     #[inline(always)]
-    fn before_end(&self) -> Earlier {
+    fn end_context(&self) -> Context {
         let nodes = Some(self.nodes);
         let count = self.declared;
-        Earlier::of(Some(Declared { nodes, count }), self.arcs)
+        Context::of(Some(Declared { nodes, count }), self.arcs)
     }
 
     #[tactic(auto, using(crate::proofs::SummaryLemmas::gives_graph_summary))]

@@ -3,7 +3,7 @@
 ghost use Rattle.std.specs.Prelude.{◌≡◌, refl};
 ghost use Rattle.dimacs_records.specs.declared.kinds.TextKind.TheVariants as kinds;
 ghost use Rattle.dimacs_instance.specs.MaxFlows.{MaxValue};
-ghost use Rattle.dimacs_instance.specs.MaxReading.{after_lines, before, before_end};
+ghost use Rattle.dimacs_instance.specs.MaxReading.{plain_context, context, end_context};
 ghost use Rattle.dimacs_instance.specs.inside.MaxReading.{IsMaxCountedBy};
 ghost use Rattle.dimacs_instance.specs.MaxTexts.{GivesMax, SpellsMax, shown_max};
 ghost use Rattle.dimacs_instance.specs.Summaries.{SumsUpMax, max_summary_line};
@@ -13,7 +13,7 @@ use crate::max::{EndLine, EndLines};
 use crate::summaries::Summary;
 use dimacs_lines::{DeviceFault, Memory, Sink, Source};
 use dimacs_records::{
-    Builder, Declared, Earlier, Part, ReadError, Record, TextKind, put_line, read_counted,
+    Builder, Context, Declared, Part, ReadError, Record, TextKind, put_line, read_counted,
 };
 use std::alloc::Global;
 use std::marker::Model;
@@ -84,14 +84,14 @@ impl Model for CountedMax {
 }
 
 impl CountedMax {
-    /// What the tests need if source and sink don't matter.
+    /// The context if source and sink don't matter.
     #[inline(always)]
-    fn after_lines(&self) -> Earlier
-        ensures { result ≡ after_lines self.now }
+    fn plain_context(&self) -> Context
+        ensures { result ≡ plain_context self.now }
     {
         let nodes = Some(self.nodes);
         let count = self.declared;
-        Earlier::of(Some(Declared { nodes, count }), self.arcs)
+        Context::of(Some(Declared { nodes, count }), self.arcs)
     }
 }
 
@@ -102,9 +102,9 @@ impl Builder for CountedMax {
 
     ghost built_from = { λ counted rs. IsMaxCountedBy counted rs };
 
-    ghost noted = { λ counted r. before counted r };
+    ghost context = { λ counted r. context counted r };
 
-    ghost noted_end = { λ counted. before_end counted };
+    ghost end_context = { λ counted. end_context counted };
 
     ghost gives = { λ rs summary. GivesSummary GivesMax SumsUpMax rs summary };
 
@@ -127,16 +127,16 @@ impl Builder for CountedMax {
     }
 
     #[inline(always)]
-    fn before(&self, rec: Record) -> Earlier {
+    fn context(&self, rec: Record) -> Context {
         match rec {
-            Record::MaxArc { .. } => self.before_end(),
-            Record::MaxNode { id, end } => Earlier {
+            Record::MaxArc { .. } => self.end_context(),
+            Record::MaxNode { id, end } => Context {
                 misplaced: self.arcs > 0,
                 named: self.ends.names(id),
                 end_named: self.ends.has(end),
-                ..self.after_lines()
+                ..self.plain_context()
             },
-            Record::MaxProblem { .. } => self.after_lines(),
+            Record::MaxProblem { .. } => self.plain_context(),
             _ => unreachable!(),
         }
     }
@@ -156,10 +156,10 @@ impl Builder for CountedMax {
     }
 
     #[inline(always)]
-    fn before_end(&self) -> Earlier {
-        Earlier {
+    fn end_context(&self) -> Context {
+        Context {
             lacks_end: self.ends.lacks_end(),
-            ..self.after_lines()
+            ..self.plain_context()
         }
     }
 

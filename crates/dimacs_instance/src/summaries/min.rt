@@ -3,7 +3,7 @@
 ghost use Rattle.std.specs.Prelude.{refl};
 ghost use Rattle.dimacs_records.specs.declared.kinds.TextKind.TheVariants as kinds;
 ghost use Rattle.dimacs_instance.specs.MinFlows.{MinValue};
-ghost use Rattle.dimacs_instance.specs.MinReading.{after_lines, before};
+ghost use Rattle.dimacs_instance.specs.MinReading.{plain_context, context};
 ghost use Rattle.dimacs_instance.specs.inside.MinReading.{IsMinCountedBy};
 ghost use Rattle.dimacs_instance.specs.MinTexts.{GivesMin, SpellsMin, shown_min};
 ghost use Rattle.dimacs_instance.specs.Summaries.{SumsUpMin, min_summary_line};
@@ -14,7 +14,7 @@ use crate::summaries::Summary;
 use dimacs_lines::{DeviceFault, Memory, Sink, Source};
 use dimacs_network::{ArcView, NodeMap, PlainArcs};
 use dimacs_records::{
-    Builder, Declared, Earlier, Part, ReadError, Record, TextKind, put_line, read_counted,
+    Builder, Context, Declared, Part, ReadError, Record, TextKind, put_line, read_counted,
 };
 use std::alloc::Global;
 use std::marker::Model;
@@ -95,9 +95,9 @@ impl Builder for CountedMin {
 
     ghost built_from = { λ counted rs. IsMinCountedBy counted rs };
 
-    ghost noted = { λ counted r. before counted r };
+    ghost context = { λ counted r. context counted r };
 
-    ghost noted_end = { λ counted. after_lines counted };
+    ghost end_context = { λ counted. plain_context counted };
 
     ghost gives = { λ rs summary. GivesSummary GivesMin SumsUpMin rs summary };
 
@@ -118,13 +118,13 @@ impl Builder for CountedMin {
     }
 
     #[inline(always)]
-    fn before(&self, rec: Record) -> Earlier {
+    fn context(&self, rec: Record) -> Context {
         match rec {
-            Record::MinArc { .. } | Record::MinProblem { .. } => self.before_end(),
-            Record::MinNode { id, .. } => Earlier {
+            Record::MinArc { .. } | Record::MinProblem { .. } => self.end_context(),
+            Record::MinNode { id, .. } => Context {
                 misplaced: self.arcs > 0,
                 named: self.supplies.get(id).is_some(),
-                ..self.before_end()
+                ..self.end_context()
             },
             _ => unreachable!(),
         }
@@ -147,10 +147,10 @@ impl Builder for CountedMin {
     }
 
     #[inline(always)]
-    fn before_end(&self) -> Earlier {
+    fn end_context(&self) -> Context {
         let nodes = Some(self.nodes);
         let count = self.declared;
-        Earlier::of(Some(Declared { nodes, count }), self.arcs)
+        Context::of(Some(Declared { nodes, count }), self.arcs)
     }
 
     fn value(self, alloc: Global) -> Result<MinSummary, Memory> {

@@ -4,29 +4,29 @@ use Rattle.std.proofs.lemmas.Int.{to_z-of_z}
 use Rattle.std.proofs.lemmas.Result.{err_from_is_err_and}
 use Rattle.dimacs_records.specs.declared.records.Record.TheVariants.{SolutionValue}
 use Rattle.dimacs_records.specs.Readings.{records_of}
-use Rattle.dimacs_records.proofs.OrderLemmas.{refused_noted}
+use Rattle.dimacs_records.proofs.OrderLemmas.{refused_by_records}
 use Rattle.dimacs_claims.specs.declared.solution.Entry.{Entry}
-use Rattle.dimacs_claims.specs.inside.SolutionReading.{earlier_value}
-use Rattle.dimacs_claims.proofs.SolutionLemmas.{entry_placed, value_placed, value_noted}
+use Rattle.dimacs_claims.specs.inside.SolutionReading.{value_context}
+use Rattle.dimacs_claims.proofs.SolutionLemmas.{entry_placed, value_placed, value_by_records}
 use Rattle.dimacs_claims.proofs.solution.SolutionReadingReading.take.Goals as goal
 
 pub returns-in_err-test_record-in-SolutionValue-clause-refused : goal.returns-in_err-test_record-in-SolutionValue-clause-refused
 returns-in_err-test_record-in-SolutionValue-clause-refused g c =
     let stands = g.P.Place.stands_for c.args.self.now.place in
-    let noted = rw c.earlier.ensures at c.in_err-test_record-in-SolutionValue.ensures.first_fault in
+    let noted = rw c.context.ensures at c.in_err-test_record-in-SolutionValue.ensures.first_fault in
     let p = err_from_is_err_and c.from_residual.result c.from_residual.ensures.1 in
-    rw (p.1, p.2, c.in-SolutionValue.is) (λ rs h. refused_noted (earlier_value c.args.self.now.value) (records_of rs) (SolutionValue c.in-SolutionValue.value) _ noted (value_noted stands rs c.args.self.now.value c.in-SolutionValue.value h))
+    rw (p.1, p.2, c.in-SolutionValue.is) (λ rs h. refused_by_records (value_context c.args.self.now.value) (records_of rs) (SolutionValue c.in-SolutionValue.value) _ noted (value_by_records stands rs c.args.self.now.value c.in-SolutionValue.value h))
 
 pub returns-in_ok-test_record-in-SolutionValue-clause-allowed : goal.returns-in_ok-test_record-in-SolutionValue-clause-allowed
 returns-in_ok-test_record-in-SolutionValue-clause-allowed g c = λ rs h.
     let stands = g.P.Place.stands_for c.args.self.now.place in
-    let passes = rw c.earlier.ensures at c.in_ok-test_record-in-SolutionValue.ensures.passes in
+    let passes = rw c.context.ensures at c.in_ok-test_record-in-SolutionValue.ensures.passes in
     rw c.in-SolutionValue.is (value_placed stands rs c.args.self.now.value c.args.line c.in-SolutionValue.value passes h).0
 
 pub returns-in_ok-test_record-in-SolutionValue-clause-taken : goal.returns-in_ok-test_record-in-SolutionValue-clause-taken
 returns-in_ok-test_record-in-SolutionValue-clause-taken g c = λ rs h before.
     let stands = g.P.Place.stands_for c.args.self.now.place in
-    let passes = rw c.earlier.ensures at c.in_ok-test_record-in-SolutionValue.ensures.passes in
+    let passes = rw c.context.ensures at c.in_ok-test_record-in-SolutionValue.ensures.passes in
     let fits : SFits w128 c.in-SolutionValue.value = search rules in
     rw (c.in-SolutionValue.is, to_z-of_z w128 c.in-SolutionValue.value fits) (value_placed stands rs c.args.self.now.value c.args.line c.in-SolutionValue.value passes h).1
 

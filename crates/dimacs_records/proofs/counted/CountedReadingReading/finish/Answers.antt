@@ -1,7 +1,7 @@
 use Rattle.std.proofs.Common.{◌≡◌, [], refl}
 use Rattle.std.proofs.lemmas.Result.{err_from_is_err_and}
 use Rattle.dimacs_records.specs.Readings.{records_of}
-use Rattle.dimacs_records.proofs.OrderLemmas.{end_refused_noted, none_at_end}
+use Rattle.dimacs_records.proofs.OrderLemmas.{end_refused_by_records, none_at_end}
 use Rattle.dimacs_records.proofs.counted.CountedReadingReading.finish.Goals as goal
 
 pub returns-in_default-clause-refused : goal.returns-in_default-clause-refused
@@ -13,5 +13,5 @@ pub returns-in_err-test_end-clause-refused : goal.returns-in_err-test_end-clause
 returns-in_err-test_end-clause-refused g c =
     let p = err_from_is_err_and c.from_residual.result c.from_residual.ensures.1 in
     let noted = rw c.kind.ensures.kind at c.in_err-test_end.ensures.first_fault in
-    let so = rw c.in-Some.is at c.before_end.ensures.of_records in
-    rw (p.1, p.2) (λ rs h. end_refused_noted g.B.Builder.kind c.before_end.result (records_of rs) _ noted (so (records_of rs) (rw c.in-Some.is at h)))
+    let so = rw c.in-Some.is at c.end_context.ensures.of_records in
+    rw (p.1, p.2) (λ rs h. end_refused_by_records g.B.Builder.kind c.end_context.result (records_of rs) _ noted (so (records_of rs) (rw c.in-Some.is at h)))

@@ -5,7 +5,7 @@ use Rattle.dimacs_records.specs.Conditions.{needs_problem}
 use Rattle.dimacs_records.specs.Readings.{LineRecord, on_line, records_of}
 use Rattle.dimacs_records.specs.declared.records.Record.{Record}
 use Rattle.dimacs_records.specs.Spelling.{kind_of}
-use Rattle.dimacs_records.proofs.OrderLemmas.{allowed_noted, refused_noted}
+use Rattle.dimacs_records.proofs.OrderLemmas.{allowed_by_records, refused_by_records}
 use Rattle.dimacs_records.proofs.counted.CountedReadingReading.take.Goals as goal
 
 -- one more record after those that were taken
@@ -35,11 +35,11 @@ returns-in_ok-test_first-in-None-clause-allowed g c = λ rs h.
 pub returns-in_ok-keep-in-Some-clause-allowed : goal.returns-in_ok-keep-in-Some-clause-allowed
 returns-in_ok-keep-in-Some-clause-allowed g c = λ rs h.
     let begun = rw c.in-Some.is at h in
-    allowed_noted c.before-in-Some.result (records_of rs) c.args.rec c.in_ok-test_record-in-Some.ensures.passes (c.before-in-Some.ensures.of_records (records_of rs) begun)
+    allowed_by_records c.context.result (records_of rs) c.args.rec c.in_ok-test_record-in-Some.ensures.passes (c.context.ensures.of_records (records_of rs) begun)
 
 pub returns-in_err-test_record-in-Some-clause-refused : goal.returns-in_err-test_record-in-Some-clause-refused
 returns-in_err-test_record-in-Some-clause-refused g c =
     let p = err_from_is_err_and c.from_residual.result c.from_residual.ensures.1 in
     rw (p.1, p.2) (λ rs h.
     let begun = rw c.in-Some.is at h in
-    refused_noted c.before-in-Some.result (records_of rs) c.args.rec _ c.in_err-test_record-in-Some.ensures.first_fault (c.before-in-Some.ensures.of_records (records_of rs) begun))
+    refused_by_records c.context.result (records_of rs) c.args.rec _ c.in_err-test_record-in-Some.ensures.first_fault (c.context.ensures.of_records (records_of rs) begun))
