@@ -279,6 +279,16 @@ class ShortestPath(Scipy):
             self.same(graph, method="D", unweighted=chance.choice([True, False]), directed=chance.choice([True, False]))
         self.same(sparse.coo_matrix(([True, True], ([0, 0], [1, 1])), shape=(2, 2)), method="D")
 
+    def test_room_after_the_entries(self):
+        """The arrays of a matrix may be longer than its entries."""
+        for form in "csr", "csc":
+            graph = sparse.coo_matrix(([1, 5, 7], ([0, 0, 1], [1, 2, 2])), shape=(3, 3)).asformat(form)
+            wanted = csgraph.shortest_path(graph, "D")
+            graph.data, graph.indices = numpy.append(graph.data, 9), numpy.append(graph.indices, 0)
+            self.assertEqual(ours.shortest_path(graph).tolist(), wanted.tolist())
+            ours.certify_shortest_path(graph, wanted)
+            self.assertEqual(ours.maximum_flow(graph.tocsr() if form == "csc" else graph, 0, 2).flow_value, 6)
+
     def test_infinite_entries_that_are_stored(self):
         """By some of SciPy's methods these are edges if weights aren't asked for, and lead to vertices that aren't reached."""
         for graph in (

@@ -110,11 +110,15 @@ class Places:
 
 def entries_of(matrix: Any) -> tuple[Any, Any, Any]:
     """The rows, columns and values of all entries that are stored, several at a place among them."""
+    if matrix.format == "csc":
+        columns, rows, values = entries_of(matrix.T)
+        return rows, columns, values
     if matrix.format != "csr":
         found = matrix.tocoo(copy=False)
         return found.row.astype(np.int64), found.col.astype(np.int64), found.data
+    count = matrix.indptr[-1]  # the arrays may be longer
     rows = np.repeat(np.arange(matrix.shape[0], dtype=np.int64), np.diff(matrix.indptr))
-    return rows, matrix.indices.astype(np.int64), matrix.data
+    return rows, matrix.indices[:count].astype(np.int64), matrix.data[:count]
 
 
 #: The formats in which several entries at a place are several edges, as by SciPy. In others they are one, of their sum.
