@@ -309,7 +309,7 @@ def from_frame(
     supply: Any = None,
     scale: Any = None,
 ) -> Frame:
-    """The network of a DataFrame, each row of which is an edge between the nodes that two columns name.
+    """The network of a DataFrame as it is now, each row of which is an edge between the nodes that two columns name.
 
     capacity, cost and low name columns of numbers. Without one, edges carry any amount, cost 0 (for distances they are 1
     long), and may carry 0. supply is a dict or a Series by node, each once: what leaves it less what enters it. With

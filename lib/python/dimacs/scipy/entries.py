@@ -50,22 +50,20 @@ _LOW = 2**32 - 1
 
 
 class Sums(NamedTuple):
-    """Sums without a limit: multiples of 2^32, and what they are more."""
+    """Sums of the terms of terms_of: as they are, or multiples of 2^32 and what they are more."""
 
     highs: Any
-    lows: Any
-
-    @classmethod
-    def of(cls, highs: Any, lows: Any = None) -> Sums:
-        """The sums of the terms of terms_of."""
-        return cls(highs >> 32, highs & _LOW) if lows is None else cls(highs + (lows >> 32), lows & _LOW)
+    lows: Any = None
 
     def are_zero(self) -> Any:
-        return (self.highs == 0) & (self.lows == 0)
+        return self.highs == 0 if self.lows is None else (self.highs + (self.lows >> 32) == 0) & (self.lows & _LOW == 0)
 
     def fitting(self, what: str, at: Callable[[int], Any], refuse: Callable[[str], Exception] = ValueError) -> Any:
         """The sums as integers of 64 bits. Raises an exception that names the place of the first that has more."""
-        fit = (self.highs >= -(2**31)) & (self.highs < 2**31)
+        if self.lows is None:
+            return self.highs
+        highs = self.highs + (self.lows >> 32)
+        fit = (highs >= -(2**31)) & (highs < 2**31)
         if not fit.all():
             first = int(np.argmin(fit))
             found = (int(self.highs[first]) << 32) + int(self.lows[first])
@@ -93,8 +91,8 @@ class Places:
     def sums(self, amounts: Any) -> Sums:
         """What the amounts of the entries, integers of 64 bits, add up to at each place."""
         if not len(amounts):
-            return Sums(amounts, amounts)
-        return Sums.of(*(np.add.reduceat(it, self._starts) for it in terms_of(amounts[self._order])))
+            return Sums(amounts)
+        return Sums(*(np.add.reduceat(it, self._starts) for it in terms_of(amounts[self._order])))
 
     def share(self, marks: Any) -> Any:
         """Whether each entry is at the place of one with a mark."""

@@ -88,7 +88,7 @@ class _Network:
         """A flow as SciPy has it: of 32 bits if all capacities and all of its sums fit those."""
         parts = [netted(matrix_of(self.tails, self.heads, it, self.vertices)) for it in terms_of(flows)]
         matrix = parts[0]
-        sums = Sums.of(*(it.data for it in parts))
+        sums = Sums(*(it.data for it in parts))
         amounts = sums.fitting("the flow", lambda arc: tuple(int(it[arc]) for it in entries_of(matrix)[:2]), GaveUp)
         most = max(self.caps.max(initial=0), amounts.max(initial=0))
         matrix.data = amounts.astype(np.int32 if most <= np.iinfo(np.int32).max else np.int64)
