@@ -8,12 +8,15 @@ formats, and the files that are written. The reasons that JUDGING.md and TEXTS.m
 the texts. BINARY is the built program, with which the examples are judged; crates/dimacs/out/dimacs by default and that
 is there.
 """
+import bz2
 import csv
 import fcntl
 import functools
+import gzip
 import hashlib
 import io
 import json
+import lzma
 import os
 import pty
 import random
@@ -22,11 +25,14 @@ import resource
 import shlex
 import shutil
 import signal
+import struct
 import subprocess
 import sys
 import tempfile
+import termios
 import time
 import traceback
+import unittest.mock
 
 from instances import compiled_once
 
@@ -35,7 +41,7 @@ BATCH = os.path.join(TOP, "tools/dimacs-batch")
 BUILT = os.path.join(TOP, "crates/dimacs/out/dimacs")
 sys.path.append(os.path.join(TOP, "tools"))
 
-from dimacs_batch.runs import OF_THE_CLAIM
+from dimacs_batch import progress, runs
 
 # The file after the word, or after the kind, has the seconds, the status and the line. Each run is noted in `ran`.
 STAND_IN = """#!/bin/sh
@@ -54,7 +60,11 @@ HEAVY = """#!/bin/sh
 exec python3 -c "x = [1] * 25_000_000; print('v max 1')"
 """
 
-CLASSES = ["yes", "no", "faulty text", "gave up", "no answer", "unmatched", "failed"]
+CLASSES = [
+    "yes", "no", "not shown", "faulty text", "instance faulty", "gave up", "nothing claimed", "no answer", "unmatched",
+    "failed",
+]
+COUNTED = ["yes", "no", "faulty text", "gave up", "no answer", "unmatched", "failed"]
 
 # What the examples are judged as: instance, answers, the words of the command up to its files, the line and its class.
 EXAMPLES = """
@@ -66,12 +76,12 @@ freight.min | freight-dear.solution | certify-min | x solution 2 2 NotLeast | no
 freight.min | freight.solution freight.pot | judge-min | v min 55 | yes
 pipes.max | pipes-careless.solution | certify-max | x solution 2 2 NotMaximum | no
 pipes.max | pipes.solution pipes.cut | judge-max | v max 12 | yes
-road-faulty.gr | | show gr | x instance 12 4 BadNumber | faulty text
+road-faulty.gr | | show gr | x instance 12 4 BadNumber | instance faulty
 road.gr | road.query road.dist | judge-paths | v 1 5 1400; 2 more | yes
 road.gr | road-near.distances | certify-paths | x node 5 NoTightArc | no
-road.gr | road.distances | certify-paths | v sp distances 2 | yes
+road.gr | road.distances | certify-paths | v sp distances 2; sources 1 6 | yes
 romania.gr | romania.query romania.dist | judge-paths | v 1 2 418; 1 more | yes
-romania.gr | romania.distances | certify-paths | v sp distances 2 | yes
+romania.gr | romania.distances | certify-paths | v sp distances 2; sources 1 17 | yes
 shortage.min | shortage.cut | judge-infeasible | v infeasible | yes
 trucks.max | trucks.solution trucks.cut | judge-max | v max 23 | yes
 """
@@ -174,15 +184,17 @@ def column(table, name):
     return [row[name] for row in table]
 
 
-def counted(*counts, taken_over=0, made_anew=0):
+def counted(*counts, taken_over=0, made_anew=0, **others):
     """The last line."""
-    line = ", ".join(f"{count} {it}" for count, it in zip(counts, CLASSES, strict=True))
+    found = {**dict(zip(COUNTED, counts, strict=True)), **{it.replace("_", " "): count for it, count in others.items()}}
+    line = ", ".join(f"{found[it]} {it}" for it in CLASSES if found.get(it) or it == "yes")
     return line + (f"; {taken_over} taken over, {made_anew} made anew" if taken_over or made_anew else "") + "\n"
 
 
 def timeless(table):
     """Rows without what differs from run to run."""
-    return [{name: it for name, it in row.items() if name not in ("seconds", "cpu", "memory", "host")} for row in table]
+    timed = ("seconds", "cpu", "memory", "date", "host")
+    return [{name: it for name, it in row.items() if name not in timed} for row in table]
 
 
 # ---- the tests, each in a folder of its own; a test fails by an assertion
@@ -201,10 +213,10 @@ def order_and_columns(place):
     assert column(table, "verdict") == [line.partition(" ")[2][2:] for line in lines], table
     assert column(table, "value") == ["12", "", "", "", "", "", "", "-7", "", "", ""], table
     assert column(table, "status") == ["0", "1", "1", "1", "1", "3", "5", "0", "0", "1", "0"], table
-    classes = "yes no,faulty text,faulty text,no,failed,gave up,yes,failed,failed,failed".replace(" no", ",no", 1)
+    classes = "yes,no,instance faulty,faulty text,no,failed,gave up,yes,failed,failed,failed"
     assert column(table, "class") == classes.split(","), table
     assert column(table, "kind") == ["max"] * 11 and 0.3 <= float(table[0]["seconds"]) < 5, table
-    assert err == counted(2, 2, 2, 1, 0, 0, 4), err
+    assert err == counted(2, 2, 1, 1, 0, 0, 4, instance_faulty=1), err
 
 
 def commands(place):
@@ -609,7 +621,7 @@ def closed_streams(place):
         ("list <&-", 0), ("list -o table <&-", 0), ("list -o table >&-", 0), ("list >&-", 2), ("- <&-", 2),
         ("list 2>&- >out", 0), ("list -o table 2>&-", 0), ("list -o t2 <&- >&- 2>&-", 0), ("list 2>/dev/full", 0),
         ("missing 2>&-", 2), ("--commands 2 -o {shard} list >&-", 2), ("--commands 2 -o {shard} list >/dev/full", 2),
-        ("--recheck table . >&- 2>&-", 2), ("--version >&-", 0), ("missing 2>/dev/full", 2),
+        ("--recheck table . >&- 2>&-", 0), ("--version >&-", 0), ("missing 2>/dev/full", 2),
     ):
         how = {"cwd": place.folder, "env": {**os.environ, "RAN": place.ran}, "capture_output": True, "text": True}
         ran = subprocess.run(["sh", "-c", f"exec {words} {rest}"], check=False, **how)
@@ -677,6 +689,33 @@ def shards(place):
         assert place.run("list", "--shard", wrong)[0] == 2, wrong
 
 
+# Runs what is submitted at once, and each task of an array.
+SBATCH = """#!/bin/sh
+echo "$*" >>submitted
+tasks=1
+while case $1 in -*) true ;; *) false ;; esac; do
+    case $1 in --array=1-*) tasks=${1#--array=1-} ;; esac
+    shift
+done
+for task in $(seq "$tasks"); do SLURM_ARRAY_TASK_ID=$task sh "$@" >>log 2>&1; done
+echo "$(wc -l <submitted);cluster"
+"""
+
+
+def on_slurm(place):
+    """slurm.sh submits an array and a job after it, and prints both; without words it says its usage."""
+    script = os.path.join(TOP, "recipes/cluster/slurm.sh")
+    ran = subprocess.run(["sh", script], capture_output=True, text=True, check=False)
+    assert ran.returncode == 2 and ran.stderr == "usage: slurm.sh SHARDS TABLE WORDS..\n", ran
+    place.list(["0 0 v max 1"] * 5)
+    os.chmod(place.write("sbatch", SBATCH), 0o755)
+    words = ["sh", script, "3", "table", "--program", "./stand-in", "list"]
+    env = {**os.environ, "PATH": f"{place.folder}:{os.environ['PATH']}", "DIMACS_BATCH": BATCH, "RAN": place.ran}
+    ran = subprocess.run(words, cwd=place.folder, env=env, capture_output=True, text=True, check=False)
+    assert ran.stdout == "array 1;cluster\njoin 2;cluster\n", (ran, place.read("log"))
+    assert "--dependency=afterany:1 " in place.read("submitted") and len(place.table()) == 5, place.read("submitted")
+
+
 def formats(place):
     """A table is written in each format, and taken up again where the format has all of it."""
     place.list(["0 0 v max 1", "0 1 x arc 1 AboveCap", "0 0 v max |_&"])
@@ -685,7 +724,7 @@ def formats(place):
     assert timeless(map(json.loads, out.splitlines())) == timeless(table), out
     out, _ = place.started("list", "--format", "markdown").communicate()
     lines = out.splitlines()
-    assert lines[0] == "| instance | solver | arcs | class | verdict | seconds | KiB |", lines
+    assert lines[0] == "| instance | solver | arcs | class | verdict | seconds to judge | KiB to judge |", lines
     assert lines[3].startswith("| 1.max |  |  | no | x arc 1 AboveCap | 0."), lines
     assert r"| v max \|\_& |" in lines[4], lines
     assert lines[6].startswith("Judged by dimacs 9.8 (proved by a kit), whose program has the SHA-256 "), lines
@@ -718,16 +757,36 @@ def report(place, binary):
 
 
 def on_terminal(place):
-    """What is left is shown on a terminal alone."""
-    place.list(["0.2 0 v max 1"] * 4)
-    master, terminal = pty.openpty()
-    process = place.started("list", "-j", "1", stderr=terminal)
-    process.communicate()
-    os.close(terminal)
-    shown = os.read(master, 1 << 16).decode()
-    assert re.search(r"2 of 4: 2 yes, .*; \d+ s left", shown), shown
-    assert shown.endswith(counted(4, 0, 0, 0, 0, 0, 0).replace("\n", "\r\n")), shown
-    os.close(master)
+    """What is left is shown on a terminal, in a line that never wraps."""
+    place.list(["0.2 0 v max 1"] * 3 + ["0.2 1 x solution 1 2 BadNumber"])
+    whole = r"2 of 4, \d+ s left: 2 yes\r"
+    for columns, wanted in ((0, whole), (80, whole), (12, r"2 of 4, \d s\r")):
+        master, terminal = pty.openpty()
+        fcntl.ioctl(terminal, termios.TIOCSWINSZ, struct.pack("HHHH", 24, columns, 0, 0))
+        process = place.started("list", "-j", "1", stderr=terminal)
+        process.communicate()
+        os.close(terminal)
+        shown = os.read(master, 1 << 16).decode()
+        assert re.search(wanted, shown), shown
+        *lines, last = shown.split("\r\x1b[K")
+        assert all(len(it) < (columns or 80) for it in lines), shown
+        assert last == counted(3, 0, 1, 0, 0, 0, 0).replace("\n", "\r\n"), shown
+        os.close(master)
+
+
+def in_log(_):
+    """In a log there is a line a minute, and what was taken over takes no time of what is left."""
+    clock, lines = [0.0], []
+    patch = unittest.mock.patch
+    with patch.object(progress, "say", lines.append), patch("time.monotonic", lambda: clock[0]):
+        its = progress.Progress(1000)
+        for number in range(500):
+            clock[0] += 1 if number < 400 else 2
+            its.show("all yes", was_taken_over=number < 400)
+        its.end()
+    assert len(lines) == 9, lines
+    assert lines[0] == "61 of 1000: all yes", lines
+    assert lines[-1] == "476 of 1000, 17.5 min left: all yes", lines
 
 
 def reasons(_):
@@ -735,15 +794,375 @@ def reasons(_):
     texts, judging = (open(f"{TOP}/docs/{name}.md", encoding="utf-8").read() for name in ("TEXTS", "JUDGING"))
     judged = set(re.findall(r"`x (?:(?:solution|certificate) \S+ \S+|\w+ 0 0) (\w+)`", judging))
     of_texts = set(re.findall(r"^\| \d+ \| (\w+) \|", texts, re.MULTILINE))
-    assert OF_THE_CLAIM == judged, OF_THE_CLAIM ^ judged
-    assert len(of_texts) == 21 and not of_texts & OF_THE_CLAIM, of_texts
+    assert runs.OF_THE_CLAIM == judged, runs.OF_THE_CLAIM ^ judged
+    assert len(of_texts) == 21 and not of_texts & runs.OF_THE_CLAIM, of_texts
+
+
+# What a refusal says of the answer: the command, the line, and the class. The answer is wrong, or its text is; or it
+# may be right: the certificate doesn't show it, or the question has a fault.
+REFUSALS = """
+judge-max | x solution 4 0 UnknownArc | no
+judge-max | x arc 2 AboveCap | no
+judge-max | x node 3 Balance | no
+judge-max | x solution 1 2 ValueDiffers | no
+judge-max | x solution 3 2 BadNumber | faulty text
+judge-max | x instance 3 2 BadNumber | instance faulty
+judge-max | x certificate 2 2 NumberRange | not shown
+judge-max | x certificate 0 0 NodesDiffer | not shown
+judge-max | x node 1 SourceOutside | not shown
+judge-max | x node 3 SinkInside | not shown
+judge-max | x arc 2 NotSaturated | not shown
+judge-max | x arc 2 BackFlow | not shown
+judge-min | x arc 2 NotTight | not shown
+judge-min | x arc 2 CostRange | not shown
+judge-min | x arc 2 BelowLow | no
+judge-infeasible | x certificate 0 0 NotViolated | not shown
+judge-infeasible | x certificate 1 1 UnknownLine | not shown
+judge-paths | x certificate 0 0 NodesDiffer | no
+judge-paths | x certificate 3 0 PredUnknown | faulty text
+judge-paths | x query 3 2 NodeRange | instance faulty
+judge-paths | x node 9 QueryNode | instance faulty
+judge-paths | x node 2 BlockMissing | nothing claimed
+judge-paths | x arc 2 NegativeWeight | not shown
+judge-paths | x node 2 NoTightArc | not shown
+judge-paths | x arc 2 NotShortest | no
+judge-paths | x arc 2 Escapes | no
+certify-paths | x node 2 NoTightArc | no
+certify-paths | x distances 0 0 NodesDiffer | no
+certify-paths | x distances 3 1 UnknownLine | faulty text
+certify-max | x solution 2 2 NotMaximum | no
+certify-min | x solution 2 2 NotLeast | no
+certify-min | x arc 2 CostRange | not shown
+certify-infeasible | x instance 0 0 Feasible | no
+solve-paths | x arc 2 NegativeWeight | instance faulty
+solve-max | x instance 1 1 UnknownLine | instance faulty
+show | x certificate 1 1 UnknownLine | faulty text
+"""
+
+
+def refusals(_):
+    """A refusal that the solver isn't to blame for has a class that doesn't blame it."""
+    for line in REFUSALS.strip().splitlines():
+        command, refusal, wanted = line.split(" | ")
+        found = runs.class_of(command, runs.Ended(refusal, 1, 0, 0, ""))
+        assert found == wanted, (line, found)
+    with open(f"{TOP}/docs/JUDGING.md", encoding="utf-8") as it:
+        row = re.search(r"^\| (.*); (.*) of a judge \| The certificate doesn't", it.read(), re.MULTILINE)
+    unshown, of_judge = row.groups()
+    assert {*unshown.split(", "), of_judge} <= runs.UNSHOWN_BY_JUDGE and of_judge not in runs.UNSHOWN, unshown
+
+
+def nothing_claimed(place, binary):
+    """Distances from no source, or not from one that the queries ask for, are no yes."""
+    os.mkdir(place.path("set"))
+    shutil.copy(os.path.join(TOP, "examples/road.gr"), place.path("set/road.gr"))
+    with open(os.path.join(TOP, "examples/road.distances"), encoding="ascii") as it:
+        both = it.read()
+    _, first, second = re.split("^(?=t )", both, flags=re.MULTILINE)
+    for name, text in (("none", ""), ("one", first), ("other", second), ("both", first + second)):
+        place.write(f"set/{name}/road.distances", f"p distances 6 {text.count('t ')}\n{text}")
+    for query, verdicts in (
+        (None, [
+            "v sp distances 2; sources 1 6", "v sp distances 0", "v sp distances 1; sources 1",
+            "v sp distances 1; sources 6",
+        ]),
+        ("road.query p aux sp p2p 2\nq 1 5\nq 1 6\n", [
+            "v sp distances 2; sources 1 6", "v sp distances 0; no block of 1, which road.query asks for",
+            "v sp distances 1; sources 1", "v sp distances 1; sources 6; no block of 1, which road.query asks for",
+        ]),
+        ("road.ss p aux sp ss 2\ns 6\ns 1\n", [
+            "v sp distances 2; sources 1 6", "v sp distances 0; no block of 6, which road.ss asks for",
+            "v sp distances 1; sources 1; no block of 6, which road.ss asks for",
+            "v sp distances 1; sources 6; no block of 1, which road.ss asks for",
+        ]),
+    ):
+        name, _, text = (query or "").partition(" ")
+        if query:
+            place.write(f"set/{name}", text)
+        status, _, err = place.run("set", "-o", "table", program=binary)
+        table = place.table()
+        classes = ["nothing claimed" if "no block" in it or it.endswith(" 0") else "yes" for it in verdicts]
+        assert status == 3 and column(table, "verdict") == verdicts, column(table, "verdict")
+        assert column(table, "class") == classes, column(table, "class")
+        assert column(table, "files_sha256") == [hashlib.sha256(text.encode()).hexdigest() if query else ""] * 4, table
+        for _ in range(2):
+            assert place.run("--recheck", "table", "kept", program=binary)[2].startswith("4 agree"), table
+            place.run("set", "-o", "table", "--keep", "kept", program=binary)
+        place.write("forged", place.read("table").replace("; no block of 1", "").replace("nothing claimed", "yes"))
+        assert place.run("--recheck", "forged", "kept", program=binary)[0] == 1
+        if query:
+            os.unlink(place.path(f"set/{name}"))
+    place.write("none.query", "p aux sp p2p 0\n")
+    place.write("none.dist", "p dist 6 0\n")
+    place.write("list", "set/road.gr none.query none.dist\n")
+    for words in ((), ("--run", "gr=solve-paths {instance} none.query {name}.dist")):
+        assert place.run("list", *words, program=binary)[2] == "0 yes, 1 nothing claimed\n"
+
+
+def state_of(folder):
+    """What a folder has: of each file its time and its content."""
+    found = {}
+    for parent, _, names in os.walk(folder):
+        for file in (os.path.join(parent, it) for it in names):
+            with open(file, "rb") as text:
+                found[file] = os.stat(file).st_mtime_ns, hashlib.sha256(text.read()).hexdigest()
+    return found
+
+
+# Commands that refuse, for instances of a kind, and those whose refusal isn't explained.
+REFUSING = """
+max=certify-max {instance} bridges-sums.solution better.solution
+max=certify-max {instance} {answers} {name}.better
+max=judge-max {instance} {answers} pipes.cut
+max=solve-max road.gr made.solution made.cut
+max=spread-max {instance} freight.solution spread.solution
+max=explain certify-max {instance} {answers} {name}.better
+min=certify-min {instance} {answers} {name}.better
+min=certify-infeasible {instance} {name}.feasible
+min=judge-min {instance} {answers} pipes.cut
+min=judge-infeasible {instance} detroit.cut
+min=solve-min road.gr made.solution made.pot --limit 5
+min=spread-min {instance} pipes.solution spread.solution
+gr=certify-paths {instance} {answers} {name}.labels
+gr=judge-paths {instance} {answers} pipes.cut
+gr=solve-paths pipes.max road.query made.dist
+gr=convert max {instance}
+gr=show max {instance}
+"""
+
+
+def report_writes_nothing(place, binary):
+    """A report writes itself and nothing else, whatever the commands of its rows write; what it shows is explained."""
+    shutil.copytree(os.path.join(TOP, "examples"), place.path("in"), ignore=shutil.ignore_patterns("library"))
+    for number, run in enumerate(REFUSING.strip().splitlines()):
+        place.run(".", "-o", f"../{number}.csv", "--run", run, program=binary, cwd=place.path("in"))
+        lines = place.read(f"{number}.csv")
+        assert ",1," in lines, (run, lines)
+        before = state_of(place.path("in"))
+        status, _, err = place.run("--report", f"../{number}.csv", program=binary, cwd=place.path("in"))
+        assert status == 0 and state_of(place.path("in")) == before, (run, err)
+        page = place.read(f"{number}.html")
+        assert "(not explained" not in page and page.count("<dt>") == page.count("<dd><pre>") >= 4, (run, page)
+    assert "this flow is feasible, and costs 3 less than the 58 that is claimed" in place.read("6.html")
+    before = state_of(place.folder)
+    assert place.run("--report", "6.csv", "-o", "6.html", program=binary)[0] == 0  # from where the files aren't
+    assert "files aren't here" in place.read("6.html").replace("&#x27;", "'")
+    after = state_of(place.folder)
+    assert {it for it in before if before[it] != after.get(it)} == {place.path("6.html")} and len(before) == len(after)
+
+
+def report_in_time(place):
+    """Explanations are made several at a time, and ended by --seconds."""
+    place.list(["0 1 x arc 1 AboveCap"] * 8)
+    place.run("list", "-o", "table")
+    explains = '[ "$1" = explain ] && { echo x; exec sleep $SLEEP; }\n[ "$1" = show ]'
+    place.write("stand-in", STAND_IN.replace('[ "$1" = show ]', explains))
+    begun = time.monotonic()
+    assert place.run("--report", "table", "-j", "8", env={**os.environ, "SLEEP": "1"})[0] == 0
+    assert place.run("--report", "table", "-j", "8", "--seconds", "1", env={**os.environ, "SLEEP": "50"})[0] == 0
+    assert time.monotonic() - begun < 7, time.monotonic() - begun
+    assert place.read("table.html").count("ended after 1 s") == 8
+
+
+def cut_off(place):
+    """A table that lacks rows says so wherever it is read, and the status is 3."""
+    place.list(["0 0 v max 1"] * 12)
+    place.run("list", "-o", "table")
+    head, *lines = place.read("table").splitlines(keepends=True)
+    for kept, wanted in (
+        (range(12), ""), (range(9), "3 of 12 rows are missing: 10 to 12."),
+        (range(1, 12), "1 of 12 rows are missing: 1."), (range(0, 12, 2), "6 of 12 rows are missing: 2, 4, 6, 8, 10 and others."), ((), "There is no row."),
+    ):
+        place.write("cut", head + "".join(lines[it] for it in kept))
+        status, _, err = place.run("--report", "cut")
+        assert status == (3 if wanted else 0) and f'"missing">{wanted}<' in place.read("cut.html"), (wanted, err)
+        assert not wanted or err.endswith(f"dimacs-batch: cut: {wanted}\n"), err
+        for form in ("markdown", "latex", "jsonl"):
+            process = place.started("--join", "cut", "--format", form)
+            out, err = process.communicate()
+            assert process.returncode == (3 if wanted else 0), (form, wanted, err)
+            assert form == "jsonl" or out.endswith(f"\n{wanted}\n") == bool(wanted), (form, out)
+
+
+def compressed(place, binary):
+    """Compressed texts are found and judged as others are; one that isn't whole blames nobody."""
+    packers = {"gz": gzip, "bz2": bz2, "xz": lzma}
+
+    def pack(name, ending, to=""):
+        with open(os.path.join(TOP, "examples", name), "rb") as it:
+            text = it.read()
+        os.makedirs(place.path("in"), exist_ok=True)
+        with packers[ending].open(place.path(f"in/{to or name}.{ending}"), "wb") as out:
+            out.write(text)
+
+    for name, ending in (("pipes.max", "gz"), ("pipes.solution", "xz"), ("pipes.cut", "bz2"), ("trucks.max", "gz"),
+                         ("trucks.solution", "gz"), ("road.gr", "xz"), ("road.query", "gz"), ("road.dist", "gz"),
+                         ("road.distances", "bz2"), ("freight.min", "gz"), ("freight-dear.solution", "gz")):
+        pack(name, ending)
+    shutil.copy(os.path.join(TOP, "examples/trucks.cut"), place.path("in"))
+    pack("trucks.solution", "gz", "trucks-odd.sol")
+    status, _, err = place.run("in", "-o", "table", "--keep", "kept", program=binary)
+    wanted = ["x solution 2 2 NotLeast", "v max 12", "v 1 5 1400; 2 more", "v sp distances 2; sources 1 6"]
+    wanted += ["v max 23", "v max 23"]
+    table = place.table()
+    assert column(table, "verdict") == wanted, (err, table)
+    assert column(table, "solver") == ["dear", "", "", "", "odd", ""], table
+    assert table[1]["command"] == "judge-max in/pipes.max.gz in/pipes.solution.xz in/pipes.cut.bz2", table[1]
+    assert table[1]["arcs"] == "7", table[1]
+    with open(place.path("in/pipes.max.gz"), "rb") as it:
+        assert table[1]["instance_sha256"] == hashlib.sha256(it.read()).hexdigest(), table[1]
+    kept = ["freight.dear.better.solution", "pipes.cut", "road.3.dist", "road.4.dist", "trucks.cut", "trucks.odd.cut"]
+    assert sorted(os.listdir(place.path("kept"))) == kept, os.listdir(place.path("kept"))
+    assert "p cut 5" in place.read("kept/pipes.cut"), place.read("kept/pipes.cut")
+    assert place.run("in", "-o", "table", "--keep", "kept", program=binary)[2].endswith("6 taken over, 0 made anew\n")
+    assert place.run("--recheck", "--referee", "table", "kept", program=binary)[0] == 0
+    place.run("--report", "table", program=binary)
+    assert "in/freight-dear.solution.gz:2: s 58" in place.read("table.html"), place.read("table.html")
+    status, table, _ = place.run("in", "--match", "{instance}-{solver}.sol", program=binary)
+    assert ("in/trucks.max.gz", "in/trucks-odd.sol.gz") in [(it["instance"], it["answers"]) for it in table], table
+    _, table, _ = place.run("in", "--run", "max=solve-max {instance} {name}.made {name}.made.cut", program=binary)
+    assert place.read("in/pipes.made").startswith("s 12"), table
+    pack("trucks.max", "xz")
+    shutil.copy(os.path.join(TOP, "examples/pipes.max"), place.path("in"))  # unpacked, with the other beside it
+    assert place.run("in/pipes.max", "in", program=binary)[1][0]["instance"] == "in/pipes.max"
+    place.write("list", "".join(f"in/{it} in/pipes.solution.xz\n" for it in ("pipes.max", "cut.max.gz", "a.max.zst")))
+    with open(place.path("in/pipes.max.gz"), "rb") as whole, open(place.path("in/cut.max.gz"), "wb") as part:
+        part.write(whole.read()[:-20])
+    place.write("in/a.max.zst", "")
+    _, table, _ = place.run("list", program=binary)
+    assert column(table, "class") == ["yes", "failed", "failed"], table
+    assert table[1]["verdict"].startswith("in/cut.max.gz: isn't whole as gzip writes it"), table
+    if sys.version_info < (3, 14):
+        assert table[2]["verdict"] == "in/a.max.zst: this Python has no compression.zstd, which unpacks it", table
+
+
+def signalled(place):
+    """A run that a signal ends is named; its children end with it."""
+    place.list(["0 0 v max 1"])
+    does = 'case $(cat "$2") in *kill) kill -9 $$ ;; *child) (sleep 1; echo >late) & wait ;; esac\nread -r'
+    place.write("stand-in", STAND_IN.replace("read -r", does))
+    place.write("0.max", "0 0 kill\n")
+    status, (row,), _ = place.run("list")
+    assert status == 3 and (row["verdict"], row["status"]) == ("killed by SIGKILL", "137"), row
+    place.write("0.max", "0 0 child\n")
+    status, (row,), _ = place.run("list", "--seconds", "0.3")
+    assert status == 3 and row["verdict"] == "ended after 0.3 s", row
+    time.sleep(1.2)
+    assert not os.path.exists(place.path("late"))
+
+
+def full_while_kept(place, binary):
+    """If what is kept doesn't fit on a disk the run ends at once, and names the file."""
+    shutil.copy(os.path.join(TOP, "examples/pipes.max"), place.path("a.max"))
+    for number in range(40):
+        shutil.copy(os.path.join(TOP, "examples/pipes.solution"), place.path(f"a-{number:02}.sol"))
+    os.mkdir(place.path("kept"))
+    os.symlink("/dev/full", place.path("kept/.a.03.part"))
+    status, _, err = place.run(".", "-o", "table", "--keep", "kept", "-j", "1", program=binary)
+    assert status == 2 and err == "dimacs-batch: kept/.a.03.part: No space left on device\n", err
+    assert len(place.table()) == 3, err
+    shutil.copy(os.path.join(TOP, "examples/pipes.cut"), place.path("a-03.cut"))
+    os.unlink(place.path("kept/.a.03.part"))
+    os.symlink("/dev/full", place.path("kept/a.03.cut.part"))
+    status, _, err = place.run(".", "-o", "table", "--keep", "kept", "-j", "1", program=binary)
+    assert status == 2 and err == "dimacs-batch: kept/a.03.cut.part: No space left on device\n", err
+
+
+def one_name(place):
+    """`x.sol` and `./x.sol` are one answer."""
+    place.list(["0 0 v max 1"])
+    place.write("list", "0.max 0.solution\n./0.max .//0.solution\n")
+    _, table, err = place.run("list", "-o", "table")
+    assert len(place.table()) == 1, err
+    for words in ("list", "./list", ". --answers .", "./.", "0.max .", "./0.max ./."):
+        assert place.run(*words.split(), "-o", "table")[2] == counted(1, 0, 0, 0, 0, 0, 0, taken_over=1), words
+
+
+def kept_of_refused(place, binary):
+    """An answer that is refused now has no certificate that was kept earlier."""
+    shutil.copy(os.path.join(TOP, "examples/pipes.max"), place.folder)
+    shutil.copy(os.path.join(TOP, "examples/pipes.solution"), place.folder)
+    words = [".", "-o", "table", "--keep", "kept"]
+    for name, kept in (("pipes.solution", ["pipes.cut"]), ("pipes-careless.solution", ["pipes.better.solution"]),
+                       ("freight.solution", []), ("pipes.solution", ["pipes.cut"])):
+        shutil.copy(os.path.join(TOP, "examples", name), place.path("pipes.solution"))
+        place.run(*words, program=binary)
+        assert os.listdir(place.path("kept")) == kept, (name, os.listdir(place.path("kept")))
+        assert column(place.table(), "gap") == ["2" if "careless" in name else ""], place.table()
+    place.write("list", "pipes.max pipes.solution\n")
+    before = state_of(place.folder)
+    status, _, err = place.run("list", "--keep", ".", program=binary)
+    assert status == 2 and "--keep" in err and state_of(place.folder) == before, err
+
+
+def odd_names(place, binary):
+    """Names that aren't UTF-8, which the program doesn't take, are judged, kept and explained as others are."""
+    odd = os.fsdecode(b"in/\xff")
+    os.mkdir(place.path("in"))
+    for name in ("pipes.max", "pipes.solution", "pipes-careless.solution"):
+        shutil.copy(os.path.join(TOP, "examples", name), place.path(f"{odd}{name}"))
+    words = ["in", "-o", "table", "--keep", "kept"]
+    status, _, err = place.run(*words, program=binary)
+    assert status == 1 and err == counted(1, 1, 0, 0, 0, 0, 0), (err, place.table())
+    assert column(place.table(), "gap") == ["2", ""] and len(os.listdir(place.path("kept"))) == 2, place.table()
+    assert place.run(*words, program=binary)[2] == counted(1, 1, 0, 0, 0, 0, 0, taken_over=2)
+    status, _, err = place.run("--recheck", "--referee", "table", "kept", program=binary)
+    assert status == 0, err
+    place.run("--report", "table", program=binary)
+    assert "has 2 more than the 10 that is claimed" in place.read("table.html"), place.read("table.html")
+
+
+def infeasible(place, binary):
+    """`s infeasible` in a solution claims that no flow is feasible, with a set or without one."""
+    for name in ("shortage.min", "detroit.min", "freight.min"):
+        place.write(f"set/instances/{name}", "")
+        shutil.copy(os.path.join(TOP, "examples", name), place.path("set/instances"))
+    claim = "s infeasible\n"
+    for name, text in (("shortage", "c none\n s  infeasible\r\n"), ("detroit", claim), ("freight", claim)):
+        place.write(f"set/answers/net/{name}.sol", text)
+    shutil.copy(os.path.join(TOP, "examples/detroit.cut"), place.path("set/answers/net"))
+    shutil.copy(os.path.join(TOP, "examples/freight.solution"), place.path("set/answers/freight-right.sol"))
+    status, _, err = place.run("set", "-o", "table", "--keep", "kept", program=binary)
+    table = place.table()
+    assert [row["command"].replace("set/instances/", "") for row in table] == [
+        "judge-infeasible detroit.min set/answers/net/detroit.cut",
+        "certify-min freight.min set/answers/freight-right.sol", "certify-infeasible freight.min",
+        "certify-infeasible shortage.min",
+    ], table
+    verdicts = ["v infeasible", "v min 55", "x instance 0 0 Feasible", "v infeasible"]
+    assert status == 1 and column(table, "verdict") == verdicts, err
+    assert column(table, "class") == ["yes", "yes", "no", "yes"], table
+    assert place.run("set", "-o", "table", "--keep", "kept", program=binary)[2].endswith("4 taken over, 0 made anew\n")
+    assert place.run("--recheck", "--referee", "table", "kept", program=binary)[0] == 0
+    place.write("set/answers/net/shortage.sol", "s infeasible\nc\n")
+    assert place.run("--recheck", "--referee", "table", "kept", program=binary)[0] == 1
+    place.write("list", "set/instances/shortage.min\tset/answers/net/shortage.sol\n")
+    assert column(place.run("list", program=binary)[1], "verdict") == ["v infeasible"]
+
+
+def other_referee(place, binary):
+    """--referee PATH judges again by that program."""
+    for name in ("pipes.max", "pipes.solution", "pipes.cut"):
+        shutil.copy(os.path.join(TOP, "examples", name), place.folder)
+    place.run(".", "-o", "table", program=binary)
+    agrees = "1 agree, 0 differ, 0 not there, 0 not judged\n"
+    for line, status in (("v max 12", 0), ("v max 13", 1)):
+        place.write("judge", f'#!/bin/sh\necho "$*" >asked\necho {line}\n')
+        os.chmod(place.path("judge"), 0o755)
+        for words in ("--referee ./judge table .", "table . --referee ./judge", "--referee=./judge table ."):
+            found, _, err = place.run("--recheck", *words.split(), program=binary)
+            assert found == status and place.read("asked") == "max pipes.max pipes.solution pipes.cut\n", (words, err)
+        for words in ("--referee table .", "table . --referee"):
+            assert place.run("--recheck", *words.split(), program=binary)[2] == agrees, words
+    for words in ("--referee nowhere table .", "--referee table", "--referee"):
+        assert place.run("--recheck", *words.split(), program=binary)[0] == 2, words
 
 
 def examples(place, binary):
     """The examples are judged as their page shows."""
     wanted = [[cell.strip() for cell in line.split("|")] for line in EXAMPLES.strip().splitlines()]
     status, table, _ = place.run(os.path.join(TOP, "examples"), "--show", program=binary)
-    assert status == 1, status
+    assert status == 3, status
     for row, (instance, answers, command, line, its_class) in zip(table, wanted, strict=True):
         seen = [os.path.basename(row["instance"]), " ".join(map(os.path.basename, row["answers"].split()))]
         seen += [row["command"].split(" /")[0], row["verdict"], row["class"]]
@@ -782,8 +1201,12 @@ def kept(place, binary):
     place.write("table", spoiled)
     assert place.run(*recheck, program=binary)[2] == "13 agree, 2 differ, 0 not there, 1 not judged\n"
     place.run("in", "-o", "bare", program=binary)
-    status, _, err = place.run("--recheck", "bare", "kept", program=binary)
-    assert status == 3 and err == "10 agree, 0 differ, 5 not there, 1 not judged\n", err
+    assert place.run("--recheck", "bare", "kept", program=binary)[0] == 0
+    for old, new in ((",v max 23,23,", ",v max 24,24,"), (",v infeasible,,", ",v infeasible; 1 more,,"),
+                     ("NotLeast", "NotMaximum"), ("; sources 1 6,", "; sources 1,")):
+        place.write("forged", place.read("bare").replace(old, new, 1))
+        status, _, err = place.run("--recheck", "--referee", "forged", "kept", program=binary)
+        assert status == 1 and err == "14 agree, 1 differ, 0 not there, 1 not judged\n", (old, err)
 
 
 def recheck_whole(place, binary):
@@ -916,10 +1339,12 @@ def same_command(place):
 TESTS = [
     order_and_columns, commands, folders, layouts, gaps, links, unanswered, evidence, made_anew,
     changed_while_judged, taken_up, killed, beside, late, odd, other_files, same_command, misused, safe_files,
-    other_outputs, new_is_a_link, closed_streams, full, shards, formats, on_terminal, reasons,
+    other_outputs, new_is_a_link, closed_streams, full, shards, formats, on_terminal, in_log, reasons, refusals,
+    report_in_time, cut_off, signalled, one_name, on_slurm,
 ]
 WITH_BINARY = [
-    examples, kept, recheck_whole, recheck_others, same_names, solved, repeated, kept_inside, report,
+    examples, kept, recheck_whole, recheck_others, same_names, solved, repeated, kept_inside, report, nothing_claimed,
+    report_writes_nothing, compressed, full_while_kept, kept_of_refused, odd_names, infeasible, other_referee,
 ]
 
 
@@ -928,8 +1353,9 @@ def passes(name, test):
     with tempfile.TemporaryDirectory() as folder:
         try:
             test(Place(folder))
-        except AssertionError as error:
-            print(f"{name}, line {traceback.extract_tb(error.__traceback__)[-1].lineno}: {error!r}")
+        except Exception as error:
+            places = [it.lineno for it in traceback.extract_tb(error.__traceback__) if it.filename == __file__]
+            print(f"{name}, line {places[-1]}: {error!r}")
             return False
     return True
 

@@ -6,6 +6,10 @@
 # that is ended is begun again, and continues its table. At last the tables are joined to TABLE, and what is missing is
 # named. All machines have to see the same files, in the same folder.
 set -eu
+if [ $# -lt 4 ]; then
+    echo "usage: parallel.sh HOSTS SHARDS TABLE WORDS.." >&2
+    exit 2
+fi
 batch=${DIMACS_BATCH:-dimacs-batch}
 hosts=$1 shards=$2 table=$3
 shift 3

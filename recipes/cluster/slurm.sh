@@ -5,8 +5,12 @@
 # writes TABLE.I; and a job that joins them to TABLE once all have ended, and names what is missing in TABLE.log. A
 # task that is killed is queued again, and continues its table. Submit it again to judge what is missing still. All
 # nodes have to see the same files. Options of sbatch, such as the partition and --cpus-per-task, are taken from
-# SBATCH_OPTIONS.
+# SBATCH_OPTIONS. The numbers of the array and of the last job are printed.
 set -eu
+if [ $# -lt 3 ]; then
+    echo "usage: slurm.sh SHARDS TABLE WORDS.." >&2
+    exit 2
+fi
 here=$(cd "$(dirname "$0")" && pwd)
 batch=${DIMACS_BATCH:-dimacs-batch}
 shards=$1 table=$2
@@ -15,5 +19,7 @@ shift 2
 # shellcheck disable=SC2086 # the options are several words
 array=$(sbatch --parsable --job-name=dimacs --array="1-$shards" ${SBATCH_OPTIONS:-} --output="$table.%a.log" \
     "$here/slurm_task.sh" "$batch" "$shards" "$table" "$@")
-sbatch --parsable --job-name=dimacs-join --dependency="afterany:$array" --output="$table.log" \
-    "$here/slurm_join.sh" "$batch" "$shards" "$table"
+echo "array $array"
+last=$(sbatch --parsable --job-name=dimacs-join --dependency="afterany:${array%;*}" --output="$table.log" \
+    "$here/slurm_join.sh" "$batch" "$shards" "$table")
+echo "join $last"

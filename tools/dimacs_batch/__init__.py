@@ -2,11 +2,12 @@
 
     main       the command: options has the words that are typed
     answers    which answers belong to which instance, and the command for them
+    files      the files that a command names, and names that the program can read
     evidence   the hashes of files, and what is known of the program
     runs       a run of the program, measured, and the class of its end
     rows       what is asked, in order, with the rows that are there
     table      the table in its file
-    batch      all of it, several at a time by parallel; keep has what a run leaves
+    batch      all of it, several at a time by parallel; keep has what a run leaves, progress how far it is
     join       one table of those of shards; recheck judges a table again
     formats    how a table is written, report as a page
 """

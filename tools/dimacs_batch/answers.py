@@ -1,18 +1,20 @@
 """Which instances are judged, which answers belong to each, and by which command."""
 import collections
+import functools
 import itertools
 import os
 import re
 import shlex
 import sys
+from pathlib import PurePath
 from typing import NamedTuple
 
 from dimacs_batch import ANY_NAMES, fail
+from dimacs_batch.files import QUERIES, beside, head_of, plain, split
 
 KINDS = {"max": ".max", "min": ".min", "sp": ".gr"}  # the words of problem lines, and the endings of instances
 SOLUTIONS = (".solution", ".sol")
 CERTIFICATES = {"max": ".cut", "min": ".pot"}
-QUERIES = (".query", ".ss", ".p2p")
 LABELS = ".dist"
 DISTANCES = ".distances"
 ANSWERS = (*SOLUTIONS, *CERTIFICATES.values(), LABELS, DISTANCES)
@@ -28,6 +30,8 @@ COMMANDS = {
     ("gr", 0): "show gr {instance}",
     ("gr", 1): "certify-paths {instance} {answers}",
     ("gr", 2): "judge-paths {instance} {answers}",
+    ("infeasible", 1): "certify-infeasible {instance}",
+    ("infeasible", 2): "judge-infeasible {instance} {certificate}",
 }
 
 
@@ -62,32 +66,53 @@ class Claim(NamedTuple):
 
 def kind_of(instance):
     """The kind of an instance: by its ending, or else by its problem line."""
-    ending = os.path.splitext(instance)[1]
+    ending = split(instance)[1]
     if ending in KINDS.values():
         return ending[1:]
-    with open(instance, "rb") as text:
-        line = re.search(rb"^\s*p\s+(max|min|sp)\s", text.read(1 << 16), re.MULTILINE)
+    line = re.search(rb"^\s*p\s+(max|min|sp)\s", head_of(instance), re.MULTILINE)
     if not line:
         fail(f"{instance}: neither an ending .max, .min or .gr, nor a problem line of these kinds")
     return KINDS[line[1].decode()][1:]
 
 
+def joined(folder, name):
+    """A file in a folder, by one name for `x`, `./x` and `.//x`."""
+    return str(PurePath(folder, name))
+
+
 # ---- the command
+
+
+def claims_infeasible(file):
+    """Whether a solution says that no flow is feasible: `s infeasible`."""
+    try:
+        return bool(re.search(rb"^[ \t]*s[ \t]+infeasible[ \t\r]*$", head_of(file), re.MULTILINE))
+    except OSError:
+        return False
+
+
+def template_of(kind, answers):
+    """The command for so many answers of a kind; None if there is none."""
+    endings = [split(it)[1] for it in answers]
+    if kind == "min" and endings == [".cut"]:
+        return COMMANDS["infeasible", 2]
+    if kind == "min" and answers and claims_infeasible(answers[0]):
+        return COMMANDS.get(("infeasible", len(answers)))
+    is_half = kind == "gr" and endings in ([LABELS], *([it] for it in QUERIES))
+    return None if is_half else COMMANDS.get((kind, len(answers)))
 
 
 def words_of(kind, instance, answers, commands):
     """The words of the command for an instance and its answers."""
-    template = commands.get(kind) or COMMANDS.get((kind, len(answers)))
-    endings = [os.path.splitext(it)[1] for it in answers]
-    if kind not in commands and kind == "min" and endings == [".cut"]:
-        template = "judge-infeasible {instance} {answers}"
-    if not template or kind not in commands and kind == "gr" and endings in ([LABELS], *([it] for it in QUERIES)):
+    template = commands.get(kind) or template_of(kind, answers)
+    if not template:
         fail(f"{instance}: no command for {' '.join(answers)}: name one by --run {kind}=..")
-    named = {"{instance}": instance, "{name}": os.path.splitext((answers or [instance])[0])[0]}
+    named = {"{instance}": instance, "{name}": split((answers or [instance])[0])[0]}
+    named.update({"{certificate}": it for it in answers[-1:]})
     words = []
     for word in shlex.split(template):
         filled = re.sub("|".join(named), lambda it: named[it[0]], word)
-        words += answers if word == "{answers}" else [filled]
+        words += answers if word == "{answers}" else [joined("", filled) if os.sep in filled else filled]
     return words
 
 
@@ -138,15 +163,17 @@ def walk(root, but=()):
         below = os.path.relpath(parent, root)
         # A folder with the ending of an answer isn't one that can be read: it gets a row that says so.
         odd = [it for it in folders if it.endswith(ANSWERS)]
+        # A compressed text is left out where it lies unpacked too.
+        names = [it for it in names if plain(it) == it or plain(it) not in names]
         yield parent, [] if below == "." else below.split(os.sep), sorted(names + odd)
 
 
 def instances_in(parent, folders, names):
     """The instances in a folder."""
-    split = [os.path.splitext(it) for it in names]
+    found = [(file, *split(file)) for file in names]
     return [
-        Instance(ending[1:], os.path.join(parent, name + ending), folders, name)
-        for name, ending in split
+        Instance(ending[1:], joined(parent, file), folders, name)
+        for file, name, ending in found
         if ending in KINDS.values()
     ]
 
@@ -155,8 +182,8 @@ def claims_in(parent, folders, names, kind):
     """The answers to instances of a kind in a folder: certificates stand with what they show, labels with queries."""
     by_ending = collections.defaultdict(dict)
     for file in names:
-        name, ending = os.path.splitext(file)
-        by_ending[ending][name] = os.path.join(parent, file)
+        name, ending = split(file)
+        by_ending[ending][name] = joined(parent, file)
 
     def with_ending(*endings):
         found = [one for it in endings for one in by_ending[it].items()]
@@ -168,9 +195,11 @@ def claims_in(parent, folders, names, kind):
         found = [(it, [file for file in files if file]) for it, files in asked.items()]
         found += [(it, [file]) for it, file in with_ending(DISTANCES).items()]
     else:
-        shown = with_ending(CERTIFICATES[kind])
-        found = [(it, [file, *([shown[it]] if it in shown else [])]) for it, file in with_ending(*SOLUTIONS).items()]
-        sets = with_ending(".cut") if kind == "min" else {}
+        usual, sets = with_ending(CERTIFICATES[kind]), with_ending(".cut") if kind == "min" else {}
+        found = []
+        for it, file in with_ending(*SOLUTIONS).items():
+            shown = sets if kind == "min" and claims_infeasible(file) else usual
+            found.append((it, [file, *([shown[it]] if it in shown else [])]))
         found += [(it, [file]) for it, file in sets.items() if it not in dict(found)]
     return [Claim(kind, files, folders, it) for it, files in found]
 
@@ -180,14 +209,16 @@ def claims_by_pattern(parent, folders, names, kind, pattern):
     ending = os.path.splitext(pattern)[1]
     fits = re.escape(pattern).replace(r"\{instance\}", "(?P<instance>.+)").replace(r"\{solver\}", "(?P<solver>[^/]+)")
     for name in names:
-        found = re.fullmatch(fits, "/".join([*folders, name]))
-        if not found:
+        found = [re.fullmatch(fits, "/".join([*folders, it])) for it in (name, plain(name))]
+        if not any(found):
             continue
-        file = os.path.join(parent, name)
-        its = found.groupdict()
+        file = joined(parent, name)
+        its = next(filter(None, found)).groupdict()
         *within, instance = its["instance"].split("/")
-        shown = file[: len(file) - len(ending)] + CERTIFICATES.get(kind, "")
-        files = [file, shown] if kind != "gr" and ending != ".cut" and os.path.exists(shown) else [file]
+        shows = ".cut" if kind == "min" and claims_infeasible(file) else CERTIFICATES.get(kind)
+        stem = (file if found[0] else plain(file)).removesuffix(ending)
+        shown = beside(stem, [shows]) if shows and ending != ".cut" else None
+        files = [file, shown] if shown else [file]
         if instance.endswith(f".{kind}"):
             instance = instance[: -len(kind) - 1]
         yield Claim(kind, files, [*within, *([its["solver"]] if "solver" in its else [])], instance)
@@ -263,10 +294,10 @@ def solver_named(folders, rest):
 def with_query(instance, files):
     """The files of an answer. Labels that have no queries of their name get those of the instance; without any there is
     no answer."""
-    if [os.path.splitext(it)[1] for it in files] != [LABELS]:
+    if [split(it)[1] for it in files] != [LABELS]:
         return files
-    stem = os.path.splitext(instance)[0]
-    return next(([stem + it, *files] for it in QUERIES if os.path.exists(stem + it)), [])
+    queries = beside(split(instance)[0], QUERIES)
+    return [queries, *files] if queries else []
 
 
 def owner_of(claim, find, commands):
@@ -283,7 +314,7 @@ def claims_of(kinds, folders, match, commands):
     """Yields the answers to instances of these kinds. Queries are none, unless a command takes them."""
     for kind, folder in itertools.product(sorted(kinds), folders):
         for claim in claims_by_pattern(*folder, kind, match) if match else claims_in(*folder, kind):
-            if "gr" in commands or not claim.files[-1].endswith(QUERIES):
+            if "gr" in commands or split(claim.files[-1])[1] not in QUERIES:
                 yield claim
 
 
@@ -310,8 +341,8 @@ def pairs(instances, folders, find, match, commands):
                 used.update(words_of(it.kind, it.file, files, commands))
             yield it, files, solver
     for parent, _, names in folders:
-        for file in (os.path.join(parent, it) for it in names):
-            if file not in used and (file in why or file.endswith(ANSWERS)):
+        for file in (joined(parent, it) for it in names):
+            if file not in used and (file in why or split(file)[1] in ANSWERS):
                 yield None, [file], why.get(file) or unused(file, match)
 
 
@@ -319,17 +350,18 @@ def unused(file, match):
     """Why a file is no part of an answer."""
     if match:
         return "its name doesn't fit the pattern"
-    shows = file.endswith(tuple(CERTIFICATES.values()))
+    shows = split(file)[1] in CERTIFICATES.values()
     return "there is no answer that it shows" if shows else "it belongs to no instance"
 
 
 # ---- the places that are named
 
 
+@functools.lru_cache(1 << 10)
 def test_keep(keep, *folders):
-    """Fails if what is kept would lie among the answers of a folder."""
+    """Fails if what is kept would lie among the answers of a folder, where it might replace one."""
     for it in filter(None, folders):
-        if keep and os.path.isdir(keep) and os.path.samefile(it, keep):
+        if keep and os.path.isdir(keep) and os.path.isdir(it) and os.path.samefile(it, keep):
             fail(f"--keep {keep}: instances or answers are looked for there; name another folder")
 
 
@@ -350,27 +382,29 @@ def in_folder(folder, answers, match, commands, keep):
 def to_one(file, folder, match, commands, keep):
     """An instance, with each answer in a folder."""
     test_keep(keep, folder)
-    instance = Instance(kind_of(file), file, [], os.path.splitext(os.path.basename(file))[0])
+    file = joined("", file)
+    instance = Instance(kind_of(file), file, [], split(os.path.basename(file))[0])
     return pairs([instance], list(walk(folder, but=[keep])), of_one(instance), match, commands)
 
 
 def solver_of(instance, answer):
     """By whom an answer of a list is: what its name has after the instance's name, or else its folder's name."""
-    name, stem = (os.path.splitext(os.path.basename(it))[0] for it in (instance, answer))
+    name, stem = (split(os.path.basename(it))[0] for it in (instance, answer))
     if name not in beginnings(stem):
         return stem
     apart = os.path.dirname(answer) != os.path.dirname(instance)
     return stem[len(name) + 1 :] or (os.path.basename(os.path.dirname(answer)) if apart else "")
 
 
-def in_list(file):
+def in_list(file, keep):
     """Yields what the lines of a list name, by paths from the folder of the list. With tabs, names may have blanks."""
     with sys.stdin if file == "-" else open(file, **ANY_NAMES) as lines:
         for line in lines:
             if not line.strip() or line.startswith("#"):
                 continue
             words = line.rstrip("\r\n").split("\t") if "\t" in line else line.split()
-            instance, *answers = (os.path.join(os.path.dirname(file), word) for word in words)
+            instance, *answers = (joined(os.path.dirname(file), word) for word in words)
+            test_keep(keep, *(os.path.dirname(it) or os.curdir for it in (instance, *answers)))
             yield instance, answers
 
 
@@ -379,7 +413,8 @@ def tasks(options):
     places, commands = options.places, options.runs
     how = options.match, commands, options.keep
     if len(places) == 1 and not os.path.isdir(places[0]):
-        found = ((kind_of(it), it, its, solver_of(it, its[0]) if its else "") for it, its in in_list(places[0]))
+        listed = in_list(places[0], options.keep)
+        found = ((kind_of(it), it, its, solver_of(it, its[0]) if its else "") for it, its in listed)
     else:
         asked = in_folder(places[0], options.answers, *how) if len(places) == 1 else to_one(*places, *how)
         found = ((it.kind, it.file, its, solver) if it else ("", "", its, solver) for it, its, solver in asked)

@@ -3,26 +3,26 @@ import collections
 import contextlib
 import os
 import shlex
-import sys
 import time
 
 from dimacs_batch import answers, evidence, fail, runs
-from dimacs_batch.keep import CERTIFIERS, Keep
+from dimacs_batch.files import named, written
+from dimacs_batch.keep import BETTER, Keep
 from dimacs_batch.parallel import in_parallel
+from dimacs_batch.progress import Progress
 from dimacs_batch.rows import COLUMNS, DECIDING, Rows
-from dimacs_batch.runs import CLASSES, FAILED, FAULTY, JUDGED, NO, NO_ANSWER, UNMATCHED, YES
+from dimacs_batch.runs import CLASSES, FAILED, FAULTY, JUDGED, NO, NO_ANSWER, NOT_SHOWN, UNMATCHED, YES
 from dimacs_batch.table import Kept, Printed
 
 
 def other_files(task):
     """The files that a command names besides the instance and its answers."""
-    return [it for it in task.words[1:] if it not in (task.instance, *task.answers) and os.path.isfile(it)]
+    return [it for it in named(task.words) if it not in (task.instance, *task.answers)]
 
 
 def read_besides(task):
-    """Those of them that it only reads: all of a judge, and of a certifier all but the last word, which it writes."""
-    last = len(task.words) if task.words[0].startswith("judge-") else CERTIFIERS.get(task.words[0], 0)
-    return [it for it in other_files(task) if it in task.words[1:last]]
+    """Those of them that it only reads."""
+    return [it for it in other_files(task) if it not in [task.words[place] for place in written(task.words)]]
 
 
 def hashes_of(files):
@@ -47,8 +47,9 @@ class Judge:
         """The row, and whether it is an earlier one."""
         _, task, old, name = item
         row = dict.fromkeys(COLUMNS, "")
-        named = {"instance": task.instance, "answers": " ".join(task.answers), "solver": task.solver}
-        row.update(named, kind=task.kind, command=shlex.join(task.words), host=os.uname().nodename)
+        whose = {"instance": task.instance, "answers": " ".join(task.answers), "solver": task.solver}
+        row.update(whose, kind=task.kind, command=shlex.join(task.words), host=os.uname().nodename)
+        row["date"] = time.strftime("%Y-%m-%dT%H:%M:%SZ", time.gmtime())
         if task.reason:
             return {**row, "verdict": task.reason, "class": NO_ANSWER if task.instance else UNMATCHED}, False
         try:
@@ -56,11 +57,13 @@ class Judge:
             row.update(self.evidence(texts), files_sha256=hashes_of(other_files(task)))
             read = read_besides(task)
             texts += [evidence.text_of(it) for it in read]
+            if old and self.decides(row, old) and (not self.keep or self.keep.has(old, name)):
+                return {**old, **whose}, True
+            row.update(self.judged(task, name, row), files_sha256=hashes_of(other_files(task)))
         except OSError as error:
+            if error.errno in runs.FULL:
+                raise
             return {**row, "verdict": f"{error.filename}: {error.strerror}", "class": FAILED}, False
-        if old and self.decides(row, old) and (not self.keep or self.keep.has(old, name)):
-            return {**old, **named}, True
-        row.update(self.judged(task, name, row), files_sha256=hashes_of(other_files(task)))
         files = [task.instance, *task.answers, *read, self.program.file]
         texts.append(self.program.text)
         if not all(map(evidence.is_unchanged, files, texts)):
@@ -98,6 +101,9 @@ class Judge:
         }
         if self.keep:
             found.update(self.keep.take({**row, **found}, made or task.words[-1], bool(made), name))
+        if found.get("kept", "").endswith(BETTER):
+            better = os.path.join(self.keep.folder, found["kept"])
+            found["gap"] = str(self.runs.gap(self.program.file, task.words, better))
         return found
 
 
@@ -114,47 +120,16 @@ class Counts:
         self.made_anew += had_one and not was_taken_over
 
     def __str__(self):
-        line = ", ".join(f"{self.classes[it]} {it}" for it in CLASSES)
+        line = ", ".join(f"{self.classes[it]} {it}" for it in CLASSES if it == YES or self.classes[it])
         if self.taken_over or self.made_anew:
             line += f"; {self.taken_over} taken over, {self.made_anew} made anew"
         return line
 
     def status(self):
         """The exit status: whether all were yes, and if not, whether all were judged."""
-        if set(+self.classes) - {YES, NO, FAULTY}:
+        if set(+self.classes) - {YES, NO, NOT_SHOWN, FAULTY}:
             return 3
-        return 1 if self.classes[NO] or self.classes[FAULTY] else 0
-
-
-class Progress:
-    """Shows on a terminal how far it is, ten times in a second at most."""
-
-    def __init__(self, rows):
-        self.rows = rows
-        self.begun = time.monotonic()
-        self.shown, self.done, self.made = 0, 0, 0
-
-    def show(self, counts, was_taken_over):
-        self.done += 1
-        self.made += not was_taken_over
-        now = time.monotonic()
-        if sys.stderr.isatty() and now > self.shown + 0.1:
-            self.shown = now
-            left = (now - self.begun) / max(self.made, 1) * (self.rows - self.done)
-            line = f"{self.done} of {self.rows}: {counts}; {span(left)} left"
-            print(f"\r\x1b[K{line}", end="", file=sys.stderr, flush=True)
-
-    def end(self):
-        if sys.stderr.isatty():
-            print("\r\x1b[K", end="", file=sys.stderr)
-
-
-def span(seconds):
-    """A time in words."""
-    for unit, length in (("h", 3600), ("min", 60)):
-        if seconds >= 1.5 * length:
-            return f"{seconds / length:.1f} {unit}"
-    return f"{seconds:.0f} s"
+        return 0 if set(+self.classes) <= {YES} else 1
 
 
 def asked(options):

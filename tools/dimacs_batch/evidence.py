@@ -9,8 +9,7 @@ import subprocess
 from typing import NamedTuple
 
 from dimacs_batch import fail
-
-HEAD = 1 << 16  # bytes, in which the problem line of an instance is looked for
+from dimacs_batch.files import head_of
 
 
 class Text(NamedTuple):
@@ -32,11 +31,10 @@ def read(file, _):
     """A file as it is: one with the same mark isn't read again."""
     with open(file, "rb") as text:
         status = os.fstat(text.fileno())
-        digest, head = hashlib.sha256(), text.read(HEAD)
-        digest.update(head)
+        digest = hashlib.sha256()
         for piece in iter(lambda: text.read(1 << 20), b""):
             digest.update(piece)
-    arcs = re.search(rb"^[ \t]*p[ \t]+(?:max|min|sp)[ \t]+\d+[ \t]+(\d+)", head, re.MULTILINE)
+    arcs = re.search(rb"^[ \t]*p[ \t]+(?:max|min|sp)[ \t]+\d+[ \t]+(\d+)", head_of(file), re.MULTILINE)
     return Text(digest.hexdigest(), status.st_size, arcs[1].decode() if arcs else "", mark_of(status))
 
 

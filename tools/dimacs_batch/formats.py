@@ -4,7 +4,7 @@ import json
 import os
 import re
 
-from dimacs_batch.rows import COLUMNS
+from dimacs_batch.rows import COLUMNS, Missing
 
 # The columns of a table that is read: their titles, and whether they are numbers.
 READ = {
@@ -13,8 +13,8 @@ READ = {
     "arcs": ("arcs", True),
     "class": ("class", False),
     "verdict": ("verdict", False),
-    "seconds": ("seconds", True),
-    "memory": ("KiB", True),
+    "seconds": ("seconds to judge", True),
+    "memory": ("KiB to judge", True),
 }
 
 
@@ -59,22 +59,27 @@ class JsonLines:
 
 
 class ToRead:
-    """A table of some columns, and a line about the programs that judged."""
+    """A table of some columns, and a line about the programs that judged, and about rows that it lacks."""
 
     IS_READ = True
 
     def __init__(self, out):
-        self.out, self.programs = out, set()
+        self.out, self.programs, self.missing = out, set(), Missing()
 
     def row(self, row):
+        self.missing.add(row)
         if row["program_sha256"]:
             self.programs.add((row["version"], row["proof"], row["program_sha256"]))
         self.out.write(self.line([self.escaped(it) for it in read_cells(row)]))
 
-    def judged_by(self):
-        """A sentence for each program."""
-        for version, proof, sha256 in sorted(self.programs):
-            yield f"Judged by dimacs {version} ({proof}), whose program has the SHA-256 {sha256}."
+    def put_sentences(self):
+        """A sentence for each program, and one about what is missing."""
+        judged_by = [
+            f"Judged by dimacs {version} ({proof}), whose program has the SHA-256 {sha256}."
+            for version, proof, sha256 in sorted(self.programs)
+        ]
+        for sentence in filter(None, [*judged_by, str(self.missing)]):
+            self.out.write(f"\n{self.escaped(sentence)}\n")
 
 
 class Markdown(ToRead):
@@ -91,8 +96,7 @@ class Markdown(ToRead):
         self.out.write(self.line(["--:" if is_number else "---" for _, is_number in READ.values()]))
 
     def end(self):
-        for sentence in self.judged_by():
-            self.out.write(f"\n{self.escaped(sentence)}\n")
+        self.put_sentences()
 
 
 class Latex(ToRead):
@@ -114,8 +118,7 @@ class Latex(ToRead):
 
     def end(self):
         self.out.write("\\hline\n\\end{tabular}\n")
-        for sentence in self.judged_by():
-            self.out.write(f"\n{self.escaped(sentence)}\n")
+        self.put_sentences()
 
 
 FORMATS = {"csv": Csv, "jsonl": JsonLines, "markdown": Markdown, "latex": Latex}

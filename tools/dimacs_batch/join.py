@@ -1,7 +1,7 @@
 """Joins the tables of the shards of a list."""
 from dimacs_batch import fail, say
 from dimacs_batch.batch import Counts
-from dimacs_batch.rows import DECIDING, Rows
+from dimacs_batch.rows import DECIDING, Rows, gaps
 from dimacs_batch.runs import JUDGED
 from dimacs_batch.table import Printed, fill, put_alone, read_table, test_table
 
@@ -30,18 +30,6 @@ def joined(tables):
             elif not other or before == table or row["class"] in JUDGED:
                 rows.join(int(row["number"]), table, row)
     return rows, int(next(iter(lists))[1]) if lists else 0
-
-
-def gaps(numbers, count):
-    """Yields the first and the last of rows that stand side by side and aren't there, by the numbers of those that are,
-    in order."""
-    expected = 1
-    for number in numbers:
-        if number > expected:
-            yield expected, number - 1
-        expected = number + 1
-    if expected <= count:
-        yield expected, count
 
 
 def missing(numbers, count):

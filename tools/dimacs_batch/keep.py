@@ -1,16 +1,15 @@
 """What is kept of a run: its certificate, or the flow that shows that a claim is wrong."""
 import os
-import shutil
 
 from dimacs_batch import evidence
+from dimacs_batch.files import WRITTEN, unpack
 from dimacs_batch.runs import NO, YES, reason_of
 
 # The endings of what is kept: after a yes by the command's last word, after a refusal by its reason.
 CERTIFICATE = {"max": ".cut", "min": ".pot", "infeasible": ".cut", "paths": ".dist"}
-REFUTATION = {"NotMaximum": ".better.solution", "NotLeast": ".better.solution", "Feasible": ".feasible.solution"}
-
-# The certifiers, and how many words each has without a file that it writes.
-CERTIFIERS = {"certify-max": 3, "certify-min": 3, "certify-infeasible": 2, "certify-paths": 3}
+BETTER = ".better.solution"
+REFUTATION = {"NotMaximum": BETTER, "NotLeast": BETTER, "Feasible": ".feasible.solution"}
+ENDINGS = {*CERTIFICATE.values(), *REFUTATION.values()}
 
 
 def ending_of(row):
@@ -20,7 +19,12 @@ def ending_of(row):
         return None
     if row["class"] == YES:
         return CERTIFICATE[what]
-    return REFUTATION.get(reason_of(row["verdict"])[0]) if row["class"] == NO else None
+    return REFUTATION.get(reason_of(row["verdict"])[1]) if row["class"] == NO else None
+
+
+def lacks_certificate(words):
+    """Whether a command is a certifier's that names no file for what it shows."""
+    return words[0].startswith("certify-") and WRITTEN.get(words[0]) == (len(words),)
 
 
 class Keep:
@@ -32,18 +36,22 @@ class Keep:
 
     def made_by(self, words, name):
         """The file that a certifier is to write, while it isn't known what it will have; None if the words name one."""
-        return os.path.join(self.folder, f".{name}.part") if CERTIFIERS.get(words[0]) == len(words) else None
+        return os.path.join(self.folder, f".{name}.part") if lacks_certificate(words) else None
 
     def take(self, row, shows, is_ours, name):
-        """Gives the file that shows how the claim is its name, or a copy of it if it isn't ours; its columns."""
+        """Gives the file that shows how the claim is its name, or a copy of it if it isn't ours, and removes what an
+        earlier run kept under the names of this one; its columns."""
         ending = ending_of(row)
         file = os.path.join(self.folder, f"{name}{ending}")
         kept = ending and os.path.exists(shows) and os.path.getsize(shows) > 0
         if kept and is_ours:
             os.replace(shows, file)
         elif kept:
-            shutil.copyfile(shows, f"{file}.part")
+            unpack(shows, f"{file}.part")
             os.replace(f"{file}.part", file)
+        for it in (os.path.join(self.folder, f"{name}{it}") for it in ENDINGS):
+            if os.path.exists(it) and not (kept and it == file):
+                os.unlink(it)
         if is_ours and os.path.exists(shows):
             os.unlink(shows)
         return {"kept": os.path.basename(file), "kept_sha256": evidence.text_of(file).sha256} if kept else {}

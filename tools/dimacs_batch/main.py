@@ -2,6 +2,7 @@
 import os
 import shlex
 import signal
+import sqlite3
 import sys
 
 from dimacs_batch import ANY_NAMES, batch, fail, say
@@ -75,7 +76,9 @@ def main():
         flush()
     for stream in (sys.stdin, sys.stdout):
         stream.reconfigure(**ANY_NAMES)
-    signal.signal(signal.SIGTERM, interrupt)
+    for it in (signal.SIGTERM, signal.SIGHUP):
+        if signal.getsignal(it) != signal.SIG_IGN:
+            signal.signal(it, interrupt)
     try:
         status = run(options)
         sys.stdout.flush()
@@ -83,6 +86,8 @@ def main():
     except KeyboardInterrupt:
         say("dimacs-batch: stopped" + ("; the same words go on from here" if options.output else ""))
         return 130
+    except sqlite3.Error as error:
+        return fail(f"the temporary file of the list: {error}")
     except OSError as error:
         if error.filename is None:
             drop_output()

@@ -54,7 +54,7 @@ def parser_of():
     add("--join", action="store_true", help="joins the tables of shards")
     add("--recheck", action="store_true", help="judges the rows of TABLE again by what --keep kept in DIR")
     add("--report", action="store_true", help="writes a page of HTML about TABLE")
-    add("--referee", action="store_true", help="rechecks them by the plain referee too")
+    add("--referee", nargs="?", const=True, metavar="PATH", help="rechecks them by the plain referee, or that at PATH")
     add("--program", default=program(), metavar="FILE", help="the program; $DIMACS, or dimacs")
     add("--version", action="version", version=f"dimacs-batch {version()}")
     return parser
@@ -92,6 +92,10 @@ def shard_of(options, parser):
 def options_of():
     parser = parser_of()
     options = parser.parse_args()
+    if options.recheck and len(options.places) == 1 and options.referee in sys.argv:
+        # The word after --referee is a place, since two are wanted.
+        options.places = sorted([options.referee, *options.places], key=sys.argv.index)
+        options.referee = True
     wrong = next((message for is_wrong, message in rules(options) if is_wrong), None)
     if wrong:
         parser.error(wrong)

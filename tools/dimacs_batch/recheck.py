@@ -3,15 +3,18 @@ import collections
 import contextlib
 import os
 import shlex
-import subprocess
+import shutil
 import sys
 import tempfile
 
 from dimacs_batch import evidence, fail, say
+from dimacs_batch.files import WRITTEN, named
 from dimacs_batch.join import missing
-from dimacs_batch.keep import CERTIFIERS, ending_of
+from dimacs_batch.keep import ending_of
 from dimacs_batch.parallel import in_parallel
-from dimacs_batch.runs import JUDGED, NO, YES, Runs, is_whole
+from dimacs_batch.progress import Progress
+from dimacs_batch.rows import Missing
+from dimacs_batch.runs import FULL, JUDGED, NO, YES, Runs, is_whole, with_sources
 from dimacs_batch.table import in_words, read_table
 
 HERE = os.path.dirname(os.path.realpath(__file__))
@@ -24,8 +27,10 @@ FEASIBLE = "x certificate 0 0 NodesDiffer"
 WORDS = ["agree", "differ", "not there", "not judged"]
 
 
-def referee():
-    """The plain referee, if it is there."""
+def referee(named_one):
+    """The referee that is named, or else the plain one."""
+    if named_one:
+        return [shutil.which(named_one) or fail(f"--referee: {named_one}: no such program")]
     for it in REFEREES:
         if os.path.exists(os.path.join(HERE, it)):
             return [sys.executable, os.path.join(HERE, it)]
@@ -58,10 +63,19 @@ def compare_file(file, sha256):
         raise Differs(f"{file} is another file")
 
 
-def compare_files(row, files):
-    """Whether the instance, the answers and the other files that a command names are those of the table."""
-    answers = [it for it in dict.fromkeys(files) if f" {it} " in f" {row['answers']} "]
-    others = [it for it in files if it not in (row["instance"], *answers) and os.path.isfile(it)]
+def answers_of(row, files):
+    """The files of a row's answers, some of which a command may not name. A name may have blanks."""
+    count = len(row["answers_sha256"].split())
+    names = [row["answers"]] if count == 1 else row["answers"].split(" ")
+    if len(names) == count:
+        return names
+    return [it for it in dict.fromkeys(files) if f" {it} " in f" {row['answers']} "]
+
+
+def compare_files(row, words):
+    """Whether the instance, the answers and the other files of a command are those of the table."""
+    answers = answers_of(row, words[1:])
+    others = [it for it in named(words) if it not in (row["instance"], *answers)]
     wanted = [row["instance_sha256"].split(), row["answers_sha256"].split(), row["files_sha256"].split()]
     for names, hashes in zip(([row["instance"]], answers, others), wanted):
         if len(names) < len(hashes):
@@ -73,12 +87,12 @@ def compare_files(row, files):
 
 
 class Recheck:
-    """Judges rows again by `judge-*`, and by the referee if it is asked for."""
+    """Judges rows again by `judge-*`, and by a referee if it is asked for."""
 
-    def __init__(self, program, folder, with_referee):
-        self.program, self.folder = program, folder
-        self.referee = referee() if with_referee else None
-        self.runs = Runs(None)
+    def __init__(self, options, folder):
+        self.program, self.folder = evidence.Program(options.program), folder
+        self.referee = referee(options.referee if options.referee is not True else "") if options.referee else None
+        self.runs = Runs(options.seconds)
 
     def row(self, row):
         """How a row that is judged again is: a word, and what is wrong with it."""
@@ -87,48 +101,51 @@ class Recheck:
         try:
             if not is_whole(row):
                 raise Differs(f"class {row['class']} and value {row['value']} aren't those of {row['verdict']}")
-            verb, *files = shlex.split(row["command"])
-            compare_files(row, files)
+            words = shlex.split(row["command"])
+            compare_files(row, words)
             with tempfile.TemporaryDirectory() as folder:
-                self.judge(row, verb, files, self.kept(row), folder)
+                self.judge(row, words, self.kept(row), folder)
         except Differs as error:
             return "differ", str(error)
-        except NotThere as error:
+        except (NotThere, OSError) as error:
+            if getattr(error, "errno", None) in FULL:
+                raise
             return "not there", str(error)
         return "agree", ""
 
     def kept(self, row):
-        """The file that was kept of a row, if one had to be."""
-        if row["kept"]:
-            file = os.path.join(self.folder, row["kept"])
-            compare_file(file, row["kept_sha256"])
-            return file
-        if row["command"].startswith("certify-") and ending_of(row):
-            raise NotThere("nothing was kept of it")
-        return None
+        """The file that was kept of a row."""
+        if not row["kept"]:
+            return None
+        file = os.path.join(self.folder, row["kept"])
+        compare_file(file, row["kept_sha256"])
+        return file
 
-    def judge(self, row, verb, files, kept, folder):
-        """By a judge where a certificate is there. A flow that a certifier refuses is refused by its judge as well,
-        since the flow is tested before the certificate."""
+    def judge(self, row, words, kept, folder):
+        """By a judge where a certificate is there, which is made again if none was kept. A flow that a certifier
+        refuses is refused by its judge as well, since the flow is tested before the certificate. The run of any other
+        row is repeated."""
+        verb, *files = words
         action, _, what = verb.partition("-")
         certified = action == "certify"
-        files = files[: CERTIFIERS[verb] - 1] if certified else files
+        files = files[: WRITTEN[verb][0] - 1] if certified else files
+        if certified and not kept and ending_of(row):
+            kept = os.path.join(folder, "made")
+            self.compare(row["verdict"], self.run(verb, *files, kept))
         if row["class"] == NO and kept:
             self.judge_better(row, what, files, kept, folder)
         elif certified and what == "paths" and kept:
-            self.judge_distances(files, kept, folder)
+            self.judge_distances(row["verdict"], files, kept, folder)
         elif certified and kept:
             self.expect(row["verdict"], f"judge-{what}", *files, kept)
         elif certified and what in EMPTY:
             self.expect(row["verdict"], f"judge-{what}", *files, write(folder, "empty", EMPTY[what]))
-        elif certified:
-            self.compare(row["verdict"], self.run(verb, *files))
         elif action == "judge":
             self.expect(row["verdict"], verb, *files[:-1], kept or files[-1])
         elif action == "solve" and row["class"] == YES:
             self.judge_solved(row["verdict"], what, *files[:3])
         else:
-            raise NotThere(f"{verb} isn't judged again")
+            self.compare(row["verdict"], self.run(*words, may_write=False))
 
     def judge_solved(self, line, what, instance, answer, certificate):
         """What a solver wrote, where it wrote it."""
@@ -142,11 +159,11 @@ class Recheck:
         judged = "max" if what == "max" else "min"
         self.expect(FEASIBLE, f"judge-{judged}", files[0], kept, write(folder, "empty", EMPTY[judged]))
         if what in EMPTY:
-            claimed, better = (int(self.run("show", "solution", it).split(" ")[2]) for it in (files[1], kept))
-            if not (better > claimed if what == "max" else better < claimed):
-                raise Differs(f"{kept} isn't better than {files[1]}")
+            gap = self.runs.gap(self.program.file, [f"certify-{what}", *files], kept)
+            if gap <= 0 or row["gap"] not in ("", str(gap)):
+                raise Differs(f"{kept} is better than {files[1]} by {gap}")
 
-    def judge_distances(self, files, kept, folder):
+    def judge_distances(self, line, files, kept, folder):
         """The labels are distances by the judge, and are those that are claimed."""
         claimed, labels = self.blocks("distances", files[1]), self.blocks("dist", kept)
         asked = [f"p aux sp p2p {len(labels)}\n", *(f"q {source} {source}\n" for source, *_ in labels)]
@@ -155,11 +172,11 @@ class Recheck:
         self.expect(answered + more, "judge-paths", files[0], write(folder, "query", asked), kept)
         if claimed != labels:
             raise Differs(f"{kept} has other distances than {files[1]}")
+        self.compare(line, with_sources(["certify-paths", *files], f"v sp distances {len(claimed)}"))
 
     def blocks(self, kind, file):
         """The blocks of a text of distances or labels: the source, the radius, and the distance of each node."""
-        words = [self.program.file, "convert", kind, file]
-        text = subprocess.run(words, stdin=subprocess.DEVNULL, capture_output=True, check=False).stdout.decode()
+        text = self.run("convert", kind, file, take=lambda it: it.read())
         found = []
         for letter, first, *rest in (line.split() for line in text.splitlines()):
             if letter == "t":
@@ -168,8 +185,8 @@ class Recheck:
                 found[-1][2][first] = rest[0]
         return found
 
-    def run(self, *words):
-        return self.runs.run([self.program.file, *words]).line
+    def run(self, *words, **how):
+        return self.runs.run([self.program.file, *words], **how).line
 
     def expect(self, line, verb, *files):
         """Fails unless the judge, and the referee, print this line."""
@@ -183,20 +200,26 @@ class Recheck:
             raise Differs(f"{who} now says {said}, and not {line}")
 
 
+def in_short(counts):
+    return ", ".join(f"{counts[it]} {it}" for it in WORDS)
+
+
 def recheck(options):
     """Judges all rows of a table again, and prints those that aren't as it has them; the exit status."""
     table, folder = options.places
-    judge = Recheck(evidence.Program(options.program), folder, options.referee)
-    counts, numbers, most = collections.Counter(), [], 0
+    judge = Recheck(options, folder)
+    counts, its = collections.Counter(), Missing(read_table(table))
+    progress = Progress(len(its.numbers))
     with contextlib.closing(in_parallel(options.jobs, judge.row, read_table(table), judge.runs.end)) as found:
         for row, (word, why) in found:
             counts[word] += 1
-            numbers.append(int(row["number"]))
-            most = max(most, int(row["of"]))
+            progress.show(in_short(counts))
             if why:
+                progress.end()
                 in_words(print, f"number {row['number']}: {why}")
-    left = missing(sorted(numbers), most)
-    say(", ".join(f"{counts[it]} {it}" for it in WORDS) + (f"; {left} in no table" if left else ""))
+    progress.end()
+    left = missing(sorted(its.numbers), its.of)
+    say(in_short(counts) + (f"; {left} in no table" if left else ""))
     if counts["differ"]:
         return 1
     return 3 if counts["not there"] or left or not counts["agree"] else 0

@@ -1,25 +1,31 @@
 """A table as one page of HTML, which needs no network."""
 import collections
-import functools
+import contextlib
 import html
 import math
 import os
 import shlex
 import shutil
-import subprocess
 
-from dimacs_batch import evidence, fail, say
+from dimacs_batch import fail, say
 from dimacs_batch.formats import READ, read_cells
+from dimacs_batch.keep import lacks_certificate
 from dimacs_batch.options import HERE
-from dimacs_batch.runs import CLASSES, FAULTY, NO
+from dimacs_batch.parallel import in_parallel
+from dimacs_batch.progress import Progress
+from dimacs_batch.recheck import Differs, NotThere, compare_files
+from dimacs_batch.rows import Missing
+from dimacs_batch.runs import CLASSES, LONGEST, REFUSED, Runs, reason_of
 from dimacs_batch.table import put_alone, read_table
 
 MOST_LINES = 20  # of an explanation
 WIDTH, HEIGHT, MARGIN = 720, 400, 60  # of the plot, in pixels
-COLOURS = ["#0072b2", "#d55e00", "#009e73", "#cc79a7", "#e69f00", "#56b4e9", "#000000"]
 
 # What decides a row, and is shown where the pointer is.
-EVIDENCE = ["answers", "command", "instance_sha256", "answers_sha256", "files_sha256", "kept", "kept_sha256", "host"]
+EVIDENCE = [
+    "answers", "command", "instance_sha256", "answers_sha256", "files_sha256", "kept", "kept_sha256", "gap", "date",
+    "host",
+]
 
 
 def text(value):
@@ -40,49 +46,87 @@ def table_of(titles, lines, numbers=(), kind=""):
 # ---- the parts of the page
 
 
-def counts(table):
-    """How many rows each solver has of each class."""
-    found = collections.defaultdict(collections.Counter)
-    for row in read_table(table):
-        found[row["solver"]][row["class"]] += 1
-    lines = [("", [text(it or "(none)"), *(its[one] for one in CLASSES)]) for it, its in sorted(found.items())]
-    return table_of(["solver", *CLASSES], lines, range(1, len(CLASSES) + 1))
+class Summary:
+    """What is counted in a table."""
+
+    def __init__(self, table):
+        self.classes, self.reasons, self.programs = (collections.Counter() for _ in range(3))
+        self.missing, self.by_instance = Missing(), collections.defaultdict(str)
+        for row in read_table(table):
+            self.missing.add(row)
+            self.classes[row["solver"], row["class"]] += 1
+            if row["class"] in REFUSED:
+                self.reasons[row["solver"], (reason_of(row["verdict"]) or [row["verdict"]])[-1]] += 1
+            if row["instance"]:
+                cell = row["instance"], row["solver"]
+                self.by_instance[cell] += (", " if cell in self.by_instance else "") + row["class"]
+            if row["program_sha256"]:
+                self.programs[tuple(row[it] for it in ("version", "proof", "program_sha256", "host"))] += 1
 
 
-def programs(table):
+def crossed(title, found, columns, kind=""):
+    """A table of what is found by a pair, a line for each first and a column for each second of them."""
+    firsts = sorted({first for first, _ in found})
+    lines = [("", [text(it or "(none)"), *(text(found[it, one]) for one in columns)]) for it in firsts]
+    numbers = () if kind else range(1, len(columns) + 1)
+    return table_of([title, *(it or "(none)" for it in columns)], lines, numbers, kind)
+
+
+def seconds_of(found):
+    """The second of each pair that is found."""
+    return sorted({second for _, second in found})
+
+
+def programs(found):
     """By what was judged, and where."""
-    found = collections.Counter()
-    for row in read_table(table):
-        if row["program_sha256"]:
-            found[tuple(row[it] for it in ("version", "proof", "program_sha256", "host"))] += 1
     lines = [("", [*map(text, it), count]) for it, count in sorted(found.items())]
     return table_of(["dimacs", "proof", "SHA-256 of the program", "host", "rows"], lines, [4])
 
 
-def explained(program, row):
-    """What `dimacs explain` says of a refusal, if its files are here and are those of the table."""
-    files = shlex.split(row["command"])
-    hashes = [row["instance_sha256"], *row["answers_sha256"].split()]
-    try:
-        same = all(evidence.text_of(file).sha256 == it for file, it in zip(files[1:], hashes))
-    except OSError:
-        same = False
-    if not same or not program:
-        return "(its files aren't here any more)" if program else "(there is no dimacs here that explains it)"
-    words = [program, "explain", *files]
-    ran = subprocess.run(words, stdin=subprocess.DEVNULL, capture_output=True, check=False)
-    lines = ran.stdout.decode("utf-8", "replace").splitlines()
-    return "\n".join(lines[1 : MOST_LINES + 1])
+class Explain:
+    """Has `dimacs explain` explain refusals. What the command writes goes elsewhere."""
+
+    def __init__(self, options):
+        self.program, self.runs = shutil.which(options.program), Runs(options.seconds)
+
+    def row(self, row):
+        """What is said, if the files are here and are those of the table."""
+        if not self.program:
+            return "(there is no dimacs here that explains it)"
+        words = shlex.split(row["command"])
+        try:
+            compare_files(row, words)
+            words += ["better"] if lacks_certificate(words) else []  # so a better flow is shown
+            words = words if words[0] == "explain" else ["explain", *words]
+            ended = self.runs.run([self.program, *words], take=first_lines, may_write=False)
+        except (Differs, NotThere, OSError):
+            return "(its files aren't here any more)"
+        return ended.line.partition("\n")[2] or f"(not explained: {ended.line})"
 
 
-def refusals(table, program):
-    """Each refused answer, with its reason explained."""
+def first_lines(stream):
+    """The first lines of an output. The rest isn't kept."""
+    lines = [line for _, line in zip(range(MOST_LINES + 1), iter(lambda: stream.readline(LONGEST), ""))]
+    collections.deque(iter(lambda: stream.read(1 << 16), ""), maxlen=0)
+    return "".join(lines)
+
+
+def refusals(table, options, count):
+    """Each refusal, with its reason explained, in order. They are explained several at a time."""
+    explain, progress, ready, shown = Explain(options), Progress(count), {}, 0
+    refused = enumerate(row for row in read_table(table) if row["class"] in REFUSED)
     yield "<dl>\n"
-    for row in read_table(table):
-        if row["class"] in (NO, FAULTY):
-            whose = f", {row['solver']}" if row["solver"] else ""
-            yield f"<dt>{text(os.path.basename(row['instance']) + whose)}: <code>{text(row['verdict'])}</code></dt>\n"
-            yield f"<dd><pre>{text(explained(program, row))}</pre></dd>\n"
+    items = in_parallel(options.jobs, lambda it: explain.row(it[1]), refused, explain.runs.end)
+    with contextlib.closing(items) as found:
+        for (number, row), why in found:
+            progress.show()
+            ready[number] = row, why
+            while shown in ready:
+                row, why = ready.pop(shown)
+                shown += 1
+                name = ", ".join(filter(None, [os.path.basename(row["instance"]), row["solver"], row["class"]]))
+                yield f"<dt>{text(name)}: <code>{text(row['verdict'])}</code></dt>\n<dd><pre>{text(why)}</pre></dd>\n"
+    progress.end()
     yield "</dl>\n"
 
 
@@ -131,10 +175,10 @@ def extent(table):
 
 
 def plot(table):
-    """The seconds over the arcs, a point for each row that was judged."""
+    """The seconds of the judge over the arcs, a point for each row that was judged."""
     ends = extent(table)
     across, up = Axis(ends[:2], MARGIN, WIDTH - 20), Axis(ends[2:], HEIGHT - MARGIN, 20)
-    yield f'<svg viewBox="0 0 {WIDTH} {HEIGHT}" width="{WIDTH}" role="img" aria-label="seconds over arcs">\n'
+    yield f'<svg viewBox="0 0 {WIDTH} {HEIGHT}" width="{WIDTH}" role="img" aria-label="seconds to judge over arcs">\n'
     for value, label in across.ticks():
         x = across.place(value)
         yield f'<path class="grid" d="M{x:.1f} 20V{HEIGHT - MARGIN}"/>'
@@ -144,28 +188,27 @@ def plot(table):
         yield f'<path class="grid" d="M{MARGIN} {y:.1f}H{WIDTH - 20}"/>'
         yield f'<text x="{MARGIN - 6}" y="{y + 4:.1f}" text-anchor="end">{label}</text>\n'
     yield f'<text x="{WIDTH / 2}" y="{HEIGHT - 16}" text-anchor="middle">arcs</text>'
-    yield f'<text x="14" y="{HEIGHT / 2}" text-anchor="middle" transform="rotate(-90 14 {HEIGHT / 2})">seconds</text>\n'
-    solvers = {}
+    yield f'<text x="14" y="{HEIGHT / 2}" text-anchor="middle" transform="rotate(-90 14 {HEIGHT / 2})">'
+    yield "seconds to judge</text>\n"
     for arcs, seconds, solver, instance in points(table):
-        colour = COLOURS[solvers.setdefault(solver, len(solvers)) % len(COLOURS)]
-        yield f'<circle cx="{across.place(arcs):.1f}" cy="{up.place(seconds):.1f}" r="3.5" fill="{colour}">'
+        yield f'<circle cx="{across.place(arcs):.1f}" cy="{up.place(seconds):.1f}" r="3.5">'
         yield f"<title>{text(os.path.basename(instance))} {text(solver)}: {arcs} arcs, {seconds:g} s</title></circle>\n"
-    yield "</svg>\n<p>"
-    for solver, number in solvers.items():
-        yield f'<span style="color:{COLOURS[number % len(COLOURS)]}">&#9679;</span> {text(solver or "(none)")} &nbsp; '
-    yield "</p>\n"
+    yield "</svg>\n"
 
 
-def page(table, program):
+def page(table, options, summary):
     """Yields the page."""
     with open(os.path.join(HERE, "report.html"), encoding="utf-8") as it:
         frame = it.read()
     parts = {
         "title": [text(os.path.basename(table))],
-        "counts": counts(table),
-        "programs": programs(table),
+        "missing": [text(summary.missing)],
+        "counts": crossed("solver", summary.classes, CLASSES),
+        "reasons": crossed("solver", summary.reasons, seconds_of(summary.reasons)),
+        "instances": crossed("instance", summary.by_instance, seconds_of(summary.by_instance), "sorted"),
+        "programs": programs(summary.programs),
         "plot": plot(table),
-        "refusals": refusals(table, program),
+        "refusals": refusals(table, options, sum(summary.reasons.values())),
         "rows": rows(table),
     }
     for piece in frame.split("{{"):
@@ -184,10 +227,11 @@ def test_page(place):
 
 
 def report(options):
-    """Writes the page about a table."""
+    """Writes the page about a table; the exit status."""
     (table,) = options.places
-    name = options.output or f"{os.path.splitext(table)[0]}.html"
-    write = functools.partial(page, table, shutil.which(options.program))
-    put_alone(name, lambda out: out.writelines(write()), test_page)
+    name, summary = options.output or f"{os.path.splitext(table)[0]}.html", Summary(table)
+    put_alone(name, lambda out: out.writelines(page(table, options, summary)), test_page)
     say(f"wrote {os.path.realpath(name)}")
-    return 0
+    if str(summary.missing):
+        say(f"dimacs-batch: {table}: {summary.missing}")
+    return 3 if str(summary.missing) else 0

@@ -6,12 +6,15 @@ import shlex
 import sqlite3
 
 from dimacs_batch.answers import Task
+from dimacs_batch.files import split
 
 COLUMNS = [
     "number", "of", "list", "instance", "answers", "solver", "kind", "command", "verdict", "value", "class", "status",
     "seconds", "cpu", "memory", "limit", "size", "arcs", "instance_sha256", "answers_sha256", "files_sha256",
-    "kept", "kept_sha256", "host", "version", "proof", "program_sha256",
+    "kept", "kept_sha256", "gap", "date", "host", "version", "proof", "program_sha256",
 ]
+
+MOST_SPANS = 5  # of rows that a table lacks, which are named
 
 # The columns that decide a verdict.
 DECIDING = [
@@ -24,9 +27,44 @@ def key_of(command, instance, answers, solver):
     return [command, instance, answers, "" if command else solver]
 
 
+def gaps(numbers, count):
+    """Yields the first and the last of rows that stand side by side and aren't there, by the numbers of those that are,
+    in order."""
+    expected = 1
+    for number in numbers:
+        if number > expected:
+            yield expected, number - 1
+        expected = number + 1
+    if expected <= count:
+        yield expected, count
+
+
+class Missing:
+    """What rows of a list a table lacks."""
+
+    def __init__(self, rows=()):
+        self.numbers, self.of = [], 0
+        for row in rows:
+            self.add(row)
+
+    def add(self, row):
+        self.numbers.append(int(row["number"]))
+        self.of = max(self.of, int(row["of"]))
+
+    def __str__(self):
+        """A sentence, which names some; nothing if none is missing."""
+        found = list(gaps(sorted(self.numbers), self.of))
+        spans = [f"{first}" if first == last else f"{first} to {last}" for first, last in found]
+        count = sum(last - first + 1 for first, last in found)
+        named = ", ".join(spans[:MOST_SPANS]) + (" and others" if len(spans) > MOST_SPANS else "")
+        if not self.of:
+            return "There is no row."
+        return f"{count} of {self.of} rows are missing: {named}." if spans else ""
+
+
 def name_of(task):
     """The name under which files of a row are kept: the instance's and the solver's."""
-    name = os.path.splitext(os.path.basename(task.instance))[0]
+    name = split(os.path.basename(task.instance))[0]
     return f"{name}.{task.solver}" if task.solver else name
 
 

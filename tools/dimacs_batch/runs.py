@@ -1,4 +1,5 @@
 """A run of the program: what it takes, what it prints, and the class of its end."""
+import errno
 import os
 import re
 import resource
@@ -9,20 +10,37 @@ import threading
 import time
 from typing import NamedTuple
 
+from dimacs_batch.files import queries_for, readable, sources_in
+
 # The classes of rows, in the order in which they are counted.
-CLASSES = ["yes", "no", "faulty text", "gave up", "no answer", "unmatched", "failed"]
-YES, NO, FAULTY, GAVE_UP, NO_ANSWER, UNMATCHED, FAILED = CLASSES
-JUDGED = (YES, NO, FAULTY, GAVE_UP)  # the classes of rows that aren't made again
+CLASSES = [
+    "yes", "no", "not shown", "faulty text", "instance faulty", "gave up", "nothing claimed", "no answer", "unmatched",
+    "failed",
+]
+YES, NO, NOT_SHOWN, FAULTY, INSTANCE_FAULTY, GAVE_UP, NOTHING, NO_ANSWER, UNMATCHED, FAILED = CLASSES
+JUDGED = CLASSES[:7]  # the classes of rows that aren't made again
+REFUSED = CLASSES[1:5]
 
 # The reasons for which a claim is refused at a place of a text; all others at such a place are the text's own.
 OF_THE_CLAIM = {
     "UnknownArc", "ArcTwice", "ValueDiffers", "NodesDiffer", "NotViolated", "NotMaximum", "NotLeast", "Feasible"
 }
 
+# The reasons for which a claim isn't shown that may be true: of all commands, and of a judge.
+UNSHOWN = {"SourceOutside", "SinkInside", "NotSaturated", "BackFlow", "NotTight", "NotViolated", "CostRange"}
+UNSHOWN_BY_JUDGE = {*UNSHOWN, "NoTightArc", "NegativeWeight"}
+
+# The classes of other reasons for which the claim isn't wrong.
+UNJUDGED = {"QueryNode": INSTANCE_FAULTY, "NegativeWeight": INSTANCE_FAULTY, "BlockMissing": NOTHING}
+
 JUDGES = ("judge-", "certify-", "solve-")  # how the words of commands that judge a claim begin
+ANSWERING = ("judge-paths", "solve-paths")  # those that print nothing if no query is asked
 NO_RUN = 2  # the words asked for none: how it is used comes after the line that reports it
+FILE_FAILED = 3
+FULL = (errno.ENOSPC, errno.EDQUOT)
 ENDED_LATE = 124
 LONGEST = 1000  # letters of a line that are kept
+MOST_SOURCES = 20  # that are named
 UNCERTAIN = 4096  # KiB by which the system's counts of memory may differ
 
 
@@ -37,24 +55,37 @@ class Ended(NamedTuple):
 
 
 def reason_of(line):
-    """The reason of a refusal, and whether it is at a place of a text; None of another line."""
-    found = re.match(r"x (?:(arc|node) \d+|\w+ \d+ \d+) (\w+)", line)
-    return found and (found[2], not found[1])
+    """The text that is refused, or arc or node, and the reason; None of another line."""
+    found = re.match(r"x (?:(arc|node) \d+|(\w+) \d+ \d+) (\w+)", line)
+    return found and (found[1] or found[2], found[3])
+
+
+def class_of_refusal(command, text, reason):
+    """The class of a refusal: by what is at fault."""
+    is_judge = command.startswith("judge-")
+    if text in ("instance", "query") and reason != "Feasible":
+        return INSTANCE_FAULTY
+    if reason in (UNSHOWN_BY_JUDGE if is_judge else UNSHOWN):
+        return NOT_SHOWN
+    if text == "certificate" and is_judge and command != "judge-paths":  # whose labels are the claim
+        return NOT_SHOWN
+    if reason in UNJUDGED:
+        return UNJUDGED[reason]
+    return NO if text in ("arc", "node") or reason in OF_THE_CLAIM else FAULTY
 
 
 def class_of(command, ended):
     """The class of a run's end. A yes is a verdict of a command that judges; nothing else counts as one."""
     line, refused = ended.line, reason_of(ended.line)
     if ended.status == 1 and refused:
-        reason, is_of_text = refused
-        return FAULTY if is_of_text and reason not in OF_THE_CLAIM else NO
-    if ended.status == 5:
-        return GAVE_UP
-    if ended.status == 0 and not command.startswith(JUDGES):
+        return class_of_refusal(command, *refused)
+    if ended.status != 0:
+        return GAVE_UP if ended.status == 5 else FAILED
+    if not command.startswith(JUDGES):
         return NO_ANSWER
-    if ended.status == 0 and (line.startswith("v ") or not line and command == "judge-paths"):
-        return YES
-    return FAILED
+    if not line and command in ANSWERING or re.match(r"v sp \w+ 0\b|v .*; no block of ", line):
+        return NOTHING
+    return YES if line.startswith("v ") else FAILED
 
 
 def value_of(line):
@@ -94,6 +125,25 @@ def complaint(errors, status):
     return lines[0 if status == NO_RUN else -1][:LONGEST]
 
 
+def test_room(line):
+    """Ends all if the program says that a disk is full."""
+    found = re.fullmatch(r"dimacs: (.*): cannot be \w+: (.*) \(os error (\d+)\)", line)
+    if found and int(found[3]) in FULL:
+        raise OSError(int(found[3]), found[2], found[1])
+
+
+def with_sources(words, line):
+    """The verdict about distances, with the sources of their blocks, and one that the queries ask for in vain."""
+    if words[0] != "certify-paths" or not line.startswith("v sp distances "):
+        return line
+    found, queries = sources_in(words[2]), queries_for(words)
+    if found:
+        named = [str(it) for it in found[:MOST_SOURCES]]
+        line += f"; sources {' '.join(named)}" + (" .." if len(found) > MOST_SOURCES else "")
+    left = [it for it in sources_in(queries) if it not in found] if queries else []
+    return f"{line}; no block of {left[0]}, which {os.path.basename(queries)} asks for" if left else line
+
+
 class Runs:
     """Runs the program, and ends what still runs if all is ended."""
 
@@ -102,15 +152,33 @@ class Runs:
         self.running, self.ended = set(), False
         self.lock = threading.Lock()
 
-    def run(self, words):
-        """A run to its end."""
+    def run(self, words, take=first_line, may_write=True):
+        """A run to its end, with what is taken of its output."""
+        program, *words = words
+        with readable(words, may_write) as (names, stands_for):
+            ended = self.run_by_names([program, *names], take)
+        line = ended.line
+        for name, file in stands_for.items():
+            line = line.replace(name, file)
+        if ended.status == FILE_FAILED:
+            test_room(line)
+        return ended._replace(line=with_sources(words, line))
+
+    def gap(self, program, words, better):
+        """By how much a flow is better than the one that is certified."""
+        shown = [self.run([program, "show", "solution", it]).line for it in (words[2], better)]
+        claimed, best = (int(it.split(" ")[2]) for it in shown)
+        return best - claimed if words[0] == "certify-max" else claimed - best
+
+    def run_by_names(self, words, take):
         begun = time.monotonic()
+        # A session of its own has its children too, which end with it.
         how = {"encoding": "utf-8", "errors": "replace", "stdin": subprocess.DEVNULL, "stdout": subprocess.PIPE}
         late = threading.Event()
         with tempfile.TemporaryFile() as errors:
             # It is waited for below, for what it took. The streams are closed by the process.
             with self.lock:
-                process = subprocess.Popen(words, stderr=errors, **how)
+                process = subprocess.Popen(words, stderr=errors, start_new_session=True, **how)
                 self.running.add(process.pid)
             if self.ended:
                 self.signal(process.pid, signal.SIGTERM)
@@ -118,12 +186,16 @@ class Runs:
             if self.seconds:
                 timer.start()
             with process.stdout:
-                line = first_line(process.stdout)
+                line = take(process.stdout)
             status, usage = self.wait(process)
             timer.cancel()
-            line = f"ended after {self.seconds:g} s" if late.is_set() else line or complaint(errors, status)
+            if late.is_set():
+                line, status = f"ended after {self.seconds:g} s", ENDED_LATE
+            elif process.returncode < 0:
+                line = f"killed by {signal.Signals(-process.returncode).name}"
+            else:
+                line = line or complaint(errors, status)
         took = time.monotonic() - begun
-        status = ENDED_LATE if late.is_set() else status
         return Ended(line, status, took, usage.ru_utime + usage.ru_stime, memory_of(usage))
 
     def wait(self, process):
@@ -136,9 +208,10 @@ class Runs:
         return process.returncode if process.returncode >= 0 else 128 - process.returncode, usage
 
     def signal(self, pid, number):
+        """Sends a signal to a process and its children."""
         with self.lock:
             if pid in self.running:
-                os.kill(pid, number)
+                os.killpg(pid, number)
 
     def end(self):
         self.ended = True
