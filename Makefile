@@ -46,8 +46,10 @@ help:
 
 ## make quick: builds them unproved in build/quick, in two minutes of processor time each
 quick: build/quick/dimacs build/quick/linked
+	@echo 'Try:  build/quick/dimacs certify-max examples/pipes.max examples/pipes.solution'
+	@echo 'For the commands of examples/README.md:  PATH=$$PWD/build/quick:$$PWD/tools:$$PATH'
 
-## make check: tests build/quick, unproved
+## make check: tests build/quick, unproved, in ten minutes
 check: quick
 	@tools/kit.py >/dev/null
 	@tests/check.py build/quick

@@ -206,17 +206,17 @@ def claims_in(parent, folders, names, kind):
 
 def claims_by_pattern(parent, folders, names, kind, pattern):
     """The answers in a folder whose paths a pattern fits, each under the name {instance} and in the folder {solver}."""
-    ending = os.path.splitext(pattern)[1]
+    pattern = plain(pattern)
     fits = re.escape(pattern).replace(r"\{instance\}", "(?P<instance>.+)").replace(r"\{solver\}", "(?P<solver>[^/]+)")
     for name in names:
-        found = [re.fullmatch(fits, "/".join([*folders, it])) for it in (name, plain(name))]
-        if not any(found):
+        found = re.fullmatch(fits, "/".join([*folders, plain(name)]))
+        if not found:
             continue
         file = joined(parent, name)
-        its = next(filter(None, found)).groupdict()
+        its = found.groupdict()
         *within, instance = its["instance"].split("/")
+        stem, ending = split(file)
         shows = ".cut" if kind == "min" and claims_infeasible(file) else CERTIFICATES.get(kind)
-        stem = (file if found[0] else plain(file)).removesuffix(ending)
         shown = beside(stem, [shows]) if shows and ending != ".cut" else None
         files = [file, shown] if shown else [file]
         if instance.endswith(f".{kind}"):

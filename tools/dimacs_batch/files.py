@@ -81,7 +81,7 @@ def sources_in(file):
 
 def queries_for(words):
     """The queries that distances have to answer: those of their own name, or else of the graph's."""
-    if words[0] != "certify-paths" or len(words) < 3:
+    if words[:1] != ["certify-paths"] or len(words) < 3:
         return None
     return beside(split(words[2])[0], QUERIES) or beside(split(words[1])[0], QUERIES)
 

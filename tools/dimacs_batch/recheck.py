@@ -105,7 +105,7 @@ class Recheck:
             compare_files(row, words)
             with tempfile.TemporaryDirectory() as folder:
                 self.judge(row, words, self.kept(row), folder)
-        except Differs as error:
+        except (Differs, ValueError) as error:  # a command that was edited may not be one
             return "differ", str(error)
         except (NotThere, OSError) as error:
             if getattr(error, "errno", None) in FULL:

@@ -93,14 +93,16 @@ class Explain:
         """What is said, if the files are here and are those of the table."""
         if not self.program:
             return "(there is no dimacs here that explains it)"
-        words = shlex.split(row["command"])
         try:
+            words = shlex.split(row["command"])
             compare_files(row, words)
             words += ["better"] if lacks_certificate(words) else []  # so a better flow is shown
             words = words if words[0] == "explain" else ["explain", *words]
             ended = self.runs.run([self.program, *words], take=first_lines, may_write=False)
         except (Differs, NotThere, OSError):
             return "(its files aren't here any more)"
+        except (ValueError, IndexError):
+            return "(it has no command)"
         return ended.line.partition("\n")[2] or f"(not explained: {ended.line})"
 
 
