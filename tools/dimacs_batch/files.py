@@ -20,8 +20,9 @@ PIECE = 1 << 24  # bytes that are searched at a time
 
 def written(words):
     """The places of a command at which it names files that it writes."""
-    begin = 1 if words[0] == "explain" else 0
-    return [begin + it for it in WRITTEN.get(words[begin], ()) if begin + it < len(words)]
+    begin = 1 if words[:1] == ["explain"] else 0
+    verb = next(iter(words[begin:]), "")
+    return [begin + it for it in WRITTEN.get(verb, ()) if begin + it < len(words)]
 
 
 def named(words):
