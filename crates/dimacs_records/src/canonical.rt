@@ -132,9 +132,7 @@ pub fn write_record<S: Sink>(output: &mut OutputBuffer, sink: &mut S, rec: &Reco
         Record::PotentialsProblem { nodes, count } => {
             write_problem(output, sink, b"pot", nodes, count)
         }
-        Record::PotentialsNode { id, value } => {
-            write_line(output, sink, b"y", &[unsigned(id), Part::Wide(value)])
-        }
+        Record::PotentialsNode { id, value } => write_number(output, sink, b'y', id, value),
         Record::LabelsProblem { nodes, blocks } => {
             write_problem(output, sink, b"dist", nodes, blocks)
         }
@@ -153,21 +151,14 @@ pub fn write_record<S: Sink>(output: &mut OutputBuffer, sink: &mut S, rec: &Reco
             b"t",
             &[unsigned(source), unsigned(count), Part::Wide(radius)],
         ),
-        Record::LabelsNode { id, dist, pred } => write_line(
-            output,
-            sink,
-            b"d",
-            &[unsigned(id), Part::Wide(dist), unsigned(pred)],
-        ),
+        Record::LabelsNode { id, dist, pred } => write_label(output, sink, id, dist, pred),
         Record::DistancesProblem { nodes, blocks } => {
             write_problem(output, sink, b"distances", nodes, blocks)
         }
         Record::DistancesBlock { source, count } => {
             output.line(sink, b't', &[i64::from(source), i64::from(count)]);
         }
-        Record::DistancesNode { id, dist } => {
-            write_line(output, sink, b"d", &[unsigned(id), Part::Wide(dist)])
-        }
+        Record::DistancesNode { id, dist } => write_number(output, sink, b'd', id, dist),
     }
 }
 
@@ -203,6 +194,34 @@ fn write_arc<S: Sink>(
         (S.seen sink.old) output.old (S.seen sink.new) output.new }
 {
     output.line_of_three(sink, letter, i64::from(tail), i64::from(head), n);
+}
+
+/// Writes the line of a node's number. Those of 64 bits, as most are, aren't formatted apart.
+#[inline(always)]
+fn write_number<S: Sink>(output: &mut OutputBuffer, sink: &mut S, letter: u8, id: u32, n: i128)
+    ensures { Appends (line_of (letter ∷ []) (Amount (pos id) ∷ Amount n ∷ [])) (S.seen sink.old) output.old (S.seen sink.new) output.new }
+{
+    match i64::try_from(n) {
+        Ok(n) => output.line(sink, letter, &[i64::from(id), n]),
+        Err(_) => write_line(output, sink, &[letter], &[unsigned(id), Part::Wide(n)]),
+    }
+}
+
+/// As `write_number`, for a label.
+#[inline(always)]
+fn write_label<S: Sink>(output: &mut OutputBuffer, sink: &mut S, id: u32, dist: i128, pred: u32)
+    ensures { Appends (line_of (codes "d") (Amount (pos id) ∷ Amount dist ∷ Amount (pos pred) ∷ []))
+        (S.seen sink.old) output.old (S.seen sink.new) output.new }
+{
+    match i64::try_from(dist) {
+        Ok(dist) => output.line_of_three(sink, b'd', i64::from(id), dist, i64::from(pred)),
+        Err(_) => write_line(
+            output,
+            sink,
+            b"d",
+            &[unsigned(id), Part::Wide(dist), unsigned(pred)],
+        ),
+    }
 }
 
 #[inline(always)]
