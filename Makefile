@@ -62,6 +62,10 @@ prove:
 prove-all:
 	.ci/gate all
 
+## make referee: checks the proofs in Coq, and builds build/referee/judge; it needs no kit
+referee:
+	@referee/proof/build.sh build/referee
+
 # These leave what was built of the same sources as it is (tools/sources.py), which times alone don't show.
 build/quick/dimacs build/quick/dimacs.bc &: FORCE
 	@tools/quick_build.py program build/quick/dimacs
@@ -166,5 +170,5 @@ include targets.mk
 # Of these, what a failed proof leaves is whole, and of the sources that are noted beside it.
 .PRECIOUS: build/dimacs build/dimacs_c.a build/dimacs_c.bc %/dimacs.o %/libdimacs.a %/libdimacs.so.0 \
     %/libdimacs.so
-.PHONY: all help quick check prove prove-all proved-by-ci install uninstall linked dist check-packages proved-only \
+.PHONY: all help quick check referee prove prove-all proved-by-ci install uninstall linked dist check-packages proved-only \
     no-such-system release theorem bench clean FORCE
