@@ -1190,6 +1190,10 @@ def kept(place, binary):
     recheck = ["--recheck", "--referee", "table", "kept"]
     status, _, err = place.run(*recheck, program=binary)
     assert status == 0 and err == "15 agree, 0 differ, 0 not there, 1 not judged\n", err
+    for named, wanted in ((os.path.join(TOP, "referee/referee.py"), (0, "15 agree, 0 differ")), ("false", (1, "1 agree, 14 differ"))):
+        status, _, err = place.run("--recheck", f"--referee={named}", "table", "kept", program=binary)
+        assert (status, err[: len(wanted[1])]) == wanted, err
+    assert place.run("--recheck", "--referee=absent", "table", "kept", program=binary)[0] == 2
 
     place.write("kept/pipes.cut", place.read("kept/pipes.cut") + "c\n")
     place.write("in/canning.solution", place.read("in/canning.solution") + "c\n")

@@ -1,17 +1,19 @@
 #!/usr/bin/env python3
-"""Compares the program with the referee, referee/referee.py: tests/referee.py [BINARY] [COUNT] [SEED]
+"""Compares the program with both referees: tests/referee.py [BINARY] [COUNT] [SEED]
 
-Both judge COUNT cases (10,000 if it isn't given), whose texts spoiled_texts.py makes at random, and have to print the
-same, with the same status. Listed is how often each answer of a judge was met, and each fault of a text by KIND,
-letter, field and reason; what wasn't met has failed, but LineLimit, which takes 10^12 lines. Then both commands run
-with files that fail, and with wrong arguments. At last the referee alone judges the rows of tests/rows.
+The program, referee/referee.py and the judge in Coq (`make referee`) judge COUNT cases (10,000 if it isn't given), whose
+texts spoiled_texts.py makes at random, and have to print the same, with the same status. Listed is how often each answer
+of a judge was met, and each fault of a text by KIND, letter, field and reason; what wasn't met has failed, but
+LineLimit, which takes 10^12 lines. Then all run with files that fail, and with wrong arguments. At last the referees
+alone judge the rows of tests/rows.
 
-BINARY is the built program; crates/dimacs/out/dimacs by default.
+BINARY is the built program; crates/dimacs/out/dimacs by default. Without Coq its judge is left out.
 """
 import collections
 import concurrent.futures
 import itertools
 import os
+import shutil
 import subprocess
 import sys
 import tempfile
@@ -23,6 +25,10 @@ import referee  # the folder of which spoiled_texts.py adds to the path
 
 TOP = os.path.dirname(os.path.dirname(os.path.abspath(__file__)))
 WORKERS = 4
+
+# The judge in Coq.
+JUDGE = f"{TOP}/build/referee/judge"
+NEEDED = ["coqc", "ocamlfind", "flock"]
 
 # The judges in turn. Labels have the most places where they can fail.
 COMMANDS = ["max", "min", "infeasible", "paths", "paths"]
@@ -99,29 +105,45 @@ def write(folder, texts):
             file.write(text.encode("latin-1"))
 
 
-def compared(binary, cases):
-    """What some cases meet, how often; and those in which the two differ."""
+def second_judge():
+    """The judge in Coq, built if Coq is there."""
+    lacking = [it for it in NEEDED if not shutil.which(it)]
+    if lacking:
+        print(f"left out: the judge in Coq: there is no {' '.join(lacking)}")
+        return None
+    subprocess.run(["make", "--no-print-directory", "referee"], cwd=TOP, check=True)
+    return JUDGE
+
+
+def answer(words, folder):
+    """The status of a run, and what it prints."""
+    ran = subprocess.run(words, stdout=subprocess.PIPE, stderr=subprocess.STDOUT, cwd=folder, check=False)
+    return ran.returncode, ran.stdout.decode("latin-1")
+
+
+def compared(binary, judge, cases):
+    """What some cases meet, how often; and those in which the answers differ."""
     found, differing = collections.Counter(), []
     with tempfile.TemporaryDirectory(dir=MEMORY) as folder:
         for command, seed in cases:
             texts = judged_texts(command, seed)
             names = "ISC"[: len(texts)]
             write(folder, dict(zip(names, texts)))
-            words = [binary, f"judge-{command}", *names]
-            ran = subprocess.run(words, stdout=subprocess.PIPE, stderr=subprocess.STDOUT, cwd=folder, check=False)
-            proved, plain = (ran.returncode, ran.stdout.decode("latin-1")), referee.judge(command, texts)
+            plain, proved = referee.judge(command, texts), answer([binary, f"judge-{command}", *names], folder)
+            second = answer([judge, command, *names], folder) if judge else plain
             found.update(met(command, texts, plain[1]))
-            if proved != plain:
-                differing.append(f"judge-{command}, {seed}: the program {proved}, the referee {plain}, {texts}"[:2000])
+            if not proved == plain == second:
+                answers = f"the program {proved}, the referee {plain}, the judge in Coq {second}"
+                differing.append(f"judge-{command}, {seed}: {answers}, {texts}"[:2000])
     return found, differing
 
 
-def compare_all(binary, count, seed):
+def compare_all(binary, judge, count, seed):
     """What is met by all cases, which is listed, and how it fails."""
     cases = [(COMMANDS[number % len(COMMANDS)], f"{seed}:{number}") for number in range(count)]
     found, failures = collections.Counter(), []
     with concurrent.futures.ProcessPoolExecutor(WORKERS) as pool:
-        for counts, differing in pool.map(compared, itertools.repeat(binary), [cases[k::50] for k in range(50)]):
+        for counts, differing in pool.map(compared, *map(itertools.repeat, (binary, judge)), [cases[k::50] for k in range(50)]):
             found += counts
             failures += differing
     listed = to_be_met()
@@ -160,8 +182,8 @@ def run(words, folder, output):
     return ran.returncode, ran.stdout, messages[:1] if ran.returncode == 2 else messages
 
 
-def compare_commands(binary):
-    """How many runs there are, and those in which the two differ."""
+def compare_commands(binary, second):
+    """How many runs there are, and those in which the answers differ."""
     failures = []
     with tempfile.TemporaryDirectory(dir=MEMORY) as folder, open("/dev/full", "wb") as full:
         write(folder, FILES)
@@ -171,23 +193,43 @@ def compare_commands(binary):
             judge = [f"judge-{words}".split(), []][not words]
             proved = run([binary, *judge], folder, output)
             plain = run([sys.executable, referee.__file__, *words.split()], folder, output)
-            if proved != plain:
-                failures.append(f"the arguments {words!r}: the program {proved}, the referee {plain}")
+            again = run([second, *words.split()], folder, output) if second else plain
+            if not proved == plain == again:
+                answers = f"the program {proved}, the referee {plain}, the judge in Coq {again}"
+                failures.append(f"the arguments {words!r}: {answers}")
     return len(runs), failures
 
 
 # ---- the rows of tests/rows
 
 
-def judged_rows():
-    """Each row of a judge: its name, what the referee answers, and what it has to."""
+def judged_rows(second):
+    """Each row of a judge: its name, what a referee answers, and what it has to."""
     for command in JUDGES:
         for name, *texts, output in rows(f"judge-{command}"):
-            yield f"{command}, {name}", referee.judge(command, texts), (int(output.startswith("x ")), output)
+            wanted = (int(output.startswith("x ")), output)
+            yield f"{command}, {name}", referee.judge(command, texts), wanted
+            if second:
+                yield f"{command}, {name}, in Coq", second(command, texts), wanted
 
 
-def read_rows():
-    """Each row of a text: its name, the refusal of the referee or nothing, and what it has to be."""
+# A text without a fault of each kind that comes before another.
+BEFORE = {"solution": ["p max 2 0\nn 1 s\nn 2 t\n"], "pot": ["p min 0 0\n", "s 0\n"], "cut": ["p min 0 0\n"]}
+BEFORE |= {"query": ["p sp 0 0\n"], "dist": ["p sp 0 0\n", "p aux sp ss 0\n"]}
+
+
+def refusal_of(second, kind, text):
+    """The fault that the judge in Coq finds in a text of a kind, or nothing."""
+    before = BEFORE.get(kind, [])
+    command = "infeasible" if kind == "cut" else next(it for it in JUDGES if kind in JUDGES[it][1])
+    printed = second(command, [*before, text, *[""] * (len(JUDGES[command][1]) - len(before) - 1)])[1]
+    words = printed.split()
+    is_fault = len(words) == 5 and words[1] == KINDS[kind][0] and words[2] != "0"
+    return printed.strip("\n") if is_fault and words[4] not in ("ValueDiffers", "UnknownArc", "ArcTwice") else ""
+
+
+def read_rows(second):
+    """Each row of a text: its name, the refusal of a referee or nothing, and what it has to be."""
     for kind in KINDS:
         for name, text, asked, wanted in rows(kind):
             try:
@@ -197,19 +239,30 @@ def read_rows():
                 refusal = str(refused)
             is_refused = asked == "refused" or wanted.startswith("x ")
             wanted = f"x {KINDS[kind][0]} {wanted}" if asked == "refused" else wanted
-            yield f"{kind}, {name}", refusal, wanted.strip("\n") if is_refused else ""
+            wanted = wanted.strip("\n") if is_refused else ""
+            yield f"{kind}, {name}", refusal, wanted
+            if second:
+                yield f"{kind}, {name}, in Coq", refusal_of(second, kind, text), wanted
 
 
-def judge_tables():
-    """How many rows there are, and those in which the referee is wrong."""
-    found = [*judged_rows(), *read_rows()]
+def judge_tables(judge):
+    """How many rows there are, and those in which a referee is wrong."""
+    with tempfile.TemporaryDirectory(dir=MEMORY) as folder:
+
+        def second(command, texts):
+            names = "ISC"[: len(texts)]
+            write(folder, dict(zip(names, texts)))
+            return answer([judge, command, *names], folder)
+
+        found = [it for part in (judged_rows, read_rows) for it in part(second if judge else None)]
     return len(found), [f"{name}: {plain}, and not {wanted}" for name, plain, wanted in found if plain != wanted]
 
 
 def main():
     binary, count, seed = [*sys.argv[1:], *[BINARY, "10000", "1"][len(sys.argv) - 1 :]]
     binary = os.path.abspath(binary)
-    parts = [compare_all(binary, int(count), seed), compare_commands(binary), judge_tables()]
+    second = second_judge()
+    parts = [compare_all(binary, second, int(count), seed), compare_commands(binary, second), judge_tables(second)]
     failures = [failure for _, some in parts for failure in some]
     for failure in failures:
         print(f"FAILED: {failure}")

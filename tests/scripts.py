@@ -17,6 +17,7 @@ TOP = os.path.dirname(os.path.dirname(os.path.abspath(__file__)))
 # What runs side by side: what it needs, how much has to pass in it, and its commands, one after the other. What needs
 # nothing that is built comes first, and of each kind what takes longest.
 TABLE = """
+nothing | 24     | tests/second_proof.py
 nothing | 440    | tests/lower_addresses.py
 nothing | 46     | tests/gate_test.sh
 nothing | 0      | tools/try_bodies.py --apply
@@ -28,7 +29,7 @@ nothing | 13     | tests/theorem.py
 nothing | 40     | tests/completion.py
 nothing | 110    | tests/man_pages.py
 build   | 200000 | tests/library.py --build {build}
-build   | 10800  | tests/referee.py {build}/dimacs
+build   | 11400  | tests/referee.py {build}/dimacs
 build   | 106    | tests/refusals.py {build}/dimacs {tests}
 build   | 1900   | tests/explain.py {build}/dimacs
 build   | 40     | tests/malicious.py {build}/dimacs
