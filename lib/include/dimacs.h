@@ -283,6 +283,107 @@ uint32_t dimacs_solve_paths_arrays(const dimacs_graph *graph, uint32_t source, u
                                    size_t *needed, int64_t *distances, size_t distances_room, size_t *distances_needed,
                                    uint32_t *predecessors, size_t predecessors_room, size_t *predecessors_needed);
 
+/* ---- From texts to arrays, and back ----
+ *
+ * A call that reads hands out what a text spells as the arrays and numbers that the calls above take, and no line.
+ * Arrays by arc that share a length *arcs (or *count) may have different rooms. If the text has a fault, it returns
+ * DIMACS_REFUSED and hands out its line, as dimacs_show does. Unless it returns DIMACS_DONE, it sets numbers and lengths
+ * to 0, and leaves the arrays as they were. An arc takes 8 bytes of a text at least (of a Min text 12), its line end
+ * included: room for (length + 1) / 8 arcs is always enough. No call takes memory for arcs that a text declares and
+ * doesn't have.
+ *
+ * A call that writes hands out the canonical text to `out`, which read again gives the same arrays. If a number in them
+ * is past its limit, it returns DIMACS_MISUSED and hands out the line that names it, as the calls above do. */
+
+/* Reads a maximum flow instance: the items of dimacs_max. */
+uint32_t dimacs_read_max(const uint8_t *text, size_t length, uint8_t *out, size_t room, size_t *needed, uint32_t *nodes,
+                         uint32_t *source, uint32_t *sink, uint32_t *tails, size_t tails_room, uint32_t *heads,
+                         size_t heads_room, int64_t *caps, size_t caps_room, size_t *arcs);
+
+/* Reads a minimum cost flow instance: the items of dimacs_min. There is a supply for each of *nodes nodes. */
+uint32_t dimacs_read_min(const uint8_t *text, size_t length, uint8_t *out, size_t room, size_t *needed, uint32_t *nodes,
+                         uint32_t *tails, size_t tails_room, uint32_t *heads, size_t heads_room, int64_t *lows,
+                         size_t lows_room, int64_t *caps, size_t caps_room, int64_t *costs, size_t costs_room,
+                         size_t *arcs, int64_t *supplies, size_t supplies_room, size_t *supplies_needed);
+
+/* Reads a graph: the items of dimacs_graph. */
+uint32_t dimacs_read_graph(const uint8_t *text, size_t length, uint8_t *out, size_t room, size_t *needed,
+                           uint32_t *nodes, uint32_t *tails, size_t tails_room, uint32_t *heads, size_t heads_room,
+                           int64_t *weights, size_t weights_room, size_t *arcs);
+
+/* Writes a maximum flow instance. */
+uint32_t dimacs_write_max(const dimacs_max *instance, uint8_t *out, size_t room, size_t *needed);
+
+/* Writes a minimum cost flow instance. */
+uint32_t dimacs_write_min(const dimacs_min *instance, uint8_t *out, size_t room, size_t *needed);
+
+/* Writes a graph. */
+uint32_t dimacs_write_graph(const dimacs_graph *graph, uint8_t *out, size_t room, size_t *needed);
+
+/* Reads a solution over an instance with these arcs, of which only the nodes and ends matter: the claimed value, and an
+ * amount for each arc. The k-th entry with given ends belongs to the k-th arc with them; an arc without one carries 0.
+ * After a fault of the text it refuses the first entry that belongs to no arc, by `x solution LINE 0 UnknownArc`, or
+ * ArcTwice if as many earlier entries as arcs have its ends; then a value that doesn't fit in 64 bits, by
+ * `x solution LINE 2 NumberRange`. Tests the arcs first, as the calls above do. */
+uint32_t dimacs_read_solution(uint32_t nodes, const uint32_t *tails, size_t tails_length, const uint32_t *heads,
+                              size_t heads_length, const uint8_t *text, size_t length, uint8_t *out, size_t room,
+                              size_t *needed, int64_t *value, int64_t *flows, size_t flows_room, size_t *flows_needed);
+
+/* Writes a solution that claims this value, with an entry for each arc, in their order, even if it carries 0. */
+uint32_t dimacs_write_solution(int64_t value, uint32_t nodes, const uint32_t *tails, size_t tails_length,
+                               const uint32_t *heads, size_t heads_length, const int64_t *flows, size_t flows_length,
+                               uint8_t *out, size_t room, size_t *needed);
+
+/* Reads a cut or a set: a byte for each node, 1 inside, 0 outside. */
+uint32_t dimacs_read_cut(const uint8_t *text, size_t length, uint8_t *out, size_t room, size_t *needed, uint8_t *inside,
+                         size_t inside_room, size_t *inside_needed);
+
+/* Writes the set of the nodes whose byte isn't 0. There are as many nodes as bytes. */
+uint32_t dimacs_write_cut(const uint8_t *inside, size_t inside_length, uint8_t *out, size_t room, size_t *needed);
+
+/* Reads potentials: one for each node. Refuses the first node whose potential doesn't fit in 64 bits, by
+ * `x node ID NumberRange`. */
+uint32_t dimacs_read_potentials(const uint8_t *text, size_t length, uint8_t *out, size_t room, size_t *needed,
+                                int64_t *potentials, size_t potentials_room, size_t *potentials_needed);
+
+/* Writes potentials. There are as many nodes as numbers. */
+uint32_t dimacs_write_potentials(const int64_t *potentials, size_t potentials_length, uint8_t *out, size_t room,
+                                 size_t *needed);
+
+/* Reads queries. *pairs is 0 if they ask for the distances from the nodes `froms` to all nodes; `tos` gets nothing then.
+ * It is 1 if they ask for the distance from each node of `froms` to that of `tos`. *count is the number of queries. */
+uint32_t dimacs_read_queries(const uint8_t *text, size_t length, uint8_t *out, size_t room, size_t *needed,
+                             uint32_t *pairs, uint32_t *froms, size_t froms_room, uint32_t *tos, size_t tos_room,
+                             size_t *count);
+
+/* Writes queries: for distances from the nodes `froms` to all if `pairs` is 0, and `tos` has no item then; otherwise for
+ * those from each to that of `tos`. An ID past its limit is refused by `x node ID NodeRange`. */
+uint32_t dimacs_write_queries(uint32_t pairs, const uint32_t *froms, size_t froms_length, const uint32_t *tos,
+                              size_t tos_length, uint8_t *out, size_t room, size_t *needed);
+
+/* Reads the block of this source from distances: a distance for each node, 0 at the source, DIMACS_UNREACHED without a
+ * line. Refuses by `x node ID BlockMissing` if the source has no block, and the first line of the block whose distance is
+ * 2^63 - 1 or doesn't fit in 64 bits, by `x node ID NumberRange`. */
+uint32_t dimacs_read_distances(const uint8_t *text, size_t length, uint32_t source, uint8_t *out, size_t room,
+                               size_t *needed, int64_t *distances, size_t distances_room, size_t *distances_needed);
+
+/* Writes distances: one block, of this source, with a line for each other node that is reached, by ID. Refuses a distance
+ * of the source that isn't 0, by `x node ID NotShortest`. */
+uint32_t dimacs_write_distances(uint32_t source, const int64_t *distances, size_t distances_length, uint8_t *out,
+                                size_t room, size_t *needed);
+
+/* Reads the block of this source from labels, as dimacs_read_distances, and a predecessor for each node: 0 for the source,
+ * and for a node without a label. The radius of the block isn't handed out. */
+uint32_t dimacs_read_labels(const uint8_t *text, size_t length, uint32_t source, uint8_t *out, size_t room,
+                            size_t *needed, int64_t *distances, size_t distances_room, size_t *distances_needed,
+                            uint32_t *predecessors, size_t predecessors_room, size_t *predecessors_needed);
+
+/* Writes labels: one block, of this source, each label after that of its predecessor. Makes the first three tests of
+ * dimacs_judge_paths_arrays, and hands out the same lines. */
+uint32_t dimacs_write_labels(uint32_t source, const int64_t *distances, size_t distances_length,
+                             const uint32_t *predecessors, size_t predecessors_length, uint8_t *out, size_t room,
+                             size_t *needed);
+
 #ifdef __cplusplus
 }
 #endif
