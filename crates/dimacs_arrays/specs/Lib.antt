@@ -5,4 +5,6 @@ pub mod Limits
 pub mod MaxArrays
 pub mod MinArrays
 pub mod Paths
+pub mod SolutionArrays
+pub mod Spelled
 pub mod inside

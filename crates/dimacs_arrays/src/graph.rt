@@ -4,6 +4,7 @@ ghost use Rattle.std.specs.Prelude.{◌≡◌, ◌<◌, length, IfOk, OnOk};
 ghost use Rattle.dimacs_lines.specs.Limits.{IsNode};
 ghost use Rattle.dimacs_instance.specs.Graph.{IsGraph};
 ghost use Rattle.dimacs_arrays.specs.GraphArrays.{graph_lengths, graph_limits, graph_spelled, source_rows, weighted_arc};
+ghost use Rattle.dimacs_arrays.specs.Spelled.{arc_limits};
 ghost use Rattle.dimacs_arrays.specs.inside.Answers.{Spells, TestsLengths, TestsLimits};
 
 use crate::error::{Array, ArrayError};
@@ -66,7 +67,18 @@ impl<'a> GraphArrays<'a> {
         Ok(())
     }
 
-    /// The graph that the arrays spell, or the first number past its limit; the source is tested, too.
+    /// The graph that the arrays spell, or the first number past its limit.
+    pub(crate) fn without_source(&self) -> Result<Graph<LentArcs<GraphArrays<'a>>>, ArrayError>
+        requires heads { length self.now.heads.now ≡ length self.now.tails.now }
+        requires weights { length self.now.weights.now ≡ length self.now.tails.now }
+        ensures spells { Spells (arc_limits self.now) (graph_spelled self.now) result }
+        ensures lawful { IfOk result IsGraph }
+    {
+        counts_hold(self.nodes, self.tails.len())?;
+        Ok(Graph::over(LentArcs::of(*self, self.nodes, self.tails.len())?))
+    }
+
+    /// The same; the source is tested, too.
     pub(crate) fn graph(&self, source: u32) -> Result<Graph<LentArcs<GraphArrays<'a>>>, ArrayError>
         requires heads { length self.now.heads.now ≡ length self.now.tails.now }
         requires weights { length self.now.weights.now ≡ length self.now.tails.now }

@@ -10,7 +10,7 @@ use dimacs_network::{ArcView, Network};
 use std::marker::Model;
 
 /// Arrays with an item for each arc.
-pub(crate) trait ArcArrays: Copy {
+pub trait ArcArrays: Copy {
     ghost arc_of: { Self → ℕ → ArcView };
 
     ghost HasArc: { Self → ℕ → Type 0 };
@@ -23,7 +23,7 @@ pub(crate) trait ArcArrays: Copy {
 
 /// The arcs of arrays. There is no index: `find` goes over all of them.
 #[derive(Drop)]
-pub(crate) struct LentArcs<A: ArcArrays> {
+pub struct LentArcs<A: ArcArrays> {
     nodes: u32,
     count: u32,
     arrays: A,

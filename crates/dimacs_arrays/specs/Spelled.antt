@@ -1,0 +1,37 @@
+-- The instances that arrays spell.
+use Rattle.std.specs.Prelude.{◌≡◌, List, [], ◌∷◌, ◌++◌, length, Result, Ok, Err}
+use Rattle.dimacs_network.specs.Arcs.{NetworkValue}
+use Rattle.dimacs_instance.specs.Graph.{IsGraph}
+use Rattle.dimacs_instance.specs.MaxFlows.{MaxValue, IsMax}
+use Rattle.dimacs_instance.specs.MinFlows.{MinValue, IsMin}
+use Rattle.dimacs_judging.specs.declared.verdict.JudgeError.{JudgeError}
+use Rattle.dimacs_judging.specs.declared.verdict.JudgeError.TheVariants.{Refused, Memory}
+use Rattle.dimacs_judging.specs.Tests.{Row}
+use Rattle.dimacs_arrays.specs.declared.error.ArrayError.{ArrayError}
+use Rattle.dimacs_arrays.specs.declared.graph.GraphArrays.{GraphArrays}
+use Rattle.dimacs_arrays.specs.declared.max.MaxArrays.{MaxArrays}
+use Rattle.dimacs_arrays.specs.declared.min.MinArrays.{MinArrays}
+use Rattle.dimacs_arrays.specs.Answers.{AnswersArrays}
+use Rattle.dimacs_arrays.specs.GraphArrays.{graph_lengths, graph_spelled}
+use Rattle.dimacs_arrays.specs.Limits.{count_rows, limit_row}
+use Rattle.dimacs_arrays.specs.MaxArrays.{max_lengths, max_limits, max_spelled}
+use Rattle.dimacs_arrays.specs.MinArrays.{min_lengths, min_limits, min_spelled}
+
+-- the value that is spelled; or out of memory, but no failed test
+abbrev pub IsSpelled : {V : Type 0} → V → Result V JudgeError → Type 0
+IsSpelled spelled (Ok v) = v ≡ spelled
+IsSpelled spelled (Err (Refused place reason)) = ⊥
+IsSpelled spelled (Err Memory) = Unit
+
+abbrev pub SpellsMaxArrays : MaxArrays → Result MaxValue ArrayError → Type 0
+SpellsMaxArrays a = AnswersArrays (max_lengths a) (max_limits a) (IsMax (max_spelled a)) (IsSpelled (max_spelled a))
+
+abbrev pub SpellsMinArrays : MinArrays → Result MinValue ArrayError → Type 0
+SpellsMinArrays a = AnswersArrays (min_lengths a) (min_limits a) (IsMin (min_spelled a)) (IsSpelled (min_spelled a))
+
+-- the limits of the counts and each arc, in order; there is no source
+abbrev pub arc_limits : GraphArrays → List Row
+arc_limits a = count_rows a.nodes (length a.tails.now) ++ limit_row a.nodes (graph_spelled a).arcs ∷ []
+
+abbrev pub SpellsGraphArrays : GraphArrays → Result NetworkValue ArrayError → Type 0
+SpellsGraphArrays a = AnswersArrays (graph_lengths a) (arc_limits a) (IsGraph (graph_spelled a)) (IsSpelled (graph_spelled a))

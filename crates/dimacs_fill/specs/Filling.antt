@@ -1,0 +1,54 @@
+-- The arrays of a caller, filled with as many items as fit.
+use Rattle.std.specs.Prelude.{ℕ, ◌≡◌, ◌<◌, ◌++◌, List, length, take, drop, map, Some, slice_get, ℤ, Result, Ok, Err}
+use Rattle.dimacs_lines.specs.Lines.{lines}
+use Rattle.dimacs_network.specs.declared.network.ArcView.{ArcView}
+use Rattle.dimacs_records.specs.declared.faults.ReadError.{ReadError}
+use Rattle.dimacs_records.specs.declared.kinds.TextKind.{TextKind}
+use Rattle.dimacs_records.specs.Faults.{Fault}
+use Rattle.dimacs_records.specs.Texts.{Reads}
+
+-- as many of the items as fit, then the rest of the array as it was
+abbrev pub filled : {X : Type 0} → List X → List X → List X
+filled items old = take (length old) items ++ drop (length items) old
+
+-- an array before and after a call
+abbrev pub Array : Type 0 → Type 0
+Array X = List X × List X
+
+abbrev pub IsFilled : {X : Type 0} → List X → Array X → Type 0
+IsFilled items a = a.1 ≡ filled items a.0
+
+-- these are the items of the numbers below `count`, in order
+pub record AreItems {X : Type 0} (gives : ℕ → X → Type 0) (count : ℕ) (items : List X) : Type 0 where
+  pub all : length items ≡ count
+  pub each : (i : ℕ) (x : X) → i < count → gives i x → slice_get items i ≡ Some x
+
+-- what an error leaves: the value is `none`
+abbrev pub value_or : {V : Type 0} → V → Result V ReadError → V
+value_or none (Ok v) = v
+value_or none (Err error) = none
+
+abbrev pub size_of : {V W : Type 0} → (V → W) → Result V ReadError → Result W ReadError
+size_of f (Ok v) = Ok (f v)
+size_of f (Err error) = Err error
+
+-- the result has the sizes of the only value that the text spells, and the arrays get its items; or it is the text's only
+-- fault, and they get the items of `none`; or out of memory, with them, too
+abbrev pub ReadsInto : {V W : Type 0} → TextKind → List ℕ → (V → Type 0) → V → (V → W) → (V → Type 0) → Result W ReadError → Type 0
+ReadsInto {V} kind text spells none size gets result =
+    (answer : Result V ReadError) × Reads spells (Fault kind (lines text)) answer × (result ≡ size_of size answer) × gets (value_or none answer)
+
+abbrev pub tails_of : List ArcView → List ℕ
+tails_of arcs = map (λ (a : ArcView). a.tail) arcs
+
+abbrev pub heads_of : List ArcView → List ℕ
+heads_of arcs = map (λ (a : ArcView). a.head) arcs
+
+abbrev pub lows_of : List ArcView → List ℤ
+lows_of arcs = map (λ (a : ArcView). a.low) arcs
+
+abbrev pub caps_of : List ArcView → List ℤ
+caps_of arcs = map (λ (a : ArcView). a.cap) arcs
+
+abbrev pub costs_of : List ArcView → List ℤ
+costs_of arcs = map (λ (a : ArcView). a.cost) arcs

@@ -1,0 +1,4 @@
+pub mod Filling
+pub mod GraphFilled
+pub mod MaxFilled
+pub mod MinFilled

@@ -1,0 +1,17 @@
+//! Reads texts into the arrays of a caller, as much as fits.
+//!
+//! Each call reads a whole text, and copies its value item by item: an array by arc begins with the first arc, one by
+//! node with node 1. An array that is too short gets the first items, a longer one keeps its others. After an error the
+//! arrays are as they were. No call takes memory for arcs that a text declares and doesn't have.
+#![tactic(auto)]
+
+mod arcs;
+mod filling;
+mod graph;
+mod max;
+mod min;
+
+pub use filling::fill;
+pub use graph::{GraphSizes, read_graph_into};
+pub use max::{MaxSizes, read_max_into};
+pub use min::{MinSizes, read_min_into};

@@ -1,0 +1,46 @@
+//! Reading maximum flow instances into arrays.
+
+ghost use Rattle.std.specs.Prelude.{◌≡◌, ℕ, List, Some};
+ghost use Rattle.dimacs_records.specs.Readings.{CountsRead};
+ghost use Rattle.dimacs_fill.specs.MaxFilled.{ReadsMaxInto};
+
+use crate::arcs::{fill_caps, fill_heads, fill_tails};
+use dimacs_instance::read_plain_max;
+use dimacs_lines::Source;
+use dimacs_network::Network;
+use dimacs_records::ReadError;
+use std::alloc::Global;
+
+/// The numbers of a maximum flow instance, without its arcs.
+#[derive(Clone, Copy, Debug, PartialEq, Eq)]
+pub struct MaxSizes {
+    pub nodes: u32,
+    pub source: u32,
+    pub sink: u32,
+    pub arcs: u32,
+}
+
+/// Reads the text of a maximum flow instance. The arrays get the tail, head and capacity of each arc.
+pub fn read_max_into<S: Source>(
+    alloc: Global,
+    text: &mut S,
+    tails: &mut [u32],
+    heads: &mut [u32],
+    caps: &mut [i64],
+) -> Result<MaxSizes, ReadError>
+    ensures reads { (bytes : List ℕ) → S.coming text.old ≡ Some bytes
+        → ReadsMaxInto bytes (tails.old, tails.new) (heads.old, heads.new) (caps.old, caps.new) result }
+    ensures faults { CountsRead result (S.faults text.old) (S.faults text.new) }
+{
+    let max = read_plain_max(alloc, text)?;
+    let network = max.network();
+    fill_tails(network, tails);
+    fill_heads(network, heads);
+    fill_caps(network, caps);
+    Ok(MaxSizes {
+        nodes: network.nodes(),
+        source: max.source(),
+        sink: max.sink(),
+        arcs: network.arcs(),
+    })
+}

@@ -1,0 +1,69 @@
+//! Reading minimum cost flow instances into arrays.
+
+ghost use Rattle.std.specs.Prelude.{ℕ, ◌≡◌, ◌+◌, ◌<◌, List, Some, map};
+ghost use Rattle.std.specs.List.{range_with_len};
+ghost use Rattle.dimacs_lines.specs.Limits.{most_nodes};
+ghost use Rattle.dimacs_instance.specs.MinFlows.{supply_of};
+ghost use Rattle.dimacs_records.specs.Readings.{CountsRead};
+ghost use Rattle.dimacs_fill.specs.Filling.{filled};
+ghost use Rattle.dimacs_fill.specs.MinFilled.{ReadsMinInto};
+
+use crate::arcs::{fill_caps, fill_costs, fill_heads, fill_lows, fill_tails};
+use crate::filling::fill;
+use dimacs_instance::{MinInstance, read_plain_min};
+use dimacs_lines::Source;
+use dimacs_network::Network;
+use dimacs_records::ReadError;
+use std::alloc::Global;
+
+/// The numbers of nodes and arcs.
+#[derive(Clone, Copy, Debug, PartialEq, Eq)]
+pub struct MinSizes {
+    pub nodes: u32,
+    pub arcs: u32,
+}
+
+/// Reads the text of a minimum cost flow instance. The arrays get the tail, head, lower bound, capacity and cost of each
+/// arc, and the supply of each node.
+pub fn read_min_into<S: Source>(
+    alloc: Global,
+    text: &mut S,
+    tails: &mut [u32],
+    heads: &mut [u32],
+    lows: &mut [i64],
+    caps: &mut [i64],
+    costs: &mut [i64],
+    supplies: &mut [i64],
+) -> Result<MinSizes, ReadError>
+    ensures reads { (bytes : List ℕ) → S.coming text.old ≡ Some bytes
+        → ReadsMinInto bytes (tails.old, tails.new) (heads.old, heads.new) (lows.old, lows.new) (caps.old, caps.new) (costs.old, costs.new)
+        (supplies.old, supplies.new) result }
+    ensures faults { CountsRead result (S.faults text.old) (S.faults text.new) }
+{
+    let instance = read_plain_min(alloc, text)?;
+    let network = instance.network();
+    fill_tails(network, tails);
+    fill_heads(network, heads);
+    fill_lows(network, lows);
+    fill_caps(network, caps);
+    fill_costs(network, costs);
+    fill_supplies(&instance, supplies);
+    Ok(MinSizes {
+        nodes: network.nodes(),
+        arcs: network.arcs(),
+    })
+}
+
+/// Copies the supply of each node, as many as fit.
+fn fill_supplies<N: Network>(instance: &MinInstance<N>, supplies: &mut [i64])
+    ensures { supplies.new ≡ filled (map (supply_of instance.now) (range_with_len 1 instance.now.nodes)) supplies.old }
+{
+    fill(
+        supplies,
+        instance.network().nodes() as usize,
+        |i|
+            requires { i < most_nodes }
+            ensures { result ≡ supply_of instance.entry.now (i + 1) }
+        { instance.supply(i as u32 + 1) },
+    );
+}
