@@ -24,6 +24,13 @@ static void mark(void) {
     }
 }
 
+/* The call comes before what it hands out is looked at. */
+#define CHECK(name, call, wanted, text)                                                                                          \
+    do {                                                                                                                         \
+        uint32_t status = call;                                                                                                  \
+        check(name, status, out, needed, wanted, text);                                                                          \
+    } while (0)
+
 static const uint8_t *bytes(const char *text) { return (const uint8_t *)text; }
 
 static uint32_t read_max(const char *text, size_t room) {
@@ -44,12 +51,13 @@ static uint32_t read_graph(const char *text, size_t room) {
                              &arcs);
 }
 
+/* The first items are these, and the next one is as it was. */
 static int are_nodes(const uint32_t *found, size_t count, const uint32_t *wanted) {
-    return memcmp(found, wanted, count * sizeof *found) == 0 && found[count] == 77;
+    return (count == 0 || memcmp(found, wanted, count * sizeof *found) == 0) && found[count] == 77;
 }
 
 static int are_numbers(const int64_t *found, size_t count, const int64_t *wanted) {
-    return memcmp(found, wanted, count * sizeof *found) == 0 && found[count] == 77;
+    return (count == 0 || memcmp(found, wanted, count * sizeof *found) == 0) && found[count] == 77;
 }
 
 #define NODES(...) ((const uint32_t[]){__VA_ARGS__})
@@ -62,11 +70,11 @@ static int are_numbers(const int64_t *found, size_t count, const int64_t *wanted
 #define GRAPH_TEXT "p sp 3 2\na 1 2 -9223372036854775808\na 3 3 9223372036854775807\n"
 
 static void reads_max(void) {
-    check("a maximum flow instance", read_max(MAX_TEXT, MOST), out, needed, 0, "");
+    CHECK("a maximum flow instance", read_max(MAX_TEXT, MOST), 0, "");
     check_that("its numbers", nodes == 4 && source == 1 && sink == 4 && arcs == 3);
     check_that("its arcs", are_nodes(tails, 3, NODES(1, 2, 1)) && are_nodes(heads, 3, NODES(2, 4, 4)) &&
                                are_numbers(caps, 3, NUMBERS(LAST, 5, 0)));
-    check("room for two arcs", read_max(MAX_TEXT, 2), out, needed, 0, "");
+    CHECK("room for two arcs", read_max(MAX_TEXT, 2), 0, "");
     check_that("two arcs", arcs == 3 && are_nodes(tails, 2, NODES(1, 2)) && are_nodes(heads, 2, NODES(2, 4)) &&
                                are_numbers(caps, 2, NUMBERS(LAST, 5)));
     needed = 99;
@@ -74,66 +82,61 @@ static void reads_max(void) {
                                       0, NULL, 0, &arcs);
     check("no room", status, out, needed, 0, "");
     check_that("the number of arcs", arcs == 3 && nodes == 4);
-    check("no arcs", read_max("p max 2 0\nn 1 s\nn 2 t\n", MOST), out, needed, 0, "");
+    CHECK("no arcs", read_max("p max 2 0\nn 1 s\nn 2 t\n", MOST), 0, "");
     check_that("none", arcs == 0 && nodes == 2 && are_nodes(tails, 0, NULL));
-    check("a capacity below 0", read_max("p max 2 1\nn 1 s\nn 2 t\na 1 2 -1\n", MOST), out, needed, 1, "x instance 4 4 BoundOrder\n");
+    CHECK("a capacity below 0", read_max("p max 2 1\nn 1 s\nn 2 t\na 1 2 -1\n", MOST), 1, "x instance 4 4 BoundOrder\n");
     check_that("nothing", arcs == 0 && nodes == 0 && source == 0 && sink == 0 && are_nodes(tails, 0, NULL) &&
                               are_nodes(heads, 0, NULL) && are_numbers(caps, 0, NULL));
-    check("past 64 bits", read_max("p max 2 1\nn 1 s\nn 2 t\na 1 2 9223372036854775808\n", MOST), out, needed, 1,
-          "x instance 4 4 NumberRange\n");
-    check("many arcs that aren't there", read_max("p max 2 268435456\nn 1 s\nn 2 t\n", MOST), out, needed, 1,
-          "x instance 4 0 TooFew\n");
-    check("an empty text", read_max("", MOST), out, needed, 1, "x instance 1 0 ProblemMissing\n");
+    CHECK("past 64 bits", read_max("p max 2 1\nn 1 s\nn 2 t\na 1 2 9223372036854775808\n", MOST), 1, "x instance 4 4 NumberRange\n");
+    CHECK("many arcs that aren't there", read_max("p max 2 268435456\nn 1 s\nn 2 t\n", MOST), 1, "x instance 4 0 TooFew\n");
+    CHECK("an empty text", read_max("", MOST), 1, "x instance 1 0 ProblemMissing\n");
 }
 
 static void reads_min(void) {
-    check("a minimum cost flow instance", read_min(MIN_TEXT, MOST, MOST), out, needed, 0, "");
+    CHECK("a minimum cost flow instance", read_min(MIN_TEXT, MOST, MOST), 0, "");
     check_that("its numbers", nodes == 3 && arcs == 2 && supplies_needed == 3);
     check_that("its ends", are_nodes(tails, 2, NODES(1, 2)) && are_nodes(heads, 2, NODES(2, 3)));
     check_that("its bounds and costs", are_numbers(lows, 2, NUMBERS(0, 1)) && are_numbers(caps, 2, NUMBERS(LAST, 5)) &&
                                            are_numbers(costs, 2, NUMBERS(INT64_MIN, 7)));
     check_that("its supplies", are_numbers(supplies, 3, NUMBERS(4, 0, -4)));
-    check("room for an arc and two nodes", read_min(MIN_TEXT, 1, 2), out, needed, 0, "");
+    CHECK("room for an arc and two nodes", read_min(MIN_TEXT, 1, 2), 0, "");
     check_that("an arc and two nodes", arcs == 2 && supplies_needed == 3 && are_numbers(lows, 1, NUMBERS(0)) &&
                                            are_numbers(supplies, 2, NUMBERS(4, 0)));
-    check("a node twice", read_min("p min 3 0\nn 3 1\nn 3 1\n", MOST, MOST), out, needed, 1, "x instance 3 2 NodeTwice\n");
+    CHECK("a node twice", read_min("p min 3 0\nn 3 1\nn 3 1\n", MOST, MOST), 1, "x instance 3 2 NodeTwice\n");
     check_that("nothing", arcs == 0 && nodes == 0 && supplies_needed == 0 && are_numbers(supplies, 0, NULL));
-    check("a capacity below the lower bound", read_min("p min 2 1\na 1 2 3 2 0\n", MOST, MOST), out, needed, 1,
-          "x instance 2 5 BoundOrder\n");
+    CHECK("a capacity below the lower bound", read_min("p min 2 1\na 1 2 3 2 0\n", MOST, MOST), 1, "x instance 2 5 BoundOrder\n");
 }
 
 static void reads_graphs(void) {
-    check("a graph", read_graph(GRAPH_TEXT, MOST), out, needed, 0, "");
+    CHECK("a graph", read_graph(GRAPH_TEXT, MOST), 0, "");
     check_that("its arcs", nodes == 3 && arcs == 2 && are_nodes(tails, 2, NODES(1, 3)) && are_nodes(heads, 2, NODES(2, 3)) &&
                                are_numbers(costs, 2, NUMBERS(INT64_MIN, LAST)));
-    check("the word of another kind", read_graph("p max 4 5\n", MOST), out, needed, 1, "x instance 1 2 BadWord\n");
+    CHECK("the word of another kind", read_graph("p max 4 5\n", MOST), 1, "x instance 1 2 BadWord\n");
     check_that("nothing", arcs == 0 && nodes == 0);
-    check("an end above the nodes", read_graph("p sp 3 1\na 1 4 1\n", MOST), out, needed, 1, "x instance 2 3 NodeRange\n");
+    CHECK("an end above the nodes", read_graph("p sp 3 1\na 1 4 1\n", MOST), 1, "x instance 2 3 NodeRange\n");
 }
 
 /* Each instance read, and written again. */
 static void writes_instances(void) {
     read_max(MAX_TEXT, MOST);
     dimacs_max max = {nodes, source, sink, {tails, arcs}, {heads, arcs}, {caps, arcs}};
-    check("a maximum flow instance", dimacs_write_max(&max, out, sizeof out, &needed), out, needed, 0,
-          "p max 4 3\nn 1 s\nn 4 t\na 1 2 9223372036854775807\na 2 4 5\na 1 4 0\n");
+    CHECK("a maximum flow instance", dimacs_write_max(&max, out, sizeof out, &needed), 0, "p max 4 3\nn 1 s\nn 4 t\na 1 2 9223372036854775807\na 2 4 5\na 1 4 0\n");
     memset(out, '?', sizeof out);
-    check_that("room for 5 bytes", dimacs_write_max(&max, out, 5, &needed) == 0 && needed == 61 && !memcmp(out, "p max?", 6));
+    check_that("room for 5 bytes", dimacs_write_max(&max, out, 5, &needed) == 0 && needed == 64 && !memcmp(out, "p max?", 6));
     max.sink = 1;
-    check("source and sink are one", dimacs_write_max(&max, out, sizeof out, &needed), out, needed, 2, "x node 1 NodeTwice\n");
+    CHECK("source and sink are one", dimacs_write_max(&max, out, sizeof out, &needed), 2, "x node 1 NodeTwice\n");
     max.caps.length = 2;
-    check("fewer capacities", dimacs_write_max(&max, out, sizeof out, &needed), out, needed, 2, "");
+    CHECK("fewer capacities", dimacs_write_max(&max, out, sizeof out, &needed), 2, "");
     read_min(MIN_TEXT, MOST, MOST);
     dimacs_min min = {nodes, {tails, arcs}, {heads, arcs}, {lows, arcs}, {caps, arcs}, {costs, arcs}, {supplies, 3}};
-    check("a minimum cost flow instance", dimacs_write_min(&min, out, sizeof out, &needed), out, needed, 0,
-          "p min 3 2\nn 1 4\nn 3 -4\na 1 2 0 9223372036854775807 -9223372036854775808\na 2 3 1 5 7\n");
+    CHECK("a minimum cost flow instance", dimacs_write_min(&min, out, sizeof out, &needed), 0, "p min 3 2\nn 1 4\nn 3 -4\na 1 2 0 9223372036854775807 -9223372036854775808\na 2 3 1 5 7\n");
     lows[1] = -1;
-    check("a lower bound below 0", dimacs_write_min(&min, out, sizeof out, &needed), out, needed, 2, "x arc 2 BoundOrder\n");
+    CHECK("a lower bound below 0", dimacs_write_min(&min, out, sizeof out, &needed), 2, "x arc 2 BoundOrder\n");
     read_graph(GRAPH_TEXT, MOST);
     dimacs_graph graph = {nodes, {tails, arcs}, {heads, arcs}, {costs, arcs}};
-    check("a graph", dimacs_write_graph(&graph, out, sizeof out, &needed), out, needed, 0, GRAPH_TEXT);
+    CHECK("a graph", dimacs_write_graph(&graph, out, sizeof out, &needed), 0, GRAPH_TEXT);
     heads[0] = 0;
-    check("head 0", dimacs_write_graph(&graph, out, sizeof out, &needed), out, needed, 2, "x arc 1 NodeRange\n");
+    CHECK("head 0", dimacs_write_graph(&graph, out, sizeof out, &needed), 2, "x arc 1 NodeRange\n");
 }
 
 /* ---- solutions ---- */
@@ -148,22 +151,17 @@ static uint32_t read_solution(const char *text, size_t room) {
 }
 
 static void reads_solutions(void) {
-    check("a solution", read_solution("s 7\nf 1 2 3\nf 2 3 -7\nf 1 2 4\n", MOST), out, needed, 0, "");
+    CHECK("a solution", read_solution("s 7\nf 1 2 3\nf 2 3 -7\nf 1 2 4\n", MOST), 0, "");
     check_that("its flow", value == 7 && flows_needed == 3 && are_numbers(flows, 3, NUMBERS(3, -7, 4)));
-    check("in another order", read_solution("f 2 3 7\nf 1 2 3\ns -9223372036854775808\n", 2), out, needed, 0, "");
+    CHECK("in another order", read_solution("f 2 3 7\nf 1 2 3\ns -9223372036854775808\n", 2), 0, "");
     check_that("an arc without an entry carries 0", value == INT64_MIN && flows_needed == 3 && are_numbers(flows, 2, NUMBERS(3, 7)));
-    check("an arc that isn't there", read_solution("s 0\nf 1 2 1\nf 2 1 1\nf 1 2 1\nf 1 2 1\n", MOST), out, needed, 1,
-          "x solution 3 0 UnknownArc\n");
+    CHECK("an arc that isn't there", read_solution("s 0\nf 1 2 1\nf 2 1 1\nf 1 2 1\nf 1 2 1\n", MOST), 1, "x solution 3 0 UnknownArc\n");
     check_that("nothing", value == 0 && flows_needed == 0 && are_numbers(flows, 0, NULL));
-    check("an entry too many", read_solution("s 0\nf 1 2 1\n\nf 1 2 1\nf 1 2 1\n", MOST), out, needed, 1,
-          "x solution 5 0 ArcTwice\n");
-    check("a value past 64 bits", read_solution("f 1 2 1\ns 9223372036854775808\n", MOST), out, needed, 1,
-          "x solution 2 2 NumberRange\n");
-    check("an entry before the value", read_solution("s 9223372036854775808\nf 3 1 1\n", MOST), out, needed, 1,
-          "x solution 2 0 UnknownArc\n");
-    check("a fault of the text before both", read_solution("s 9223372036854775808\nf 3 1 1\nf\n", MOST), out, needed, 1,
-          "x solution 3 0 FieldCount\n");
-    check("no value", read_solution("f 1 2 1\n", MOST), out, needed, 1, "x solution 2 0 SolutionMissing\n");
+    CHECK("an entry too many", read_solution("s 0\nf 1 2 1\n\nf 1 2 1\nf 1 2 1\n", MOST), 1, "x solution 5 0 ArcTwice\n");
+    CHECK("a value past 64 bits", read_solution("f 1 2 1\ns 9223372036854775808\n", MOST), 1, "x solution 2 2 NumberRange\n");
+    CHECK("an entry before the value", read_solution("s 9223372036854775808\nf 3 1 1\n", MOST), 1, "x solution 2 0 UnknownArc\n");
+    CHECK("a fault of the text before both", read_solution("s 9223372036854775808\nf 3 1 1\nf\n", MOST), 1, "x solution 3 0 FieldCount\n");
+    CHECK("no value", read_solution("f 1 2 1\n", MOST), 1, "x solution 2 0 SolutionMissing\n");
     uint32_t status = dimacs_read_solution(3, some_tails, 3, some_heads, 2, bytes("s 0\n"), 4, out, sizeof out, &needed, &value,
                                            flows, MOST, &flows_needed);
     check("fewer heads", status, out, needed, 2, "");
@@ -178,11 +176,10 @@ static uint32_t write_solution(int64_t claimed, size_t count) {
 }
 
 static void writes_solutions(void) {
-    check("a solution", write_solution(-5, 3), out, needed, 0, "s -5\nf 1 2 3\nf 2 3 -9223372036854775808\nf 1 2 0\n");
-    check("fewer amounts", write_solution(0, 2), out, needed, 2, "");
-    check("more amounts", write_solution(0, 4), out, needed, 2, "");
-    check("no arcs", dimacs_write_solution(LAST, 0, NULL, 0, NULL, 0, NULL, 0, out, sizeof out, &needed), out, needed, 0,
-          "s 9223372036854775807\n");
+    CHECK("a solution", write_solution(-5, 3), 0, "s -5\nf 1 2 3\nf 2 3 -9223372036854775808\nf 1 2 0\n");
+    CHECK("fewer amounts", write_solution(0, 2), 2, "");
+    CHECK("more amounts", write_solution(0, 4), 2, "");
+    CHECK("no arcs", dimacs_write_solution(LAST, 0, NULL, 0, NULL, 0, NULL, 0, out, sizeof out, &needed), 0, "s 9223372036854775807\n");
 }
 
 int main(void) {

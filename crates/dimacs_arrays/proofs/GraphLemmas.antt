@@ -1,5 +1,5 @@
 -- The arrays of a graph.
-use Rattle.std.proofs.Common.{ℕ, ◌≤◌, All, length, refl, arith}
+use Rattle.std.proofs.Common.{ℕ, ◌≤◌, ◌++◌, List, [], ◌∷◌, All, length, refl, arith}
 use Rattle.std.proofs.lemmas.Int.{ints}
 use Rattle.std.proofs.lemmas.List.Elements.{All-weaker}
 use Rattle.dimacs_lines.specs.Limits.{most_count, most_nodes}
@@ -8,10 +8,11 @@ use Rattle.dimacs_network.specs.Arcs.{JoinsNodes}
 use Rattle.dimacs_network.specs.declared.network.ArcView.{ArcView}
 use Rattle.dimacs_instance.specs.Graph.{HasWeightAlone, IsGraph}
 use Rattle.dimacs_judging.specs.declared.verdict.Where.TheVariants.{Node}
-use Rattle.dimacs_judging.specs.Tests.{AllClear}
+use Rattle.dimacs_judging.specs.Tests.{AllClear, Row}
 use Rattle.dimacs_judging.proofs.Firsts.{AllOneWay, one_test_one_way}
 use Rattle.dimacs_arrays.specs.declared.graph.GraphArrays.{GraphArrays}
 use Rattle.dimacs_arrays.specs.GraphArrays.{IsGraphFrom, graph_limits, graph_spelled, source_rows, weighted_arc}
+use Rattle.dimacs_arrays.specs.Limits.{count_rows, limit_row}
 use Rattle.dimacs_arrays.specs.inside.Lent.{IsInRange}
 use Rattle.dimacs_arrays.proofs.LentLemmas.{lent_all, lent_many}
 use Rattle.dimacs_arrays.proofs.LimitLemmas.{HasLawfulBounds, all_limits_clear, limits_one_way, one_clear}
@@ -26,11 +27,13 @@ module _ (a : GraphArrays) where
   lawful_bounds : (b : ArcView) → HasWeightAlone b → HasLawfulBounds b
   lawful_bounds b alone = (omega (arith, ints, alone.0), omega (arith, ints, alone.0, alone.1))
 
+  pub weights_clear : (rows : List Row) → AllClear rows → IsGraph (graph_spelled a) → AllClear (count_rows a.nodes count ++ (rows ++ limit_row a.nodes (graph_spelled a).arcs ∷ []))
+  weights_clear rows clear graph =
+      all_limits_clear a.nodes count rows (graph_spelled a).arcs graph.nodes_few (omega (arith, graph.arcs_few, lent_many (weighted_arc a) count))
+      clear graph.joined (All-weaker HasWeightAlone HasLawfulBounds lawful_bounds (graph_spelled a).arcs graph.weights)
+
   pub graph_clear : (s : ℕ) → IsGraphFrom a s → AllClear (graph_limits a s)
-  graph_clear s law =
-      let graph = law.0 in
-      all_limits_clear a.nodes count (source_rows a.nodes s) (graph_spelled a).arcs graph.nodes_few (omega (arith, graph.arcs_few, lent_many (weighted_arc a) count))
-      (one_clear (Node s) NodeRange _ (λ off. off law.1), tt) graph.joined (All-weaker HasWeightAlone HasLawfulBounds lawful_bounds (graph_spelled a).arcs graph.weights)
+  graph_clear s law = weights_clear (source_rows a.nodes s) (one_clear (Node s) NodeRange _ (λ off. off law.1), tt) law.0
 
   pub graph_lawful : a.nodes ≤ most_nodes → count ≤ most_count → All (IsInRange a.nodes) (graph_spelled a).arcs → IsGraph (graph_spelled a)
   graph_lawful nodes_few arcs_few in_range = record {

@@ -16,3 +16,5 @@ mod LabelDistanceLemmas
 mod TightPredecessorLemmas
 mod SinkLemmas
 mod SolveLemmas
+mod SpelledLemmas
+mod SolutionLemmas

@@ -53,9 +53,10 @@ amount_lengths a flows = ends_lengths a ++ length_of arrays.Flows (length flows)
 abbrev pub ends_limits : EndArrays → List Row
 ends_limits a = count_rows a.nodes (length a.tails.now) ++ limit_row a.nodes (ends_spelled a).arcs ∷ []
 
--- the claimed value, and the claimed flow of the entries
+-- the claimed value, which fits into 64 bits, and the claimed flow of the entries
 pub record IsClaimedBy (arcs : List ArcView) (s : SolutionValue) (c : ClaimedFlow) : Type 0 where
   pub value : c.value ≡ s.value
+  pub whole : IsWhole s.value
   pub carries : Carries arcs s.entries c.flow
 
 -- the value doesn't fit into 64 bits

@@ -32,6 +32,7 @@ pub fn min_over<'a>(
 {
     arrays.lengths_hold()?;
     let instance = arrays.instance(alloc)?;
+    let _lawful = instance.network();
     Ok(instance)
 }
 

@@ -1,6 +1,10 @@
 //! Solutions over arcs in arrays: read into an amount for each arc, and made.
 
-ghost use Rattle.std.specs.Prelude.{◌≡◌, ◌<◌, length, IfOk};
+ghost use Rattle.std.specs.Prelude.{◌≡◌, ◌<◌, length, IfNone, IfOk, IfSome};
+ghost use Rattle.dimacs_records.specs.declared.reasons.Reason.TheVariants.{NumberRange};
+ghost use Rattle.dimacs_records.specs.Ranges.{IsWhole};
+ghost use Rattle.dimacs_judging.specs.declared.verdict.JudgeError.TheVariants.{Refused};
+ghost use Rattle.dimacs_judging.specs.declared.verdict.Where.TheVariants as places;
 ghost use Rattle.dimacs_instance.specs.Graph.{IsGraph};
 ghost use Rattle.dimacs_arrays.specs.SolutionArrays.{ClaimsFlow, MakesSolution, MakesSolutionArrays, ReadsSolutionArrays, ReadsSolutionOver, end_arc, ends_lengths, ends_limits, ends_spelled, not_read};
 ghost use Rattle.dimacs_arrays.specs.inside.Answers.{Spells, TestsLengths};
@@ -127,16 +131,24 @@ fn claimed_flow<N: Network>(
     ensures { ClaimsFlow placed.now.place placed.now.value placed.now.value_line result }
 {
     let flow = placed.place.flow()?.copy(alloc)?;
-    match i64::try_from(placed.value) {
-        Ok(value) => Ok(ClaimedFlow { value, flow }),
-        Err(_) => Err(JudgeError::Refused(
-            Where::Solution {
-                line: placed.value_line,
-                field: 2,
-            },
-            Reason::NumberRange,
-        )),
+    match whole(placed.value) {
+        Some(value) => Ok(ClaimedFlow { value, flow }),
+        None => Err(past_64_bits(placed.value_line)),
     }
+}
+
+fn whole(value: i128) -> Option<i64>
+    ensures some { IfSome result (λ number. (number ≡ value) × IsWhole value) }
+    ensures none { IfNone result (¬ IsWhole value) }
+{
+    i64::try_from(value).ok()
+}
+
+/// The refusal of the value on this line.
+fn past_64_bits(line: u64) -> JudgeError
+    ensures { result ≡ Refused (places.Solution line 2) NumberRange }
+{
+    JudgeError::Refused(Where::Solution { line, field: 2 }, Reason::NumberRange)
 }
 
 /// The solution that claims this value and flow: the value on line 1, then an entry for each arc, in order, even if it
