@@ -37,6 +37,7 @@ WRAPPED = ["-Wl,--wrap=malloc", "-Wl,--wrap=realloc", "-Wl,--wrap=free"]
 C_TESTS = [
     ("texts", "both", []),
     ("arrays", "both", []),
+    ("reading", "both", []),
     ("refused", "sanitizers", WRAPPED),
     ("threads", "nothing", ["-pthread"]),
     ("large", "nothing", []),

@@ -1,4 +1,6 @@
+pub mod CutFilled
 pub mod Filling
 pub mod GraphFilled
 pub mod MaxFilled
 pub mod MinFilled
+pub mod QueriesFilled

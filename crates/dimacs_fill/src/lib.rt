@@ -6,12 +6,16 @@
 #![tactic(auto)]
 
 mod arcs;
+mod cut;
 mod filling;
 mod graph;
 mod max;
 mod min;
+mod queries;
 
+pub use cut::read_cut_into;
 pub use filling::fill;
 pub use graph::{GraphSizes, read_graph_into};
 pub use max::{MaxSizes, read_max_into};
 pub use min::{MinSizes, read_min_into};
+pub use queries::{QuerySizes, read_queries_into};

@@ -1,0 +1,26 @@
+-- Queries in the arrays of a caller.
+use Rattle.std.specs.Prelude.{ℕ, ◌≡◌, true, false, List, [], length, map, Result}
+use Rattle.dimacs_records.specs.declared.faults.ReadError.{ReadError}
+use Rattle.dimacs_records.specs.declared.kinds.TextKind.TheVariants as kinds
+use Rattle.dimacs_instance.specs.QueryTexts.{QueriesValue, Sources, Pairs, SpellsQueries}
+use Rattle.dimacs_fill.specs.declared.queries.QuerySizes.{QuerySizes}
+use Rattle.dimacs_fill.specs.Filling.{Array, IsFilled, ReadsInto}
+
+abbrev pub query_sizes : QueriesValue → QuerySizes
+query_sizes (Sources ids) = record { pairs = false; count = length ids }
+query_sizes (Pairs pairs) = record { pairs = true; count = length pairs }
+
+-- the nodes that distances are asked from, and to
+abbrev pub froms_of : QueriesValue → List ℕ
+froms_of (Sources ids) = ids
+froms_of (Pairs pairs) = map (λ (p : ℕ × ℕ). p.0) pairs
+
+abbrev pub tos_of : QueriesValue → List ℕ
+tos_of (Sources ids) = []
+tos_of (Pairs pairs) = map (λ (p : ℕ × ℕ). p.1) pairs
+
+abbrev pub HoldQueries : Array ℕ → Array ℕ → QueriesValue → Type 0
+HoldQueries froms tos queries = IsFilled (froms_of queries) froms × IsFilled (tos_of queries) tos
+
+abbrev pub ReadsQueriesInto : List ℕ → Array ℕ → Array ℕ → Result QuerySizes ReadError → Type 0
+ReadsQueriesInto text froms tos = ReadsInto kinds.Queries text (SpellsQueries text) (Sources []) query_sizes (HoldQueries froms tos)
