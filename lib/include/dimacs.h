@@ -334,56 +334,6 @@ uint32_t dimacs_write_solution(int64_t value, uint32_t nodes, const uint32_t *ta
                                const uint32_t *heads, size_t heads_length, const int64_t *flows, size_t flows_length,
                                uint8_t *out, size_t room, size_t *needed);
 
-/* Reads a cut or a set: a byte for each node, 1 inside, 0 outside. */
-uint32_t dimacs_read_cut(const uint8_t *text, size_t length, uint8_t *out, size_t room, size_t *needed, uint8_t *inside,
-                         size_t inside_room, size_t *inside_needed);
-
-/* Writes the set of the nodes whose byte isn't 0. There are as many nodes as bytes. */
-uint32_t dimacs_write_cut(const uint8_t *inside, size_t inside_length, uint8_t *out, size_t room, size_t *needed);
-
-/* Reads potentials: one for each node. Refuses the first node whose potential doesn't fit in 64 bits, by
- * `x node ID NumberRange`. */
-uint32_t dimacs_read_potentials(const uint8_t *text, size_t length, uint8_t *out, size_t room, size_t *needed,
-                                int64_t *potentials, size_t potentials_room, size_t *potentials_needed);
-
-/* Writes potentials. There are as many nodes as numbers. */
-uint32_t dimacs_write_potentials(const int64_t *potentials, size_t potentials_length, uint8_t *out, size_t room,
-                                 size_t *needed);
-
-/* Reads queries. *pairs is 0 if they ask for the distances from the nodes `froms` to all nodes; `tos` gets nothing then.
- * It is 1 if they ask for the distance from each node of `froms` to that of `tos`. *count is the number of queries. */
-uint32_t dimacs_read_queries(const uint8_t *text, size_t length, uint8_t *out, size_t room, size_t *needed,
-                             uint32_t *pairs, uint32_t *froms, size_t froms_room, uint32_t *tos, size_t tos_room,
-                             size_t *count);
-
-/* Writes queries: for distances from the nodes `froms` to all if `pairs` is 0, and `tos` has no item then; otherwise for
- * those from each to that of `tos`. An ID past its limit is refused by `x node ID NodeRange`. */
-uint32_t dimacs_write_queries(uint32_t pairs, const uint32_t *froms, size_t froms_length, const uint32_t *tos,
-                              size_t tos_length, uint8_t *out, size_t room, size_t *needed);
-
-/* Reads the block of this source from distances: a distance for each node, 0 at the source, DIMACS_UNREACHED without a
- * line. Refuses by `x node ID BlockMissing` if the source has no block, and the first line of the block whose distance is
- * 2^63 - 1 or doesn't fit in 64 bits, by `x node ID NumberRange`. */
-uint32_t dimacs_read_distances(const uint8_t *text, size_t length, uint32_t source, uint8_t *out, size_t room,
-                               size_t *needed, int64_t *distances, size_t distances_room, size_t *distances_needed);
-
-/* Writes distances: one block, of this source, with a line for each other node that is reached, by ID. Refuses a distance
- * of the source that isn't 0, by `x node ID NotShortest`. */
-uint32_t dimacs_write_distances(uint32_t source, const int64_t *distances, size_t distances_length, uint8_t *out,
-                                size_t room, size_t *needed);
-
-/* Reads the block of this source from labels, as dimacs_read_distances, and a predecessor for each node: 0 for the source,
- * and for a node without a label. The radius of the block isn't handed out. */
-uint32_t dimacs_read_labels(const uint8_t *text, size_t length, uint32_t source, uint8_t *out, size_t room,
-                            size_t *needed, int64_t *distances, size_t distances_room, size_t *distances_needed,
-                            uint32_t *predecessors, size_t predecessors_room, size_t *predecessors_needed);
-
-/* Writes labels: one block, of this source, each label after that of its predecessor. Makes the first three tests of
- * dimacs_judge_paths_arrays, and hands out the same lines. */
-uint32_t dimacs_write_labels(uint32_t source, const int64_t *distances, size_t distances_length,
-                             const uint32_t *predecessors, size_t predecessors_length, uint8_t *out, size_t room,
-                             size_t *needed);
-
 #ifdef __cplusplus
 }
 #endif

@@ -1,5 +1,5 @@
 -- Solutions over arcs in arrays.
-use Rattle.std.proofs.Common.{◌≡◌, ◌≤◌, ◌<◌, ◌++◌, ℕ, ℤ, All, List, [], ◌∷◌, length, inl, inr, refl, sym, ap, subst, arith, ◌∙◌}
+use Rattle.std.proofs.Common.{◌≡◌, ◌≤◌, ℕ, ℤ, All, List, [], ◌∷◌, length, inl, inr, refl, sym, ap, arith, ◌∙◌}
 use Rattle.std.specs.Prelude.{Result, Ok, Err, IsErrAnd}
 use Rattle.std.proofs.lemmas.List.Elements.{All-weaker}
 use Rattle.std.proofs.lemmas.Result.{err_from_is_err_and}
@@ -30,7 +30,7 @@ use Rattle.dimacs_judging.proofs.Firsts.{AllOneWay, one_test_one_way}
 use Rattle.dimacs_judging.proofs.Settling.{error_settles, refusal_refutes}
 use Rattle.dimacs_arrays.specs.declared.solution.ClaimedFlow.{ClaimedFlow}
 use Rattle.dimacs_arrays.specs.declared.solution.EndArrays.{EndArrays}
-use Rattle.dimacs_arrays.specs.SolutionArrays.{ClaimsIf, ClaimsOver, IsClaimedBy, ReadsSolutionOver, end_arc, ends_limits, ends_spelled, not_read, value_row}
+use Rattle.dimacs_arrays.specs.SolutionArrays.{ClaimsOver, IsClaimedBy, ReadsSolutionOver, end_arc, ends_limits, ends_spelled, not_read, value_row}
 use Rattle.dimacs_arrays.specs.inside.Lent.{IsInRange}
 use Rattle.dimacs_arrays.proofs.LentLemmas.{lent_all, lent_many}
 use Rattle.dimacs_arrays.proofs.LimitLemmas.{HasLawfulBounds, all_limits_clear, limits_one_way, one_clear}

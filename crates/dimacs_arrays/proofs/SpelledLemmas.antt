@@ -1,11 +1,10 @@
 -- The instances that arrays spell, and graphs without a source.
-use Rattle.std.proofs.Common.{◌≡◌, [], None, Ok, length, subst}
-use Rattle.std.specs.Prelude.{Result}
+use Rattle.std.proofs.Common.{[], length}
 use Rattle.dimacs_instance.specs.Graph.{IsGraph}
 use Rattle.dimacs_judging.specs.Tests.{AllClear}
 use Rattle.dimacs_judging.proofs.Firsts.{AllOneWay}
 use Rattle.dimacs_arrays.specs.declared.graph.GraphArrays.{GraphArrays}
-use Rattle.dimacs_arrays.specs.GraphArrays.{graph_spelled, weighted_arc}
+use Rattle.dimacs_arrays.specs.GraphArrays.{graph_spelled}
 use Rattle.dimacs_arrays.specs.Spelled.{arc_limits}
 use Rattle.dimacs_arrays.proofs.GraphLemmas.{weights_clear}
 use Rattle.dimacs_arrays.proofs.LimitLemmas.{limits_one_way}

@@ -50,11 +50,7 @@ impl<'a> EndArrays<'a> {
     fn lengths_hold(&self) -> Result<(), ArrayError>
         ensures { TestsLengths (ends_lengths self.now) result }
     {
-        lengths_hold(&[ArrayLength::of(
-            Array::Heads,
-            self.heads.len(),
-            self.tails.len(),
-        )])
+        lengths_hold(&[ArrayLength::of(Array::Heads, self.heads.len(), self.tails.len())])
     }
 
     /// The nodes and arcs, as a graph whose weights are 0; or the first number past its limit.

@@ -10,9 +10,7 @@ ghost use Rattle.dimacs_c.specs.inside.ArrayTexts.{value_if};
 
 use crate::answer::hand_printed;
 use crate::lines::put_error;
-use dimacs_arrays::{
-    ArrayError, ClaimedFlow, EndArrays, read_solution_arrays, solution_of_arrays,
-};
+use dimacs_arrays::{ArrayError, ClaimedFlow, EndArrays, read_solution_arrays, solution_of_arrays};
 use dimacs_claims::{Solution, write_solution};
 use dimacs_lines::{DeviceFault, MemorySink, Sink};
 use std::alloc::Global;
@@ -33,7 +31,7 @@ pub extern "C" fn dimacs_read_solution(
     flows: &mut [i64],
     flows_needed: &mut usize,
 ) -> u32
-    ensures { AnswersClaim (ReadsSolutionArrays (record { nodes = nodes; tails = tails; heads = heads }) text.now) result value.new
+    ensures { AnswersClaim (ReadsSolutionArrays (record { nodes = nodes; tails = tails.entry; heads = heads.entry }) text.now) result value.new
         (buffers (handed out.old out.new needed.new) None None (Some (handed flows.old flows.new flows_needed.new))) }
 {
     let arcs = EndArrays {
@@ -94,7 +92,7 @@ pub extern "C" fn dimacs_write_solution(
     out: &mut [u8],
     needed: &mut usize,
 ) -> u32
-    ensures { AnswersItems solution_text (MakesSolutionArrays value (record { nodes = nodes; tails = tails; heads = heads }) flows.now) result
+    ensures { AnswersItems solution_text (MakesSolutionArrays value (record { nodes = nodes; tails = tails.entry; heads = heads.entry }) flows.now) result
         (buffers (handed out.old out.new needed.new) None None None) }
 {
     let arcs = EndArrays {

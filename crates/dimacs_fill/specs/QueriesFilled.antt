@@ -1,5 +1,5 @@
 -- Queries in the arrays of a caller.
-use Rattle.std.specs.Prelude.{ℕ, ◌≡◌, true, false, List, [], length, map, Result}
+use Rattle.std.specs.Prelude.{ℕ, true, false, List, [], length, map, Result}
 use Rattle.dimacs_records.specs.declared.faults.ReadError.{ReadError}
 use Rattle.dimacs_records.specs.declared.kinds.TextKind.TheVariants as kinds
 use Rattle.dimacs_instance.specs.QueryTexts.{QueriesValue, Sources, Pairs, SpellsQueries}

@@ -1,5 +1,3 @@
-use Rattle.std.proofs.Common.{◌∙◌, map}
-use Rattle.std.specs.List.{range_with_len}
 use Rattle.dimacs_fill.specs.CutFilled.{byte_of, inside_of}
 use Rattle.dimacs_fill.proofs.FillLemmas.{each_node}
 use Rattle.dimacs_fill.proofs.cut.fill_inside.Goals as goal

@@ -1,5 +1,5 @@
-use Rattle.std.proofs.Common.{◌≡◌, ◌∙◌, ◌≤◌, ◌⊎◌, inl, inr, refl, ap, length, slice_set, min, arith}
-use Rattle.dimacs_fill.proofs.FillLemmas.{at_end, fill_all, fill_next}
+use Rattle.std.proofs.Common.{◌∙◌, refl, ap, slice_set, arith}
+use Rattle.dimacs_fill.proofs.FillLemmas.{at_end, fill_next}
 use Rattle.dimacs_fill.proofs.filling.fill.Goals as goal
 
 pub loop-i-init : goal.loop-i-init
