@@ -334,6 +334,19 @@ uint32_t dimacs_write_solution(int64_t value, uint32_t nodes, const uint32_t *ta
                                const uint32_t *heads, size_t heads_length, const int64_t *flows, size_t flows_length,
                                uint8_t *out, size_t room, size_t *needed);
 
+/* Reads a cut or a set: a byte for each node, 1 inside, 0 outside. */
+uint32_t dimacs_read_cut(const uint8_t *text, size_t length, uint8_t *out, size_t room, size_t *needed, uint8_t *inside,
+                         size_t inside_room, size_t *inside_needed);
+
+/* Writes the set of the nodes whose byte isn't 0. There are as many nodes as bytes. */
+uint32_t dimacs_write_cut(const uint8_t *inside, size_t inside_length, uint8_t *out, size_t room, size_t *needed);
+
+/* Reads queries. *pairs is 0 if they ask for the distances from the nodes `froms` to all nodes; `tos` gets nothing then.
+ * It is 1 if they ask for the distance from each node of `froms` to that of `tos`. *count is the number of queries. */
+uint32_t dimacs_read_queries(const uint8_t *text, size_t length, uint8_t *out, size_t room, size_t *needed,
+                             uint32_t *pairs, uint32_t *froms, size_t froms_room, uint32_t *tos, size_t tos_room,
+                             size_t *count);
+
 #ifdef __cplusplus
 }
 #endif

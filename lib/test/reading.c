@@ -182,6 +182,48 @@ static void writes_solutions(void) {
     CHECK("no arcs", dimacs_write_solution(LAST, 0, NULL, 0, NULL, 0, NULL, 0, out, sizeof out, &needed), 0, "s 9223372036854775807\n");
 }
 
+/* ---- sets and queries ---- */
+
+static uint8_t inside[MOST];
+static size_t inside_needed, count_needed;
+static uint32_t pairs;
+
+static uint32_t read_cut(const char *text, size_t room) {
+    memset(inside, 77, MOST);
+    inside_needed = needed = 99;
+    return dimacs_read_cut(bytes(text), strlen(text), out, sizeof out, &needed, inside, room, &inside_needed);
+}
+
+static void reads_and_writes_sets(void) {
+    CHECK("a set", read_cut("p cut 5 2\nu 4\nu 1\n", MOST), 0, "");
+    check_that("its bytes", inside_needed == 5 && !memcmp(inside, "\1\0\0\1\0M", 6));
+    CHECK("room for two bytes", read_cut("p cut 5 2\nu 4\nu 1\n", 2), 0, "");
+    check_that("two bytes", inside_needed == 5 && !memcmp(inside, "\1\0M", 3));
+    CHECK("a node twice", read_cut("p cut 5 2\nu 4\nu 4\n", MOST), 1, "x certificate 3 2 NodeTwice\n");
+    check_that("nothing", inside_needed == 0 && inside[0] == 77);
+    CHECK("any byte but 0 is inside", dimacs_write_cut(bytes("\0\377\1\0"), 4, out, sizeof out, &needed), 0, "p cut 4 2\nu 2\nu 3\n");
+    CHECK("no nodes", dimacs_write_cut(NULL, 0, out, sizeof out, &needed), 0, "p cut 0 0\n");
+}
+
+static uint32_t read_queries(const char *text, size_t room) {
+    mark();
+    pairs = 77;
+    count_needed = 99;
+    return dimacs_read_queries(bytes(text), strlen(text), out, sizeof out, &needed, &pairs, tails, room, heads, room,
+                               &count_needed);
+}
+
+static void reads_queries(void) {
+    CHECK("sources", read_queries("p aux sp ss 2\ns 3\ns 1\n", MOST), 0, "");
+    check_that("their nodes", pairs == 0 && count_needed == 2 && are_nodes(tails, 2, NODES(3, 1)) && are_nodes(heads, 0, NULL));
+    CHECK("pairs", read_queries("p aux sp p2p 2\nq 3 1\nq 2 2\n", MOST), 0, "");
+    check_that("their nodes", pairs == 1 && count_needed == 2 && are_nodes(tails, 2, NODES(3, 2)) && are_nodes(heads, 2, NODES(1, 2)));
+    CHECK("room for one", read_queries("p aux sp p2p 2\nq 3 1\nq 2 2\n", 1), 0, "");
+    check_that("one pair", count_needed == 2 && are_nodes(tails, 1, NODES(3)) && are_nodes(heads, 1, NODES(1)));
+    CHECK("a query of the other kind", read_queries("p aux sp ss 1\nq 3 1\n", MOST), 1, "x query 2 0 RecordOrder\n");
+    check_that("nothing", pairs == 0 && count_needed == 0 && are_nodes(tails, 0, NULL));
+}
+
 int main(void) {
     reads_max();
     reads_min();
@@ -189,5 +231,7 @@ int main(void) {
     writes_instances();
     reads_solutions();
     writes_solutions();
+    reads_and_writes_sets();
+    reads_queries();
     return count();
 }

@@ -1,13 +1,20 @@
--- The instances that arrays spell.
-use Rattle.std.specs.Prelude.{◌≡◌, List, [], ◌∷◌, ◌++◌, length, Result, Ok, Err}
+-- The instances and sets that arrays spell.
+use Rattle.std.specs.Prelude.{ℕ, ◌≡◌, ◌≤◌, ◌<◌, ◌+◌, List, [], ◌∷◌, ◌++◌, length, Result, Ok, Err}
+use Rattle.dimacs_lines.specs.Limits.{most_nodes}
+use Rattle.dimacs_records.specs.declared.reasons.Reason.TheVariants.{NumberRange}
 use Rattle.dimacs_network.specs.Arcs.{NetworkValue}
 use Rattle.dimacs_instance.specs.Graph.{IsGraph}
 use Rattle.dimacs_instance.specs.MaxFlows.{MaxValue, IsMax}
 use Rattle.dimacs_instance.specs.MinFlows.{MinValue, IsMin}
+use Rattle.dimacs_claims.specs.Cuts.{CutValue}
+use Rattle.dimacs_judging.specs.declared.verdict.Where.TheVariants.{Node}
+use Rattle.dimacs_judging.specs.Cuts.{members}
 use Rattle.dimacs_judging.specs.declared.verdict.JudgeError.{JudgeError}
 use Rattle.dimacs_judging.specs.declared.verdict.JudgeError.TheVariants.{Refused, Memory}
 use Rattle.dimacs_judging.specs.Tests.{Row}
 use Rattle.dimacs_arrays.specs.declared.error.ArrayError.{ArrayError}
+use Rattle.dimacs_arrays.specs.declared.error.ArrayError.TheVariants as errors
+use Rattle.dimacs_arrays.specs.ByNode.{marked}
 use Rattle.dimacs_arrays.specs.declared.graph.GraphArrays.{GraphArrays}
 use Rattle.dimacs_arrays.specs.declared.max.MaxArrays.{MaxArrays}
 use Rattle.dimacs_arrays.specs.declared.min.MinArrays.{MinArrays}
@@ -35,3 +42,10 @@ arc_limits a = count_rows a.nodes (length a.tails.now) ++ limit_row a.nodes (gra
 
 abbrev pub SpellsGraphArrays : GraphArrays → Result NetworkValue ArrayError → Type 0
 SpellsGraphArrays a = AnswersArrays (graph_lengths a) (arc_limits a) (IsGraph (graph_spelled a)) (IsSpelled (graph_spelled a))
+
+-- the set of the marked nodes; or too many nodes; or out of memory
+abbrev pub SpellsCutArray : List ℕ → Result CutValue ArrayError → Type 0
+SpellsCutArray inside (Ok c) = (length inside ≤ most_nodes) × (c.nodes ≡ length inside) × (members c ≡ marked inside)
+SpellsCutArray inside (Err (errors.Limit place reason)) = (most_nodes < length inside) × (place ≡ Node (most_nodes + 1)) × (reason ≡ NumberRange)
+SpellsCutArray inside (Err errors.Memory) = Unit
+SpellsCutArray inside (Err other) = ⊥

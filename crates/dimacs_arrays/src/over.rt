@@ -1,13 +1,17 @@
-//! The instances that arrays spell, over the arrays themselves: for functions over values, as `write_max`.
+//! The instances that arrays spell, over the arrays themselves, and the set: for functions over values, as `write_max`.
 
-ghost use Rattle.dimacs_arrays.specs.Spelled.{SpellsGraphArrays, SpellsMaxArrays, SpellsMinArrays};
+ghost use Rattle.dimacs_arrays.specs.Spelled.{SpellsCutArray, SpellsGraphArrays, SpellsMaxArrays, SpellsMinArrays};
 
+use crate::by_node::cut_of;
 use crate::error::ArrayError;
 use crate::graph::GraphArrays;
 use crate::lent_arcs::LentArcs;
 use crate::max::MaxArrays;
 use crate::min::MinArrays;
+use dimacs_claims::Cut;
 use dimacs_instance::{Graph, MaxInstance, MinInstance};
+use dimacs_judging::Where;
+use dimacs_records::{MAX_NODES, Reason};
 use std::alloc::Global;
 
 /// The maximum flow instance that the arrays spell. It tests the lengths and limits, in the order of `judge_max_arrays`,
@@ -46,4 +50,15 @@ pub fn graph_over<'a>(
     arrays.lengths_hold()?;
     let graph = arrays.without_source()?;
     Ok(graph)
+}
+
+/// The set of the nodes whose byte isn't 0, of as many nodes as there are bytes. Beyond the limit, the place is the first
+/// node past it.
+pub fn cut_over(alloc: Global, inside: &[u8]) -> Result<Cut, ArrayError>
+    ensures { SpellsCutArray inside.now result }
+{
+    if inside.len() > MAX_NODES as usize {
+        return Err(ArrayError::Limit(Where::Node(MAX_NODES + 1), Reason::NumberRange));
+    }
+    Ok(cut_of(alloc, inside.len() as u32, inside)?)
 }

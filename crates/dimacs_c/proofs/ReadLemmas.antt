@@ -1,5 +1,5 @@
 -- What a call that reads hands out is the result of reading.
-use Rattle.std.proofs.Common.{◌≡◌, ℕ, ℤ, List, [], Result, Ok, Err, refl, inl, inr}
+use Rattle.std.proofs.Common.{◌≡◌, ℕ, ℤ, List, Result, Ok, Err, refl, inl, inr}
 use Rattle.dimacs_records.specs.declared.faults.ReadError.{ReadError}
 use Rattle.dimacs_records.specs.declared.faults.ReadError.TheVariants.{Refused, Device, Memory}
 use Rattle.dimacs_records.specs.declared.kinds.TextKind.{TextKind}
@@ -8,7 +8,7 @@ use Rattle.dimacs_arrays.specs.declared.error.ArrayError.{ArrayError}
 use Rattle.dimacs_arrays.specs.declared.solution.ClaimedFlow.{ClaimedFlow}
 use Rattle.dimacs_fill.specs.Filling.{ReadsInto}
 use Rattle.dimacs_c.specs.ArrayTexts.{value_read}
-use Rattle.dimacs_c.specs.Calls.{Handed, HandsNothing, HandsOut, handed}
+use Rattle.dimacs_c.specs.Calls.{Handed, handed}
 use Rattle.dimacs_c.specs.Reading.{AnswersRead}
 use Rattle.dimacs_c.specs.inside.ArrayTexts.{value_if}
 use Rattle.dimacs_c.specs.inside.Reading.{EndsUnread}

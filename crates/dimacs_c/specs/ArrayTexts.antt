@@ -1,11 +1,12 @@
 -- What calls that write arrays as texts, or read a solution over arrays, hand out.
-use Rattle.std.specs.Prelude.{ℕ, ℤ, ◌≡◌, List, [], Result, Ok, Err, pos}
+use Rattle.std.specs.Prelude.{ℕ, ℤ, ◌≡◌, [], Result, Ok, Err, pos}
 use Rattle.dimacs_network.specs.Arcs.{NetworkValue}
 use Rattle.dimacs_instance.specs.Graph.{canonical_graph}
 use Rattle.dimacs_instance.specs.MaxFlows.{MaxValue}
 use Rattle.dimacs_instance.specs.MaxTexts.{canonical_max}
 use Rattle.dimacs_instance.specs.MinFlows.{MinValue}
 use Rattle.dimacs_instance.specs.MinTexts.{canonical_min}
+use Rattle.dimacs_claims.specs.Cuts.{CutValue, canonical_cut}
 use Rattle.dimacs_claims.specs.declared.solution.Solution.{Solution}
 use Rattle.dimacs_claims.specs.SolutionTexts.{canonical_solution, claimed}
 use Rattle.dimacs_arrays.specs.declared.error.ArrayError.{ArrayError}
@@ -21,6 +22,9 @@ min_text m = only 0 (canonical_min m)
 
 abbrev pub graph_text : NetworkValue → Printed
 graph_text g = only 0 (canonical_graph g)
+
+abbrev pub cut_text : CutValue → Printed
+cut_text c = only 0 (canonical_cut c)
 
 abbrev pub solution_text : Solution → Printed
 solution_text s = only 0 (canonical_solution (claimed s))

@@ -1,10 +1,11 @@
 -- What calls that read a text into arrays return and hand out.
-use Rattle.std.specs.Prelude.{ℕ, ◌≡◌, List, [], Result, Ok, Err}
+use Rattle.std.specs.Prelude.{ℕ, ◌≡◌, if◌then◌else◌, List, [], Result, Ok, Err}
 use Rattle.dimacs_records.specs.declared.faults.ReadError.{ReadError}
 use Rattle.dimacs_records.specs.declared.faults.ReadError.TheVariants.{Refused, Device, Memory}
 use Rattle.dimacs_fill.specs.declared.graph.GraphSizes.{GraphSizes}
 use Rattle.dimacs_fill.specs.declared.max.MaxSizes.{MaxSizes}
 use Rattle.dimacs_fill.specs.declared.min.MinSizes.{MinSizes}
+use Rattle.dimacs_fill.specs.declared.queries.QuerySizes.{QuerySizes}
 use Rattle.dimacs_runs.specs.Refusals.{refusal_line}
 use Rattle.dimacs_c.specs.Calls.{Handed, HandsOut}
 
@@ -40,3 +41,13 @@ SetsMin nodes arcs supplies (Err error) = (nodes ≡ 0) × (arcs ≡ 0) × (supp
 abbrev pub SetsGraph : ℕ → ℕ → Result GraphSizes ReadError → Type 0
 SetsGraph nodes arcs (Ok sizes) = (nodes ≡ sizes.nodes) × (arcs ≡ sizes.arcs)
 SetsGraph nodes arcs (Err error) = (nodes ≡ 0) × (arcs ≡ 0)
+
+-- the length of an array that a call hands out
+abbrev pub SetsLength : ℕ → Result ℕ ReadError → Type 0
+SetsLength needed (Ok length) = needed ≡ length
+SetsLength needed (Err error) = needed ≡ 0
+
+-- whether queries ask for pairs, and how many there are
+abbrev pub SetsQueries : ℕ → ℕ → Result QuerySizes ReadError → Type 0
+SetsQueries pairs count (Ok sizes) = (pairs ≡ (if sizes.pairs then 1 else 0)) × (count ≡ sizes.count)
+SetsQueries pairs count (Err error) = (pairs ≡ 0) × (count ≡ 0)

@@ -7,6 +7,7 @@
 
 mod answer;
 mod certify;
+mod cut;
 mod explain;
 mod infeasible;
 mod judge;
@@ -16,6 +17,7 @@ mod max;
 mod min;
 mod named_texts;
 mod paths;
+mod queries;
 mod read_instance;
 mod reading;
 mod solution;

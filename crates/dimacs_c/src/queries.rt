@@ -1,0 +1,40 @@
+//! Reading queries into arrays.
+
+ghost use Rattle.std.specs.Prelude.{codes};
+ghost use Rattle.dimacs_fill.specs.QueriesFilled.{ReadsQueriesInto};
+ghost use Rattle.dimacs_c.specs.Calls.{handed};
+ghost use Rattle.dimacs_c.specs.Reading.{AnswersRead, SetsQueries};
+
+use crate::reading::{end_read, end_unread};
+use dimacs_fill::read_queries_into;
+use dimacs_lines::MemorySource;
+use std::alloc::Global;
+
+/// Reads queries. `pairs` gets 1 if they ask for pairs, otherwise 0.
+#[unsafe(no_mangle)]
+pub extern "C" fn dimacs_read_queries(
+    alloc: Global,
+    text: &[u8],
+    out: &mut [u8],
+    needed: &mut usize,
+    pairs: &mut u32,
+    froms: &mut [u32],
+    tos: &mut [u32],
+    count: &mut usize,
+) -> u32
+    ensures { AnswersRead (ReadsQueriesInto text.now (froms.old, froms.new) (tos.old, tos.new)) (SetsQueries pairs.new count.new) (codes "query") result
+        (handed out.old out.new needed.new) }
+{
+    match read_queries_into(alloc, &mut MemorySource::new(text), froms, tos) {
+        Ok(sizes) => {
+            *pairs = u32::from(sizes.pairs);
+            *count = sizes.count;
+            end_read(needed)
+        }
+        Err(error) => {
+            *pairs = 0;
+            *count = 0;
+            end_unread(alloc, b"query", error, out, needed)
+        }
+    }
+}
