@@ -2,7 +2,6 @@ pub mod Augmentation
 pub mod Cancelling
 pub mod Counting
 pub mod Cycles
-pub mod DenseTables
 pub mod DistanceBlocks
 pub mod FewLabels
 pub mod Heights

@@ -6,13 +6,13 @@ ghost use Rattle.dimacs_records.specs.Ranges.{IsWide};
 ghost use Rattle.dimacs_claims.specs.Labels.{IsBlock, label};
 ghost use Rattle.dimacs_claims.specs.declared.block.Label.{Label};
 ghost use Rattle.dimacs_judging.specs.Distances.{Fits};
-ghost use Rattle.dimacs_decide.specs.inside.DenseTables.{value_at};
+ghost use Rattle.dimacs_network.specs.DenseTables.{value_at};
 
 use crate::claim::DistanceClaim;
-use crate::dense_table::DenseTable;
 use dimacs_claims::Block;
 use dimacs_judging::{Distance, distance_in};
 use dimacs_lines::Memory;
+use dimacs_network::DenseTable;
 use std::alloc::Global;
 
 /// Those of a block with many labels, in numbers that hold them all.

@@ -18,7 +18,7 @@ use crate::heights::{HeightLabel, round, unraised_label};
 use crate::trace::cycle_in;
 use dimacs_claims::Potentials;
 use dimacs_instance::MinInstance;
-use dimacs_judging::{Flow, slack_tests};
+use dimacs_judging::{Flow, cost_if_shown, slack_tests};
 use dimacs_lines::Memory;
 use dimacs_methods::{Guess, ResidualArc, guess_potentials};
 use dimacs_network::{Network, NodeTable, Side};
@@ -62,7 +62,7 @@ pub fn decide_min_from<N: Network>(
     requires { FeasibleMin instance.now flow.now }
     ensures { IfOk result (DecidesMin instance.now flow.now) }
 {
-    if shows_least(instance, flow, &start) {
+    if shows_least(alloc, instance, flow, &start) {
         return Ok(MinDecision::Optimal(start));
     }
     let labels = start_labels(alloc, instance.network(), &start)?;
@@ -70,12 +70,22 @@ pub fn decide_min_from<N: Network>(
 }
 
 /// Whether the potentials are slack for a feasible flow.
-fn shows_least<N: Network>(instance: &MinInstance<N>, flow: &Flow, potentials: &Potentials) -> bool
+fn shows_least<N: Network>(
+    alloc: Global,
+    instance: &MinInstance<N>,
+    flow: &Flow,
+    potentials: &Potentials,
+) -> bool
     requires { FeasibleMin instance.now flow.now }
     ensures { IsTrue result → DecidesMin instance.now flow.now (MinDecision.Optimal potentials.now) }
 {
-    potentials.nodes() == instance.network().nodes()
-        && slack_tests(instance, flow, potentials).is_ok()
+    if potentials.nodes() != instance.network().nodes() {
+        return false;
+    }
+    if let Some(_cost) = cost_if_shown(alloc, instance, flow, potentials) {
+        return true;
+    }
+    slack_tests(instance, flow, potentials).is_ok()
 }
 
 /// Cancels these residual arcs, if they form a cycle of negative cost; otherwise raises potentials.

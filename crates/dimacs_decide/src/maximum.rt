@@ -15,7 +15,7 @@ use crate::search::{MOST, Search};
 use crate::send::{Augmentation, send};
 use dimacs_claims::Cut;
 use dimacs_instance::MaxInstance;
-use dimacs_judging::{Flow, cut_tests};
+use dimacs_judging::{Flow, cut_tests, value_if_shown};
 use dimacs_lines::Memory;
 use dimacs_methods::guess_cut;
 use dimacs_network::{Network, NodeTable};
@@ -41,11 +41,24 @@ pub fn decide_max<N: Network>(
     ensures { IfOk result (DecidesMax instance.now flow.now) }
 {
     if let Some(cut) = guess_cut(alloc, instance, flow.amounts())? {
-        if shows_maximum(instance, flow, &cut) {
+        if guess_holds(alloc, instance, flow, &cut) {
             return Ok(MaxDecision::Optimal(cut));
         }
     }
     decide_by_search(alloc, instance, flow)
+}
+
+fn guess_holds<N: Network>(alloc: Global, instance: &MaxInstance<N>, flow: &Flow, cut: &Cut) -> bool
+    requires { FeasibleMax instance.now flow.now }
+    ensures { IsTrue result → DecidesMax instance.now flow.now (MaxDecision.Optimal cut.now) }
+{
+    if cut.nodes() != instance.network().nodes() {
+        return false;
+    }
+    if let Some(_value) = value_if_shown(alloc, instance, flow, cut) {
+        return true;
+    }
+    shows_maximum(instance, flow, cut)
 }
 
 /// Whether a cut is tight for a feasible flow: one pass over the arcs. It then shows that the flow is maximum.

@@ -6,12 +6,11 @@ ghost use Rattle.dimacs_records.specs.Ranges.{IsWide};
 ghost use Rattle.dimacs_network.specs.Arcs.{JoinsNodes};
 ghost use Rattle.dimacs_judging.specs.Tests.{Clear};
 ghost use Rattle.dimacs_decide.specs.Distances.{AreDistancesFrom, claim_row};
-ghost use Rattle.dimacs_decide.specs.inside.DenseTables.{HasNode, HasNodes, SameNodes, value_at};
+ghost use Rattle.dimacs_network.specs.DenseTables.{HasNode, HasNodes, SameNodes, value_at};
 ghost use Rattle.dimacs_decide.specs.inside.DistanceBlocks.{IsBlockOf};
 ghost use Rattle.dimacs_decide.specs.inside.TightTails.{AreTightTails, NotesTail, is_marked, tail_in};
 
 use crate::claim::DistanceClaim;
-use crate::dense_table::DenseTable;
 use crate::distances::{arc_fault, source_holds};
 use crate::label_tree::{Proposal, labelled_block};
 use crate::tight_tree::tight_dist;
@@ -19,7 +18,7 @@ use dimacs_claims::Block;
 use dimacs_instance::Graph;
 use dimacs_judging::JudgeError;
 use dimacs_lines::Memory;
-use dimacs_network::{ArcView, Network};
+use dimacs_network::{ArcView, DenseTable, Network};
 use std::alloc::Global;
 
 /// Added to a tail, it marks a node that has a label. Greater than every ID.

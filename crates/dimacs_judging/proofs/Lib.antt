@@ -10,6 +10,7 @@ pub mod RowLists
 pub mod Settling
 pub mod Reasons
 pub mod Passing
+mod LabelsAtOnce
 pub mod LabelsPassing
 mod ArcChainLemmas
 mod PlaceLemmas

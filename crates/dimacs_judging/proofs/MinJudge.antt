@@ -62,26 +62,22 @@ module _ (i : MinValue) (s : SolutionValue) where
     entries_clear : Clear (entry_row i.arcs s.entries)
     entries_clear = carries_clear i.arcs s.entries x carries
 
-    pub flow_refused : (error : JudgeError) → Refuses (First (feasible_min_rows i x)) error → Refuses (First (min_claim_rows i s)) error
-    flow_refused error first = refused (entry_row i.arcs s.entries ∷ []) (feasible_min_rows i x) (cost_row i.arcs x ∷ value_test x ∷ []) refl error (entries_clear, tt) first
+    pub flow_refused : (error : JudgeError) → Refuses (First (feasible_min_rows i x ++ cost_row i.arcs x ∷ [])) error → Refuses (First (min_claim_rows i s)) error
+    flow_refused error first = refused (entry_row i.arcs s.entries ∷ []) (feasible_min_rows i x ++ cost_row i.arcs x ∷ []) (value_test x ∷ []) refl error (entries_clear, tt) first
 
-    module _ (feasible : AllClear (feasible_min_rows i x)) where
-      pub cost_refused : (place : Where) (reason : Reason) → FirstOfRow (cost_row i.arcs x) place reason → Refuses (First (min_claim_rows i s)) (Refused place reason)
-      cost_refused place reason first = refused (flow_tests x) (cost_row i.arcs x ∷ []) (value_test x ∷ []) refl (Refused place reason) (entries_clear, feasible) (inl first)
+    module _ (feasible : AllClear (feasible_min_rows i x)) (costs : Clear (cost_row i.arcs x)) where
+      pub value_refused : (place : Where) (reason : Reason) → FirstOfRow (value_test x) place reason → Refuses (First (min_claim_rows i s)) (Refused place reason)
+      value_refused place reason first =
+          refused (flow_tests x ++ cost_row i.arcs x ∷ []) (value_test x ∷ []) [] refl (Refused place reason) (entries_clear, (feasible.0, (feasible.1.0, (costs, tt)))) (inl first)
 
-      module _ (costs : Clear (cost_row i.arcs x)) where
-        pub value_refused : (place : Where) (reason : Reason) → FirstOfRow (value_test x) place reason → Refuses (First (min_claim_rows i s)) (Refused place reason)
-        value_refused place reason first =
-            refused (flow_tests x ++ cost_row i.arcs x ∷ []) (value_test x ∷ []) [] refl (Refused place reason) (entries_clear, (feasible.0, (feasible.1.0, (costs, tt)))) (inl first)
-
-        -- all tests pass
-        pub claim_holds : Clear (value_test x) → IsMinClaim i s x
-        claim_holds agrees = record {
-          carries = carries;
-          feasible = feasible_min_holds i x (length-carried i.arcs s.entries x carries) feasible;
-          costs_wide = costs_wide i.arcs x costs;
-          cost_is = sym (value_is (cost i.arcs x) s.value s.value_line agrees);
-        }
+      -- all tests pass
+      pub claim_holds : Clear (value_test x) → IsMinClaim i s x
+      claim_holds agrees = record {
+        carries = carries;
+        feasible = feasible_min_holds i x (length-carried i.arcs s.entries x carries) feasible;
+        costs_wide = costs_wide i.arcs x costs;
+        cost_is = sym (value_is (cost i.arcs x) s.value s.value_line agrees);
+      }
 
 -- ---- the potentials
 module _ (i : MinValue) (s : SolutionValue) (p : PotentialsValue) where

@@ -8,5 +8,6 @@ pub mod Ranges
 pub mod Tests
 pub mod CertificateTests
 pub mod Distances
+pub mod LabelsAtOnce
 pub mod Leaving
 pub mod NodeLabels

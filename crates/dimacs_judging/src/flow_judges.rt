@@ -9,11 +9,10 @@ ghost use Rattle.dimacs_judging.specs.FlowJudges.{ShowsMaxFlow, ShowsMinFlow, ma
 ghost use Rattle.dimacs_judging.specs.Flows.{cost};
 ghost use Rattle.dimacs_judging.specs.Tests.{Judges};
 
-use crate::costs::cost_within;
 use crate::cuts::cut_tests;
-use crate::feasible::balances_if_feasible;
 use crate::flow::Flow;
 use crate::potentials::slack_tests;
+use crate::totals::{cost_if_feasible, cost_if_shown, value_if_feasible, value_if_shown};
 use crate::verdict::{JudgeError, Verdict};
 use dimacs_claims::{Cut, Potentials};
 use dimacs_instance::{MaxInstance, MinInstance};
@@ -36,9 +35,12 @@ pub fn judge_max_flow<N: Network>(
         result }
 {
     let network = instance.network();
-    let balances = balances_if_feasible(alloc, network, flow, instance)?;
+    if let Some(value) = value_if_shown(alloc, instance, flow, cut) {
+        return Ok(Verdict::Max(value));
+    }
+    let value = value_if_feasible(alloc, network, flow, instance, instance.source())?;
     cut_tests(instance, flow, cut)?;
-    Ok(Verdict::Max(balances.of(instance.source())))
+    Ok(Verdict::Max(value))
 }
 
 /// Judges by potentials whether a flow costs least. `Min`, with its cost, means that it is feasible, and that no
@@ -58,8 +60,10 @@ pub fn judge_min_flow<N: Network>(
         (λ verdict. verdict ≡ Min (cost instance.now.arcs flow.now)) result }
 {
     let network = instance.network();
-    balances_if_feasible(alloc, network, flow, instance)?;
-    let cost = cost_within(network, flow)?;
+    if let Some(cost) = cost_if_shown(alloc, instance, flow, potentials) {
+        return Ok(Verdict::Min(cost));
+    }
+    let cost = cost_if_feasible(alloc, network, flow, instance)?;
     slack_tests(instance, flow, potentials)?;
     Ok(Verdict::Min(cost))
 }

@@ -1,27 +1,22 @@
 //! The tests of a claimed maximum flow, before the cut or with it in one pass.
 
-ghost use Rattle.std.specs.Prelude.{◌≡◌, List, ℤ, IfErr, IfOk, IfSome, Ok};
+ghost use Rattle.std.specs.Prelude.{◌≡◌, IfErr, IfOk, IfSome, Ok};
 ghost use Rattle.dimacs_claims.specs.SolutionReading.{IsPlaced};
 ghost use Rattle.dimacs_claims.specs.SolutionTexts.{SolutionValue};
 ghost use Rattle.dimacs_judging.specs.declared.verdict.Verdict.TheVariants.{Max};
-ghost use Rattle.dimacs_judging.specs.Agreement.{value_row};
-ghost use Rattle.dimacs_judging.specs.Feasible.{FeasibleMax, value};
-ghost use Rattle.dimacs_judging.specs.FlowTests.{AreBalances};
+ghost use Rattle.dimacs_judging.specs.Feasible.{FeasibleMax};
 ghost use Rattle.dimacs_judging.specs.MaxJudge.{IsMaxClaim, ShowsMaximum, max_claim_rows, max_rows};
 ghost use Rattle.dimacs_judging.specs.Places.{ArePlaced};
-ghost use Rattle.dimacs_judging.specs.Tests.{Judges, Refutes, TestsRow};
+ghost use Rattle.dimacs_judging.specs.Tests.{Judges, Refutes};
 
 use crate::agreement::{nodes_agree, value_agrees};
-use crate::balances::{Balances, NodeBalances};
-use crate::feasible::balances_if_feasible;
 use crate::flow::Flow;
-use crate::one_pass::sums_if_passed;
 use crate::places::FlowPlaces;
-use crate::verdict::{JudgeError, Verdict, Where};
-use dimacs_claims::{Cut, Place, Placed};
+use crate::totals::{value_if_feasible, value_if_shown};
+use crate::verdict::{JudgeError, Verdict};
+use dimacs_claims::{Cut, Placed};
 use dimacs_instance::MaxInstance;
 use dimacs_network::Network;
-use dimacs_records::Reason;
 use std::alloc::Global;
 
 /// Makes the tests of `judge_max` before those of the cut: entries, bounds, balances, value. Returns the claimed flow.
@@ -39,20 +34,9 @@ pub fn max_claim_tests<'a, N: Network>(
 {
     let network = instance.network();
     let flow = placed.place.flow()?;
-    let balances = balances_if_feasible(alloc, network, flow, instance)?;
-    value_holds(instance, &balances, placed)?;
+    let value = value_if_feasible(alloc, network, flow, instance, instance.source())?;
+    value_agrees(value, placed)?;
     Ok(flow)
-}
-
-fn value_holds<N: Network, P: Place>(
-    instance: &MaxInstance<N>,
-    balances: &Balances,
-    placed: &Placed<P>,
-) -> Result<(), (Where, Reason)>
-    ensures { (x : List ℤ) → AreBalances instance.now.arcs x balances.now
-        → TestsRow (value_row (value instance.now x) placed.now.value placed.now.value_line) result }
-{
-    value_agrees(balances.of(instance.source()), placed)
 }
 
 /// Makes all tests of `judge_max` in one pass over the arcs. None if one fails, a number is too large or there is no
@@ -74,15 +58,8 @@ pub fn max_in_one_pass<N: Network>(
     let Ok(()) = nodes_agree(network.nodes(), cut.nodes()) else {
         return None;
     };
-    let source = instance.source();
-    if !cut.contains(source) {
-        return None;
-    }
-    if cut.contains(instance.sink()) {
-        return None;
-    }
-    let sums = sums_if_passed(alloc, network, flow, instance, cut)?;
-    match value_agrees(sums.balance_of(source), placed) {
+    let value = value_if_shown(alloc, instance, flow, cut)?;
+    match value_agrees(value, placed) {
         Ok(()) => Some(Verdict::Max(placed.value)),
         Err(_) => None,
     }

@@ -10,11 +10,9 @@ ghost use Rattle.dimacs_judging.specs.Places.{ArePlaced};
 ghost use Rattle.dimacs_judging.specs.Tests.{Judges, Refutes};
 
 use crate::agreement::{nodes_agree, value_agrees};
-use crate::costs::cost_within;
-use crate::feasible::balances_if_feasible;
 use crate::flow::Flow;
-use crate::one_pass::sums_if_passed;
 use crate::places::FlowPlaces;
+use crate::totals::{cost_if_feasible, cost_if_shown};
 use crate::verdict::{JudgeError, Verdict};
 use dimacs_claims::{Placed, Potentials};
 use dimacs_instance::MinInstance;
@@ -37,8 +35,7 @@ pub fn min_claim_tests<'a, N: Network>(
 {
     let network = instance.network();
     let flow = placed.place.flow()?;
-    balances_if_feasible(alloc, network, flow, instance)?;
-    let cost = cost_within(network, flow)?;
+    let cost = cost_if_feasible(alloc, network, flow, instance)?;
     value_agrees(cost, placed)?;
     Ok(flow)
 }
@@ -62,8 +59,8 @@ pub fn min_in_one_pass<N: Network>(
     let Ok(()) = nodes_agree(network.nodes(), potentials.nodes()) else {
         return None;
     };
-    let sums = sums_if_passed(alloc, network, flow, instance, potentials)?;
-    match value_agrees(sums.cost, placed) {
+    let cost = cost_if_shown(alloc, instance, flow, potentials)?;
+    match value_agrees(cost, placed) {
         Ok(()) => Some(Verdict::Min(placed.value)),
         Err(_) => None,
     }

@@ -3,6 +3,7 @@
 ghost use Rattle.std.specs.Prelude.{◌≡◌, ◌<◌, ◌≤◌, ◌^◌, ◌-◌, ◌↔◌, ℕ, pos, neg_ℤ, List, All, IfOk, IfSome, OnOk, IsTrue};
 ghost use Rattle.std.specs.Result.{result_err};
 ghost use Rattle.dimacs_lines.specs.Limits.{most_nodes};
+ghost use Rattle.dimacs_network.specs.Arcs.{JoinsNodes};
 ghost use Rattle.dimacs_network.specs.declared.network.ArcView.{ArcView};
 ghost use Rattle.dimacs_claims.specs.declared.block.Label.{Label};
 ghost use Rattle.dimacs_claims.specs.Labels.{AreLabels, BlockValue, IsBlock};
@@ -11,11 +12,12 @@ ghost use Rattle.dimacs_judging.specs.inside.CertificateTests.{distance_rows};
 ghost use Rattle.dimacs_judging.specs.Distances.{Fits};
 ghost use Rattle.dimacs_judging.specs.LightestArcs.{AreLightest};
 ghost use Rattle.dimacs_judging.specs.inside.NodeLabels.{AllUnlabelled, AreAsTested, AreUnlabelled, AreSupported, AreSupportedBelow, AreWide, DefaultsToNone, IsLabelled, IsFirstTight, RelaxesArc, entries};
-ghost use Rattle.dimacs_judging.specs.Tests.{Clear, TestsRow};
+ghost use Rattle.dimacs_judging.specs.Tests.{AllClear, Clear, TestsRow};
 ghost use Rattle.dimacs_judging.specs.inside.Tests.{TestsRows, TestsAll, NamesReason};
 
 use crate::distance::{Distance, distance_in, improves, is_tight};
 use crate::labels::{relax_fault_from, weights_hold};
+use crate::labels_at_once::{LabelTable, block_holds_at_once, table_for};
 use crate::leaving::{has_few_labels, relax_leaving};
 use crate::lightest::LightestArcs;
 use crate::node_label::NodeLabel;
@@ -30,20 +32,21 @@ use std::alloc::Global;
 const MANY: usize = 8;
 
 /// Tables of labels for 32-bit, 64-bit and 128-bit distances. The narrowest that holds all distances of a block is
-/// used. Between blocks no node has a label.
+/// used, if the block doesn't pass at once. Between blocks no node has a label there.
 #[derive(Drop)]
 pub(crate) struct Tables {
+    at_once: Option<LabelTable>,
     bits32: NodeTable<NodeLabel<i32>>,
     bits64: NodeTable<NodeLabel<i64>>,
     bits128: NodeTable<NodeLabel<i128>>,
 }
 
 impl Tables {
-    /// Allocates nothing.
-    fn new(alloc: Global) -> Tables
+    fn new<N: Network>(alloc: Global, network: &N, labels: &Labels) -> Tables
         ensures { AllUnlabelled result }
     {
         Tables {
+            at_once: table_for(alloc, network, labels),
             bits32: NodeTable::new(alloc, NodeLabel::none()),
             bits64: NodeTable::new(alloc, NodeLabel::none()),
             bits128: NodeTable::new(alloc, NodeLabel::none()),
@@ -64,10 +67,11 @@ pub(crate) fn labelled_blocks_hold<N: Network>(
     network: &N,
     labels: &Labels,
 ) -> Result<(), JudgeError>
+    requires { All (JoinsNodes (N.node_count network.now)) (N.list network.now) }
     ensures tests { TestsAll (label_rows (N.list network.now) labels.now.blocks) result }
     ensures lawful { AreLabels labels.now }
 {
-    let mut tables = Tables::new(alloc);
+    let mut tables = Tables::new(alloc, network, labels);
     let mut weights = Weights::Untested;
     let mut lightest = None;
     let blocks = labels.blocks();
@@ -128,11 +132,15 @@ fn labelled_block_holds<N: Network>(
     tables: &mut Tables,
 ) -> Result<(), JudgeError>
     requires lawful { (nodes : ℕ) × (nodes ≤ most_nodes) × IsBlock nodes block.now }
+    requires joined { All (JoinsNodes (N.node_count network.now)) (N.list network.now) }
     requires lightest { IfSome lightest.now (AreLightest (N.list network.now)) }
     requires unlabelled { AllUnlabelled tables.old }
     ensures tests { TestsAll (distance_rows (N.list network.now) block.now) result }
     ensures unlabelled { OnOk result (AllUnlabelled tables.new) }
 {
+    if holds_at_once(network, block, &mut tables.at_once) {
+        return Ok(());
+    }
     let labels = block.labels();
     if labels.is_short() {
         return block_holds_by(network, block, lightest, &mut tables.bits32);
@@ -141,6 +149,17 @@ fn labelled_block_holds<N: Network>(
         return block_holds_by(network, block, lightest, &mut tables.bits64);
     }
     block_holds_by(network, block, lightest, &mut tables.bits128)
+}
+
+fn holds_at_once<N: Network>(network: &N, block: &Block, table: &mut Option<LabelTable>) -> bool
+    requires lawful { (nodes : ℕ) × (nodes ≤ most_nodes) × IsBlock nodes block.now }
+    requires joined { All (JoinsNodes (N.node_count network.now)) (N.list network.now) }
+    ensures { IsTrue result → AllClear (distance_rows (N.list network.now) block.now) }
+{
+    match table {
+        Some(table) => block_holds_at_once(network, block, table),
+        None => false,
+    }
 }
 
 /// Whether a table of 64-bit distances holds these.

@@ -3,7 +3,7 @@
 use crate::tables::{count_of, member};
 use dimacs_instance::MinInstance;
 use dimacs_lines::Memory;
-use dimacs_network::{Network, NodeMap};
+use dimacs_network::{Network, NodeMap, has_dense_ids};
 use std::alloc::Global;
 
 /// Numbers from 0 for the nodes with an arc or a supply. Tables by node number then grow with the text, not with the
@@ -84,9 +84,4 @@ impl NodeNumbers {
     pub(crate) fn ids(&self) -> &[u32] {
         &self.ids
     }
-}
-
-/// Whether there are at most two nodes for each arc, and a few. Tables by ID then grow with the text.
-pub(crate) fn has_dense_ids<N: Network>(network: &N) -> bool {
-    u64::from(network.nodes()) <= u64::from(network.arcs()) * 2 + 1024
 }

@@ -3,6 +3,7 @@ pub mod Maps
 pub mod Sets
 pub mod Slots
 pub mod Tables
+pub mod DenseTables
 pub mod ArcOrder
 pub mod Arcs
 pub mod KeptArcs

@@ -205,7 +205,7 @@ fn extend_directory(directory: &mut Vec<u32>, id: u32) -> Result<(), Memory>
 }
 
 /// Sets all items to one value.
-fn fill<T: Copy>(items: &mut [T], value: T)
+pub(crate) fn fill<T: Copy>(items: &mut [T], value: T)
     ensures all { (i : ℕ) → slice_index_or items.new i value ≡ value }
     ensures same_length { length items.new ≡ length items.old }
 {

@@ -1,5 +1,5 @@
 use Rattle.std.proofs.Common.{◌∙◌, ap, is_some, refl, sym}
-use Rattle.dimacs_decide.specs.inside.DenseTables.{value_at}
+use Rattle.dimacs_network.specs.DenseTables.{value_at}
 use Rattle.dimacs_decide.proofs.BlockClaimLemmas.{label_within}
 use Rattle.dimacs_decide.proofs.CertifiedPathsLemmas.{decided_here}
 use Rattle.dimacs_decide.proofs.certified_paths.certify_by.Goals as goal

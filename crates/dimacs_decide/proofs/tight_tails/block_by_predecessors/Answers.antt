@@ -4,7 +4,7 @@ use Rattle.dimacs_claims.specs.Labels.{IsBlock, label}
 use Rattle.dimacs_judging.specs.Tests.{Clear}
 use Rattle.dimacs_decide.specs.Distances.{claim_row}
 use Rattle.dimacs_decide.specs.declared.tight_tails.TheConstants.{MARK}
-use Rattle.dimacs_decide.specs.inside.DenseTables.{value_at}
+use Rattle.dimacs_network.specs.DenseTables.{value_at}
 use Rattle.dimacs_decide.specs.inside.TightTails.{AreTightTails, tail_in}
 use Rattle.dimacs_decide.proofs.ClaimLemmas.{all_relaxed, shown}
 use Rattle.dimacs_decide.proofs.TightTailLemmas.{all_tight, never_marked, tails_claimed, unmarked}

@@ -4,7 +4,7 @@ use Rattle.std.proofs.lemmas.Option.{get_or_from_slice_get, slice_get_within}
 use Rattle.dimacs_network.specs.Arcs.{JoinsNodes, arc_at, no_arc}
 use Rattle.dimacs_judging.proofs.RowLemmas.{arc_clear_end, arc_clear_more}
 use Rattle.dimacs_judging.specs.CertificateTests.{RelaxFails}
-use Rattle.dimacs_decide.specs.inside.DenseTables.{value_at}
+use Rattle.dimacs_network.specs.DenseTables.{value_at}
 use Rattle.dimacs_decide.proofs.TightTailLemmas.{no_fault, tails_more}
 use Rattle.dimacs_decide.proofs.tight_tails.tight_tails.Goals as goal
 

@@ -1,6 +1,6 @@
 use Rattle.dimacs_judging.specs.Tests.{ClearBelow}
 use Rattle.dimacs_decide.specs.Distances.{claim_row}
-use Rattle.dimacs_decide.specs.inside.DenseTables.{HasNodes, value_at}
+use Rattle.dimacs_network.specs.DenseTables.{HasNodes, value_at}
 use Rattle.dimacs_decide.specs.inside.TightTails.{AreTightTails}
 use Rattle.dimacs_decide.proofs.tight_tails.tight_tails.Given as goal
 

@@ -1,11 +1,9 @@
 use Rattle.std.proofs.Common.{rules, SFits, w64}
-use Rattle.std.specs.Int.{w128}
 use Rattle.std.proofs.lemmas.Int.{to_z-of_z}
 use Rattle.dimacs_judging.proofs.one_pass.passes.Goals as goal
 
 pub returns-in-None-None : goal.returns-in-None-None
-returns-in-None-None c = λ yes.
+returns-in-None-None g c = λ yes.
     let amount : SFits w64 c.args.amount = search rules in
     let reduced : SFits w64 c.args.reduced = search rules in
-    let wide : SFits w128 c.from.result = search rules in
-    (rw (to_z-of_z w64 c.args.amount amount) at c.in-None-None.ensures, rw (to_z-of_z w128 c.from.result wide, c.from.ensures, to_z-of_z w64 c.args.reduced reduced, to_z-of_z w64 c.args.amount amount) at c.in-None-None.ensures')
+    (rw (to_z-of_z w64 c.args.amount amount) at c.in-None-None.ensures, rw (to_z-of_z w64 c.args.reduced reduced, to_z-of_z w64 c.args.amount amount) at c.in-None-None.ensures')

@@ -3,7 +3,7 @@ use Rattle.std.specs.Int.{w128}
 use Rattle.std.proofs.lemmas.Int.{ints, to_z-of_z}
 use Rattle.dimacs_claims.specs.Labels.{label, no_label}
 use Rattle.dimacs_judging.specs.Distances.{Fits}
-use Rattle.dimacs_decide.specs.inside.DenseTables.{value_at}
+use Rattle.dimacs_network.specs.DenseTables.{value_at}
 use Rattle.dimacs_decide.proofs.BlockClaimLemmas.{AreFrom, below_end, from_end, from_one_more, labels_wide, with_source}
 use Rattle.dimacs_decide.proofs.block_claim.BlockClaim.new.Goals as goal
 

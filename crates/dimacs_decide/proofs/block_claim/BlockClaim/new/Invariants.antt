@@ -1,5 +1,5 @@
 use Rattle.std.proofs.Common.{◌≤◌, length}
-use Rattle.dimacs_decide.specs.inside.DenseTables.{HasNodes, value_at}
+use Rattle.dimacs_network.specs.DenseTables.{HasNodes, value_at}
 use Rattle.dimacs_decide.proofs.BlockClaimLemmas.{AreFrom}
 use Rattle.dimacs_decide.proofs.block_claim.BlockClaim.new.Given as goal
 

@@ -2,4 +2,4 @@ use Rattle.dimacs_judging.proofs.OnePass.{HavePotentials}
 use Rattle.dimacs_judging.proofs.one_pass.Sums.new.Given as goal
 
 abbrev pub invariant-loop-v : goal.invariant-loop-v
-invariant-loop-v g l = HavePotentials (g.P.HasPotentials.potential l.potentials) l.v l.states
+invariant-loop-v g l = HavePotentials (g.P.HasPotentials.potential l.potentials) l.v (g.T.NodeStates.state l.states)

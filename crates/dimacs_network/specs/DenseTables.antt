@@ -1,6 +1,6 @@
--- Inside: tables with a value for each node up to a last one.
+-- Tables with a value for each node up to a last one.
 use Rattle.std.specs.Prelude.{ℕ, ◌≡◌, ◌<◌, length, slice_index_or}
-use Rattle.dimacs_decide.specs.declared.dense_table.DenseTable.{DenseTable}
+use Rattle.dimacs_network.specs.declared.dense_table.DenseTable.{DenseTable}
 
 module _ {T : Type 0} where
   -- the value of a node; blank past the last

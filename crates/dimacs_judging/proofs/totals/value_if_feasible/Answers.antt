@@ -1,0 +1,21 @@
+use Rattle.std.proofs.Common.{◌∙◌, rules, SFits}
+use Rattle.std.specs.Int.{w128}
+use Rattle.std.proofs.lemmas.Int.{to_z-of_z}
+use Rattle.std.proofs.lemmas.Result.{err_from_is_err_and}
+use Rattle.dimacs_judging.proofs.totals.value_if_feasible.Goals as goal
+
+pub returns-in-Some : goal.returns-in-Some
+returns-in-Some g c =
+    let passed = c.in-Some.ensures in
+    let fits : SFits w128 c.in-Some.totals.balance = search rules in
+    (to_z-of_z w128 c.in-Some.totals.balance fits ∙ passed.balance_is, (passed.clear.0, (passed.clear.1.0, tt)))
+
+pub returns-in_err-balances : goal.returns-in_err-balances
+returns-in_err-balances g c =
+    let p = err_from_is_err_and c.from_residual.result c.from_residual.ensures.1 in
+    rw (p.1, p.2) c.in_err-balances.ensures
+
+pub returns : goal.returns
+returns g c =
+    let fits : SFits w128 c.of.result = search rules in
+    (to_z-of_z w128 c.of.result fits ∙ (c.of.ensures ∙ c.in_ok-balances.ensures.0 c.args.source), c.in_ok-balances.ensures.1)
