@@ -1235,6 +1235,15 @@ def recheck_whole(place, binary):
         place.write("edited", whole.replace(old, new))
         status, _, err = place.run("--recheck", "edited", ".", program=binary)
         assert status == 1 and err == "2 agree, 1 differ, 0 not there, 0 not judged\n", err
+    for command in ("certify-x pipes.max", "certify-max", "judge-max", "solve-max pipes.max", "judge-max 'pipes.max", "x"):
+        row = {**place.table()[1], "command": command}
+        place.write("forged", json.dumps(row) + "\n")
+        status, _, err = place.run("--recheck", "forged", ".", program=binary)
+        assert status in (1, 3) and "0 agree" in err and "Traceback" not in err, (command, err)
+        row["class"] = "no"
+        place.write("forged", json.dumps(row) + "\n")
+        status, _, err = place.run("--report", "forged", program=binary)
+        assert status == 3 and "Traceback" not in err, (command, err)
     process = place.started("--recheck", "edited", ".", program=binary)
     process.stdout.close()
     err = process.stderr.read()

@@ -105,7 +105,7 @@ class Recheck:
             compare_files(row, words)
             with tempfile.TemporaryDirectory() as folder:
                 self.judge(row, words, self.kept(row), folder)
-        except (Differs, ValueError) as error:  # a command that was edited may not be one
+        except (Differs, ValueError, LookupError) as error:  # a command that was edited may not be one
             return "differ", str(error)
         except (NotThere, OSError) as error:
             if getattr(error, "errno", None) in FULL:
@@ -143,12 +143,13 @@ class Recheck:
         elif action == "judge":
             self.expect(row["verdict"], verb, *files[:-1], kept or files[-1])
         elif action == "solve" and row["class"] == YES:
-            self.judge_solved(row["verdict"], what, *files[:3])
+            self.judge_solved(row["verdict"], what, files)
         else:
             self.compare(row["verdict"], self.run(*words, may_write=False))
 
-    def judge_solved(self, line, what, instance, answer, certificate):
+    def judge_solved(self, line, what, files):
         """What a solver wrote, where it wrote it."""
+        instance, answer, certificate = files[:3]
         if line == "v infeasible":
             self.expect(line, "judge-infeasible", instance, certificate)
         else:

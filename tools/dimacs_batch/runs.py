@@ -167,6 +167,8 @@ class Runs:
     def gap(self, program, words, better):
         """By how much a flow is better than the one that is certified."""
         shown = [self.run([program, "show", "solution", it]).line for it in (words[2], better)]
+        if not all(it.startswith("i solution ") for it in shown):
+            raise OSError(0, "was changed while it was judged", words[2])
         claimed, best = (int(it.split(" ")[2]) for it in shown)
         return best - claimed if words[0] == "certify-max" else claimed - best
 
