@@ -37,7 +37,7 @@ build   | 180    | tests/large_runs.py {build}/dimacs
 build   | 1028   | tests/rows.py {build}/dimacs
 build   | 3000   | tests/solve_min_trials.py 1500 1 {build}/dimacs
 build   | 650    | tests/draw.py {build}/dimacs
-build   | 24     | tests/batch.py {build}/dimacs
+build   | 51     | tests/batch.py {build}/dimacs
 build   | 50     | tests/usage.py {build}/dimacs
 build   | 50     | tests/shown_runs.py {build}/dimacs
 build   | 43     | tests/install.py {build}
