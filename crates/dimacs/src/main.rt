@@ -12,11 +12,11 @@ mod usage;
 use crate::files::SystemFiles;
 use crate::misuse::{complaint_of, complaint_of_bytes};
 use crate::usage::Command;
-use dimacs_explain::{FirstLine, explain_command};
+use dimacs_explain::{ReportKeeper, explain_job};
 use dimacs_lines::{FileSink, Sink, put_all};
 use dimacs_runs::{
     CommandError, Failure, NO_RUN, Request, RunError, Status, command_status, complaint,
-    exit_status, request, run_command, version,
+    exit_status, request, run_job, version,
 };
 use std::alloc::{AllocError, Global};
 use std::fs::File;
@@ -55,20 +55,17 @@ fn run(rt: &HostRuntime, arguments: &[String]) -> u8 {
         Request::Explain(_) => SystemFiles::that_keep(rt),
         _ => SystemFiles::new(rt),
     };
-    let mut output = FirstLine::new(FileSink::new(io::writer(rt)));
+    let mut output = ReportKeeper::new(FileSink::new(io::writer(rt)));
     let ended = match wanted {
-        Request::Help => Some(print(usage::of_all(rt.alloc()), &mut output)),
-        Request::HelpOn(name) => Some(print(help_on(rt.alloc(), name), &mut output)),
-        Request::Version => Some(print(version_line(rt.alloc()), &mut output)),
-        Request::Run(_) => run_command(rt.alloc(), arguments, &mut files, &mut output),
-        Request::Explain(_) => {
-            let command = arguments.get(1..).unwrap_or_default();
-            explain_command(rt.alloc(), command, &mut files, &mut output)
-        }
+        Request::Help => print(usage::of_all(rt.alloc()), &mut output),
+        Request::HelpOn(name) => print(help_on(rt.alloc(), name), &mut output),
+        Request::Version => print(version_line(rt.alloc()), &mut output),
+        Request::Run(job) => run_job(rt.alloc(), job, &mut files, &mut output),
+        Request::Explain(job) => explain_job(rt.alloc(), job, &mut files, &mut output),
     };
-    let status = command_status(&ended);
+    let status = command_status(&Some(ended));
     complain(rt, status);
-    if let Some(Err(CommandError::Device(failure))) = ended {
+    if let Err(CommandError::Device(failure)) = ended {
         let reason = match failure {
             Failure::File(..) => files.reason(),
             Failure::Output => output.sink().reason(),

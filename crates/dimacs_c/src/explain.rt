@@ -7,9 +7,9 @@ ghost use Rattle.dimacs_c.specs.Explained.{AnswersCommand, file_words, words};
 
 use crate::answer::{end, misuse};
 use crate::named_texts::NamedTexts;
-use dimacs_explain::{FirstLine, explain_command};
+use dimacs_explain::{ReportKeeper, explain_job};
 use dimacs_lines::{MemorySink, fields};
-use dimacs_runs::RunError;
+use dimacs_runs::{RunError, job};
 use std::alloc::{AllocError, Global};
 
 /// Runs a command over texts, and explains what it answers, as `dimacs explain`. The words of `command` that name files
@@ -52,10 +52,11 @@ fn explain(
     ensures { AnswersCommand (map string_bytes arguments.now) (texts.old.first.now ∷ texts.old.second.now ∷ texts.old.third.now ∷ []) result
         (handed out.old out.new needed.new) }
 {
-    let mut output = FirstLine::new(MemorySink::new(alloc));
-    let Some(ended) = explain_command(alloc, arguments, texts, &mut output) else {
+    let Some(wanted) = job(arguments) else {
         return misuse(needed);
     };
+    let mut output = ReportKeeper::new(MemorySink::new(alloc));
+    let ended = explain_job(alloc, wanted, texts, &mut output);
     let bytes = output.sink().bytes();
     match ended {
         Ok(status) => end(Ok(status), bytes, out, needed),

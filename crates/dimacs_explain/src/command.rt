@@ -1,70 +1,79 @@
-//! A command, and the explanation of its answer.
+//! A run, and the explanation of its answer.
 
-ghost use Rattle.std.specs.Prelude.{map};
-ghost use Rattle.std.specs.String.{string_bytes};
+ghost use Rattle.std.specs.Prelude.{◌≡◌};
 ghost use Rattle.dimacs_runs.specs.Commands.{seen_by};
+ghost use Rattle.dimacs_runs.specs.Jobs.{HasFiles};
+ghost use Rattle.dimacs_explain.specs.Explained as explained;
 ghost use Rattle.dimacs_explain.specs.Explained.{Explains, FollowedBy};
 
-use crate::first_line::FirstLine;
 use crate::page::Page;
-use crate::refusal::Refusal;
 use crate::reopen::Reopen;
+use crate::report_keeper::ReportKeeper;
 use crate::texts::Texts;
 use crate::yes::explain_yes;
 use dimacs_lines::{Memory, Sink, put_all};
-use dimacs_runs::{CommandError, Files, Status, job, run_command};
+use dimacs_runs::{CommandError, Files, Job, Report, Status, run_job};
 use std::alloc::Global;
 
-/// Runs the command of these arguments, and writes lines that explain its yes or its refusal. For these it reads files
-/// again, by `Reopen`. If memory runs out, no explanation is written; if the output fails, at most a part. The result is
-/// the command's all the same.
-pub fn explain_command<'a, F: Files + Reopen, K: Sink>(
+/// Runs a job, and writes lines that explain its yes or its refusal. For these it reads files again, by `Reopen`. If
+/// memory runs out, no explanation is written; if the output fails, at most a part. The result is the run's all the same.
+pub fn explain_job<'a, F: Files + Reopen, K: Sink>(
     alloc: Global,
-    arguments: &'a [String],
+    job: Job<'a>,
     files: &mut F,
-    output: &mut FirstLine<K>,
-) -> Option<Result<Status, CommandError<'a>>>
-    ensures explains { Explains (map string_bytes arguments.now) (F.holds files.old) F.empty result
+    output: &mut ReportKeeper<K>,
+) -> Result<Status, CommandError<'a>>
+    requires { HasFiles job }
+    ensures explains { Explains job.entry (F.holds files.old) F.empty result
         (seen_by (F.seen files.old) (K.seen output.old.sink)) (seen_by (F.seen files.new) (K.seen output.new.sink)) }
 {
-    let ended = run_command(alloc, arguments, files, output);
-    write_explanation(alloc, arguments, &ended, files, output);
+    let ended = run_job(alloc, job, files, output);
+    write_explanation(alloc, job, &ended, files, output);
     ended
 }
 
-/// Writes the explanation of the answer that a command printed, if it ended with one.
+/// Writes the explanation of what a run answered, if it has one.
 fn write_explanation<A: Reopen, K: Sink>(
     alloc: Global,
-    arguments: &[String],
-    ended: &Option<Result<Status, CommandError<'_>>>,
+    job: Job<'_>,
+    ended: &Result<Status, CommandError<'_>>,
     again: &A,
-    output: &mut FirstLine<K>,
+    output: &mut ReportKeeper<K>,
 )
-    ensures follows { FollowedBy ended.now (K.seen output.old.sink) (K.seen output.new.sink) }
+    ensures follows { FollowedBy job.entry ended.now (K.seen output.old.sink) (K.seen output.new.sink) }
 {
-    if let Some(Ok(status @ (Status::Done | Status::Refused))) = ended
-        && let Ok(text) = explanation(alloc, arguments, *status, output.line(), again)
+    if let Ok(status) = ended
+        && is_explained(job, *status)
+        && let Some(report) = output.report()
+        && let Ok(text) = explanation(alloc, job, report, again)
     {
         let _ = put_all(output, text.as_bytes());
     }
 }
 
-/// The explanation of an answer that a command printed; empty if there is none.
+/// Whether an end of a job is explained: a yes is, and a refusal.
+fn is_explained(job: Job<'_>, status: Status) -> bool
+    ensures { result ≡ explained.is_explained job.entry status }
+{
+    match (job, status) {
+        (_, Status::GaveUp) => false,
+        (Job::Convert(..) | Job::Show(..) | Job::Spread(..), Status::Done) => false,
+        _ => true,
+    }
+}
+
+/// The explanation of the report of a run; empty if there is none.
 fn explanation<A: Reopen>(
     alloc: Global,
-    arguments: &[String],
-    status: Status,
-    printed: &[u8],
+    job: Job<'_>,
+    report: &Report,
     again: &A,
 ) -> Result<String, Memory> {
-    let mut out = String::new(alloc);
-    let Some(job) = job(arguments) else {
-        return Ok(out);
-    };
-    if matches!(status, Status::Done) {
-        explain_yes(alloc, again, job, printed, &mut out)?;
-    } else if let Some(refusal) = Refusal::read(printed) {
-        return Page::new(alloc, again, Texts::of(job)).explained(refusal);
+    match report {
+        Report::No(..) | Report::Fault(..) => {
+            Page::new(alloc, again, Texts::of(job)).explained(report)
+        }
+        Report::Yes(_) | Report::Distances(_) => explain_yes(alloc, again, job, report),
+        Report::GaveUp | Report::Nothing => Ok(String::new(alloc)),
     }
-    Ok(out)
 }

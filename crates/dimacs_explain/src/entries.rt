@@ -123,7 +123,7 @@ impl<'a> Tally for NodeFlow<'a> {
         {
             let file = self.file;
             let values = [
-                file.into(),
+                Value::File(file),
                 line.into(),
                 tail.into(),
                 head.into(),

@@ -9,10 +9,10 @@ use crate::oddities::{has_lone_return, oddity, other_kind};
 use crate::page::{Page, Stop};
 use crate::quote::{escape, field_at, quote};
 use crate::reopen::Reopen;
-use crate::sentence::{Facts, Value, ending, tell};
+use crate::sentence::{Value, ending};
 use crate::texts::TextFile;
 use dimacs_lines::{MAX_LINE, MAX_LINES, fields};
-use dimacs_records::{End, Record, TextKind};
+use dimacs_records::{At, End, Reason, Record, TextKind};
 use std::alloc::{AllocError, Global};
 
 /// The greatest number of 64 bits with a sign.
@@ -21,17 +21,9 @@ const MOST_WHOLE: u64 = 9_223_372_036_854_775_807;
 /// A longer word is cut to this many bytes.
 const LONG_WORD: usize = 60;
 
-#[derive(Clone, Copy)]
-pub(crate) struct Fault<'a> {
-    pub(crate) line: u64,
-    pub(crate) field: u64,
-    pub(crate) reason: &'a str,
-}
-
-/// What a text says up to its fault.
+/// The line of a fault, and what the text says before it.
 #[derive(Drop)]
-struct FaultFacts {
-    kind: TextKind,
+struct FaultLine {
     before: Before,
     /// The form of lines with the letter of this one.
     form: &'static str,
@@ -47,53 +39,10 @@ struct FaultFacts {
     lone_return: bool,
 }
 
-impl Facts for FaultFacts {
-    fn value(&self, name: &str) -> Value<'_> {
-        if name == "word" {
-            return Value::Word(self.word.as_str());
-        }
-        self.fact(name)
-    }
-}
-
-impl FaultFacts {
-    /// The value of a name that isn't the word.
-    fn fact(&self, name: &str) -> Value<'static> {
-        let before = self.before;
-        match name {
-            "longest" => (MAX_LINE as u64).into(),
-            "most" => MAX_LINES.into(),
-            "kind" => kind_words(self.kind).into(),
-            "other" => self.other.unwrap_or("").into(),
-            "are" => self.verb().into(),
-            "first" => form_of(self.kind, b"p").unwrap_or("p").into(),
-            "form" => self.form.into(),
-            "wanted" => count_fields(self.form.as_bytes()).into(),
-            "fields" => self.fields.into(),
-            "name" => self.name.into(),
-            "range" => range_of(self.name).into(),
-            "line" => before.problem_line.into(),
-            "nodes" => before.nodes.into(),
-            "declared" => before.count.into(),
-            "counted" => before.counted.into(),
-            "counted lines" => counted_lines(self.kind).into(),
-            "counted s" => ending(before.counted).into(),
-            "declared s" => ending(u64::from(before.count)).into(),
-            "value line" => before.value_line.into(),
-            "end line" => self.end_line().unwrap_or(0).into(),
-            "block" => before.block_line.into(),
-            "source" => before.source.into(),
-            "labels" => before.labels.into(),
-            "labelled" => before.labelled.into(),
-            "radius" => before.radius.unwrap_or(0).into(),
-            name => self.number(name).into(),
-        }
-    }
-
+impl FaultLine {
     /// Before the first line.
-    fn new(alloc: Global, kind: TextKind) -> FaultFacts {
-        FaultFacts {
-            kind,
+    fn new(alloc: Global) -> FaultLine {
+        FaultLine {
             before: NOTHING_BEFORE,
             form: "p",
             name: "",
@@ -107,110 +56,32 @@ impl FaultFacts {
     }
 
     /// Takes the line of the fault.
-    fn see_fault(&mut self, line: &[u8], field: u64) -> Result<(), AllocError> {
-        self.other = other_kind(self.kind, line);
-        self.form = form_of(self.kind, text_at(line, 1)).unwrap_or("p");
+    fn see(&mut self, kind: TextKind, line: &[u8], field: u32) -> Result<(), AllocError> {
+        self.other = other_kind(kind, line);
+        self.form = form_of(kind, text_at(line, 1)).unwrap_or("p");
         self.name = field_name(self.form, field);
         self.fields = count_fields(line);
         add_word(&mut self.word, text_at(line, field))
     }
 
-    /// The number that the line of the fault has in a field.
-    fn number(&self, name: &str) -> i128 {
-        match (name, self.record) {
-            ("cap", Some(Record::MaxArc { cap, .. } | Record::MinArc { cap, .. })) => cap.into(),
-            ("low", Some(Record::MinArc { low, .. })) => low.into(),
-            ("pred", Some(Record::LabelsNode { pred, .. })) => pred.into(),
-            ("dist", Some(Record::LabelsNode { dist, .. })) => dist,
-            _ => 0,
-        }
-    }
-
-    fn verb(&self) -> &'static str {
-        if kind_words(self.kind).starts_with("a ") {
-            "is"
-        } else {
-            "are"
-        }
-    }
-
     /// The earlier line of the same end, source or sink.
-    fn end_line(&self) -> Option<u64> {
-        match self.record {
+    fn end_line(&self) -> u64 {
+        let earlier = match self.record {
             Some(Record::MaxNode { end, .. }) if end == End::Source => self.before.source_line,
             _ => self.before.sink_line,
-        }
+        };
+        earlier.unwrap_or(0)
     }
 
-    fn sentence(&self, reason: &str) -> &'static str {
-        match reason {
-            "LineTooLong" => "the line has more than {longest} bytes\n",
-            "LineLimit" => "a text has at most {most} lines\n",
-            "UnknownLine" => "no line of {kind} begins with `{word}`\nits lines are",
-            "FieldCount" => self.count_of_fields(),
-            "BadWord" => "`{word}` stands where `{name}` is wanted: the line is `{form}`\n",
-            "BadNumber" =>
-                "{name} is a whole number, digits with a sign or without, and not `{word}`\n",
-            "NumberRange" => "{name} is a number from {range}, and not {word}\n",
-            "ProblemMissing" => "a line `{first}` has to stand first, but for comments\n",
-            "ProblemTwice" => "line {line} is a p line already\n",
-            "RecordOrder" => order_of(self.kind),
-            "NodeRange" => "node {word} is above the {nodes} nodes that line {line} declares\n",
-            "EndTwice" => "line {end line} has the same letter already\n",
-            "EndMissing" => self.missing_ends(),
-            "BoundOrder" => self.order_of_bounds(),
-            "TooMany" | "TooFew" => self.count_of_lines(reason),
-            "SolutionMissing" => "a solution has one line `s VALUE`, and this one has none\n",
-            "SolutionTwice" => "line {value line} is an s line already\n",
-            "PredUnknown" =>
-                "PRED, {pred}, is neither the source of the block nor the ID of a d line before this one: order the d lines so that each stands after that of its PRED\n",
-            "PastRadius" => "DIST is {dist}, above the RADIUS of the block, {radius}\n",
-            _ => "",
-        }
-    }
-
-    fn count_of_fields(&self) -> &'static str {
-        if self.kind == TextKind::Labels && self.form.starts_with('t') {
-            "the line has {fields} fields, and `{form}` has {wanted}, or one more with a RADIUS\n"
-        } else {
-            "the line has {fields} fields, and `{form}` has {wanted}\n"
-        }
-    }
-
-    fn missing_ends(&self) -> &'static str {
-        match (self.before.source_line, self.before.sink_line) {
-            (None, None) =>
-                "`n ID s` and `n ID t`, the source and the sink, have to stand before the arcs\n",
-            (None, Some(_)) => "`n ID s`, the source, has to stand before the arcs\n",
-            _ => "`n ID t`, the sink, has to stand before the arcs\n",
-        }
-    }
-
-    fn order_of_bounds(&self) -> &'static str {
-        match self.record {
-            Some(Record::MaxArc { .. }) => "CAP is {cap}, and is 0 or more\n",
-            Some(Record::MinArc { low, .. }) if low < 0 =>
-                "LOW is {low} (and CAP {cap}), and is 0 or more\n",
-            _ => "CAP is {cap}, less than LOW, {low}\n",
-        }
-    }
-
-    /// Compares the declared and the actual number of lines.
-    fn count_of_lines(&self, reason: &str) -> &'static str {
+    /// Whether the count of a block is wrong, and not that of the problem line.
+    fn is_in_block(&self, reason: Reason) -> bool {
         let lacks_labels = self.before.labelled < u64::from(self.before.labels);
-        match (reason, self.record) {
-            (_, Some(Record::LabelsNode { .. } | Record::DistancesNode { .. })) => BLOCK_COUNT,
-            ("TooFew", _) if lacks_labels => BLOCK_COUNT,
-            ("TooFew", _) =>
-                "{counted} {counted lines}{counted s} of the {declared} that line {line} declares\n",
-            _ =>
-                "line {line} declares {declared} {counted lines}{declared s}, and this is one more\n",
+        match self.record {
+            Some(Record::LabelsNode { .. } | Record::DistancesNode { .. }) => true,
+            _ => reason == Reason::TooFew && lacks_labels,
         }
     }
 }
-
-const BLOCK_COUNT: &str =
-    "the block of line {block}, from source {source}, declares {labels} d lines, and {labelled} stand before this place\n";
 
 /// What a problem line counts.
 fn counted_lines(kind: TextKind) -> &'static str {
@@ -230,7 +101,16 @@ fn order_of(kind: TextKind) -> &'static str {
     }
 }
 
-fn text_at(line: &[u8], field: u64) -> &[u8] {
+fn missing_ends(before: &Before) -> &'static str {
+    match (before.source_line, before.sink_line) {
+        (None, None) =>
+            "`n ID s` and `n ID t`, the source and the sink, have to stand before the arcs\n",
+        (None, Some(_)) => "`n ID s`, the source, has to stand before the arcs\n",
+        _ => "`n ID t`, the sink, has to stand before the arcs\n",
+    }
+}
+
+fn text_at(line: &[u8], field: u32) -> &[u8] {
     match field_at(line, field) {
         Some(field) => field.text,
         None => &[],
@@ -256,92 +136,200 @@ impl<'a, A: Reopen> Page<'a, A> {
     pub(crate) fn explain_fault(
         &mut self,
         text: TextFile<'a>,
-        fault: Fault<'_>,
+        at: At,
+        reason: Reason,
     ) -> Result<(), Stop<'a>> {
-        let facts = self.quote_fault(text, fault)?;
-        if let Some(odd) = facts.odd {
+        let seen = self.quote_fault(text, at, reason)?;
+        if let Some(odd) = seen.odd {
             return self.write("{}\n", &[odd.into()]);
         }
-        if facts.lone_return {
+        if seen.lone_return {
             self.out.push_str("lines end by a carriage return alone: end them by a line feed\n")?;
         }
-        if let (Some(_), "UnknownLine" | "FieldCount" | "BadWord" | "ProblemMissing") = (
-            facts.other,
-            fault.reason,
-        ) {
-            tell(
-                &mut self.out,
-                "the p line is that of {other}, and {kind} {are} wanted\n",
-                &facts,
-            )?;
+        if let Some(other) = seen.other {
+            self.write_other_kind(text.kind, other, reason)?;
         }
-        tell(&mut self.out, facts.sentence(fault.reason), &facts)?;
-        match fault.reason {
-            "UnknownLine" => self.list_forms(text.kind),
-            "BadNumber" => self.write_meant(facts.word.as_str()),
-            "NumberRange" => self.write_misread(facts.word.as_str(), range_of(facts.name)),
-            "NodeTwice" => self.write_earlier(text, fault.line, &facts),
-            _ => Ok(()),
-        }
+        self.write_reason(text, at.line, &seen, reason)
     }
 
     /// Reads a text up to its fault, and quotes the line.
     fn quote_fault(
         &mut self,
         text: TextFile<'a>,
-        fault: Fault<'_>,
-    ) -> Result<FaultFacts, Stop<'a>> {
+        at: At,
+        reason: Reason,
+    ) -> Result<FaultLine, Stop<'a>> {
         let mut lines = self.open(text)?;
-        let mut facts = FaultFacts::new(self.alloc, text.kind);
+        let mut seen = FaultLine::new(self.alloc);
         for _ in 0..ANY_LINES {
             let Some(number) = lines.next() else {
                 break;
             };
             if number == 1 {
-                facts.odd = oddity(lines.bytes());
-                facts.lone_return = has_lone_return(lines.bytes());
+                seen.odd = oddity(lines.bytes());
+                seen.lone_return = has_lone_return(lines.bytes());
             }
-            if number == fault.line {
-                let quote = quote(self.alloc, text.file, number, lines.bytes(), fault.field)?;
+            if number == at.line {
+                let quote = quote(self.alloc, text.file, number, lines.bytes(), at.field)?;
                 self.out.push_str(quote.as_str())?;
-                facts.see_fault(lines.bytes(), fault.field)?;
-                facts.record = lines.record();
-                facts.lone_return = facts.lone_return && number == 1 && lines.next().is_none();
-                return Ok(facts);
+                seen.see(text.kind, lines.bytes(), at.field)?;
+                seen.record = lines.record();
+                seen.lone_return = seen.lone_return && number == 1 && lines.next().is_none();
+                return Ok(seen);
             }
-            facts.before.lines = number;
+            seen.before.lines = number;
             if let Some(record) = lines.record() {
-                facts.before.add(number, record);
+                seen.before.add(number, record);
             }
         }
-        self.name_place(text.file, fault, facts.before.lines)?;
-        Ok(facts)
+        self.name_place(text.file, at, reason, seen.before.lines)?;
+        Ok(seen)
     }
 
     /// Names the place of a fault at the end of a text, or at a line that is too long to be read.
-    fn name_place(&mut self, file: &str, fault: Fault<'_>, last: u64) -> Result<(), Stop<'a>> {
-        match fault.reason {
-            "LineTooLong" | "LineLimit" => self.write("{}:{}: ", &[file.into(), fault.line.into()]),
-            _ => self.write("{}: ends after line {}\n", &[file.into(), last.into()]),
+    fn name_place(
+        &mut self,
+        file: &str,
+        at: At,
+        reason: Reason,
+        last: u64,
+    ) -> Result<(), Stop<'a>> {
+        let file = Value::File(file);
+        match reason {
+            Reason::LineTooLong | Reason::LineLimit => self.write("{}:{}: ", &[file, at.line.into()]),
+            _ => self.write("{}: ends after line {}\n", &[file, last.into()]),
         }
     }
 
-    fn list_forms(&mut self, kind: TextKind) -> Result<(), Stop<'a>> {
+    /// Names the kind of a text that isn't of the kind that is wanted.
+    fn write_other_kind(
+        &mut self,
+        kind: TextKind,
+        other: &str,
+        reason: Reason,
+    ) -> Result<(), Stop<'a>> {
+        match reason {
+            Reason::UnknownLine
+            | Reason::FieldCount
+            | Reason::BadWord
+            | Reason::ProblemMissing => {
+                let wanted = kind_words(kind);
+                let verb = if wanted.starts_with("a ") { "is" } else { "are" };
+                self.write(
+                    "the p line is that of {}, and {} {} wanted\n",
+                    &[other.into(), wanted.into(), verb.into()],
+                )
+            }
+            _ => Ok(()),
+        }
+    }
+
+    /// Writes why a line has a fault by itself, or by the lines before it.
+    fn write_reason(
+        &mut self,
+        text: TextFile<'a>,
+        line: u64,
+        seen: &FaultLine,
+        reason: Reason,
+    ) -> Result<(), Stop<'a>> {
+        let kind = text.kind;
+        match reason {
+            Reason::LineTooLong => {
+                self.write("the line has more than {} bytes\n", &[(MAX_LINE as u64).into()])
+            }
+            Reason::LineLimit => self.write("a text has at most {} lines\n", &[MAX_LINES.into()]),
+            Reason::UnknownLine => self.list_forms(kind, seen.word.as_str()),
+            Reason::FieldCount => self.write_field_count(kind, seen),
+            Reason::BadWord => self.write(
+                "`{}` stands where `{}` is wanted: the line is `{}`\n",
+                &[seen.word.as_str().into(), seen.name.into(), seen.form.into()],
+            ),
+            Reason::BadNumber => self.write_bad_number(seen),
+            Reason::NumberRange => self.write_range(seen.word.as_str(), seen.name),
+            Reason::ProblemMissing => {
+                let first = form_of(kind, b"p").unwrap_or("p");
+                self.write("a line `{}` has to stand first, but for comments\n", &[first.into()])
+            }
+            Reason::BoundOrder => self.write_bounds(seen.record),
+            Reason::NodeTwice => self.write_earlier(text, line, seen),
+            _ => self.write_against_earlier(kind, seen, reason),
+        }
+    }
+
+    /// Writes what a line doesn't agree with that stands before it.
+    fn write_against_earlier(
+        &mut self,
+        kind: TextKind,
+        seen: &FaultLine,
+        reason: Reason,
+    ) -> Result<(), Stop<'a>> {
+        let before = &seen.before;
+        match reason {
+            Reason::ProblemTwice => {
+                self.write("line {} is a p line already\n", &[before.problem_line.into()])
+            }
+            Reason::SolutionTwice => {
+                self.write("line {} is an s line already\n", &[before.value_line.into()])
+            }
+            Reason::EndTwice => {
+                self.write("line {} has the same letter already\n", &[seen.end_line().into()])
+            }
+            Reason::RecordOrder => self.write(order_of(kind), &[]),
+            Reason::EndMissing => self.write(missing_ends(before), &[]),
+            Reason::SolutionMissing => self.write(
+                "a solution has one line `s VALUE`, and this one has none\n",
+                &[],
+            ),
+            Reason::NodeRange => self.write(
+                "node {} is above the {} nodes that line {} declares\n",
+                &[seen.word.as_str().into(), before.nodes.into(), before.problem_line.into()],
+            ),
+            Reason::TooMany | Reason::TooFew => self.write_count(kind, seen, reason),
+            Reason::PredUnknown | Reason::PastRadius => self.write_label_fault(seen, reason),
+            _ => Ok(()),
+        }
+    }
+
+    fn list_forms(&mut self, kind: TextKind, word: &str) -> Result<(), Stop<'a>> {
+        self.write(
+            "no line of {} begins with `{}`\nits lines are",
+            &[kind_words(kind).into(), word.into()],
+        )?;
         for form in forms(kind) {
             self.write(" `{}`,", &[(*form).into()])?;
         }
         self.write(" and comments, which begin with c\n", &[])
     }
 
-    fn write_meant(&mut self, word: &str) -> Result<(), Stop<'a>> {
+    fn write_field_count(&mut self, kind: TextKind, seen: &FaultLine) -> Result<(), Stop<'a>> {
+        let wanted = count_fields(seen.form.as_bytes());
+        self.write(
+            "the line has {} fields, and `{}` has {}",
+            &[seen.fields.into(), seen.form.into(), wanted.into()],
+        )?;
+        let has_radius = kind == TextKind::Labels && seen.form.starts_with('t');
+        self.write(if has_radius { ", or one more with a RADIUS\n" } else { "\n" }, &[])
+    }
+
+    fn write_bad_number(&mut self, seen: &FaultLine) -> Result<(), Stop<'a>> {
+        let word = seen.word.as_str();
+        self.write(
+            "{} is a whole number, digits with a sign or without, and not `{}`\n",
+            &[seen.name.into(), word.into()],
+        )?;
         match meant_number(self.alloc, word)? {
             Some(number) => self.write("write {}\n", &[number.as_str().into()]),
             None => Ok(()),
         }
     }
 
-    /// Names what a number may come from that is out of its range.
-    fn write_misread(&mut self, word: &str, range: &str) -> Result<(), Stop<'a>> {
+    /// Names the range of a number, and what one that is outside may come from.
+    fn write_range(&mut self, word: &str, name: &str) -> Result<(), Stop<'a>> {
+        let range = range_of(name);
+        self.write(
+            "{} is a number from {}, and not {}\n",
+            &[name.into(), range.into(), word.into()],
+        )?;
         match (word.parse::<i64>(), word.parse::<u64>()) {
             (Ok(0), _) if range.starts_with('1') => {
                 self.write("IDs count from 1: numbered from 0? add 1 to each\n", &[])
@@ -354,18 +342,85 @@ impl<'a, A: Reopen> Page<'a, A> {
         }
     }
 
+    fn write_bounds(&mut self, record: Option<Record>) -> Result<(), Stop<'a>> {
+        match record {
+            Some(Record::MaxArc { cap, .. }) => {
+                self.write("CAP is {}, and is 0 or more\n", &[cap.into()])
+            }
+            Some(Record::MinArc { low, cap, .. }) if low < 0 => self.write(
+                "LOW is {} (and CAP {}), and is 0 or more\n",
+                &[low.into(), cap.into()],
+            ),
+            Some(Record::MinArc { low, cap, .. }) => {
+                self.write("CAP is {}, less than LOW, {}\n", &[cap.into(), low.into()])
+            }
+            _ => Ok(()),
+        }
+    }
+
+    /// Compares the declared and the actual number of lines.
+    fn write_count(
+        &mut self,
+        kind: TextKind,
+        seen: &FaultLine,
+        reason: Reason,
+    ) -> Result<(), Stop<'a>> {
+        let before = &seen.before;
+        if seen.is_in_block(reason) {
+            return self.write(
+                "the block of line {}, from source {}, declares {} d lines, and {} stand before this place\n",
+                &[
+                    before.block_line.into(),
+                    before.source.into(),
+                    before.labels.into(),
+                    before.labelled.into(),
+                ],
+            );
+        }
+        let (line, declared) = (Value::from(before.problem_line), Value::from(before.count));
+        let lines = Value::Word(counted_lines(kind));
+        if reason == Reason::TooFew {
+            let end = Value::Word(ending(before.counted));
+            return self.write(
+                "{} {}{} of the {} that line {} declares\n",
+                &[before.counted.into(), lines, end, declared, line],
+            );
+        }
+        let end = Value::Word(ending(u64::from(before.count)));
+        self.write(
+            "line {} declares {} {}{}, and this is one more\n",
+            &[line, declared, lines, end],
+        )
+    }
+
+    fn write_label_fault(&mut self, seen: &FaultLine, reason: Reason) -> Result<(), Stop<'a>> {
+        let Some(Record::LabelsNode { dist, pred, .. }) = seen.record else {
+            return Ok(());
+        };
+        if reason == Reason::PredUnknown {
+            return self.write(
+                "PRED, {}, is neither the source of the block nor the ID of a d line before this one: order the d lines so that each stands after that of its PRED\n",
+                &[pred.into()],
+            );
+        }
+        self.write(
+            "DIST is {}, above the RADIUS of the block, {}\n",
+            &[dist.into(), seen.before.radius.unwrap_or(0).into()],
+        )
+    }
+
     /// Names the earlier line about the same node.
     fn write_earlier(
         &mut self,
         text: TextFile<'a>,
         line: u64,
-        facts: &FaultFacts,
+        seen: &FaultLine,
     ) -> Result<(), Stop<'a>> {
-        let Some(named) = facts.record.and_then(name_in) else {
+        let Some(named) = seen.record.and_then(name_in) else {
             return Ok(());
         };
         let from = match named {
-            Named::Label(_) => facts.before.block_line,
+            Named::Label(_) => seen.before.block_line,
             Named::Node(_) => 0,
         };
         match self.find(text, Wanted::Name { named, from })? {

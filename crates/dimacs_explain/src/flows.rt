@@ -1,187 +1,197 @@
-//! Explains the tests of a flow.
+//! Explains the tests of a flow's arcs and nodes.
 
-use crate::costs::cost_of;
-use crate::entries::{EntrySum, NodeFlow, Parallel, SetSums};
-use crate::faults::Fault;
+use crate::entries::{EntrySum, NodeFlow, Parallel};
 use crate::forms::range_of;
 use crate::least_cost::{paid_bound, reduced_cost};
 use crate::lookups::{Wanted, arc_of};
-use crate::page::{FoundLine, Page, Stop};
+use crate::page::{Page, Stop};
 use crate::reopen::Reopen;
-use crate::sentence::{Facts, Value, ending, tell};
+use crate::sentence::{Value, ending};
 use crate::texts::TextFile;
-use dimacs_claims::read_cut;
 use dimacs_network::ArcView;
-use dimacs_records::{End, Record, TextKind};
+use dimacs_records::{Record, TextKind};
 
-/// An arc that fails a test.
+/// A bound of an arc.
 #[derive(Clone, Copy)]
-struct ArcFacts {
-    number: u32,
-    arc: ArcView,
-    flow: i64,
-    /// The potentials of its ends.
-    tail: i128,
-    head: i128,
-    /// The arcs with its ends, and the sum of the entries.
-    parallel: Parallel,
-    sum: i128,
+pub(crate) enum Bound {
+    Low,
+    Cap,
 }
-
-impl Facts for ArcFacts {
-    fn value(&self, name: &str) -> Value<'_> {
-        let arc = self.arc;
-        let reduced = reduced_cost(arc, self.tail, self.head);
-        match name {
-            "arc" => self.number.into(),
-            "tail" => arc.tail.into(),
-            "head" => arc.head.into(),
-            "low" => arc.low.into(),
-            "cap" => arc.cap.into(),
-            "cost" => arc.cost.into(),
-            "costs" => range_of("VALUE").into(),
-            "flow" => self.flow.into(),
-            "flows" => range_of("FLOW").into(),
-            "y(tail)" => self.tail.into(),
-            "y(head)" => self.head.into(),
-            "reduced" => reduced.into(),
-            "sign" => (if reduced > 0 { "above" } else { "below" }).into(),
-            "bound" => paid_bound(arc, reduced).0.into(),
-            "wanted" => paid_bound(arc, reduced).1.into(),
-            "count" => self.parallel.all.into(),
-            "s" => ending(self.parallel.all).into(),
-            "first" => self.parallel.first.into(),
-            "sum" => self.sum.into(),
-            "other caps" => self.other_caps().into(),
-            "other lows" => self.other_lows().into(),
-            "left by caps" => self.sum.saturating_sub(self.other_caps()).into(),
-            "left by lows" => self.sum.saturating_sub(self.other_lows()).into(),
-            _ => "".into(),
-        }
-    }
-}
-
-impl ArcFacts {
-    fn other_caps(&self) -> i128 {
-        self.parallel.cap.saturating_sub(i128::from(self.arc.cap))
-    }
-
-    fn other_lows(&self) -> i128 {
-        self.parallel.low.saturating_sub(i128::from(self.arc.low))
-    }
-}
-
-/// What a test demands of an arc, and what it has.
-fn demand(reason: &str) -> &'static str {
-    match reason {
-        "AboveCap" => "arc {arc} carries {flow}, more than its CAP, {cap}\n",
-        "BelowLow" => "arc {arc} carries {flow}, less than its LOW, {low}\n",
-        "CostRange" =>
-            "arc {arc} carries {flow} at a COST of {cost}: the costs of the arcs up to this one leave {costs}\n",
-        "NotSaturated" =>
-            "arc {arc} leaves the set, from {tail} inside to {head} outside, and carries {flow} of its CAP, {cap}\n",
-        "BackFlow" =>
-            "arc {arc} enters the set, from {tail} outside to {head} inside, and carries {flow}, not 0\n",
-        "NotTight" =>
-            "the reduced cost of arc {arc} is COST - y({tail}) + y({head}) = {cost} - {y(tail)} + {y(head)} = {reduced}, {sign} 0, so it has to carry its {bound}, {wanted}, and carries {flow}\n",
-        _ => "",
-    }
-}
-
-const ENTRIES: &str =
-    "{count} arc{s} from {tail} to {head}: the f lines with these ends add up to {sum}\n";
-
-const CAPS: &str =
-    "the arcs but the first carry their CAP, {other caps} in all, and {left by caps} is left for the first, arc {first}: a FLOW is a number from {flows}\n";
-
-const LOWS: &str =
-    "the arcs but the first carry their LOW, {other lows} in all, and {left by lows} is left for the first, arc {first}: a FLOW is a number from {flows}\n";
-
-const PARALLEL: &str =
-    "{count} arcs lead from {tail} to {head}, and arc {first} is the first of them: entries with these ends belong to them in the order of the instance\n";
 
 impl<'a, A: Reopen> Page<'a, A> {
-    /// Explains why the test of an arc failed.
-    pub(crate) fn explain_arc(&mut self, number: u32, reason: &str) -> Result<(), Stop<'a>> {
+    /// Quotes the line of an arc.
+    pub(crate) fn quote_arc(&mut self, number: u32) -> Result<ArcView, Stop<'a>> {
         let instance = self.texts.instance()?;
-        let Some(arc) = arc_of(self.quote_there(instance, Wanted::Arc(number))?) else {
-            return Ok(());
-        };
-        if instance.kind == TextKind::Graph {
-            return self.explain_weight(number, arc, reason);
-        }
-        let parallel = self.parallel(instance, arc.tail, arc.head, number)?;
-        let facts = ArcFacts {
-            number,
-            arc,
-            flow: 0,
-            tail: 0,
-            head: 0,
-            parallel,
-            sum: 0,
-        };
-        if self.texts.is_spread {
-            self.explain_spread(facts, reason)
-        } else {
-            self.explain_flow(facts, reason)
-        }
+        arc_of(self.quote_there(instance, Wanted::Arc(number))?).ok_or(Stop::Unread(instance.file))
+    }
+
+    /// Quotes the line of an arc, then its entry, and returns its flow.
+    fn quote_flow(&mut self, number: u32) -> Result<(ArcView, i64, Parallel), Stop<'a>> {
+        let arc = self.quote_arc(number)?;
+        let parallel = self.parallel(arc.tail, arc.head, number)?;
+        let flow = self.quote_entry(arc, parallel.before)?;
+        Ok((arc, flow, parallel))
     }
 
     /// The arcs between two nodes, and how many come before the arc with this number, from 1.
-    fn parallel(
+    pub(crate) fn parallel(
         &self,
-        instance: TextFile<'a>,
         tail: u32,
         head: u32,
         number: u32,
     ) -> Result<Parallel, Stop<'a>> {
         let mut parallel = Parallel::new(tail, head, u64::from(number));
-        self.tally(instance, &mut parallel)?;
+        self.tally(self.texts.instance()?, &mut parallel)?;
         Ok(parallel)
     }
 
-    /// Explains an amount that is left for the first of parallel arcs and doesn't fit 64 bits.
-    fn explain_spread(&mut self, mut facts: ArcFacts, reason: &str) -> Result<(), Stop<'a>> {
-        let solution = self.texts.claim()?;
-        let mut entries = EntrySum::new(facts.arc.tail, facts.arc.head);
-        self.tally(solution, &mut entries)?;
-        facts.sum = entries.sum;
-        tell(&mut self.out, ENTRIES, &facts)?;
-        tell(
-            &mut self.out,
-            if reason == "AboveCap" { CAPS } else { LOWS },
-            &facts,
-        )?;
-        Ok(())
+    /// The sum of the entries with these ends.
+    fn entry_sum(&self, tail: u32, head: u32) -> Result<i128, Stop<'a>> {
+        let mut entries = EntrySum::new(tail, head);
+        self.tally(self.texts.claim()?, &mut entries)?;
+        Ok(entries.sum)
     }
 
-    /// Explains why the test of an arc with its entry failed.
-    fn explain_flow(&mut self, mut facts: ArcFacts, reason: &str) -> Result<(), Stop<'a>> {
-        facts.flow = self.quote_entry(facts.arc, facts.parallel.before)?;
-        if reason == "NotTight" {
-            let certificate = self.texts.certificate()?;
-            facts.tail = self.quote_node(certificate, facts.arc.tail)?;
-            facts.head = self.quote_node(certificate, facts.arc.head)?;
+    /// Explains that an arc carries more or less than a bound.
+    pub(crate) fn explain_bound(&mut self, number: u32, bound: Bound) -> Result<(), Stop<'a>> {
+        if self.texts.is_spread {
+            return self.explain_spread(number, bound);
         }
-        tell(&mut self.out, demand(reason), &facts)?;
-        if facts.parallel.all > 1 && matches!(reason, "AboveCap" | "BelowLow") {
-            tell(&mut self.out, PARALLEL, &facts)?;
+        let (arc, flow, parallel) = self.quote_flow(number)?;
+        let (is, name, least) = match bound {
+            Bound::Low => ("less", "LOW", arc.low),
+            Bound::Cap => ("more", "CAP", arc.cap),
+        };
+        self.write(
+            "arc {} carries {}, {} than its {}, {}\n",
+            &[number.into(), flow.into(), is.into(), name.into(), least.into()],
+        )?;
+        if parallel.all > 1 {
+            self.write(
+                "{} arcs lead from {} to {}, and arc {} is the first of them: entries with these ends belong to them in the order of the instance\n",
+                &[
+                    parallel.all.into(),
+                    arc.tail.into(),
+                    arc.head.into(),
+                    parallel.first.into(),
+                ],
+            )?;
             return self.write_spread();
         }
         Ok(())
     }
 
+    /// Explains an amount that is left for the first of parallel arcs and doesn't fit 64 bits.
+    fn explain_spread(&mut self, number: u32, bound: Bound) -> Result<(), Stop<'a>> {
+        let arc = self.quote_arc(number)?;
+        let parallel = self.parallel(arc.tail, arc.head, number)?;
+        let sum = self.entry_sum(arc.tail, arc.head)?;
+        self.write(
+            "{} arc{} from {} to {}: the f lines with these ends add up to {}\n",
+            &[
+                parallel.all.into(),
+                ending(parallel.all).into(),
+                arc.tail.into(),
+                arc.head.into(),
+                sum.into(),
+            ],
+        )?;
+        let (name, others) = match bound {
+            Bound::Low => ("LOW", parallel.low.saturating_sub(i128::from(arc.low))),
+            Bound::Cap => ("CAP", parallel.cap.saturating_sub(i128::from(arc.cap))),
+        };
+        self.write(
+            "the arcs but the first carry their {}, {} in all, and {} is left for the first, arc {}: a FLOW is a number from {}\n",
+            &[
+                name.into(),
+                others.into(),
+                sum.saturating_sub(others).into(),
+                parallel.first.into(),
+                range_of("FLOW").into(),
+            ],
+        )
+    }
+
+    /// Explains that the costs of the arcs up to one leave their range.
+    pub(crate) fn explain_cost(&mut self, number: u32) -> Result<(), Stop<'a>> {
+        let (arc, flow, _) = self.quote_flow(number)?;
+        self.write(
+            "arc {} carries {} at a COST of {}: the costs of the arcs up to this one leave {}\n",
+            &[
+                number.into(),
+                flow.into(),
+                arc.cost.into(),
+                range_of("VALUE").into(),
+            ],
+        )
+    }
+
+    /// Explains that an arc out of the cut isn't full.
+    pub(crate) fn explain_leaving(&mut self, number: u32) -> Result<(), Stop<'a>> {
+        let (arc, flow, _) = self.quote_flow(number)?;
+        self.write(
+            "arc {} leaves the set, from {} inside to {} outside, and carries {} of its CAP, {}\n",
+            &[
+                number.into(),
+                arc.tail.into(),
+                arc.head.into(),
+                flow.into(),
+                arc.cap.into(),
+            ],
+        )
+    }
+
+    /// Explains that an arc into the cut isn't empty.
+    pub(crate) fn explain_entering(&mut self, number: u32) -> Result<(), Stop<'a>> {
+        let (arc, flow, _) = self.quote_flow(number)?;
+        self.write(
+            "arc {} enters the set, from {} outside to {} inside, and carries {}, not 0\n",
+            &[
+                number.into(),
+                arc.tail.into(),
+                arc.head.into(),
+                flow.into(),
+            ],
+        )
+    }
+
+    /// Explains that an arc doesn't carry the bound that its reduced cost demands.
+    pub(crate) fn explain_slack(&mut self, number: u32) -> Result<(), Stop<'a>> {
+        let (arc, flow, _) = self.quote_flow(number)?;
+        let certificate = self.texts.certificate()?;
+        let tail = self.quote_node(certificate, arc.tail)?;
+        let head = self.quote_node(certificate, arc.head)?;
+        let reduced = reduced_cost(arc, tail, head);
+        let (bound, wanted) = paid_bound(arc, reduced);
+        self.write(
+            "the reduced cost of arc {} is COST - y({}) + y({}) = {} - {} + {} = {}",
+            &[
+                number.into(),
+                arc.tail.into(),
+                arc.head.into(),
+                arc.cost.into(),
+                tail.into(),
+                head.into(),
+                reduced.into(),
+            ],
+        )?;
+        let sign = if reduced > 0 { "above" } else { "below" };
+        self.write(
+            ", {} 0, so it has to carry its {}, {}, and carries {}\n",
+            &[sign.into(), bound.into(), wanted.into(), flow.into()],
+        )
+    }
+
     /// Names the command that deals a flow out to parallel arcs.
-    fn write_spread(&mut self) -> Result<(), Stop<'a>> {
+    pub(crate) fn write_spread(&mut self) -> Result<(), Stop<'a>> {
         let (instance, solution) = (self.texts.instance()?, self.texts.claim()?);
-        let word = if instance.kind == TextKind::Max {
-            "max"
-        } else {
-            "min"
+        let word = match instance.kind {
+            TextKind::Max => "max",
+            _ => "min",
         };
         self.write(
             "if the entries don't follow the order of the arcs, have them dealt out: dimacs spread-{} {} {} OUT\n",
-            &[word.into(), instance.file.into(), solution.file.into()],
+            &[word.into(), Value::File(instance.file), Value::File(solution.file)],
         )
     }
 
@@ -199,7 +209,7 @@ impl<'a, A: Reopen> Page<'a, A> {
         }
         self.write(
             "{}: has no entry for the arc, so it carries 0\n",
-            &[solution.file.into()],
+            &[Value::File(solution.file)],
         )?;
         Ok(0)
     }
@@ -250,217 +260,5 @@ impl<'a, A: Reopen> Page<'a, A> {
             ": {} too little leaves\n",
             &[excess.saturating_neg().into()],
         )
-    }
-
-    /// Explains why a solution is refused at a line.
-    pub(crate) fn explain_solution(&mut self, fault: Fault<'_>) -> Result<(), Stop<'a>> {
-        let solution = self.texts.claim()?;
-        let Fault {
-            line: number,
-            field,
-            reason,
-        } = fault;
-        if self.texts.written_file == Some(solution.file)
-            && matches!(reason, "NotMaximum" | "NotLeast")
-        {
-            return self.write(
-                "the flow is feasible, and there is a better one: if its cost can be written, {} has it now\n",
-                &[solution.file.into()],
-            );
-        }
-        match self.quote_there(solution, Wanted::Line { number, field })? {
-            Record::SolutionEntry { tail, head, .. } => self.explain_entry(tail, head, reason),
-            Record::SolutionValue { value } if reason == "ValueDiffers" => self.explain_value(
-                solution, value,
-            ),
-            Record::SolutionValue { value } => self.explain_better(value),
-            _ => Ok(()),
-        }
-    }
-
-    /// Explains why an entry belongs to no arc.
-    fn explain_entry(&mut self, tail: u32, head: u32, reason: &str) -> Result<(), Stop<'a>> {
-        let instance = self.texts.instance()?;
-        if reason == "ArcTwice" {
-            let count = self.parallel(instance, tail, head, 0)?.all;
-            self.write(
-                "{} has {} arc{} from {} to {}, and as many earlier entries have these ends\n",
-                &[
-                    instance.file.into(),
-                    count.into(),
-                    ending(count).into(),
-                    tail.into(),
-                    head.into(),
-                ],
-            )?;
-            return self.write_spread();
-        }
-        let values = [instance.file.into(), tail.into(), head.into()];
-        self.write("{} has no arc from {} to {}\n", &values)?;
-        let back = self.parallel(instance, head, tail, 0)?;
-        if back.all > 0 {
-            self.write(
-                "arc {} leads from {} to {}\n",
-                &[back.first.into(), head.into(), tail.into()],
-            )?;
-        }
-        Ok(())
-    }
-
-    /// Compares the value or cost of a flow with the claimed one.
-    fn explain_value(&mut self, solution: TextFile<'a>, claimed: i128) -> Result<(), Stop<'a>> {
-        let instance = self.texts.instance()?;
-        if instance.kind == TextKind::Min {
-            let Some(cost) = cost_of(self.alloc, self.again, instance, solution)? else {
-                return Ok(());
-            };
-            self.write(
-                "{} is claimed, and the flow costs {}\n",
-                &[claimed.into(), cost.into()],
-            )?;
-            return self.write_wrapped(claimed, cost);
-        }
-        let source = self.source_of(instance)?;
-        let mut flow = NodeFlow::new(self.alloc, solution.file, source);
-        self.tally(solution, &mut flow)?;
-        let (outflow, inflow) = (flow.out_of.sum(), flow.into.sum());
-        let value = outflow.saturating_sub(inflow);
-        self.write(
-            "{} is claimed, and the flow has the value {}: {} leaves the source, node {}, and {} enters it\n",
-            &[
-                claimed.into(),
-                value.into(),
-                outflow.into(),
-                source.into(),
-                inflow.into(),
-            ],
-        )?;
-        self.write_wrapped(claimed, value)
-    }
-
-    fn source_of(&self, instance: TextFile<'a>) -> Result<u32, Stop<'a>> {
-        match self.find(instance, Wanted::End(End::Source))? {
-            Some(
-                FoundLine {
-                    record: Record::MaxNode { id, .. },
-                    ..
-                },
-            ) => Ok(id),
-            _ => Err(Stop::Unread(instance.file)),
-        }
-    }
-
-    /// Names the bits in which a sum may have wrapped around.
-    fn write_wrapped(&mut self, claimed: i128, right: i128) -> Result<(), Stop<'a>> {
-        let apart = claimed.saturating_sub(right);
-        let bits = if apart % 18_446_744_073_709_551_616 == 0 {
-            64_u32
-        } else if apart % 4_294_967_296 == 0 {
-            32
-        } else {
-            return Ok(());
-        };
-        self.write(
-            "they differ by a multiple of 2^{}: a sum of {} bits may have wrapped around\n",
-            &[bits.into(), bits.into()],
-        )
-    }
-
-    /// Names the file with the better flow, if one was written, and by how much it is better. A value above the claimed
-    /// one is that of a maximum flow, one below is a cost.
-    fn explain_better(&mut self, claimed: i128) -> Result<(), Stop<'a>> {
-        let Some(file) = self.texts.written_file else {
-            return self.write(
-                "the flow is feasible, and there is a better one: name a file after the solution to get it\n",
-                &[],
-            );
-        };
-        if self.again.open(file).is_none() {
-            return self.write(
-                "the flow is feasible, and there is a better one, which was written to {}\n",
-                &[file.into()],
-            );
-        }
-        let Some(Record::SolutionValue { value }) = self.quote(solution_in(file), Wanted::Value)?
-        else {
-            return self.write(
-                "the flow is feasible, and there is a better one, whose cost leaves {}\n",
-                &[range_of("VALUE").into()],
-            );
-        };
-        let (verb, apart, word) = if value > claimed {
-            ("has", value.saturating_sub(claimed), "more")
-        } else {
-            ("costs", claimed.saturating_sub(value), "less")
-        };
-        self.write(
-            "this flow is feasible, and {} {} {} than the {} that is claimed\n",
-            &[verb.into(), apart.into(), word.into(), claimed.into()],
-        )
-    }
-
-    /// Names the file with a feasible flow, if one was written, and quotes its cost.
-    pub(crate) fn explain_feasible(&mut self) -> Result<(), Stop<'a>> {
-        let Some(file) = self.texts.written_file else {
-            return self.write(
-                "the instance has a feasible flow: name a file after the instance to get one\n",
-                &[],
-            );
-        };
-        self.write(
-            "the instance has a feasible flow: if its cost can be written, {} has one\n",
-            &[file.into()],
-        )?;
-        if self.again.open(file).is_some() {
-            self.quote(solution_in(file), Wanted::Value)?;
-        }
-        Ok(())
-    }
-
-    /// Explains that the cut lacks the source, or has the sink.
-    pub(crate) fn explain_end(&mut self, node: u32, end: End) -> Result<(), Stop<'a>> {
-        let (instance, cut) = (self.texts.instance()?, self.texts.certificate()?);
-        self.quote(instance, Wanted::End(end))?;
-        match self.quote(cut, Wanted::node(node))? {
-            Some(_) => self.write(
-                "node {} is the sink, and the cut holds it\n",
-                &[node.into()],
-            ),
-            None => self.write(
-                "node {} is the source, and the cut in {} doesn't hold it\n",
-                &[node.into(), cut.file.into()],
-            ),
-        }
-    }
-
-    /// Explains why a set isn't violated.
-    pub(crate) fn explain_violation(&mut self) -> Result<(), Stop<'a>> {
-        let Ok(TextFile { file, .. }) = self.texts.certificate() else {
-            return Ok(());
-        };
-        let Some(mut source) = self.again.open(file) else {
-            return Err(Stop::Unread(file));
-        };
-        let Ok(set) = read_cut(self.alloc, &mut source) else {
-            return Err(Stop::Unread(file));
-        };
-        let mut sums = SetSums::new(&set);
-        self.tally(self.texts.instance()?, &mut sums)?;
-        self.write(
-            "the set in {} supplies {}, and its arcs can carry {} to {} out of it: a set shows that no flow is feasible where its supply lies outside\n",
-            &[
-                file.into(),
-                sums.supply.into(),
-                sums.low.into(),
-                sums.high.into(),
-            ],
-        )
-    }
-}
-
-fn solution_in(file: &str) -> TextFile<'_> {
-    TextFile {
-        kind: TextKind::Solution,
-        file,
     }
 }

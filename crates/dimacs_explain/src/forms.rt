@@ -44,7 +44,7 @@ pub(crate) fn form_of(kind: TextKind, letter: &[u8]) -> Option<&'static str> {
 }
 
 /// The name of a field of a form, from 1. The one after the last is a RADIUS.
-pub(crate) fn field_name(form: &'static str, field: u64) -> &'static str {
+pub(crate) fn field_name(form: &'static str, field: u32) -> &'static str {
     let place = usize::try_from(field.saturating_sub(1)).unwrap_or(usize::MAX);
     form.split(' ').nth(place).unwrap_or("RADIUS")
 }

@@ -4,12 +4,12 @@
 
 mod before;
 mod blocks;
+mod claims;
 mod command;
 mod costs;
 mod crossing;
 mod entries;
 mod faults;
-mod first_line;
 mod flows;
 mod forms;
 mod least_cost;
@@ -20,15 +20,16 @@ mod oddities;
 mod page;
 mod paths;
 mod quote;
-mod refusal;
 mod refusals;
 mod reopen;
+mod report_keeper;
 mod routes;
 mod sentence;
+mod sets;
 mod sums;
 mod texts;
 mod yes;
 
-pub use command::explain_command;
-pub use first_line::FirstLine;
+pub use command::explain_job;
 pub use reopen::Reopen;
+pub use report_keeper::ReportKeeper;

@@ -1,7 +1,7 @@
 //! What is looked for in texts, and what records name and declare.
 
 use dimacs_network::ArcView;
-use dimacs_records::{Declared, End, Record};
+use dimacs_records::{At, Declared, End, Record};
 
 /// What a line names as its own.
 #[derive(Clone, Copy)]
@@ -27,8 +27,8 @@ impl Named {
 pub(crate) enum Wanted {
     Problem,
     Value,
-    /// The line with this number, with a field that is marked, from 1; 0 marks none.
-    Line { number: u64, field: u64 },
+    /// The line here; its field is marked.
+    Line(At),
     /// A line that names this, from a line on.
     Name { named: Named, from: u64 },
     /// The line of the source, or of the sink.
@@ -57,7 +57,7 @@ impl Wanted {
         match self {
             Wanted::Problem => matches!(declared(record), Some(Declared { nodes: Some(_), .. })),
             Wanted::Value => matches!(record, Record::SolutionValue { .. }),
-            Wanted::Line { number, .. } => line == number,
+            Wanted::Line(at) => line == at.line,
             Wanted::Name {
                 named: wanted,
                 from,
@@ -82,9 +82,9 @@ impl Wanted {
     }
 
     /// The field that is marked.
-    pub(crate) fn field(self) -> u64 {
+    pub(crate) fn field(self) -> u32 {
         match self {
-            Wanted::Line { field, .. } => field,
+            Wanted::Line(at) => at.field,
             _ => 0,
         }
     }

@@ -68,7 +68,7 @@ impl<'a, A: Reopen> Page<'a, A> {
     pub(crate) fn write_unread(&mut self, file: &str) -> Result<(), Stop<'a>> {
         self.write(
             "{}: is no file that can be read again, so its lines are left out\n",
-            &[file.into()],
+            &[Value::File(file)],
         )
     }
 

@@ -6,6 +6,7 @@ use crate::blocks::{
 use crate::lookups::{Named, Wanted};
 use crate::page::{Page, Stop};
 use crate::reopen::Reopen;
+use crate::sentence::Value;
 use crate::texts::TextFile;
 use dimacs_claims::{Labels, read_distances, read_labels};
 use dimacs_network::ArcView;
@@ -39,26 +40,25 @@ impl<'a, A: Reopen> Page<'a, A> {
         }
     }
 
-    /// Explains why the test of a graph's arc failed.
-    pub(crate) fn explain_weight(
-        &mut self,
-        number: u32,
-        arc: ArcView,
-        reason: &str,
-    ) -> Result<(), Stop<'a>> {
-        if reason == "NegativeWeight" {
-            return self.write(
-                "arc {} has the WEIGHT {}, below 0: solve-paths takes no such graph, and a block with a RADIUS has none\n",
-                &[number.into(), arc.cost.into()],
-            );
-        }
+    /// Explains that a graph has a negative WEIGHT where none is allowed.
+    pub(crate) fn explain_negative(&mut self, number: u32) -> Result<(), Stop<'a>> {
+        let arc = self.quote_arc(number)?;
+        self.write(
+            "arc {} has the WEIGHT {}, below 0: solve-paths takes no such graph, and a block with a RADIUS has none\n",
+            &[number.into(), arc.cost.into()],
+        )
+    }
+
+    /// Explains that an arc leads nearer to its head than the head's label or distance, or to a node without one.
+    pub(crate) fn explain_farther(&mut self, number: u32) -> Result<(), Stop<'a>> {
+        let arc = self.quote_arc(number)?;
         let text = self.texts.tested()?;
         let tested = self.read_tested(text)?;
         let Some(ends) = failing_ends(tested.labels(), arc) else {
             return Err(Stop::Unread(text.file));
         };
         let line = self.block_line(text, ends.source)?;
-        let values = [text.file.into(), line.into(), ends.source.into()];
+        let values = [Value::File(text.file), line.into(), ends.source.into()];
         self.write("{}:{}: the block from source {}\n", &values)?;
         self.write_leads(number, arc, ends.tail, ends.sum)?;
         let name = match text.kind {
@@ -197,7 +197,7 @@ impl<'a, A: Reopen> Page<'a, A> {
         let tested = self.read_tested(text)?;
         self.write(
             "{} has no block from source {} that serves the query; its blocks are from",
-            &[text.file.into(), node.into()],
+            &[Value::File(text.file), node.into()],
         )?;
         self.list_sources(tested.labels())
     }

@@ -1,6 +1,6 @@
 //! Quotes of lines.
 
-use crate::sentence::fill;
+use crate::sentence::{Value, fill};
 use dimacs_lines::{Field, fields};
 use std::alloc::{AllocError, Global};
 
@@ -16,7 +16,7 @@ pub(crate) fn quote(
     file: &str,
     line: u64,
     bytes: &[u8],
-    field: u64,
+    field: u32,
 ) -> Result<String, AllocError> {
     let marked = field_at(bytes, field);
     let (start, length) = marked.map_or((0, 0), |field| (field.start, field.text.len()));
@@ -24,7 +24,7 @@ pub(crate) fn quote(
     let end = bytes.len().min(from.saturating_add(SHOWN));
     let stop = end.min(start.saturating_add(length));
     let mut text = String::new(alloc);
-    fill(&mut text, "{}:{}: ", &[file.into(), line.into()])?;
+    fill(&mut text, "{}:{}: ", &[Value::File(file), line.into()])?;
     text.push_str(if from > 0 { ".." } else { "" })?;
     escape(&mut text, bytes.get(from..start).unwrap_or(&[]))?;
     let begin = text.len();
@@ -41,7 +41,7 @@ pub(crate) fn quote(
 }
 
 /// A field of a line, from 1.
-pub(crate) fn field_at(line: &[u8], field: u64) -> Option<Field<'_>> {
+pub(crate) fn field_at(line: &[u8], field: u32) -> Option<Field<'_>> {
     let place = usize::try_from(field.checked_sub(1)?).ok()?;
     fields(line).nth(place)
 }

@@ -1,25 +1,51 @@
 //! Explains a refusal by its place and its reason.
 
-use crate::faults::Fault;
+use crate::flows::Bound;
 use crate::lookups::Wanted;
 use crate::page::{Page, Stop};
-use crate::refusal::{Refusal, RefusalPlace};
 use crate::reopen::Reopen;
+use crate::sentence::Value;
+use dimacs_judging::Where;
 use dimacs_lines::Memory;
-use dimacs_records::End;
+use dimacs_records::{At, End, Reason};
+use dimacs_runs::Report;
+
+/// Where a test failed: at a line of the solution, or else at the arc with this number or the node with this ID.
+#[derive(Clone, Copy)]
+pub(crate) struct Place {
+    pub(crate) at: At,
+    pub(crate) number: u32,
+}
+
+impl Place {
+    fn of(place: Where) -> Place {
+        let whole = At { line: 0, field: 0 };
+        match place {
+            Where::Solution { line, field } => Place {
+                at: At { line, field },
+                number: 0,
+            },
+            Where::Certificate => Place {
+                at: whole,
+                number: 0,
+            },
+            Where::Arc(number) | Where::Node(number) => Place { at: whole, number },
+        }
+    }
+}
 
 impl<'a, A: Reopen> Page<'a, A> {
-    /// The explanation of a refusal.
-    pub(crate) fn explained(mut self, refusal: Refusal<'_>) -> Result<String, Memory> {
-        match self.explain(refusal) {
+    /// The explanation of a report that refuses.
+    pub(crate) fn explained(mut self, report: &Report) -> Result<String, Memory> {
+        match self.explain(report) {
             Err(Stop::Memory) => Err(Memory),
             _ => Ok(self.out),
         }
     }
 
     /// Explains a refusal, and names the files that a solver has emptied.
-    fn explain(&mut self, refusal: Refusal<'_>) -> Result<(), Stop<'a>> {
-        match self.explain_place(refusal) {
+    fn explain(&mut self, report: &Report) -> Result<(), Stop<'a>> {
+        match self.explain_report(report) {
             Err(Stop::Unread(file)) => self.write_unread(file)?,
             Err(Stop::Memory) => return Err(Stop::Memory),
             _ => (),
@@ -27,31 +53,25 @@ impl<'a, A: Reopen> Page<'a, A> {
         for file in self.texts.emptied.unwrap_or_default() {
             self.write(
                 "{} is empty: a solve run creates the files that it writes, or empties them, before it reads the others\n",
-                &[file.as_str().into()],
+                &[Value::File(file.as_str())],
             )?;
         }
         Ok(())
     }
 
-    fn explain_place(&mut self, refusal: Refusal<'_>) -> Result<(), Stop<'a>> {
-        let reason = refusal.reason;
-        match refusal.place {
-            RefusalPlace::Text { name, line, field } => {
-                let fault = Fault {
-                    line,
-                    field,
-                    reason,
-                };
-                self.explain_text(name, fault)
+    fn explain_report(&mut self, report: &Report) -> Result<(), Stop<'a>> {
+        match report {
+            Report::Fault(_, _, Reason::Feasible) => self.explain_feasible(),
+            Report::Fault(_, _, Reason::NodesDiffer) => self.explain_nodes(),
+            Report::Fault(kind, at, reason) => {
+                let text = self.texts.of_kind(*kind)?;
+                self.explain_fault(text, *at, *reason)
             }
-            RefusalPlace::Arc(number) => {
+            Report::No(place, reason) => {
                 self.test_readable()?;
-                self.explain_arc(number, reason)
+                self.explain_test(Place::of(*place), *reason)
             }
-            RefusalPlace::Node(node) => {
-                self.test_readable()?;
-                self.explain_node(node, reason)
-            }
+            Report::Yes(_) | Report::Distances(_) | Report::GaveUp | Report::Nothing => Ok(()),
         }
     }
 
@@ -69,31 +89,58 @@ impl<'a, A: Reopen> Page<'a, A> {
         all
     }
 
-    /// Explains a refusal at a place of a text: a fault of the text, or a test of a claim.
-    fn explain_text(&mut self, name: &str, fault: Fault<'_>) -> Result<(), Stop<'a>> {
-        match fault.reason {
-            "Feasible" => self.explain_feasible(),
-            "UnknownArc" | "ArcTwice" | "ValueDiffers" | "NotMaximum" | "NotLeast" => {
-                self.test_readable()?;
-                self.explain_solution(fault)
-            }
-            "NodesDiffer" => {
-                self.test_readable()?;
-                self.explain_nodes()
-            }
-            "NotViolated" => {
-                self.test_readable()?;
-                self.explain_violation()
-            }
-            _ => {
-                let text = self.texts.by_name(name)?;
-                self.explain_fault(text, fault)
-            }
+    /// Explains a test that failed. The other reasons are those of texts.
+    fn explain_test(&mut self, place: Place, reason: Reason) -> Result<(), Stop<'a>> {
+        match reason {
+            Reason::UnknownArc => self.explain_unknown_arc(place.at),
+            Reason::ArcTwice => self.explain_arc_twice(place.at),
+            Reason::BelowLow => self.explain_bound(place.number, Bound::Low),
+            Reason::AboveCap => self.explain_bound(place.number, Bound::Cap),
+            Reason::Balance => self.explain_balance(place.number),
+            Reason::CostRange => self.explain_cost(place.number),
+            Reason::ValueDiffers => self.explain_value(place.at),
+            Reason::NodesDiffer => self.explain_nodes(),
+            Reason::SourceOutside => self.explain_end(place.number, End::Source),
+            Reason::SinkInside => self.explain_end(place.number, End::Sink),
+            Reason::NotSaturated => self.explain_leaving(place.number),
+            Reason::BackFlow => self.explain_entering(place.number),
+            Reason::NotTight => self.explain_slack(place.number),
+            Reason::NotViolated => self.explain_violation(),
+            Reason::QueryNode => self.explain_query_node(place.number),
+            Reason::BlockMissing => self.explain_query(place.number),
+            Reason::NoTightArc => self.explain_unreached(place.number),
+            Reason::Escapes | Reason::NotShortest => self.explain_farther(place.number),
+            Reason::NegativeWeight => self.explain_negative(place.number),
+            Reason::NotMaximum | Reason::NotLeast => self.explain_better(place.at),
+            Reason::Feasible => self.explain_feasible(),
+            Reason::LineTooLong
+            | Reason::UnknownLine
+            | Reason::FieldCount
+            | Reason::BadNumber
+            | Reason::NumberRange
+            | Reason::BadWord
+            | Reason::ProblemMissing
+            | Reason::ProblemTwice
+            | Reason::RecordOrder
+            | Reason::NodeRange
+            | Reason::NodeTwice
+            | Reason::EndTwice
+            | Reason::EndMissing
+            | Reason::BoundOrder
+            | Reason::ParallelArc
+            | Reason::TooMany
+            | Reason::TooFew
+            | Reason::SolutionMissing
+            | Reason::SolutionTwice
+            | Reason::PredUnknown
+            | Reason::LineLimit
+            | Reason::PastRadius => Ok(()),
         }
     }
 
     /// Explains that an instance and what is tested against it differ in NODES.
     fn explain_nodes(&mut self) -> Result<(), Stop<'a>> {
+        self.test_readable()?;
         let (instance, tested) = (self.texts.instance()?, self.texts.tested()?);
         self.quote_there(instance, Wanted::Problem)?;
         self.quote_there(tested, Wanted::Problem)?;
@@ -101,17 +148,5 @@ impl<'a, A: Reopen> Page<'a, A> {
             "NODES of the two differ: they are not of one instance\n",
             &[],
         )
-    }
-
-    /// Explains why the test of a node failed.
-    fn explain_node(&mut self, node: u32, reason: &str) -> Result<(), Stop<'a>> {
-        match reason {
-            "Balance" => self.explain_balance(node),
-            "SourceOutside" => self.explain_end(node, End::Source),
-            "SinkInside" => self.explain_end(node, End::Sink),
-            "NoTightArc" => self.explain_unreached(node),
-            "QueryNode" => self.explain_query_node(node),
-            _ => self.explain_query(node),
-        }
     }
 }

@@ -1,11 +1,14 @@
 //! Sentences, written with the values that they name.
 
+use crate::quote::escape;
 use std::alloc::AllocError;
 
 /// What a sentence names.
 #[derive(Clone, Copy)]
 pub(crate) enum Value<'a> {
     Word(&'a str),
+    /// The name of a file.
+    File(&'a str),
     Number(i128),
     /// A number after an operator: in brackets if it is negative.
     Operand(i128),
@@ -41,11 +44,6 @@ impl<'a> From<i128> for Value<'a> {
     }
 }
 
-/// The values that sentences about one thing name.
-pub(crate) trait Facts {
-    fn value(&self, name: &str) -> Value<'_>;
-}
-
 /// Writes a sentence, with the next value for each `{}`. `write!` does so too, but takes three times as long to prove.
 pub(crate) fn fill(
     out: &mut String,
@@ -62,28 +60,10 @@ pub(crate) fn fill(
     Ok(())
 }
 
-/// Writes a sentence, with the value of each name that stands in it between braces.
-pub(crate) fn tell<F: Facts>(
-    out: &mut String,
-    sentence: &str,
-    facts: &F,
-) -> Result<(), AllocError> {
-    for piece in sentence.split('{') {
-        let rest = match piece.split_once('}') {
-            Some((name, rest)) => {
-                write_value(out, facts.value(name))?;
-                rest
-            }
-            None => piece,
-        };
-        out.push_str(rest)?;
-    }
-    Ok(())
-}
-
 fn write_value(out: &mut String, value: Value<'_>) -> Result<(), AllocError> {
     match value {
         Value::Word(word) => out.push_str(word),
+        Value::File(name) => escape(out, name.as_bytes()),
         Value::Operand(number) if number < 0 => write!(out, "({number})"),
         Value::Number(number) | Value::Operand(number) => write!(out, "{number}"),
     }

@@ -55,15 +55,15 @@ impl<'a> Texts<'a> {
         }
     }
 
-    /// The text with this name in refusals.
-    pub(crate) fn by_name(&self, name: &str) -> Result<TextFile<'a>, Stop<'a>> {
+    /// The text of this kind.
+    pub(crate) fn of_kind(&self, kind: TextKind) -> Result<TextFile<'a>, Stop<'a>> {
         if let Some(text) = self.single {
             return Ok(text);
         }
-        match name {
-            "instance" => self.instance(),
-            "certificate" => self.certificate(),
-            _ => self.claim(),
+        match kind {
+            TextKind::Max | TextKind::Min | TextKind::Graph => self.instance(),
+            TextKind::Queries | TextKind::Solution | TextKind::Distances => self.claim(),
+            TextKind::Cut | TextKind::Potentials | TextKind::Labels => self.certificate(),
         }
     }
 

@@ -4,7 +4,6 @@ ghost use Rattle.std.specs.Prelude.{IfSome};
 ghost use Rattle.dimacs_instance.specs.QueryTexts.{AreLawful, asked};
 
 use crate::crossing::{explain_infeasible, explain_maximum};
-use crate::first_line::FirstLine;
 use crate::least_cost::explain_least;
 use crate::reopen::Reopen;
 use crate::routes::explain_distances;
@@ -14,7 +13,7 @@ use dimacs_judging::{
     Verdict, flow_of, index_for, judge_infeasible, judge_max, judge_min, judge_paths,
 };
 use dimacs_lines::{Memory, MemorySink, MemorySource, Source};
-use dimacs_runs::{Job, JudgeKind, SolveJob, Status, put_verdict, run_certify};
+use dimacs_runs::{Job, JudgeKind, Report, SolveJob, Status, run_certify};
 use std::alloc::Global;
 
 /// The files with the texts of a yes.
@@ -31,12 +30,12 @@ struct YesFiles<'a> {
 }
 
 impl<'a> YesFiles<'a> {
-    /// None for a run that makes no claim. `printed` is the first line of its output.
-    fn of(job: Job<'a>, printed: &[u8]) -> Option<YesFiles<'a>> {
+    /// None for a run that makes no claim.
+    fn of(job: Job<'a>, report: &Report) -> Option<YesFiles<'a>> {
         let (kind, files) = match job {
             Job::Judge(kind, files) | Job::Certify(kind, files) => (kind, files),
             Job::Solve(SolveJob::Max(_), files) => (JudgeKind::Max, files),
-            Job::Solve(SolveJob::Min(_), files) => (min_kind(printed), files),
+            Job::Solve(SolveJob::Min(_), files) => (min_kind(report), files),
             Job::Solve(SolveJob::Paths, files) => (JudgeKind::Paths, files),
             _ => return None,
         };
@@ -55,33 +54,31 @@ impl<'a> YesFiles<'a> {
     }
 }
 
-/// What `solve-min` has answered with this line.
-fn min_kind(printed: &[u8]) -> JudgeKind {
-    if printed == b"v infeasible".as_slice() {
-        JudgeKind::Infeasible
-    } else {
-        JudgeKind::Min
+/// What `solve-min` has answered with this report.
+fn min_kind(report: &Report) -> JudgeKind {
+    match report {
+        Report::Yes(Verdict::Infeasible) => JudgeKind::Infeasible,
+        _ => JudgeKind::Min,
     }
 }
 
-/// Explains the yes of a run, if it made a claim.
+/// The explanation of the yes of a run; empty if it made no claim.
 pub(crate) fn explain_yes<A: Reopen>(
     alloc: Global,
     again: &A,
     job: Job<'_>,
-    printed: &[u8],
-    out: &mut String,
-) -> Result<(), Memory> {
-    let Some(files) = YesFiles::of(job, printed) else {
-        return Ok(());
+    report: &Report,
+) -> Result<String, Memory> {
+    let Some(files) = YesFiles::of(job, report) else {
+        return Ok(String::new(alloc));
     };
-    match explanation(alloc, again, files, printed) {
-        Some(text) => out.push_str(text.as_str())?,
-        None => out.push_str(
-            "the numbers are left out: a text has changed, can't be read twice, or memory ran out\n",
-        )?,
+    if let Some(text) = explanation(alloc, again, files, report) {
+        return Ok(text);
     }
-    Ok(())
+    Ok(String::from_str(
+        alloc,
+        "the numbers are left out: a text has changed, can't be read twice, or memory ran out\n",
+    )?)
 }
 
 /// None if the texts, read again, don't give the same yes.
@@ -89,11 +86,11 @@ fn explanation<A: Reopen>(
     alloc: Global,
     again: &A,
     files: YesFiles<'_>,
-    printed: &[u8],
+    report: &Report,
 ) -> Option<String> {
     let mut texts = TextsAgain {
         alloc,
-        printed,
+        report,
         instance: again.open(files.instance.as_str())?,
         claim: again.open(files.claim.as_str())?,
         has_queries: files.has_queries,
@@ -130,11 +127,11 @@ fn certificate_text<A: Reopen>(
     }
 }
 
-/// An instance and a claim, to be read again, and the first line that was printed of them.
+/// An instance and a claim, to be read again, and what was reported of them.
 #[derive(Drop)]
 struct TextsAgain<'a, P> {
     alloc: Global,
-    printed: &'a [u8],
+    report: &'a Report,
     instance: P,
     claim: P,
     has_queries: bool,
@@ -151,10 +148,9 @@ impl<'a, P: Source> TextsAgain<'a, P> {
         }
     }
 
-    /// Whether a verdict prints the same first line.
+    /// Whether this verdict was reported.
     fn is_same(&self, verdict: &Verdict) -> bool {
-        let mut output = FirstLine::new(MemorySink::new(self.alloc));
-        put_verdict(&mut output, verdict).is_ok() && output.line() == self.printed
+        matches!(self.report, Report::Yes(reported) if reported == verdict)
     }
 
     fn maximum<R: Source>(&mut self, certificate: &mut R) -> Option<String> {

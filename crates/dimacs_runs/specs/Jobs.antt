@@ -89,6 +89,14 @@ Asks arguments (Certify kind files) = (arguments ≡ certify_verb kind ∷ map s
 Asks arguments (Spread kind files) = (arguments ≡ spread_verb kind ∷ map string_bytes files.now) × (length files.now ≡ 3)
 Asks arguments (Solve job files) = AsksSolver arguments job (map string_bytes files.now)
 
+-- a job has as many files as its words name
+abbrev pub HasFiles : Job → Type 0
+HasFiles (Judge kind files) = length files.now ≡ file_count kind
+HasFiles (Certify kind files) = AreCertifyFiles kind (length files.now)
+HasFiles (Spread kind files) = length files.now ≡ 3
+HasFiles (Solve job files) = length files.now ≡ 3
+HasFiles job = Unit {0}
+
 -- the words that name a command, in the order of the usage text
 abbrev pub command_words : List (List ℕ)
 command_words = codes "convert" ∷ codes "show" ∷ codes "judge-max" ∷ codes "judge-min" ∷ codes "judge-infeasible" ∷ codes "judge-paths"

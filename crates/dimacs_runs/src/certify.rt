@@ -26,7 +26,7 @@ use crate::discard::Discard;
 use crate::early_end::{EarlyEnd, outcome_of};
 use crate::jobs::JudgeKind;
 use crate::outcome::{Outcome, OutputText, write_outcome};
-use crate::report::Report;
+use crate::report::{Report, ReportSink};
 use crate::status::{RunError, Status};
 use crate::texts_in_turn::{place_solution, read};
 use dimacs_claims::Placed;
@@ -48,7 +48,7 @@ use std::alloc::Global;
 ///
 /// Otherwise it writes only a report: the fault of the first text that has one, or, of the judge's tests that need no
 /// certificate, the first that fails. The claim isn't read after an instance with a fault. `Infeasible` has no claim.
-pub fn run_certify<P: Source, Q: Source, C: Sink, K: Sink>(
+pub fn run_certify<P: Source, Q: Source, C: Sink, K: ReportSink>(
     alloc: Global,
     kind: JudgeKind,
     instance: &mut P,

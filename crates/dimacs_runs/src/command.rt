@@ -3,19 +3,19 @@
 ghost use Rattle.std.specs.Prelude.{◌≡◌, map};
 ghost use Rattle.std.specs.String.{string_bytes};
 ghost use Rattle.dimacs_runs.specs.Commands.{Commands, RunsJob, seen_by};
+ghost use Rattle.dimacs_runs.specs.Jobs.{HasFiles};
 ghost use Rattle.dimacs_runs.specs.Outcomes.{command_number};
-ghost use Rattle.dimacs_runs.specs.inside.Commands.{HasFiles};
 
 use crate::arguments::job;
 use crate::failure::CommandError;
 use crate::files::Files;
 use crate::jobs::Job;
+use crate::report::ReportSink;
 use crate::runs_that_make::{ClaimJob, certify_files, make_of_claim};
 use crate::runs_that_read::{judge_files, print_file};
 use crate::runs_that_write::solve_files;
 use crate::status::{NO_RUN, RunError, Status, exit_status};
 use crate::text::TextForm;
-use dimacs_lines::Sink;
 use std::alloc::Global;
 
 /// Runs what the arguments, without the program's name, ask for. None if they ask for no run. `output` is the standard
@@ -24,7 +24,7 @@ use std::alloc::Global;
 /// It opens the files to read, then creates those to write, in the order of the arguments. The first that fails ends
 /// the run. To certify and to spread, it creates the file later: after it has closed the others, and only if there is a
 /// text to write.
-pub fn run_command<'a, F: Files, K: Sink>(
+pub fn run_command<'a, F: Files, K: ReportSink>(
     alloc: Global,
     arguments: &'a [String],
     files: &mut F,
@@ -50,8 +50,8 @@ pub fn command_status(ended: &Option<Result<Status, CommandError<'_>>>) -> u8
     }
 }
 
-/// Runs a job over its files.
-fn run_job<'a, F: Files, K: Sink>(
+/// The same for a job that arguments ask for.
+pub fn run_job<'a, F: Files, K: ReportSink>(
     alloc: Global,
     job: Job<'a>,
     files: &mut F,

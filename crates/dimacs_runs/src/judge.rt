@@ -19,7 +19,7 @@ use crate::discard::Discard;
 use crate::early_end::{EarlyEnd, outcome_of};
 use crate::jobs::JudgeKind;
 use crate::outcome::{Outcome, write_outcome};
-use crate::report::Report;
+use crate::report::{Report, ReportSink};
 use crate::status::{RunError, Status};
 use crate::texts_in_turn::{read, read_placed, read_three, read_two};
 use dimacs_claims::{Cut, Labels, Potentials};
@@ -28,7 +28,7 @@ use dimacs_judging::{
     FlowPlaces, JudgeError, Verdict, index_for, judge_infeasible, judge_max_placed,
     judge_min_placed, judge_paths,
 };
-use dimacs_lines::{Sink, Source};
+use dimacs_lines::Source;
 use dimacs_network::{ArcView, CapacityArc, PlainArcs, WeightArc};
 use std::alloc::Global;
 
@@ -36,7 +36,7 @@ use std::alloc::Global;
 /// the first fault or of the first test that fails.
 ///
 /// It reads no text after one with a fault. `Infeasible` has no claim.
-pub fn run_judge<P: Source, Q: Source, R: Source, K: Sink>(
+pub fn run_judge<P: Source, Q: Source, R: Source, K: ReportSink>(
     alloc: Global,
     kind: JudgeKind,
     instance: &mut P,

@@ -6,7 +6,7 @@ ghost use Rattle.dimacs_runs.specs.declared.outcome.OutputText.TheVariants.{Noth
 ghost use Rattle.dimacs_runs.specs.inside.Outcomes.{EndsWriting, IsReadable, text_bytes};
 ghost use Rattle.dimacs_runs.specs.inside.Outcomes as outcomes;
 
-use crate::report::Report;
+use crate::report::{Report, ReportSink};
 use crate::status::{RunError, Status};
 use dimacs_claims::{
     Cut, Labels, Potentials, Solution, write_cut, write_labels, write_potentials, write_solution,
@@ -106,9 +106,9 @@ impl Outcome {
     }
 }
 
-/// Writes the claim, the certificate and the report of an outcome, in this order. If it is an error, returns that and
-/// writes nothing.
-pub(crate) fn write_outcome<C: Sink, D: Sink, K: Sink>(
+/// Writes the claim, the certificate and the report of an outcome, in this order, and hands the report on. If it is an
+/// error, returns that and writes nothing.
+pub(crate) fn write_outcome<C: Sink, D: Sink, K: ReportSink>(
     outcome: Result<Outcome, RunError>,
     claim: &mut C,
     certificate: &mut D,
@@ -122,5 +122,7 @@ pub(crate) fn write_outcome<C: Sink, D: Sink, K: Sink>(
     outcome.claim.write(claim)?;
     outcome.certificate.write(certificate)?;
     outcome.report.write(report)?;
-    Ok(outcome.report.status())
+    let status = outcome.report.status();
+    report.keep(outcome.report);
+    Ok(status)
 }

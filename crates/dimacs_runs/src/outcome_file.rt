@@ -9,12 +9,12 @@ use crate::failure::{CommandError, name_failure};
 use crate::files::Files;
 use crate::open_files::{close_written, create};
 use crate::outcome::{Outcome, write_outcome};
+use crate::report::ReportSink;
 use crate::status::Status;
-use dimacs_lines::Sink;
 
 /// Writes the text of an outcome to the file with this name, then the report to the output. Without a name it drops the
 /// text.
-pub(crate) fn write_outcome_file<'a, F: Files, K: Sink>(
+pub(crate) fn write_outcome_file<'a, F: Files, K: ReportSink>(
     outcome: Outcome,
     name: Option<&'a str>,
     files: &mut F,
@@ -31,7 +31,7 @@ pub(crate) fn write_outcome_file<'a, F: Files, K: Sink>(
 }
 
 /// Writes the text, if there is one, to this file, then the report.
-fn write_into<'a, F: Files, K: Sink>(
+fn write_into<'a, F: Files, K: ReportSink>(
     outcome: Outcome,
     name: &'a str,
     files: &mut F,
@@ -51,7 +51,7 @@ fn write_into<'a, F: Files, K: Sink>(
 }
 
 /// Writes the report only.
-fn write_report<'a, K: Sink>(outcome: Outcome, output: &mut K) -> Result<Status, CommandError<'a>>
+fn write_report<'a, K: ReportSink>(outcome: Outcome, output: &mut K) -> Result<Status, CommandError<'a>>
     ensures writes { WritesReport outcome result (K.seen output.old) (K.seen output.new) }
 {
     let ended = write_outcome(Ok(outcome), &mut Discard, &mut Discard, output);

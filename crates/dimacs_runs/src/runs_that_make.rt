@@ -18,9 +18,10 @@ use crate::jobs::{JudgeKind, SpreadKind, name_at};
 use crate::open_files::{close_read, open};
 use crate::outcome::Outcome;
 use crate::outcome_file::write_outcome_file;
+use crate::report::ReportSink;
 use crate::spread::spread_claim;
 use crate::status::{RunError, Status};
-use dimacs_lines::{Sink, Source};
+use dimacs_lines::Source;
 use std::alloc::Global;
 
 /// The text to make of an instance and a claim.
@@ -33,7 +34,7 @@ pub(crate) enum ClaimJob {
 }
 
 /// Certifies a claim in the files with these names.
-pub(crate) fn certify_files<'a, F: Files, K: Sink>(
+pub(crate) fn certify_files<'a, F: Files, K: ReportSink>(
     alloc: Global,
     kind: JudgeKind,
     names: &'a [String],
@@ -52,7 +53,7 @@ pub(crate) fn certify_files<'a, F: Files, K: Sink>(
 }
 
 /// Makes a text of an instance and a claim in files, and writes it to the third file if one is named.
-pub(crate) fn make_of_claim<'a, F: Files, K: Sink>(
+pub(crate) fn make_of_claim<'a, F: Files, K: ReportSink>(
     alloc: Global,
     job: ClaimJob,
     names: &'a [String],
@@ -74,7 +75,7 @@ pub(crate) fn make_of_claim<'a, F: Files, K: Sink>(
 
 /// Certifies that an instance in a file has no feasible flow. Writes the set of nodes, or a feasible flow, to the
 /// second file if one is named.
-fn certify_instance<'a, F: Files, K: Sink>(
+fn certify_instance<'a, F: Files, K: ReportSink>(
     alloc: Global,
     names: &'a [String],
     files: &mut F,

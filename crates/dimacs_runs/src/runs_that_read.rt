@@ -12,14 +12,15 @@ use crate::files::Files;
 use crate::jobs::JudgeKind;
 use crate::judge::run_judge;
 use crate::open_files::{close_read, open};
+use crate::report::ReportSink;
 use crate::status::Status;
 use crate::text::{TextForm, run_text};
-use dimacs_lines::{MemorySource, Sink};
+use dimacs_lines::MemorySource;
 use dimacs_records::TextKind;
 use std::alloc::Global;
 
 /// Prints the text in a file.
-pub(crate) fn print_file<'a, F: Files, K: Sink>(
+pub(crate) fn print_file<'a, F: Files, K: ReportSink>(
     alloc: Global,
     form: TextForm,
     kind: TextKind,
@@ -38,7 +39,7 @@ pub(crate) fn print_file<'a, F: Files, K: Sink>(
 }
 
 /// Judges a claim in the files with these names.
-pub(crate) fn judge_files<'a, F: Files, K: Sink>(
+pub(crate) fn judge_files<'a, F: Files, K: ReportSink>(
     alloc: Global,
     kind: JudgeKind,
     names: &'a [String],
@@ -71,7 +72,7 @@ pub(crate) fn judge_files<'a, F: Files, K: Sink>(
 }
 
 /// Judges a claim in the files of the instance, the claim and its certificate.
-fn judge_claim<'a, F: Files, K: Sink>(
+fn judge_claim<'a, F: Files, K: ReportSink>(
     alloc: Global,
     kind: JudgeKind,
     instance: &'a str,
@@ -102,7 +103,7 @@ fn judge_claim<'a, F: Files, K: Sink>(
 }
 
 /// Judges that no flow is feasible, in the files of the instance and the set of nodes.
-fn judge_set<'a, F: Files, K: Sink>(
+fn judge_set<'a, F: Files, K: ReportSink>(
     alloc: Global,
     instance: &'a str,
     set: &'a str,

@@ -10,13 +10,14 @@ use crate::failure::{CommandError, name_failure};
 use crate::files::Files;
 use crate::jobs::SolveJob;
 use crate::open_files::{close_read, close_written, create, open};
+use crate::report::ReportSink;
 use crate::solve::run_solve;
 use crate::status::Status;
-use dimacs_lines::{MemorySource, Sink};
+use dimacs_lines::MemorySource;
 use std::alloc::Global;
 
 /// Solves an instance in the files with these names.
-pub(crate) fn solve_files<'a, F: Files, K: Sink>(
+pub(crate) fn solve_files<'a, F: Files, K: ReportSink>(
     alloc: Global,
     job: SolveJob,
     names: &'a [String],
@@ -39,7 +40,7 @@ pub(crate) fn solve_files<'a, F: Files, K: Sink>(
 }
 
 /// Solves a flow instance. `MemorySource` stands for queries, which aren't read.
-fn solve_flow<'a, F: Files, K: Sink>(
+fn solve_flow<'a, F: Files, K: ReportSink>(
     alloc: Global,
     job: SolveJob,
     instance: &'a str,
@@ -78,7 +79,7 @@ fn solve_flow<'a, F: Files, K: Sink>(
 }
 
 /// Answers queries. `Discard` stands for the claim: the labels are claim and certificate in one.
-fn solve_distances<'a, F: Files, K: Sink>(
+fn solve_distances<'a, F: Files, K: ReportSink>(
     alloc: Global,
     graph: &'a str,
     queries: &'a str,

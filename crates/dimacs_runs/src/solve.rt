@@ -19,7 +19,7 @@ ghost use Rattle.dimacs_runs.specs.Solved.{AreQueries, FindsPaths, Solved, solve
 use crate::early_end::{EarlyEnd, outcome_of};
 use crate::jobs::SolveJob;
 use crate::outcome::{Outcome, OutputText, write_outcome};
-use crate::report::Report;
+use crate::report::{Report, ReportSink};
 use crate::status::{RunError, Status};
 use crate::texts_in_turn::{read, read_two};
 use dimacs_instance::{Graph, MaxInstance, MinInstance, Queries};
@@ -38,7 +38,7 @@ use std::alloc::Global;
 ///   `limit` steps to better flows, or if the least cost is out of range.
 /// - `Paths` also reads queries, unless the graph has a fault, and writes only labels. It refuses a query with an
 ///   unknown node, then a negative weight. It never gives up.
-pub fn run_solve<P: Source, Q: Source, C: Sink, D: Sink, K: Sink>(
+pub fn run_solve<P: Source, Q: Source, C: Sink, D: Sink, K: ReportSink>(
     alloc: Global,
     job: SolveJob,
     instance: &mut P,

@@ -20,7 +20,7 @@ use crate::discard::Discard;
 use crate::early_end::{EarlyEnd, outcome_of};
 use crate::jobs::SpreadKind;
 use crate::outcome::{Outcome, OutputText, write_outcome};
-use crate::report::Report;
+use crate::report::{Report, ReportSink};
 use crate::status::{RunError, Status};
 use crate::texts_in_turn::read_two;
 use dimacs_claims::Solution;
@@ -38,7 +38,7 @@ use std::alloc::Global;
 /// Otherwise it writes only a report: the fault of the first text that has one, the first entry without an arc, or the
 /// first arc whose amount doesn't fit 64 bits. The claim isn't read after an instance with a fault. It doesn't test
 /// whether the flow is feasible.
-pub fn run_spread<P: Source, Q: Source, C: Sink, K: Sink>(
+pub fn run_spread<P: Source, Q: Source, C: Sink, K: ReportSink>(
     alloc: Global,
     kind: SpreadKind,
     instance: &mut P,

@@ -11,6 +11,7 @@ ghost use Rattle.dimacs_runs.specs.inside.Judgings.{FaultIn, text_spells};
 use crate::discard::Discard;
 use crate::early_end::{EarlyEnd, outcome_of};
 use crate::outcome::write_outcome;
+use crate::report::ReportSink;
 use crate::status::{RunError, Status};
 use crate::texts_in_turn::{read, read_summary};
 use dimacs_claims::{Cut, Distances, Labels, Potentials, Solution};
@@ -32,7 +33,7 @@ pub enum TextForm {
 }
 
 /// Reads a text of this kind, and prints its canonical form, or the line of its fault.
-pub fn run_convert<S: Source, K: Sink>(
+pub fn run_convert<S: Source, K: ReportSink>(
     alloc: Global,
     kind: TextKind,
     text: &mut S,
@@ -48,7 +49,7 @@ pub fn run_convert<S: Source, K: Sink>(
 }
 
 /// Reads a text of this kind, and prints a line that describes it, or the line of its fault. It keeps no arc in memory.
-pub fn run_show<S: Source, K: Sink>(
+pub fn run_show<S: Source, K: ReportSink>(
     alloc: Global,
     kind: TextKind,
     text: &mut S,
@@ -64,7 +65,7 @@ pub fn run_show<S: Source, K: Sink>(
 }
 
 /// Reads a text of this kind, and prints it in this form, or the line of its fault.
-pub(crate) fn run_text<S: Source, K: Sink>(
+pub(crate) fn run_text<S: Source, K: ReportSink>(
     alloc: Global,
     form: TextForm,
     kind: TextKind,
@@ -97,7 +98,7 @@ pub(crate) fn run_text<S: Source, K: Sink>(
     }
 }
 
-fn print<T: Text, S: Source, K: Sink>(
+fn print<T: Text, S: Source, K: ReportSink>(
     alloc: Global,
     form: TextForm,
     text: &mut S,
@@ -136,7 +137,7 @@ fn write_in_form<T: Text, K: Sink>(
 }
 
 /// As `print` with the form `Summary`, but keeps only a summary in memory.
-fn sum_up<T: Summary, S: Source, K: Sink>(
+fn sum_up<T: Summary, S: Source, K: ReportSink>(
     alloc: Global,
     text: &mut S,
     sink: &mut K,

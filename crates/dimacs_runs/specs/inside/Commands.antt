@@ -1,25 +1,14 @@
 -- Inside: what a command does with its files and its output.
-use Rattle.std.specs.Prelude.{ℕ, ◌≡◌, List, [], ◌∷◌, Option, None, Some, Result, Ok, Err, length}
+use Rattle.std.specs.Prelude.{ℕ, ◌≡◌, List, [], ◌∷◌, Option, None, Some, Result, Ok, Err}
 use Rattle.dimacs_runs.specs.declared.failure.CommandError.{CommandError}
 use Rattle.dimacs_runs.specs.declared.failure.CommandError.TheVariants.{Device, Memory}
 use Rattle.dimacs_runs.specs.declared.failure.Failure.{Failure}
 use Rattle.dimacs_runs.specs.declared.failure.Failure.TheVariants.{File, Output}
 use Rattle.dimacs_runs.specs.declared.failure.FileCall.{FileCall}
-use Rattle.dimacs_runs.specs.declared.jobs.Job.{Job}
-use Rattle.dimacs_runs.specs.declared.jobs.Job.TheVariants.{Judge, Certify, Spread, Solve}
 use Rattle.dimacs_runs.specs.declared.status.RunError.{RunError}
 use Rattle.dimacs_runs.specs.declared.status.RunError.TheVariants as run_errors
 use Rattle.dimacs_runs.specs.Commands.{faults_by_error, file_failures}
 use Rattle.dimacs_runs.specs.Files.{FileEvent, FilesSeen, Sees, failures}
-use Rattle.dimacs_runs.specs.Jobs.{AreCertifyFiles, file_count}
-
--- the job has the right number of files
-abbrev pub HasFiles : Job → Type 0
-HasFiles (Judge kind files) = length files.now ≡ file_count kind
-HasFiles (Certify kind files) = AreCertifyFiles kind (length files.now)
-HasFiles (Spread kind files) = length files.now ≡ 3
-HasFiles (Solve job files) = length files.now ≡ 3
-HasFiles job = Unit {0}
 
 -- the end of a run over files, with the failed operation, if there is one
 abbrev pub named : {X : Type 0} → Result X RunError → Option Failure → Result X CommandError

@@ -1,0 +1,5 @@
+use Rattle.dimacs_explain.proofs.command.explain_job.Goals as goal
+
+-- the run, then the explanation
+pub returns : goal.returns
+returns g c = record { explains = (_, c.run_job-ended.ensures.runs, c.write_explanation.ensures.follows) }

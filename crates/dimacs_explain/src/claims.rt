@@ -1,0 +1,206 @@
+//! Explains why a claimed flow or the claim that none is feasible is refused, and what the run wrote in its place.
+
+use crate::costs::cost_of;
+use crate::entries::NodeFlow;
+use crate::forms::range_of;
+use crate::lookups::Wanted;
+use crate::page::{Page, Stop};
+use crate::reopen::Reopen;
+use crate::sentence::{Value, ending};
+use crate::texts::TextFile;
+use dimacs_records::{At, End, Record, TextKind};
+
+impl<'a, A: Reopen> Page<'a, A> {
+    /// Quotes a line of the solution.
+    fn quote_solution(&mut self, at: At) -> Result<Record, Stop<'a>> {
+        let solution = self.texts.claim()?;
+        self.quote_there(solution, Wanted::Line(at))
+    }
+
+    /// Explains that an arc has more entries than there are arcs with its ends.
+    pub(crate) fn explain_arc_twice(&mut self, at: At) -> Result<(), Stop<'a>> {
+        let Record::SolutionEntry { tail, head, .. } = self.quote_solution(at)? else {
+            return Ok(());
+        };
+        let count = self.parallel(tail, head, 0)?.all;
+        self.write(
+            "{} has {} arc{} from {} to {}, and as many earlier entries have these ends\n",
+            &[
+                Value::File(self.texts.instance()?.file),
+                count.into(),
+                ending(count).into(),
+                tail.into(),
+                head.into(),
+            ],
+        )?;
+        self.write_spread()
+    }
+
+    /// Explains that an entry belongs to no arc.
+    pub(crate) fn explain_unknown_arc(&mut self, at: At) -> Result<(), Stop<'a>> {
+        let Record::SolutionEntry { tail, head, .. } = self.quote_solution(at)? else {
+            return Ok(());
+        };
+        let file = Value::File(self.texts.instance()?.file);
+        self.write("{} has no arc from {} to {}\n", &[file, tail.into(), head.into()])?;
+        let back = self.parallel(head, tail, 0)?;
+        if back.all > 0 {
+            self.write(
+                "arc {} leads from {} to {}\n",
+                &[back.first.into(), head.into(), tail.into()],
+            )?;
+        }
+        Ok(())
+    }
+
+    /// Compares the value or cost of a flow with the claimed one.
+    pub(crate) fn explain_value(&mut self, at: At) -> Result<(), Stop<'a>> {
+        let Record::SolutionValue { value } = self.quote_solution(at)? else {
+            return Ok(());
+        };
+        let (instance, solution) = (self.texts.instance()?, self.texts.claim()?);
+        match instance.kind {
+            TextKind::Min => self.explain_claimed_cost(instance, solution, value),
+            _ => self.explain_claimed_value(instance, solution, value),
+        }
+    }
+
+    fn explain_claimed_cost(
+        &mut self,
+        instance: TextFile<'a>,
+        solution: TextFile<'a>,
+        claimed: i128,
+    ) -> Result<(), Stop<'a>> {
+        let Some(cost) = cost_of(self.alloc, self.again, instance, solution)? else {
+            return Ok(());
+        };
+        self.write(
+            "{} is claimed, and the flow costs {}\n",
+            &[claimed.into(), cost.into()],
+        )?;
+        self.write_wrapped(claimed, cost)
+    }
+
+    fn explain_claimed_value(
+        &mut self,
+        instance: TextFile<'a>,
+        solution: TextFile<'a>,
+        claimed: i128,
+    ) -> Result<(), Stop<'a>> {
+        let source = self.end_of(instance, End::Source)?;
+        let mut flow = NodeFlow::new(self.alloc, solution.file, source);
+        self.tally(solution, &mut flow)?;
+        let (outflow, inflow) = (flow.out_of.sum(), flow.into.sum());
+        let value = outflow.saturating_sub(inflow);
+        self.write(
+            "{} is claimed, and the flow has the value {}: {} leaves the source, node {}, and {} enters it\n",
+            &[
+                claimed.into(),
+                value.into(),
+                outflow.into(),
+                source.into(),
+                inflow.into(),
+            ],
+        )?;
+        self.write_wrapped(claimed, value)
+    }
+
+    /// The source or the sink.
+    fn end_of(&self, instance: TextFile<'a>, end: End) -> Result<u32, Stop<'a>> {
+        if let Some(found) = self.find(instance, Wanted::End(end))?
+            && let Record::MaxNode { id, .. } = found.record
+        {
+            return Ok(id);
+        }
+        Err(Stop::Unread(instance.file))
+    }
+
+    /// Names the bits in which a sum may have wrapped around.
+    fn write_wrapped(&mut self, claimed: i128, right: i128) -> Result<(), Stop<'a>> {
+        let apart = claimed.saturating_sub(right);
+        let bits = if apart % 18_446_744_073_709_551_616 == 0 {
+            64_u32
+        } else if apart % 4_294_967_296 == 0 {
+            32
+        } else {
+            return Ok(());
+        };
+        self.write(
+            "they differ by a multiple of 2^{}: a sum of {} bits may have wrapped around\n",
+            &[bits.into(), bits.into()],
+        )
+    }
+
+    /// Names the file with the better flow, if one was written, and by how much it is better.
+    pub(crate) fn explain_better(&mut self, at: At) -> Result<(), Stop<'a>> {
+        let solution = self.texts.claim()?;
+        if self.texts.written_file == Some(solution.file) {
+            return self.write(
+                "the flow is feasible, and there is a better one: if its cost can be written, {} has it now\n",
+                &[Value::File(solution.file)],
+            );
+        }
+        let Record::SolutionValue { value: claimed } = self.quote_solution(at)? else {
+            return Ok(());
+        };
+        let Some(file) = self.texts.written_file else {
+            return self.write(
+                "the flow is feasible, and there is a better one: name a file after the solution to get it\n",
+                &[],
+            );
+        };
+        if self.again.open(file).is_none() {
+            return self.write(
+                "the flow is feasible, and there is a better one, which was written to {}\n",
+                &[Value::File(file)],
+            );
+        }
+        self.compare_better(file, claimed)
+    }
+
+    /// Compares the value of the flow in a file with a claimed one. One above it is that of a maximum flow, one below is
+    /// a cost.
+    fn compare_better(&mut self, file: &'a str, claimed: i128) -> Result<(), Stop<'a>> {
+        let Some(Record::SolutionValue { value }) = self.quote(solution_in(file), Wanted::Value)?
+        else {
+            return self.write(
+                "the flow is feasible, and there is a better one, whose cost leaves {}\n",
+                &[range_of("VALUE").into()],
+            );
+        };
+        let (verb, apart, word) = if value > claimed {
+            ("has", value.saturating_sub(claimed), "more")
+        } else {
+            ("costs", claimed.saturating_sub(value), "less")
+        };
+        self.write(
+            "this flow is feasible, and {} {} {} than the {} that is claimed\n",
+            &[verb.into(), apart.into(), word.into(), claimed.into()],
+        )
+    }
+
+    /// Names the file with a feasible flow, if one was written, and quotes its cost.
+    pub(crate) fn explain_feasible(&mut self) -> Result<(), Stop<'a>> {
+        let Some(file) = self.texts.written_file else {
+            return self.write(
+                "the instance has a feasible flow: name a file after the instance to get one\n",
+                &[],
+            );
+        };
+        self.write(
+            "the instance has a feasible flow: if its cost can be written, {} has one\n",
+            &[Value::File(file)],
+        )?;
+        if self.again.open(file).is_some() {
+            self.quote(solution_in(file), Wanted::Value)?;
+        }
+        Ok(())
+    }
+}
+
+fn solution_in(file: &str) -> TextFile<'_> {
+    TextFile {
+        kind: TextKind::Solution,
+        file,
+    }
+}
