@@ -42,7 +42,7 @@ CASES = [
     ("BadNumber", "convert gr T", {"T": "p sp 1 1\na 1 1 1e6\n"}, ["`1e6`", "write 1000000"]),
     ("NumberRange", "convert gr T", {"T": "p sp 1 1\na 0 1 0\n"}, ["TAIL is a number from 1 to 134217728", "not 0\n", "IDs count from 1: numbered from 0? add 1 to each"]),
     ("BadWord", "convert gr T", {"T": "p max 1 1\n"}, ["`max` stands where `sp` is wanted"]),
-    ("ProblemMissing", "convert gr T", {"T": ""}, ["T: ends after line 0", "`p sp NODES ARCS`"]),
+    ("ProblemMissing", "convert gr T", {"T": ""}, ["T: is empty\n", "`p sp NODES ARCS`"]),
     ("ProblemTwice", "convert gr T", {"T": "p sp 1 0\np sp 1 0\n"}, ["T:2: p sp 1 0", "line 1 is a p line already"]),
     ("RecordOrder", "convert min T", {"T": "p min 2 1\na 1 2 0 1 0\nn 1 1\n"}, ["T:3: n 1 1", "before all arc lines"]),
     ("NodeRange", "convert gr T", {"T": "p sp 1 1\na 1 2 0\n"}, ["node 2 is above the 1 nodes that line 1 declares"]),
@@ -50,6 +50,9 @@ CASES = [
     ("EndTwice", "convert max T", {"T": "p max 2 1\nn 1 s\nn 2 s\n"}, ["T:3: n 2 s", "line 2 has the same letter already"]),
     ("EndTwice", "convert max T", {"T": "p max 3 1\nn 1 s\nn 2 t\nn 3 s\n"}, ["T:4: n 3 s", "line 2 has the same letter already"]),
     ("EndMissing", "convert max T", {"T": "p max 2 1\nn 1 s\na 1 2 1\n"}, ["`n ID t`, the sink,"]),
+    ("ProblemMissing", "convert gr T", {"T": "c\n"}, ["T: ends after line 1\n"]),
+    ("BoundOrder", "convert max T", {"T": "p max 2 1\nn 1 s\nn 2 t\na 1 2 -5\n"}, ["CAP is -5, and has to be 0 or more\n"]),
+    ("BoundOrder", "convert min T", {"T": "p min 2 1\na 1 2 -3 2 0\n"}, ["LOW is -3 (and CAP 2), and has to be 0 or more\n"]),
     ("BoundOrder", "convert min T", {"T": "p min 2 1\na 1 2 3 2 0\n"}, ["CAP is 2, less than LOW, 3"]),
     ("TooMany", "convert gr T", {"T": "p sp 1 1\na 1 1 0\na 1 1 0\n"}, ["line 1 declares 1 arc line, and this is one more"]),
     ("TooFew", "convert gr T", {"T": "p sp 1 7\na 1 1 0\n"}, ["T: ends after line 2", "1 arc line of the 7 that line 1 declares"]),
@@ -62,23 +65,25 @@ CASES = [
     ("BelowLow", "judge-min I S P", {"I": "p min 2 1\na 1 2 1 3 0\n", "S": "s 0\n", "P": "p pot 2 0\n"}, ["I:2: a 1 2 1 3 0", "no entry", "carries 0, less than its LOW, 1"]),
     ("AboveCap", "judge-max I S C", {"S": "s 6\nf 1 2 9\n"}, ["I:4: a 1 2 4", "S:2: f 1 2 9", "arc 1 carries 9, more than its CAP, 4"]),
     ("AboveCap", "judge-max I S C", {"I": "p max 2 2\nn 1 s\nn 2 t\na 1 2 1\na 1 2 3\n", "S": "s 3\nf 1 2 3\n", "C": "p cut 2 1\nu 1\n"}, ["2 arcs lead from 1 to 2", "arc 1 is the first of them", "dimacs spread-max I S OUT"]),
+    ("AboveCap", "judge-max I S C", {"I": "p max 2 2\nn 1 s\nn 2 t\na 1 2 1\na 1 2 3\n", "S": "s 5\nf 1 2 4\nf 1 2 1\n", "C": "p cut 2 1\nu 1\n"}, ["arc 1 is the first of them", "the f lines with these ends add up to 5, outside of 0 to 4, what these arcs can carry: no order fits\n"]),
     ("Balance", "judge-max I S C", {"S": "s 4\nf 1 2 4\n"}, ["0 leaves node 2, 4 enters it: 4 too little leaves\nentries out of it: 0\nentries into it: 1\n  S:2: f 1 2 4\n"]),
     ("Balance", "judge-min MI S P", {"S": "s 0\n"}, ["MI:2: n 1 4", "0 leaves node 1, 0 enters it, and it supplies 4: 4 too little leaves\n"]),
     ("CostRange", "judge-min I S P", {"I": f"p min 1 1\na 1 1 0 {HUGE} {HUGE}\n", "S": f"s 0\nf 1 1 {HUGE}\n", "P": "p pot 1 0\n"}, [f"at a COST of {HUGE}"]),
     ("ValueDiffers", "judge-max I S C", {"S": FLOW.replace("s 6", "s 7")}, ["S:1: s 7", "7 is claimed, and the flow has the value 6"]),
     ("ValueDiffers", "judge-min MI S P", {"S": LEAST.replace("s 14", "s 13")}, ["S:1: s 13", "13 is claimed, and the flow costs 14"]),
     ("NodesDiffer", "judge-max I S C", {"C": "p cut 5 1\nu 1\n"}, ["I:1: p max 4 5", "C:1: p cut 5 1"]),
-    ("SourceOutside", "judge-max I S C", {"C": "p cut 4 0\n"}, ["I:2: n 1 s", "doesn't hold it"]),
+    ("SourceOutside", "judge-max I S C", {"C": "p cut 4 0\n"}, ["I:2: n 1 s", "doesn't hold it: it lists the nodes on the source's side, the source among them\n"]),
+    ("SourceOutside", "judge-max I S C", {"C": "p cut 4 3\nu 2\nu 3\nu 4\n"}, ["C:4: u 4", "this is the sink's side: list the other nodes, those on the source's side\n"]),
     ("SinkInside", "judge-max I S C", {"C": "p cut 4 2\nu 1\nu 4\n"}, ["I:3: n 4 t", "C:3: u 4", "holds it"]),
-    ("NotSaturated", "judge-max I S C", {"C": "p cut 4 2\nu 1\nu 2\n"}, ["I:6: a 2 3 2", "S:4: f 2 3 1", "carries 1 of its CAP, 2"]),
-    ("BackFlow", "judge-max I S C", {"I": "p max 4 5\nn 1 s\nn 4 t\na 1 2 1\na 1 3 1\na 2 3 1\na 2 4 1\na 3 4 1\n", "S": "s 1\nf 1 2 1\nf 2 3 1\nf 3 4 1\n", "C": "p cut 4 2\nu 1\nu 3\n"}, ["arc 3 enters the set", "carries 1, not 0"]),
-    ("NotTight", "judge-min MI S P", {"S": LEAST, "P": POT.replace("y 1 4", "y 1 3")}, ["P:2: y 1 3", "P:3: y 2 2", "= 2 - 3 + 2 = 1, above 0", "its LOW, 0, and carries 2"]),
-    ("NotViolated", "judge-infeasible MI C", {}, ["supplies 4, and its arcs can carry 0 to 6"]),
+    ("NotSaturated", "judge-max I S C", {"C": "p cut 4 2\nu 1\nu 2\n"}, ["I:6: a 2 3 2", "S:4: f 2 3 1", "carries 1 of its CAP, 2", "this certificate doesn't show the claim, which may be true all the same: to find out, run dimacs certify-max I S\n"]),
+    ("BackFlow", "judge-max I S C", {"I": "p max 4 5\nn 1 s\nn 4 t\na 1 2 1\na 1 3 1\na 2 3 1\na 2 4 1\na 3 4 1\n", "S": "s 1\nf 1 2 1\nf 2 3 1\nf 3 4 1\n", "C": "p cut 4 2\nu 1\nu 3\n"}, ["arc 3 enters the set", "carries 1, not 0", "this certificate doesn't show the claim, which may be true all the same: to find out, run dimacs certify-max I S\n"]),
+    ("NotTight", "judge-min MI S P", {"S": LEAST, "P": POT.replace("y 1 4", "y 1 3")}, ["P:2: y 1 3", "P:3: y 2 2", "= 2 - 3 + 2 = 1, above 0", "its LOW, 0, and carries 2", "may be true all the same: to find out, run dimacs certify-min MI S\n"]),
+    ("NotViolated", "judge-infeasible MI C", {}, ["supplies 4, and its arcs can carry 0 to 6 out of it: it would show that no flow is feasible if it supplied less than 0 or more than 6\n", "may be true all the same: to find out, run dimacs certify-infeasible MI\n"]),
     ("QueryNode", "judge-paths G Q L", {"Q": "p aux sp ss 1\ns 5\n", "L": "p dist 4 1\nt 1 0\n"}, ["Q:2: s 5", "G:1: p sp 4 3"]),
     ("BlockMissing", "judge-paths G Q L", {"Q": "p aux sp ss 1\ns 2\n", "L": "p dist 4 1\nt 1 0\n"}, ["Q:2: s 2", "no block from source 2", "are from 1; 1 in all"]),
-    ("NoTightArc", "judge-paths G Q L", {"L": "p dist 4 1\nt 1 1\nd 2 4 1\n"}, ["L:3: d 2 4 1", "node 2 is at 4, and its PRED, 1, at 0", "has the WEIGHT 5"]),
-    ("Escapes", "judge-paths G Q L", {"L": "p dist 4 1\nt 1 0\n"}, ["G:2: a 1 2 5", "L:2: the block from source 1", "no farther than 5; it has no label"]),
-    ("NotShortest", "judge-paths G Q L", {"G": "p sp 2 2\na 1 2 3\na 1 2 1\n", "L": "p dist 2 1\nt 1 1\nd 2 3 1\n"}, ["G:3: a 1 2 1", "no farther than 1; its label is 3"]),
+    ("NoTightArc", "judge-paths G Q L", {"L": "p dist 4 1\nt 1 1\nd 2 4 1\n"}, ["L:3: d 2 4 1", "node 2 is at distance 4, and its PRED, node 1, at distance 0", "has the WEIGHT 5"]),
+    ("Escapes", "judge-paths G Q L", {"L": "p dist 4 1\nt 1 0\n"}, ["G:2: a 1 2 5", "L:2: the block from source 1", "arc 1 leads from node 1, at distance 0, to node 2 with the WEIGHT 5: node 2 is at distance 5 at most, and has no label\n"]),
+    ("NotShortest", "judge-paths G Q L", {"G": "p sp 2 2\na 1 2 3\na 1 2 1\n", "L": "p dist 2 1\nt 1 1\nd 2 3 1\n"}, ["G:3: a 1 2 1", "node 2 is at distance 1 at most, and its label says 3\n"]),
     ("NegativeWeight", "solve-paths G Q L", {"G": "p sp 2 1\na 1 2 -4\n"}, ["G:2: a 1 2 -4", "the WEIGHT -4"]),
     # A solver that refuses has emptied what it writes: here the queries, by files in the wrong order.
     ("FieldCount", "solve-paths G L Q", {"L": "p dist 4 1\nt 1 0\n"}, ["L:1: p dist 4 1", "that of distance labels (dist), and queries (query) are wanted", "\nQ is empty: a solve run", "before it reads"]),
@@ -87,15 +92,21 @@ CASES = [
     ("NotMaximum", "certify-max I S", {"S": "s 0\n"}, ["S:1: s 0", "name a file after the solution"]),
     ("NotMaximum", "certify-max I S B", {"S": "s 0\n"}, ["S:1: s 0", "B:1: s 6", "has 6 more than the 0"]),
     ("NotLeast", "certify-min MI S B", {"S": "s 15\nf 1 2 2\nf 1 3 2\nf 2 3 1\nf 2 4 1\nf 3 4 3\n"}, ["B:1: s 14", "costs 1 less than the 15"]),
-    ("NotMaximum", "certify-max I S S", {"S": "s 0\n"}, ["there is a better one", "S has it now"]),
+    ("NotMaximum", "certify-max I S S", {"S": "s 0\n"}, ["the flow is feasible", "better one: S has it now\n"]),
     ("Feasible", "certify-infeasible MI", {}, ["has a feasible flow: name a file after the instance"]),
-    ("Feasible", "certify-infeasible MI B", {}, ["B has one", "B:1: s "]),
+    ("Feasible", "certify-infeasible MI B", {}, ["has a feasible flow: B has one\n", "B:1: s "]),
+    ("Feasible", "certify-infeasible I B", {"I": f"p min 1 1\na 1 1 0 {HUGE} {HUGE}\n"}, ["if its cost can be written, B has one\n"]),
+    ("NotLeast", "certify-min MI S S", {"S": "s 15\nf 1 2 2\nf 1 3 2\nf 2 3 1\nf 2 4 1\nf 3 4 3\n"}, ["better one: S has it now\n"]),
+    # A cycle of -1 that the source reaches, one that it doesn't, and one through it.
+    ("NotShortest", "certify-paths G D", {"G": "p sp 4 4\na 1 2 3\na 2 3 4\na 3 2 -5\na 3 4 1\n", "D": "p distances 4 1\nt 1 3\nd 2 3\nd 3 7\nd 4 8\n"}, ["G:4: a 3 2 -5", "a cycle that the source reaches weighs less than 0; its arcs: 2\n  arc 2: 2 -> 3, WEIGHT 4\n  arc 3: 3 -> 2, WEIGHT -5\n4 - 5 = -1: with each round a walk weighs less, so the nodes that it leads to have no distance\n"]),
+    ("NotShortest", "judge-paths G Q L", {"G": "p sp 2 2\na 1 2 3\na 2 1 -4\n", "L": "p dist 2 1\nt 1 1\nd 2 3 1\n"}, ["G:3: a 2 1 -4", "its arcs: 2\n  arc 1: 1 -> 2, WEIGHT 3\n  arc 2: 2 -> 1, WEIGHT -4\n3 - 4 = -1: "]),
+    ("Escapes", "certify-paths G D", {"G": "p sp 3 3\na 1 2 3\na 2 3 4\na 3 2 -5\n", "D": "p distances 3 1\nt 1 0\n"}, ["node 2 is at distance 3 at most", "its arcs: 2\n"]),
     ("NodesDiffer", "certify-paths G D", {"D": "p distances 5 0\n"}, ["G:1: p sp 4 3", "D:1: p distances 5 0"]),
-    ("Escapes", "certify-paths G D", {"D": "p distances 4 2\nt 4 1\nd 3 0\nt 1 0\n"}, ["G:2: a 1 2 5", "D:4: the block from source 1", "no farther than 5; it has no distance"]),
-    ("NotShortest", "certify-paths G D", {"G": "p sp 2 2\na 1 2 3\na 1 2 1\n", "D": "p distances 2 1\nt 1 1\nd 2 3\n"}, ["G:3: a 1 2 1", "no farther than 1; its distance is 3"]),
-    ("NoTightArc", "certify-paths G D", {"D": "p distances 4 1\nt 1 1\nd 2 4\n"}, ["D:3: d 2 4", "from source 1 (line 2) no arc leads to node 2 at 4: the nearest leads there at 5"]),
+    ("Escapes", "certify-paths G D", {"D": "p distances 4 2\nt 4 1\nd 3 0\nt 1 0\n"}, ["G:2: a 1 2 5", "D:4: the block from source 1", "node 2 is at distance 5 at most, and has no d line\n"]),
+    ("NotShortest", "certify-paths G D", {"G": "p sp 2 2\na 1 2 3\na 1 2 1\n", "D": "p distances 2 1\nt 1 1\nd 2 3\n"}, ["G:3: a 1 2 1", "node 2 is at distance 1 at most, and its d line says 3\n"]),
+    ("NoTightArc", "certify-paths G D", {"D": "p distances 4 1\nt 1 1\nd 2 4\n"}, ["D:3: d 2 4", "from source 1 (line 2) no arc leads to node 2 at distance 4: the nearest leads there at distance 5\n"]),
     ("NoTightArc", "certify-paths G D", {"D": "p distances 4 1\nt 1 3\nd 2 5\nd 3 0\nd 4 0\n"}, ["come from nodes that no walk from the source reaches"]),
-    ("NoTightArc", "certify-paths G D", {"G": "p sp 3 1\na 3 2 1\n", "D": "p distances 3 1\nt 1 1\nd 2 7\n"}, ["no arc leads to node 2 at 7: none comes from a node that has a distance"]),
+    ("NoTightArc", "certify-paths G D", {"G": "p sp 3 1\na 3 2 1\n", "D": "p distances 3 1\nt 1 1\nd 2 7\n"}, ["no arc leads to node 2 at distance 7: none comes from a node that has a distance"]),
     # A spread flow: 2 entries of 9 * 10^18 between nodes with 2 arcs or 1, and of -9 * 10^18.
     ("AboveCap", "spread-max I S O", {"I": "p max 2 2\nn 1 s\nn 2 t\na 1 2 4\na 1 2 3\n", "S": f"s 0\nf 1 2 {HUGE}\nf 1 2 {HUGE}\n"}, ["I:4: a 1 2 4\n2 arcs from 1 to 2: ", f"add up to {2 * HUGE}\n", f"carry their CAP, 3 in all, and {2 * HUGE - 3} is left for the first, arc 1:"]),
     ("AboveCap", "spread-max I S O", {"I": "p max 2 1\nn 1 s\nn 2 t\na 1 2 5\n", "S": f"s 0\nf 1 2 {HUGE}\nf 1 2 {HUGE}\n"}, ["I:4: a 1 2 5\n1 arc from 1 to 2: ", f"add up to {2 * HUGE}\n", f"carry their CAP, 0 in all, and {2 * HUGE} is left for the first, arc 1:"]),
@@ -110,9 +121,13 @@ CASES = [
     ("UnknownLine", "convert gr T", {"T": b"\xfd7zXZ\n"}, ["compressed by xz: give <(xzcat FILE) in its place"]),
     ("UnknownLine", "convert gr T", {"T": b"\x28\xb5\x2f\xfd\n"}, ["compressed by zstd: give <(zstdcat FILE) in its place"]),
     ("Balance", "judge-min MI S P", {"S": "s 0\nf 1 2 4\nf 2 4 3\n"}, ["3 leaves node 2, 4 enters it: 1 too little leaves\nentries out of it: 1\n  S:3: f 2 4 3\nentries into it: 1\n  S:2: f 1 2 4\n"]),
-    ("Balance", "judge-min I S P", {"I": "p min 2 1\nn 1 4\nn 2 -3\na 1 2 0 9 0\n", "S": "s 0\nf 1 2 4\n"}, ["I:3: n 2 -3", "0 leaves node 2, 4 enters it, and it takes 3: 1 too little leaves\n"]),
+    ("Balance", "judge-min I S P", {"I": "p min 2 1\nn 1 4\nn 2 -3\na 1 2 0 9 0\n", "S": "s 0\nf 1 2 4\n"}, ["I:3: n 2 -3", "4 enters node 2, 0 leaves it, and it takes 3: 1 too much arrives\n"]),
+    ("Balance", "judge-min I S P", {"I": "p min 2 1\nn 1 2\nn 2 -3\na 1 2 0 9 0\n", "S": "s 0\nf 1 2 2\n"}, ["2 enters node 2, 0 leaves it, and it takes 3: 1 too little arrives\n"]),
     ("Balance", "judge-min I S P", {"I": "p min 2 1\nn 1 3\nn 2 -3\na 1 2 0 9 0\n", "S": "s 0\nf 1 2 4\n"}, ["I:2: n 1 3", "4 leaves node 1, 0 enters it, and it supplies 3: 1 too much leaves\n"]),
     # Words that are almost numbers, or too long.
+    ("BadNumber", "convert gr T", {"T": "p sp 1 1\na 1 1 \u22125 x\n".replace(" x", "")}, ["T:2: a 1 1 \u22125\n", "           ^^\n", "not `\u22125`\nwrite -5\n"]),
+    ("BadNumber", "convert distances T", {"T": "p distances 3 1\nt 1 2\nd 2 5\nd 3 inf\n"}, ["not `inf`\na node that no walk reaches has no line: leave it out\n"]),
+    ("BadNumber", "convert dist T", {"T": "p dist 3 1\nt 1 1\nd 2 Infinity 1\n"}, ["not `Infinity`\na node that no walk reaches has no line: leave it out\n"]),
     ("BadNumber", "convert gr T", {"T": "p sp 1 1\na 1 1 1e++6\n"}, ["and not `1e++6`\n"]),
     ("BadNumber", "convert gr T", {"T": "p sp 1 1\na 1 1 0." + "0" * 70 + "5\n"}, ["0..`\n"]),
     # Texts of this kind, and files that are no such texts.
@@ -120,6 +135,8 @@ CASES = [
     ("UnknownLine", "convert gr T", {"T": b"\x1f\x8b\x08\x00\n"}, ["compressed by gzip"]),
     ("UnknownLine", "convert gr T", {"T": b"\xef\xbb\xbfp sp 1 0\n"}, ["T:1: \\xef\\xbb\\xbfp sp 1 0", "byte order mark"]),
     ("UnknownLine", "convert gr T", {"T": "p sp 1 0\n".encode("utf-16")}, ["UTF-16"]),
+    ("UnknownLine", "convert gr T", {"T": b"PK\x03\x04\x14\0\x06\0\r\xa9\n"}, ["PK\\x03\\x04", "\nthe file is a zip archive, as those of office programs are: save its text alone\n"]),
+    ("UnknownLine", "convert gr T", {"T": b"\x7fELF\r\0\0"}, ["no line of a graph (gr) begins with"]),
     ("FieldCount", "convert gr T", {"T": "p sp 1 1\ra 1 1 0\r"}, ["lines end by a carriage return alone"]),
     ("BadWord", "convert gr T", {"T": MAX}, ["that of a maximum flow instance (max), and a graph (gr) is wanted"]),
     ("UnknownLine", "convert gr T", {"T": "p sp 1 1\nx" + "y" * 1000 + "\n"}, ["T:2: xyy", ".."]),
@@ -244,6 +261,7 @@ arcs into it, all empty: 0
 arcs out of it, all full: 0
 no flow reaches the sink, so none has a value above 0
 """),
+    ("certify-paths G D", {"D": "p distances 4 0\n"}, "no distance is claimed: there is no block\n"),
     ("convert cut C", {}, ""),
     ("spread-max I S O", {}, ""),
 ]
@@ -322,6 +340,16 @@ def twice_fault(binary):
     return None if (ran.returncode, ran.stdout) == (1, wanted) else f"prints {ran.stdout}"
 
 
+def name_fault(binary):
+    """What is wrong with a refusal of a file whose name has a line feed; none if nothing is."""
+    with tempfile.TemporaryDirectory(dir=MEMORY) as folder:
+        write(folder, "\u00e9\nv max 6", "p sp 1 1\n")
+        words = [binary, "explain", "convert", "gr", "\u00e9\nv max 6"]
+        ran = subprocess.run(words, capture_output=True, cwd=folder, check=False)
+    wanted = "x instance 2 0 TooFew\n\u00e9\\x0av max 6: ends after line 1\n0 arc lines of the 1 that line 1 declares\n"
+    return None if (ran.returncode, ran.stdout.decode()) == (1, wanted) else f"prints {ran.stdout}"
+
+
 def text_in(folder, name):
     with open(os.path.join(folder, name), encoding="ascii") as it:
         return it.read()
@@ -375,6 +403,7 @@ def main():
     faults += [(f"explain {case[0]}", yes_fault(binary, *case)) for case in YES]
     faults += [(f"explain with a pipe, {size} MB", pipe_fault(binary, size)) for size in (0, 60, 70)]
     faults += [("explain with a pipe named twice", twice_fault(binary))]
+    faults += [("explain with a line feed in a name", name_fault(binary))]
     faults += [("explain", fault) for fault in reader_faults(binary, int(count), int(seed))]
     for words, fault in faults:
         passed += fault is None

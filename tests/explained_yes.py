@@ -245,6 +245,8 @@ def distances(graph, queries, labels):
     for source in sources[:10] if sources or pairs else list(blocks)[:10]:
         has_route |= bool(blocks[source][1])
         yield from farthest(arcs, nodes, source, *blocks[source])
+    if not (sources or pairs or blocks):
+        yield "no distance is claimed: there is no block"
     if len(sources or pairs or blocks) > 10:
         yield ".."
     if has_route:

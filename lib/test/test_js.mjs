@@ -254,11 +254,12 @@ const CASES = {
         const feasible = "x instance 0 0 Feasible\nthe instance has a feasible flow: it is in `flow`\n";
         assert.equal(thrown(() => dimacs.certifyInfeasibleArrays(IN_MIN)).explain(), feasible);
         const outside = thrown(() => dimacs.judgeMaxArrays(IN_MAX, [4, 2, 1, 3, 3], [0, 0, 0, 0])).explain();
-        const source = "node 1: the source\nnode 1 is the source, and the cut doesn't hold it\n";
+        const source = "node 1: the source\nnode 1 is the source, and the cut doesn't hold it: it lists the nodes on the source's side, the source among them\n";
         assert.equal(outside, `x node 1 SourceOutside\n${source}`);
         // Node 1 supplies 4; its arcs have CAP 4 and 2.
         const met = thrown(() => dimacs.judgeInfeasibleArrays(IN_MIN, [1, 0, 0, 0])).explain().split("\n");
         assert.ok(met[1].startsWith("the set supplies 4, and its arcs can carry 0 to 6 out of it: "));
+        assert.equal(met[2], "this certificate doesn't show the claim, which may be true all the same: to find out, certify it");
         // 3 * 2 + 2 + 1 + 2 * 3 + 2 = 17, and the least cost is 14.
         const dear = thrown(() => dimacs.certifyMinArrays(IN_MIN, [3, 1, 1, 2, 2])).explain();
         const less = /^the flow in `better` is feasible, and costs [1-3] less than the 17 that is claimed$/;

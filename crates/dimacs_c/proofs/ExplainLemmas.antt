@@ -1,31 +1,29 @@
 -- The report of a command over texts in memory, and what follows it.
-use Rattle.std.proofs.Common.{◌≡◌, ◌∙◌, ◌++◌, ℕ, List, [], ◌∷◌, Option, None, Some, Ok, ap, append-nil, inl, inr, map, refl, subst, sym}
+use Rattle.std.proofs.Common.{◌≡◌, ◌∙◌, ◌++◌, ℕ, Bool, true, false, List, [], ◌∷◌, Option, None, Some, Ok, ap, append-nil, inl, inr, map, refl, subst, sym}
 use Rattle.std.proofs.lemmas.Bool.{false≢true}
 use Rattle.dimacs_lines.specs.Devices.{Written, after_piece}
 use Rattle.dimacs_runs.specs.declared.jobs.Job.{Job}
 use Rattle.dimacs_runs.specs.declared.jobs.Job.TheVariants.{Convert, Show, Judge, Certify, Spread, Solve}
 use Rattle.dimacs_runs.specs.declared.status.Status.{Status}
-use Rattle.dimacs_runs.specs.declared.status.Status.TheVariants.{Done, Refused, GaveUp}
 use Rattle.dimacs_runs.specs.declared.text.TextForm.TheVariants.{Canonical, Summary}
 use Rattle.dimacs_runs.specs.Commands.{Reporting, ReportsJudged, ReportsOne, RunsFiles, RunsJob, Seen, accepted_after, plan_of, reads, seen_by}
 use Rattle.dimacs_runs.specs.Files.{FilesSeen, WrittenFile}
 use Rattle.dimacs_runs.specs.Runs.{Prints}
-use Rattle.dimacs_explain.specs.Explained.{FollowedBy}
+use Rattle.dimacs_explain.specs.Explained.{MayFollow}
 use Rattle.dimacs_c.specs.Explained.{Reported, ReportsJob, printing}
 use Rattle.dimacs_c.proofs.CallLemmas.{bytes_of}
 
 -- ---- the report is what was accepted before the explanation
-abbrev pub IsFront : Option (List ℕ) → List ℕ → Type 0
-IsFront accepted bytes = (report : List ℕ) × (more : List ℕ) × (accepted ≡ Some report) × (bytes ≡ report ++ more)
+abbrev pub IsFront : Bool → Option (List ℕ) → List ℕ → Type 0
+IsFront explained accepted bytes = (report : List ℕ) × (more : List ℕ) × (accepted ≡ Some report) × (bytes ≡ report ++ more) × (explained ≡ false → more ≡ [])
 
-one_piece : (accepted : Option (List ℕ)) (more bytes : List ℕ) → after_piece accepted more ≡ Some bytes → IsFront accepted bytes
+one_piece : (accepted : Option (List ℕ)) (more bytes : List ℕ) → after_piece accepted more ≡ Some bytes → IsFront true accepted bytes
 one_piece None more bytes is = absurd cc
-one_piece (Some report) more bytes is = (report, more, refl, sym (bytes_of is))
+one_piece (Some report) more bytes is = (report, more, refl, sym (bytes_of is), λ not. absurd (false≢true (sym not)))
 
-pub front_of : (s : Status) (output new : Written) (bytes : List ℕ) → FollowedBy (Some (Ok s)) output new → new.accepted ≡ Some bytes → IsFront output.accepted bytes
-front_of Done output new bytes follows is = one_piece output.accepted follows.0 bytes (sym follows.1 ∙ is)
-front_of Refused output new bytes follows is = one_piece output.accepted follows.0 bytes (sym follows.1 ∙ is)
-front_of GaveUp output new bytes same is = (bytes, [], sym (ap (λ (w : Written). w.accepted) same) ∙ is, sym (append-nil bytes))
+pub front_of : (explained : Bool) (output new : Written) (bytes : List ℕ) → MayFollow explained output new → new.accepted ≡ Some bytes → IsFront explained output.accepted bytes
+front_of true output new bytes follows is = one_piece output.accepted follows.0 bytes (sym follows.1 ∙ is)
+front_of false output new bytes same is = (bytes, [], sym (ap (λ (w : Written). w.accepted) same) ∙ is, sym (append-nil bytes), λ not. refl)
 
 -- ---- the report is the one of the texts
 only_output : (written : List WrittenFile) (output : Option (List ℕ)) → map (λ (file : WrittenFile). file.name) written ≡ [] → accepted_after written output ≡ output ∷ []

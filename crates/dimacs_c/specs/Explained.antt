@@ -1,5 +1,5 @@
 -- What a command over texts in memory hands out, with its explanation.
-use Rattle.std.specs.Prelude.{ℕ, ◌≡◌, ◌++◌, ◌⊎◌, ◌||◌, if◌then◌else◌, List, [], ◌∷◌, None, Some, Ok, codes, drop, map}
+use Rattle.std.specs.Prelude.{ℕ, ◌≡◌, ◌++◌, ◌⊎◌, ◌||◌, false, if◌then◌else◌, List, [], ◌∷◌, None, Some, Ok, codes, drop, map}
 use Rattle.std.specs.Str.{bytes_eq}
 use Rattle.std.specs.Str.Lossy.{utf8_lossy}
 use Rattle.dimacs_lines.specs.Fields.{Run, fields_of}
@@ -11,6 +11,7 @@ use Rattle.dimacs_runs.specs.Commands.{Reporting, ReportsJudged, ReportsOne, Run
 use Rattle.dimacs_runs.specs.Jobs.{Asks}
 use Rattle.dimacs_runs.specs.Outcomes.{status_number}
 use Rattle.dimacs_runs.specs.Runs.{Prints}
+use Rattle.dimacs_explain.specs.Explained.{is_explained}
 use Rattle.dimacs_c.specs.Calls.{Handed, HandsNothing, HandsOut}
 
 -- the words of a command: its fields, as text
@@ -45,10 +46,10 @@ ReportsJob (Judge kind files) text = Reported (ReportsJudged kind) (map text (pl
 ReportsJob other text = λ status report. RunsJob other (λ name. Some (text name)) None (Ok status) (printing []) (printing report)
 
 -- the arguments ask for no job, and the call returns 2; or the report of their job is handed out, followed by an
--- explanation, and the call returns the job's exit status; or memory ran out
+-- explanation if it may have one, and the call returns the job's exit status; or memory ran out
 abbrev pub AnswersCommand : List (List ℕ) → List (List ℕ) → ℕ → Handed ℕ → Type 0
 AnswersCommand arguments texts exit_status h =
     (((wanted : Job) → ¬ Asks arguments wanted) × (exit_status ≡ 2) × HandsNothing h)
     ⊎ (((wanted : Job) × (s : Status) × (report : List ℕ) × (more : List ℕ) × Asks arguments wanted
-    × ReportsJob wanted (text_named texts (file_words arguments)) s report × (exit_status ≡ status_number (Ok s)) × HandsOut (report ++ more) h)
+    × ReportsJob wanted (text_named texts (file_words arguments)) s report × (is_explained wanted s ≡ false → more ≡ []) × (exit_status ≡ status_number (Ok s)) × HandsOut (report ++ more) h)
     ⊎ ((exit_status ≡ 4) × HandsNothing h))

@@ -1,7 +1,6 @@
 //! Explains why a claimed flow or the claim that none is feasible is refused, and what the run wrote in its place.
 
-use crate::costs::cost_of;
-use crate::entries::NodeFlow;
+use crate::entries::{MostCost, NodeFlow};
 use crate::forms::range_of;
 use crate::lookups::Wanted;
 use crate::page::{Page, Stop};
@@ -9,6 +8,9 @@ use crate::reopen::Reopen;
 use crate::sentence::{Value, ending};
 use crate::texts::TextFile;
 use dimacs_records::{At, End, Record, TextKind};
+
+/// The greatest VALUE.
+const MOST_VALUE: i128 = 1_000_000_000_000_000_000_000_000_000_000;
 
 impl<'a, A: Reopen> Page<'a, A> {
     /// Quotes a line of the solution.
@@ -42,7 +44,10 @@ impl<'a, A: Reopen> Page<'a, A> {
             return Ok(());
         };
         let file = Value::File(self.texts.instance()?.file);
-        self.write("{} has no arc from {} to {}\n", &[file, tail.into(), head.into()])?;
+        self.write(
+            "{} has no arc from {} to {}\n",
+            &[file, tail.into(), head.into()],
+        )?;
         let back = self.parallel(head, tail, 0)?;
         if back.all > 0 {
             self.write(
@@ -60,20 +65,13 @@ impl<'a, A: Reopen> Page<'a, A> {
         };
         let (instance, solution) = (self.texts.instance()?, self.texts.claim()?);
         match instance.kind {
-            TextKind::Min => self.explain_claimed_cost(instance, solution, value),
+            TextKind::Min => self.explain_claimed_cost(value),
             _ => self.explain_claimed_value(instance, solution, value),
         }
     }
 
-    fn explain_claimed_cost(
-        &mut self,
-        instance: TextFile<'a>,
-        solution: TextFile<'a>,
-        claimed: i128,
-    ) -> Result<(), Stop<'a>> {
-        let Some(cost) = cost_of(self.alloc, self.again, instance, solution)? else {
-            return Ok(());
-        };
+    fn explain_claimed_cost(&mut self, claimed: i128) -> Result<(), Stop<'a>> {
+        let cost = self.claimed_cost()?;
         self.write(
             "{} is claimed, and the flow costs {}\n",
             &[claimed.into(), cost.into()],
@@ -106,7 +104,7 @@ impl<'a, A: Reopen> Page<'a, A> {
     }
 
     /// The source or the sink.
-    fn end_of(&self, instance: TextFile<'a>, end: End) -> Result<u32, Stop<'a>> {
+    pub(crate) fn end_of(&self, instance: TextFile<'a>, end: End) -> Result<u32, Stop<'a>> {
         if let Some(found) = self.find(instance, Wanted::End(end))?
             && let Record::MaxNode { id, .. } = found.record
         {
@@ -135,9 +133,10 @@ impl<'a, A: Reopen> Page<'a, A> {
     pub(crate) fn explain_better(&mut self, at: At) -> Result<(), Stop<'a>> {
         let solution = self.texts.claim()?;
         if self.texts.written_file == Some(solution.file) {
+            let condition = self.condition()?;
             return self.write(
-                "the flow is feasible, and there is a better one: if its cost can be written, {} has it now\n",
-                &[Value::File(solution.file)],
+                "the flow is feasible, and there is a better one: {}{} has it now\n",
+                &[condition.into(), Value::File(solution.file)],
             );
         }
         let Record::SolutionValue { value: claimed } = self.quote_solution(at)? else {
@@ -179,6 +178,17 @@ impl<'a, A: Reopen> Page<'a, A> {
         )
     }
 
+    /// On what it depends whether a flow was written: on nothing if each flow has a cost in range.
+    fn condition(&self) -> Result<&'static str, Stop<'a>> {
+        let mut most = MostCost::new();
+        self.tally(self.texts.instance()?, &mut most)?;
+        Ok(if most.sum <= MOST_VALUE {
+            ""
+        } else {
+            "if its cost can be written, "
+        })
+    }
+
     /// Names the file with a feasible flow, if one was written, and quotes its cost.
     pub(crate) fn explain_feasible(&mut self) -> Result<(), Stop<'a>> {
         let Some(file) = self.texts.written_file else {
@@ -187,9 +197,10 @@ impl<'a, A: Reopen> Page<'a, A> {
                 &[],
             );
         };
+        let condition = self.condition()?;
         self.write(
-            "the instance has a feasible flow: if its cost can be written, {} has one\n",
-            &[Value::File(file)],
+            "the instance has a feasible flow: {}{} has one\n",
+            &[condition.into(), Value::File(file)],
         )?;
         if self.again.open(file).is_some() {
             self.quote(solution_in(file), Wanted::Value)?;

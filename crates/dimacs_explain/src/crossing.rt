@@ -115,6 +115,18 @@ pub(crate) fn explain_infeasible<N: Network>(
     least.write("at least", needed, out)
 }
 
+/// A set's supply, and the least and the most that its arcs can carry out of it.
+pub(crate) fn supply_and_bounds<N: Network>(
+    alloc: Global,
+    instance: &MinInstance<N>,
+    set: &Cut,
+) -> Result<[i128; 3], AllocError> {
+    let supply = supply_of(alloc, instance, set)?;
+    let least = across(alloc, instance.network(), set, Bound::Low, Bound::Cap)?;
+    let most = across(alloc, instance.network(), set, Bound::Cap, Bound::Low)?;
+    Ok([supply.sum(), least.net(), most.net()])
+}
+
 /// The supplies of a set's nodes.
 fn supply_of<N: Network>(
     alloc: Global,

@@ -4,7 +4,6 @@ use crate::lines::Tally;
 use crate::lookups::{arc_of, is_entry};
 use crate::sentence::Value;
 use crate::sums::Sum;
-use dimacs_claims::Cut;
 use dimacs_network::ArcView;
 use dimacs_records::Record;
 use std::alloc::{AllocError, Global};
@@ -95,6 +94,29 @@ impl Tally for EntrySum {
     }
 }
 
+/// The most that a flow can cost, or bring in.
+#[derive(Drop)]
+pub(crate) struct MostCost {
+    pub(crate) sum: i128,
+}
+
+impl MostCost {
+    /// Before the first arc.
+    pub(crate) fn new() -> MostCost {
+        MostCost { sum: 0 }
+    }
+}
+
+impl Tally for MostCost {
+    fn add(&mut self, _: u64, record: Record) -> Result<(), AllocError> {
+        if let Some(arc) = arc_of(record) {
+            let cost = i128::from(arc.cost).saturating_mul(i128::from(arc.cap));
+            self.sum = self.sum.saturating_add(cost.saturating_abs());
+        }
+        Ok(())
+    }
+}
+
 /// The entries out of a node and into it, without loops.
 #[derive(Drop)]
 pub(crate) struct NodeFlow<'a> {
@@ -142,55 +164,4 @@ impl<'a> Tally for NodeFlow<'a> {
 
 fn add_entry(sum: &mut Sum, values: &[Value<'_>], flow: i64) -> Result<(), AllocError> {
     sum.add_line("  {}:{}: f {} {} {}\n", values, Some(i128::from(flow)))
-}
-
-/// The supply of a set, and the bounds of the net flow out of it.
-#[derive(Drop)]
-pub(crate) struct SetSums<'a> {
-    set: &'a Cut,
-    pub(crate) supply: i128,
-    pub(crate) low: i128,
-    pub(crate) high: i128,
-}
-
-impl<'a> SetSums<'a> {
-    /// Before the first line of an instance.
-    pub(crate) fn new(set: &'a Cut) -> SetSums<'a> {
-        SetSums {
-            set,
-            supply: 0,
-            low: 0,
-            high: 0,
-        }
-    }
-
-    /// Adds an arc, if it leaves or enters the set.
-    fn add_arc(&mut self, arc: ArcView) {
-        let (low, cap) = (i128::from(arc.low), i128::from(arc.cap));
-        match (self.set.contains(arc.tail), self.set.contains(arc.head)) {
-            (true, false) => {
-                self.high = self.high.saturating_add(cap);
-                self.low = self.low.saturating_add(low);
-            }
-            (false, true) => {
-                self.high = self.high.saturating_sub(low);
-                self.low = self.low.saturating_sub(cap);
-            }
-            _ => (),
-        }
-    }
-}
-
-impl<'a> Tally for SetSums<'a> {
-    fn add(&mut self, _: u64, record: Record) -> Result<(), AllocError> {
-        if let Record::MinNode { id, supply } = record
-            && self.set.contains(id)
-        {
-            self.supply = self.supply.saturating_add(i128::from(supply));
-        }
-        if let Some(arc) = arc_of(record) {
-            self.add_arc(arc);
-        }
-        Ok(())
-    }
 }

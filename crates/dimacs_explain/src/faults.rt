@@ -4,7 +4,7 @@ use crate::before::{Before, NOTHING_BEFORE};
 use crate::forms::{field_name, form_of, forms, kind_words, range_of};
 use crate::lines::ANY_LINES;
 use crate::lookups::{Named, Wanted, name_in};
-use crate::numbers::meant_number;
+use crate::numbers::{is_no_distance, meant_number};
 use crate::oddities::{has_lone_return, oddity, other_kind};
 use crate::page::{Page, Stop};
 use crate::quote::{escape, field_at, quote};
@@ -196,7 +196,11 @@ impl<'a, A: Reopen> Page<'a, A> {
     ) -> Result<(), Stop<'a>> {
         let file = Value::File(file);
         match reason {
-            Reason::LineTooLong | Reason::LineLimit => self.write("{}:{}: ", &[file, at.line.into()]),
+            Reason::LineTooLong | Reason::LineLimit => self.write(
+                "{}:{}: ",
+                &[file, at.line.into()],
+            ),
+            _ if last == 0 => self.write("{}: is empty\n", &[file]),
             _ => self.write("{}: ends after line {}\n", &[file, last.into()]),
         }
     }
@@ -209,12 +213,13 @@ impl<'a, A: Reopen> Page<'a, A> {
         reason: Reason,
     ) -> Result<(), Stop<'a>> {
         match reason {
-            Reason::UnknownLine
-            | Reason::FieldCount
-            | Reason::BadWord
-            | Reason::ProblemMissing => {
+            Reason::UnknownLine | Reason::FieldCount | Reason::BadWord | Reason::ProblemMissing => {
                 let wanted = kind_words(kind);
-                let verb = if wanted.starts_with("a ") { "is" } else { "are" };
+                let verb = if wanted.starts_with("a ") {
+                    "is"
+                } else {
+                    "are"
+                };
                 self.write(
                     "the p line is that of {}, and {} {} wanted\n",
                     &[other.into(), wanted.into(), verb.into()],
@@ -235,20 +240,30 @@ impl<'a, A: Reopen> Page<'a, A> {
         let kind = text.kind;
         match reason {
             Reason::LineTooLong => {
-                self.write("the line has more than {} bytes\n", &[(MAX_LINE as u64).into()])
+                self.write(
+                    "the line has more than {} bytes\n",
+                    &[(MAX_LINE as u64).into()],
+                )
             }
             Reason::LineLimit => self.write("a text has at most {} lines\n", &[MAX_LINES.into()]),
             Reason::UnknownLine => self.list_forms(kind, seen.word.as_str()),
             Reason::FieldCount => self.write_field_count(kind, seen),
             Reason::BadWord => self.write(
                 "`{}` stands where `{}` is wanted: the line is `{}`\n",
-                &[seen.word.as_str().into(), seen.name.into(), seen.form.into()],
+                &[
+                    seen.word.as_str().into(),
+                    seen.name.into(),
+                    seen.form.into(),
+                ],
             ),
             Reason::BadNumber => self.write_bad_number(seen),
             Reason::NumberRange => self.write_range(seen.word.as_str(), seen.name),
             Reason::ProblemMissing => {
                 let first = form_of(kind, b"p").unwrap_or("p");
-                self.write("a line `{}` has to stand first, but for comments\n", &[first.into()])
+                self.write(
+                    "a line `{}` has to stand first, but for comments\n",
+                    &[first.into()],
+                )
             }
             Reason::BoundOrder => self.write_bounds(seen.record),
             Reason::NodeTwice => self.write_earlier(text, line, seen),
@@ -266,13 +281,22 @@ impl<'a, A: Reopen> Page<'a, A> {
         let before = &seen.before;
         match reason {
             Reason::ProblemTwice => {
-                self.write("line {} is a p line already\n", &[before.problem_line.into()])
+                self.write(
+                    "line {} is a p line already\n",
+                    &[before.problem_line.into()],
+                )
             }
             Reason::SolutionTwice => {
-                self.write("line {} is an s line already\n", &[before.value_line.into()])
+                self.write(
+                    "line {} is an s line already\n",
+                    &[before.value_line.into()],
+                )
             }
             Reason::EndTwice => {
-                self.write("line {} has the same letter already\n", &[seen.end_line().into()])
+                self.write(
+                    "line {} has the same letter already\n",
+                    &[seen.end_line().into()],
+                )
             }
             Reason::RecordOrder => self.write(order_of(kind), &[]),
             Reason::EndMissing => self.write(missing_ends(before), &[]),
@@ -282,7 +306,11 @@ impl<'a, A: Reopen> Page<'a, A> {
             ),
             Reason::NodeRange => self.write(
                 "node {} is above the {} nodes that line {} declares\n",
-                &[seen.word.as_str().into(), before.nodes.into(), before.problem_line.into()],
+                &[
+                    seen.word.as_str().into(),
+                    before.nodes.into(),
+                    before.problem_line.into(),
+                ],
             ),
             Reason::TooMany | Reason::TooFew => self.write_count(kind, seen, reason),
             Reason::PredUnknown | Reason::PastRadius => self.write_label_fault(seen, reason),
@@ -308,7 +336,14 @@ impl<'a, A: Reopen> Page<'a, A> {
             &[seen.fields.into(), seen.form.into(), wanted.into()],
         )?;
         let has_radius = kind == TextKind::Labels && seen.form.starts_with('t');
-        self.write(if has_radius { ", or one more with a RADIUS\n" } else { "\n" }, &[])
+        self.write(
+            if has_radius {
+                ", or one more with a RADIUS\n"
+            } else {
+                "\n"
+            },
+            &[],
+        )
     }
 
     fn write_bad_number(&mut self, seen: &FaultLine) -> Result<(), Stop<'a>> {
@@ -317,6 +352,12 @@ impl<'a, A: Reopen> Page<'a, A> {
             "{} is a whole number, digits with a sign or without, and not `{}`\n",
             &[seen.name.into(), word.into()],
         )?;
+        if seen.name == "DIST" && is_no_distance(word) {
+            return self.write(
+                "a node that no walk reaches has no line: leave it out\n",
+                &[],
+            );
+        }
         match meant_number(self.alloc, word)? {
             Some(number) => self.write("write {}\n", &[number.as_str().into()]),
             None => Ok(()),
@@ -345,10 +386,10 @@ impl<'a, A: Reopen> Page<'a, A> {
     fn write_bounds(&mut self, record: Option<Record>) -> Result<(), Stop<'a>> {
         match record {
             Some(Record::MaxArc { cap, .. }) => {
-                self.write("CAP is {}, and is 0 or more\n", &[cap.into()])
+                self.write("CAP is {}, and has to be 0 or more\n", &[cap.into()])
             }
             Some(Record::MinArc { low, cap, .. }) if low < 0 => self.write(
-                "LOW is {} (and CAP {}), and is 0 or more\n",
+                "LOW is {} (and CAP {}), and has to be 0 or more\n",
                 &[low.into(), cap.into()],
             ),
             Some(Record::MinArc { low, cap, .. }) => {

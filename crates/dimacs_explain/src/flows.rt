@@ -34,12 +34,7 @@ impl<'a, A: Reopen> Page<'a, A> {
     }
 
     /// The arcs between two nodes, and how many come before the arc with this number, from 1.
-    pub(crate) fn parallel(
-        &self,
-        tail: u32,
-        head: u32,
-        number: u32,
-    ) -> Result<Parallel, Stop<'a>> {
+    pub(crate) fn parallel(&self, tail: u32, head: u32, number: u32) -> Result<Parallel, Stop<'a>> {
         let mut parallel = Parallel::new(tail, head, u64::from(number));
         self.tally(self.texts.instance()?, &mut parallel)?;
         Ok(parallel)
@@ -64,21 +59,39 @@ impl<'a, A: Reopen> Page<'a, A> {
         };
         self.write(
             "arc {} carries {}, {} than its {}, {}\n",
-            &[number.into(), flow.into(), is.into(), name.into(), least.into()],
+            &[
+                number.into(),
+                flow.into(),
+                is.into(),
+                name.into(),
+                least.into(),
+            ],
         )?;
         if parallel.all > 1 {
-            self.write(
-                "{} arcs lead from {} to {}, and arc {} is the first of them: entries with these ends belong to them in the order of the instance\n",
-                &[
-                    parallel.all.into(),
-                    arc.tail.into(),
-                    arc.head.into(),
-                    parallel.first.into(),
-                ],
-            )?;
-            return self.write_spread();
+            return self.explain_order(arc, parallel);
         }
         Ok(())
+    }
+
+    /// Explains that entries belong to parallel arcs in their order, and whether another order fits.
+    fn explain_order(&mut self, arc: ArcView, parallel: Parallel) -> Result<(), Stop<'a>> {
+        self.write(
+            "{} arcs lead from {} to {}, and arc {} is the first of them: entries with these ends belong to them in the order of the instance\n",
+            &[
+                parallel.all.into(),
+                arc.tail.into(),
+                arc.head.into(),
+                parallel.first.into(),
+            ],
+        )?;
+        let sum = self.entry_sum(arc.tail, arc.head)?;
+        if parallel.low <= sum && sum <= parallel.cap {
+            return self.write_spread();
+        }
+        self.write(
+            "the f lines with these ends add up to {}, outside of {} to {}, what these arcs can carry: no order fits\n",
+            &[sum.into(), parallel.low.into(), parallel.cap.into()],
+        )
     }
 
     /// Explains an amount that is left for the first of parallel arcs and doesn't fit 64 bits.
@@ -138,7 +151,8 @@ impl<'a, A: Reopen> Page<'a, A> {
                 flow.into(),
                 arc.cap.into(),
             ],
-        )
+        )?;
+        self.write_open()
     }
 
     /// Explains that an arc into the cut isn't empty.
@@ -146,13 +160,9 @@ impl<'a, A: Reopen> Page<'a, A> {
         let (arc, flow, _) = self.quote_flow(number)?;
         self.write(
             "arc {} enters the set, from {} outside to {} inside, and carries {}, not 0\n",
-            &[
-                number.into(),
-                arc.tail.into(),
-                arc.head.into(),
-                flow.into(),
-            ],
-        )
+            &[number.into(), arc.tail.into(), arc.head.into(), flow.into()],
+        )?;
+        self.write_open()
     }
 
     /// Explains that an arc doesn't carry the bound that its reduced cost demands.
@@ -179,19 +189,45 @@ impl<'a, A: Reopen> Page<'a, A> {
         self.write(
             ", {} 0, so it has to carry its {}, {}, and carries {}\n",
             &[sign.into(), bound.into(), wanted.into(), flow.into()],
-        )
+        )?;
+        self.write_open()
     }
 
     /// Names the command that deals a flow out to parallel arcs.
     pub(crate) fn write_spread(&mut self) -> Result<(), Stop<'a>> {
-        let (instance, solution) = (self.texts.instance()?, self.texts.claim()?);
-        let word = match instance.kind {
+        self.write(
+            "if the entries don't follow the order of the arcs, have them dealt out: ",
+            &[],
+        )?;
+        self.write_command("spread")?;
+        self.write(" OUT\n", &[])
+    }
+
+    /// Writes that a certificate which fails leaves its claim open, and the command that decides it.
+    pub(crate) fn write_open(&mut self) -> Result<(), Stop<'a>> {
+        self.write(
+            "this certificate doesn't show the claim, which may be true all the same: to find out, run ",
+            &[],
+        )?;
+        self.write_command("certify")?;
+        self.write("\n", &[])
+    }
+
+    /// Writes a command about the claimed flow, or that none is feasible.
+    fn write_command(&mut self, verb: &str) -> Result<(), Stop<'a>> {
+        let instance = self.texts.instance()?;
+        let file = Value::File(instance.file);
+        let Ok(claim) = self.texts.claim() else {
+            return self.write("dimacs {}-infeasible {}", &[verb.into(), file]);
+        };
+        let kind = match instance.kind {
             TextKind::Max => "max",
             _ => "min",
         };
+        let claim = Value::File(claim.file);
         self.write(
-            "if the entries don't follow the order of the arcs, have them dealt out: dimacs spread-{} {} {} OUT\n",
-            &[word.into(), Value::File(instance.file), Value::File(solution.file)],
+            "dimacs {}-{} {} {}",
+            &[verb.into(), kind.into(), file, claim],
         )
     }
 
@@ -242,23 +278,33 @@ impl<'a, A: Reopen> Page<'a, A> {
         inflow: i128,
         supply: i128,
     ) -> Result<(), Stop<'a>> {
-        self.write(
-            "{} leaves node {}, {} enters it",
-            &[outflow.into(), node.into(), inflow.into()],
-        )?;
+        let excess = outflow.saturating_sub(inflow).saturating_sub(supply);
+        let (node, out_of, into) = (Value::from(node), outflow.into(), inflow.into());
+        if supply < 0 {
+            let takes = supply.saturating_neg().into();
+            self.write(
+                "{} enters node {}, {} leaves it, and it takes {}",
+                &[into, node, out_of, takes],
+            )?;
+            return self.write_excess(excess.saturating_neg(), "arrives");
+        }
+        self.write("{} leaves node {}, {} enters it", &[out_of, node, into])?;
         if supply > 0 {
             self.write(", and it supplies {}", &[supply.into()])?;
         }
-        if supply < 0 {
-            self.write(", and it takes {}", &[supply.saturating_neg().into()])?;
-        }
-        let excess = outflow.saturating_sub(inflow).saturating_sub(supply);
-        if excess > 0 {
-            return self.write(": {} too much leaves\n", &[excess.into()]);
-        }
+        self.write_excess(excess, "leaves")
+    }
+
+    /// Writes how much more than wanted leaves or arrives, or how much less.
+    fn write_excess(&mut self, excess: i128, verb: &str) -> Result<(), Stop<'a>> {
+        let (amount, word) = if excess > 0 {
+            (excess, "much")
+        } else {
+            (excess.saturating_neg(), "little")
+        };
         self.write(
-            ": {} too little leaves\n",
-            &[excess.saturating_neg().into()],
+            ": {} too {} {}\n",
+            &[amount.into(), word.into(), verb.into()],
         )
     }
 }

@@ -8,6 +8,7 @@ mod claims;
 mod command;
 mod costs;
 mod crossing;
+mod cycles;
 mod entries;
 mod faults;
 mod flows;

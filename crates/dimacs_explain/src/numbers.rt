@@ -5,8 +5,15 @@ use std::alloc::{AllocError, Global};
 /// Numbers of up to this many digits fit all fields but IDs and counts.
 const MOST_DIGITS: usize = 18;
 
-/// The whole number that a word spells in another way, as `3.0` and `1e6` do.
+/// The whole number that a word spells in another way: as `3.0` and `1e6` do, or with a typographic minus.
 pub(crate) fn meant_number(alloc: Global, word: &str) -> Result<Option<String>, AllocError> {
+    if let Some(digits) = word.strip_prefix('\u{2212}')
+        && is_whole(digits)
+    {
+        let mut number = String::from_str(alloc, "-")?;
+        number.push_str(digits)?;
+        return Ok(Some(number));
+    }
     if let Some((whole, fraction)) = word.split_once('.')
         && is_whole(whole)
         && fraction.bytes().all(|byte| byte == b'0')
@@ -35,6 +42,15 @@ fn with_zeros(alloc: Global, whole: &str, zeros: &str) -> Result<Option<String>,
         }
         _ => Ok(None),
     }
+}
+
+/// Whether a word stands for a distance that is infinite or unknown.
+pub(crate) fn is_no_distance(word: &str) -> bool {
+    [
+        "inf", "+inf", "infinity", "nan", "none", "null", "-", "\u{221e}",
+    ]
+    .iter()
+    .any(|known| word.eq_ignore_ascii_case(known))
 }
 
 /// Whether a word is digits, perhaps after a minus sign.

@@ -5,7 +5,7 @@ use crate::quote::field_at;
 use dimacs_records::TextKind;
 
 /// How files begin that are no plain texts, and what to do about them.
-static BEGINNINGS: [(&[u8], &str); 7] = [
+static BEGINNINGS: [(&[u8], &str); 8] = [
     (
         b"\x1f\x8b",
         "the file is compressed by gzip: give <(zcat FILE) in its place",
@@ -34,6 +34,10 @@ static BEGINNINGS: [(&[u8], &str); 7] = [
         b"\x28\xb5\x2f\xfd",
         "the file is compressed by zstd: give <(zstdcat FILE) in its place",
     ),
+    (
+        b"PK\x03\x04",
+        "the file is a zip archive, as those of office programs are: save its text alone",
+    ),
 ];
 
 /// The message for a file whose first line shows that it isn't a plain text.
@@ -51,11 +55,11 @@ pub(crate) fn oddity(first: &[u8]) -> Option<&'static str> {
     }
 }
 
-/// Whether a line has a carriage return before its last byte. If all lines of a file end by one, the file is a
+/// Whether a line of a text has a carriage return before its last byte. If all lines of a file end by one, the file is a
 /// single line here.
 pub(crate) fn has_lone_return(line: &[u8]) -> bool {
     match line.split_last() {
-        Some((_, front)) => front.contains(&b'\r'),
+        Some((_, front)) => front.contains(&b'\r') && !front.contains(&0),
         None => false,
     }
 }

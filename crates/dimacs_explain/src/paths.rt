@@ -62,13 +62,14 @@ impl<'a, A: Reopen> Page<'a, A> {
         self.write("{}:{}: the block from source {}\n", &values)?;
         self.write_leads(number, arc, ends.tail, ends.sum)?;
         let name = match text.kind {
-            TextKind::Distances => "distance",
+            TextKind::Distances => "d line",
             _ => "label",
         };
         match ends.head {
-            Some(head) => self.write("; its {} is {}\n", &[name.into(), head.into()]),
-            None => self.write("; it has no {}\n", &[name.into()]),
+            Some(head) => self.write(", and its {} says {}\n", &[name.into(), head.into()])?,
+            None => self.write(", and has no {}\n", &[name.into()])?,
         }
+        self.write_cycle(ends.source)
     }
 
     /// Writes how near an arc leads, from a tail at this distance.
@@ -83,12 +84,13 @@ impl<'a, A: Reopen> Page<'a, A> {
             number.into(),
             arc.tail.into(),
             dist.into(),
+            arc.head.into(),
             arc.cost.into(),
             arc.head.into(),
             sum.into(),
         ];
         self.write(
-            "arc {} leads from {}, at {}, with the WEIGHT {}, to {}, which is then no farther than {}",
+            "arc {} leads from node {}, at distance {}, to node {} with the WEIGHT {}: node {} is at distance {} at most",
             &values,
         )
     }
@@ -122,11 +124,11 @@ impl<'a, A: Reopen> Page<'a, A> {
         };
         self.quote_unreached(text, unreached)?;
         self.write(
-            " no arc leads to node {} at {}: ",
+            " no arc leads to node {} at distance {}: ",
             &[node.into(), unreached.label.dist.into()],
         )?;
         match unreached.least {
-            Some(least) => self.write("the nearest leads there at {}\n", &[least.into()]),
+            Some(least) => self.write("the nearest leads there at distance {}\n", &[least.into()]),
             None => self.write("none comes from a node that has a distance\n", &[]),
         }
     }
@@ -164,7 +166,7 @@ impl<'a, A: Reopen> Page<'a, A> {
         let (node, pred, dist) = (label.id, label.pred, label.dist);
         let weight = dist.saturating_sub(before);
         self.write(
-            " node {} is at {}, and its PRED, {}, at {}: ",
+            " node {} is at distance {}, and its PRED, node {}, at distance {}: ",
             &[node.into(), dist.into(), pred.into(), before.into()],
         )?;
         let ends = [pred.into(), node.into(), weight.into()];

@@ -27,9 +27,9 @@ pub(crate) fn quote(
     fill(&mut text, "{}:{}: ", &[Value::File(file), line.into()])?;
     text.push_str(if from > 0 { ".." } else { "" })?;
     escape(&mut text, bytes.get(from..start).unwrap_or(&[]))?;
-    let begin = text.len();
+    let begin = text.chars().count();
     escape(&mut text, bytes.get(start..stop).unwrap_or(&[]))?;
-    let width = text.len().saturating_sub(begin);
+    let width = text.chars().count().saturating_sub(begin);
     escape(&mut text, bytes.get(stop..end).unwrap_or(&[]))?;
     text.push_str(if end < bytes.len() { "..\n" } else { "\n" })?;
     if marked.is_some() {
@@ -53,14 +53,46 @@ fn repeat(out: &mut String, what: char, times: usize) -> Result<(), AllocError> 
     Ok(())
 }
 
-/// Writes bytes: printable ones unchanged, a tab or a carriage return as a space, others by their codes.
+/// Writes bytes: visible characters unchanged, a tab or a carriage return as a space, others by the codes of their bytes.
 pub(crate) fn escape(out: &mut String, bytes: &[u8]) -> Result<(), AllocError> {
-    for &byte in bytes {
-        match byte {
-            b'\t' | b'\r' => out.push(' ')?,
-            b' '..=b'~' => out.push(char::from(byte))?,
-            _ => write!(out, "\\x{byte:02x}")?,
+    for chunk in bytes.utf8_chunks() {
+        escape_text(out, chunk.valid())?;
+        write_codes(out, chunk.invalid())?;
+    }
+    Ok(())
+}
+
+fn escape_text(out: &mut String, text: &str) -> Result<(), AllocError> {
+    for it in text.chars() {
+        match it {
+            '\t' | '\r' => out.push(' ')?,
+            _ if is_visible(it) => out.push(it)?,
+            _ => write_codes(out, it.encode_utf8(&mut [0; 4]).as_bytes())?,
         }
+    }
+    Ok(())
+}
+
+/// Whether a character is seen as itself: it is no control character, and doesn't join, hide or turn others.
+fn is_visible(it: char) -> bool {
+    !matches!(
+        it,
+        '\0'..='\x1f'
+            | '\x7f'..='\u{9f}'
+            | '\u{ad}'
+            | '\u{61c}'
+            | '\u{200b}'..='\u{200f}'
+            | '\u{2028}'..='\u{202e}'
+            | '\u{2060}'..='\u{206f}'
+            | '\u{feff}'
+            | '\u{fff9}'..='\u{fffb}'
+            | '\u{e0000}'..='\u{e0fff}'
+    )
+}
+
+fn write_codes(out: &mut String, bytes: &[u8]) -> Result<(), AllocError> {
+    for byte in bytes {
+        write!(out, "\\x{byte:02x}")?;
     }
     Ok(())
 }

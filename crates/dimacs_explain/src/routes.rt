@@ -31,6 +31,9 @@ pub(crate) fn explain_distances(
             write_blocks(alloc, labels, out)?
         }
     };
+    if count == 0 {
+        out.push_str("no distance is claimed: there is no block\n")?;
+    }
     if count > ROUTES {
         out.push_str("..\n")?;
     }

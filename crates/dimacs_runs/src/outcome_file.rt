@@ -51,7 +51,10 @@ fn write_into<'a, F: Files, K: ReportSink>(
 }
 
 /// Writes the report only.
-fn write_report<'a, K: ReportSink>(outcome: Outcome, output: &mut K) -> Result<Status, CommandError<'a>>
+fn write_report<'a, K: ReportSink>(
+    outcome: Outcome,
+    output: &mut K,
+) -> Result<Status, CommandError<'a>>
     ensures writes { WritesReport outcome result (K.seen output.old) (K.seen output.new) }
 {
     let ended = write_outcome(Ok(outcome), &mut Discard, &mut Discard, output);

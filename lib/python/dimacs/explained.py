@@ -159,7 +159,8 @@ _RETOLD = [
     (r" \(line \d+\)", ""),
     (r"\bthe (cut|set) in \w+ ", r"the \1 "),
     (r"^this flow is feasible,", "the flow in `better` is feasible,"),
-    (r": if its cost can be written, \w+ has one$", ": it is in `flow`"),
+    (r": (if its cost can be written, )?\w+ has one$", ": it is in `flow`"),
+    (r": to find out, run dimacs certify-.*$", ": to find out, certify it"),
 ]
 
 #: Where lines have nodes and arcs.
