@@ -17,7 +17,7 @@ TOP = os.path.dirname(os.path.dirname(os.path.abspath(__file__)))
 # What runs side by side: what it needs, how much has to pass in it, and its commands, one after the other. What needs
 # nothing that is built comes first, and of each kind what takes longest.
 TABLE = """
-nothing | 24     | tests/second_proof.py
+nothing | 28     | tests/second_proof.py
 nothing | 440    | tests/lower_addresses.py
 nothing | 46     | tests/gate_test.sh
 nothing | 0      | tools/try_bodies.py --apply
