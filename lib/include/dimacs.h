@@ -341,6 +341,15 @@ uint32_t dimacs_read_cut(const uint8_t *text, size_t length, uint8_t *out, size_
 /* Writes the set of the nodes whose byte isn't 0. There are as many nodes as bytes. */
 uint32_t dimacs_write_cut(const uint8_t *inside, size_t inside_length, uint8_t *out, size_t room, size_t *needed);
 
+/* Reads potentials: one for each node. Refuses the first node whose potential doesn't fit in 64 bits, by
+ * `x node ID NumberRange`. */
+uint32_t dimacs_read_potentials(const uint8_t *text, size_t length, uint8_t *out, size_t room, size_t *needed,
+                                int64_t *potentials, size_t potentials_room, size_t *potentials_needed);
+
+/* Writes potentials. There are as many nodes as numbers. */
+uint32_t dimacs_write_potentials(const int64_t *potentials, size_t potentials_length, uint8_t *out, size_t room,
+                                 size_t *needed);
+
 /* Reads queries. *pairs is 0 if they ask for the distances from the nodes `froms` to all nodes; `tos` gets nothing then.
  * It is 1 if they ask for the distance from each node of `froms` to that of `tos`. *count is the number of queries. */
 uint32_t dimacs_read_queries(const uint8_t *text, size_t length, uint8_t *out, size_t room, size_t *needed,

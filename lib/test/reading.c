@@ -182,7 +182,7 @@ static void writes_solutions(void) {
     CHECK("no arcs", dimacs_write_solution(LAST, 0, NULL, 0, NULL, 0, NULL, 0, out, sizeof out, &needed), 0, "s 9223372036854775807\n");
 }
 
-/* ---- sets and queries ---- */
+/* ---- sets, potentials and queries ---- */
 
 static uint8_t inside[MOST];
 static size_t inside_needed, count_needed;
@@ -203,6 +203,25 @@ static void reads_and_writes_sets(void) {
     check_that("nothing", inside_needed == 0 && inside[0] == 77);
     CHECK("any byte but 0 is inside", dimacs_write_cut(bytes("\0\377\1\0"), 4, out, sizeof out, &needed), 0, "p cut 4 2\nu 2\nu 3\n");
     CHECK("no nodes", dimacs_write_cut(NULL, 0, out, sizeof out, &needed), 0, "p cut 0 0\n");
+}
+
+static uint32_t read_potentials(const char *text, size_t room) {
+    mark();
+    return dimacs_read_potentials(bytes(text), strlen(text), out, sizeof out, &needed, supplies, room, &supplies_needed);
+}
+
+static void reads_and_writes_potentials(void) {
+    const char *text = "p pot 4 2\ny 4 -9223372036854775808\ny 2 9223372036854775807\n";
+    CHECK("potentials", read_potentials(text, MOST), 0, "");
+    check_that("one for each node", supplies_needed == 4 && are_numbers(supplies, 4, NUMBERS(0, LAST, 0, INT64_MIN)));
+    CHECK("room for two", read_potentials(text, 2), 0, "");
+    check_that("two", supplies_needed == 4 && are_numbers(supplies, 2, NUMBERS(0, LAST)));
+    CHECK("past 64 bits", read_potentials("p pot 4 2\ny 4 -9223372036854775809\ny 3 9223372036854775808\n", MOST), 1,
+          "x node 3 NumberRange\n");
+    check_that("nothing", supplies_needed == 0 && are_numbers(supplies, 0, NULL));
+    CHECK("a fault before", read_potentials("p pot 4 2\ny 4 -9223372036854775809\ny 5 1\n", MOST), 1, "x certificate 3 2 NodeRange\n");
+    uint32_t status = dimacs_write_potentials(NUMBERS(0, INT64_MIN, 3), 3, out, sizeof out, &needed);
+    check("written", status, out, needed, 0, "p pot 3 2\ny 2 -9223372036854775808\ny 3 3\n");
 }
 
 static uint32_t read_queries(const char *text, size_t room) {
@@ -232,6 +251,7 @@ int main(void) {
     reads_solutions();
     writes_solutions();
     reads_and_writes_sets();
+    reads_and_writes_potentials();
     reads_queries();
     return count();
 }

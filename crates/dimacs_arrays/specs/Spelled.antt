@@ -1,5 +1,5 @@
--- The instances and sets that arrays spell.
-use Rattle.std.specs.Prelude.{ℕ, ◌≡◌, ◌≤◌, ◌<◌, ◌+◌, List, [], ◌∷◌, ◌++◌, length, Result, Ok, Err}
+-- The instances, sets and potentials that arrays spell.
+use Rattle.std.specs.Prelude.{ℕ, ℤ, ◌≡◌, ◌≤◌, ◌<◌, ◌+◌, List, [], ◌∷◌, ◌++◌, length, Result, Ok, Err}
 use Rattle.dimacs_lines.specs.Limits.{most_nodes}
 use Rattle.dimacs_records.specs.declared.reasons.Reason.TheVariants.{NumberRange}
 use Rattle.dimacs_network.specs.Arcs.{NetworkValue}
@@ -7,6 +7,7 @@ use Rattle.dimacs_instance.specs.Graph.{IsGraph}
 use Rattle.dimacs_instance.specs.MaxFlows.{MaxValue, IsMax}
 use Rattle.dimacs_instance.specs.MinFlows.{MinValue, IsMin}
 use Rattle.dimacs_claims.specs.Cuts.{CutValue}
+use Rattle.dimacs_claims.specs.Potentials.{PotentialsValue, potential_of}
 use Rattle.dimacs_judging.specs.declared.verdict.Where.TheVariants.{Node}
 use Rattle.dimacs_judging.specs.Cuts.{members}
 use Rattle.dimacs_judging.specs.declared.verdict.JudgeError.{JudgeError}
@@ -14,7 +15,7 @@ use Rattle.dimacs_judging.specs.declared.verdict.JudgeError.TheVariants.{Refused
 use Rattle.dimacs_judging.specs.Tests.{Row}
 use Rattle.dimacs_arrays.specs.declared.error.ArrayError.{ArrayError}
 use Rattle.dimacs_arrays.specs.declared.error.ArrayError.TheVariants as errors
-use Rattle.dimacs_arrays.specs.ByNode.{marked}
+use Rattle.dimacs_arrays.specs.ByNode.{marked, number_of}
 use Rattle.dimacs_arrays.specs.declared.graph.GraphArrays.{GraphArrays}
 use Rattle.dimacs_arrays.specs.declared.max.MaxArrays.{MaxArrays}
 use Rattle.dimacs_arrays.specs.declared.min.MinArrays.{MinArrays}
@@ -49,3 +50,10 @@ SpellsCutArray inside (Ok c) = (length inside ≤ most_nodes) × (c.nodes ≡ le
 SpellsCutArray inside (Err (errors.Limit place reason)) = (most_nodes < length inside) × (place ≡ Node (most_nodes + 1)) × (reason ≡ NumberRange)
 SpellsCutArray inside (Err errors.Memory) = Unit
 SpellsCutArray inside (Err other) = ⊥
+
+-- the potentials of these numbers; or too many nodes; or out of memory
+abbrev pub SpellsPotentialsArray : List ℤ → Result PotentialsValue ArrayError → Type 0
+SpellsPotentialsArray numbers (Ok p) = (length numbers ≤ most_nodes) × (p.nodes ≡ length numbers) × (potential_of p ≡ number_of numbers)
+SpellsPotentialsArray numbers (Err (errors.Limit place reason)) = (most_nodes < length numbers) × (place ≡ Node (most_nodes + 1)) × (reason ≡ NumberRange)
+SpellsPotentialsArray numbers (Err errors.Memory) = Unit
+SpellsPotentialsArray numbers (Err other) = ⊥

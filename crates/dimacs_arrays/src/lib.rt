@@ -49,7 +49,7 @@ pub use lengths::ArrayLength;
 pub use lent_arcs::{ArcArrays, LentArcs};
 pub use max::MaxArrays;
 pub use min::MinArrays;
-pub use over::{cut_over, graph_over, max_over, min_over};
+pub use over::{cut_over, graph_over, max_over, min_over, potentials_over};
 pub use solution::{ClaimedFlow, EndArrays, read_solution_arrays, solution_of_arrays};
 pub use solve_max::{MaxSolved, solve_max_arrays};
 pub use solve_min::{MinSolved, solve_min_arrays};

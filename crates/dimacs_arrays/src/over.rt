@@ -1,14 +1,19 @@
-//! The instances that arrays spell, over the arrays themselves, and the set: for functions over values, as `write_max`.
+//! The instances that arrays spell, over the arrays themselves, and sets and potentials: for functions over values, as `write_max`.
 
-ghost use Rattle.dimacs_arrays.specs.Spelled.{SpellsCutArray, SpellsGraphArrays, SpellsMaxArrays, SpellsMinArrays};
+ghost use Rattle.std.specs.Prelude.{◌≡◌, ◌≤◌, ◌<◌, ◌+◌, IfErr, OnOk};
+ghost use Rattle.dimacs_lines.specs.Limits.{most_nodes};
+ghost use Rattle.dimacs_records.specs.declared.reasons.Reason.TheVariants.{NumberRange};
+ghost use Rattle.dimacs_judging.specs.declared.verdict.Where.TheVariants.{Node};
+ghost use Rattle.dimacs_arrays.specs.Spelled.{SpellsCutArray, SpellsGraphArrays, SpellsMaxArrays, SpellsMinArrays, SpellsPotentialsArray};
 
-use crate::by_node::cut_of;
+use crate::by_node::{cut_of, potentials_of};
 use crate::error::ArrayError;
 use crate::graph::GraphArrays;
 use crate::lent_arcs::LentArcs;
+use crate::limits::PastLimit;
 use crate::max::MaxArrays;
 use crate::min::MinArrays;
-use dimacs_claims::Cut;
+use dimacs_claims::{Cut, Potentials};
 use dimacs_instance::{Graph, MaxInstance, MinInstance};
 use dimacs_judging::Where;
 use dimacs_records::{MAX_NODES, Reason};
@@ -57,8 +62,28 @@ pub fn graph_over<'a>(
 pub fn cut_over(alloc: Global, inside: &[u8]) -> Result<Cut, ArrayError>
     ensures { SpellsCutArray inside.now result }
 {
-    if inside.len() > MAX_NODES as usize {
-        return Err(ArrayError::Limit(Where::Node(MAX_NODES + 1), Reason::NumberRange));
-    }
+    nodes_hold(inside.len())?;
     Ok(cut_of(alloc, inside.len() as u32, inside)?)
+}
+
+/// The potentials of these numbers, one for each node. Beyond the limit of nodes, as `cut_over`.
+pub fn potentials_over(alloc: Global, numbers: &[i64]) -> Result<Potentials, ArrayError>
+    ensures { SpellsPotentialsArray numbers.now result }
+{
+    nodes_hold(numbers.len())?;
+    Ok(potentials_of(alloc, numbers.len() as u32, numbers)?)
+}
+
+/// Tests a number of nodes.
+fn nodes_hold(nodes: usize) -> Result<(), PastLimit>
+    ensures few { OnOk result (nodes ≤ most_nodes) }
+    ensures past { IfErr result (λ limit. (most_nodes < nodes) × (limit.place ≡ Node (most_nodes + 1)) × (limit.reason ≡ NumberRange)) }
+{
+    if nodes > MAX_NODES as usize {
+        return Err(PastLimit {
+            place: Where::Node(MAX_NODES + 1),
+            reason: Reason::NumberRange,
+        });
+    }
+    Ok(())
 }

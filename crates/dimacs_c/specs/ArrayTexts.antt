@@ -8,6 +8,7 @@ use Rattle.dimacs_instance.specs.MinFlows.{MinValue}
 use Rattle.dimacs_instance.specs.MinTexts.{canonical_min}
 use Rattle.dimacs_claims.specs.Cuts.{CutValue, canonical_cut}
 use Rattle.dimacs_claims.specs.declared.solution.Solution.{Solution}
+use Rattle.dimacs_claims.specs.Potentials.{PotentialsValue, canonical_potentials}
 use Rattle.dimacs_claims.specs.SolutionTexts.{canonical_solution, claimed}
 use Rattle.dimacs_arrays.specs.declared.error.ArrayError.{ArrayError}
 use Rattle.dimacs_arrays.specs.declared.solution.ClaimedFlow.{ClaimedFlow}
@@ -25,6 +26,9 @@ graph_text g = only 0 (canonical_graph g)
 
 abbrev pub cut_text : CutValue → Printed
 cut_text c = only 0 (canonical_cut c)
+
+abbrev pub potentials_text : PotentialsValue → Printed
+potentials_text p = only 0 (canonical_potentials p)
 
 abbrev pub solution_text : Solution → Printed
 solution_text s = only 0 (canonical_solution (claimed s))

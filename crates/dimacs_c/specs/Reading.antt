@@ -1,12 +1,17 @@
 -- What calls that read a text into arrays return and hand out.
-use Rattle.std.specs.Prelude.{ℕ, ◌≡◌, if◌then◌else◌, List, [], Result, Ok, Err}
+use Rattle.std.specs.Prelude.{ℕ, ◌≡◌, if◌then◌else◌, List, [], Result, Ok, Err, codes}
 use Rattle.dimacs_records.specs.declared.faults.ReadError.{ReadError}
 use Rattle.dimacs_records.specs.declared.faults.ReadError.TheVariants.{Refused, Device, Memory}
 use Rattle.dimacs_fill.specs.declared.graph.GraphSizes.{GraphSizes}
 use Rattle.dimacs_fill.specs.declared.max.MaxSizes.{MaxSizes}
 use Rattle.dimacs_fill.specs.declared.min.MinSizes.{MinSizes}
+use Rattle.dimacs_fill.specs.declared.potentials.PotentialsError.{PotentialsError}
+use Rattle.dimacs_fill.specs.declared.potentials.PotentialsError.TheVariants.{Unread, PastRange}
 use Rattle.dimacs_fill.specs.declared.queries.QuerySizes.{QuerySizes}
+use Rattle.dimacs_judging.specs.declared.verdict.Where.TheVariants.{Node}
+use Rattle.dimacs_records.specs.declared.reasons.Reason.TheVariants.{NumberRange}
 use Rattle.dimacs_runs.specs.Refusals.{refusal_line}
+use Rattle.dimacs_runs.specs.Verdicts.{failure_line}
 use Rattle.dimacs_c.specs.Calls.{Handed, HandsOut}
 
 -- the status after reading a text
@@ -51,3 +56,23 @@ SetsLength needed (Err error) = needed ≡ 0
 abbrev pub SetsQueries : ℕ → ℕ → Result QuerySizes ReadError → Type 0
 SetsQueries pairs count (Ok sizes) = (pairs ≡ (if sizes.pairs then 1 else 0)) × (count ≡ sizes.count)
 SetsQueries pairs count (Err error) = (pairs ≡ 0) × (count ≡ 0)
+
+-- the status, the line and the length after reading potentials
+abbrev pub potentials_status : Result ℕ PotentialsError → ℕ
+potentials_status (Ok nodes) = 0
+potentials_status (Err (Unread error)) = read_status {W = ℕ} (Err error)
+potentials_status (Err (PastRange id)) = 1
+
+abbrev pub potentials_line : Result ℕ PotentialsError → List ℕ
+potentials_line (Ok nodes) = []
+potentials_line (Err (Unread error)) = fault_line {W = ℕ} (codes "certificate") (Err error)
+potentials_line (Err (PastRange id)) = failure_line (Node id) NumberRange
+
+abbrev pub potentials_length : Result ℕ PotentialsError → ℕ
+potentials_length (Ok nodes) = nodes
+potentials_length (Err error) = 0
+
+-- as AnswersRead; the first potential that doesn't fit into 64 bits has a line, too
+abbrev pub AnswersPotentials : (Result ℕ PotentialsError → Type 0) → ℕ → ℕ → Handed ℕ → Type 0
+AnswersPotentials reads needed exit_status h =
+    (r : Result ℕ PotentialsError) × reads r × (exit_status ≡ potentials_status r) × HandsOut (potentials_line r) h × (needed ≡ potentials_length r)

@@ -17,6 +17,7 @@ mod max;
 mod min;
 mod named_texts;
 mod paths;
+mod potentials;
 mod queries;
 mod read_instance;
 mod reading;

@@ -11,6 +11,7 @@ mod filling;
 mod graph;
 mod max;
 mod min;
+mod potentials;
 mod queries;
 
 pub use cut::read_cut_into;
@@ -18,4 +19,5 @@ pub use filling::fill;
 pub use graph::{GraphSizes, read_graph_into};
 pub use max::{MaxSizes, read_max_into};
 pub use min::{MinSizes, read_min_into};
+pub use potentials::{PotentialsError, read_potentials_into};
 pub use queries::{QuerySizes, read_queries_into};

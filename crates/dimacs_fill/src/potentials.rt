@@ -1,0 +1,83 @@
+//! Reading potentials into arrays.
+
+ghost use Rattle.std.specs.Prelude.{◌≡◌, ◌+◌, ◌<◌, ◌^◌, ℕ, List, Some, IfNone, IfSome, IsTrue, ◌↔◌};
+ghost use Rattle.dimacs_claims.specs.Potentials.{potential_of};
+ghost use Rattle.dimacs_records.specs.Ranges.{IsWhole};
+ghost use Rattle.dimacs_fill.specs.Filling.{filled};
+ghost use Rattle.dimacs_fill.specs.PotentialsFilled.{AllFit, FillsPotentials, IsFirstPast, ReadsPotentialsInto, numbers_of};
+
+use crate::filling::fill;
+use dimacs_claims::{Potentials, read_potentials};
+use dimacs_lines::Source;
+use dimacs_records::ReadError;
+use std::alloc::Global;
+use std::fmt;
+use thiserror::Error;
+
+/// Why potentials aren't read into an array.
+#[derive(Clone, Copy, Debug, PartialEq, Eq, Error)]
+pub enum PotentialsError {
+    /// The text isn't read.
+    #[error("{0}")]
+    Unread(ReadError),
+    /// The potential of this node, the first such one, doesn't fit into 64 bits.
+    #[error("the potential of node {0} takes more than 64 bits")]
+    PastRange(u32),
+}
+
+/// Reads the text of potentials. The array gets that of each node. Returns the number of nodes.
+pub fn read_potentials_into<S: Source>(
+    alloc: Global,
+    text: &mut S,
+    numbers: &mut [i64],
+) -> Result<u32, PotentialsError>
+    ensures { (bytes : List ℕ) → S.coming text.old ≡ Some bytes → ReadsPotentialsInto bytes (numbers.old, numbers.new) result }
+{
+    match read_potentials(alloc, text) {
+        Ok(potentials) => fill_potentials(&potentials, numbers),
+        Err(error) => Err(PotentialsError::Unread(error)),
+    }
+}
+
+fn fill_potentials(potentials: &Potentials, numbers: &mut [i64]) -> Result<u32, PotentialsError>
+    ensures { FillsPotentials (numbers.old, numbers.new) potentials.now result }
+{
+    if let Some(id) = first_past(potentials) {
+        return Err(PotentialsError::PastRange(id));
+    }
+    fill_numbers(potentials, numbers);
+    Ok(potentials.nodes())
+}
+
+/// The first node whose potential doesn't fit into 64 bits.
+fn first_past(potentials: &Potentials) -> Option<u32>
+    ensures some { IfSome result (IsFirstPast potentials.now) }
+    ensures none { IfNone result (AllFit potentials.now) }
+{
+    for i in 0..potentials.nodes() {
+        if !is_whole(potentials.of(i + 1)) {
+            return Some(i + 1);
+        }
+    }
+    None
+}
+
+fn is_whole(value: i128) -> bool
+    ensures { IsTrue result ↔ IsWhole value }
+{
+    value >= i128::from(i64::MIN) && value <= i128::from(i64::MAX)
+}
+
+fn fill_numbers(potentials: &Potentials, numbers: &mut [i64])
+    requires { AllFit potentials.now }
+    ensures { numbers.new ≡ filled (numbers_of potentials.now) numbers.old }
+{
+    fill(
+        numbers,
+        potentials.nodes() as usize,
+        |i|
+            requires { (i + 1 < 2 ^ 32) × IsWhole (potential_of potentials.now (i + 1)) }
+            ensures { result ≡ potential_of potentials.entry.now (i + 1) }
+        { potentials.of(i as u32 + 1) as i64 },
+    );
+}
