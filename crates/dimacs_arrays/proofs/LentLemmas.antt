@@ -5,7 +5,7 @@ use Rattle.std.proofs.lemmas.List.FromFn.{get_or-map-range_with_len, length-map-
 use Rattle.std.proofs.lemmas.Option.{slice_get-get_or}
 use Rattle.dimacs_network.specs.declared.network.ArcView.{ArcView}
 use Rattle.dimacs_network.specs.Arcs.{arc_at, no_arc}
-use Rattle.dimacs_arrays.specs.inside.Lent.{lent_arcs}
+use Rattle.dimacs_arrays.specs.Lent.{lent_arcs}
 
 module _ (arc_of : ℕ → ArcView) (n : ℕ) where
   pub lent_many : length (lent_arcs arc_of n) ≡ n

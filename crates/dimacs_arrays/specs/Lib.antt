@@ -1,6 +1,7 @@
 pub mod Answers
 pub mod ByNode
 pub mod GraphArrays
+pub mod Lent
 pub mod Limits
 pub mod MaxArrays
 pub mod MinArrays

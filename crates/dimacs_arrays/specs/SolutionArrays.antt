@@ -15,14 +15,12 @@ use Rattle.dimacs_network.specs.KeptArcs.{weight_arc}
 use Rattle.dimacs_instance.specs.Graph.{IsGraph}
 use Rattle.dimacs_claims.specs.declared.solution.Entry.{Entry}
 use Rattle.dimacs_claims.specs.declared.solution.Solution.{Solution}
-use Rattle.dimacs_claims.specs.SolutionReading.{IsPlaced}
 use Rattle.dimacs_claims.specs.SolutionTexts.{SolutionValue, SpellsSolution, claimed}
 use Rattle.dimacs_judging.specs.declared.verdict.JudgeError.{JudgeError}
 use Rattle.dimacs_judging.specs.declared.verdict.JudgeError.TheVariants.{Refused, Memory}
 use Rattle.dimacs_judging.specs.declared.verdict.Where.TheVariants as places
 use Rattle.dimacs_judging.specs.Claims.{Carries, entry_row}
 use Rattle.dimacs_judging.specs.Entries.{IsSolutionOf}
-use Rattle.dimacs_judging.specs.Places.{PlacesValue, ArePlaced}
 use Rattle.dimacs_judging.specs.Rows.{one_test}
 use Rattle.dimacs_judging.specs.Tests.{Row, Settles}
 use Rattle.dimacs_arrays.specs.declared.error.Array.TheVariants as arrays
@@ -66,10 +64,6 @@ value_row s = one_test (places.Solution s.value_line 2) NumberRange (¬ IsWhole 
 -- the value and flow that this solution claims on the arcs; else the first entry without an arc, or the value
 abbrev pub ClaimsOver : List ArcView → SolutionValue → Result ClaimedFlow JudgeError → Type 0
 ClaimsOver arcs s = Settles (IsClaimedBy arcs s) (entry_row arcs s.entries ∷ value_row s ∷ [])
-
--- the same for the solution whose entries were placed
-abbrev pub ClaimsFlow : PlacesValue → ℤ → ℕ → Result ClaimedFlow JudgeError → Type 0
-ClaimsFlow p value value_line result = (s : SolutionValue) → IsPlaced value value_line (ArePlaced p) s → ClaimsOver p.arcs s result
 
 -- a fault of the text, at its place
 abbrev pub not_read : ReadError → JudgeError

@@ -1,4 +1,5 @@
 pub mod Answers
+pub mod ClaimedFlows
 pub mod PredecessorsOf
 pub mod Lent
 pub mod MinCertified

@@ -3,7 +3,8 @@
 ghost use Rattle.std.specs.Prelude.{◌≡◌, ◌<◌, ◌≤◌, ℕ, IfOk};
 ghost use Rattle.dimacs_lines.specs.Limits.{most_count};
 ghost use Rattle.dimacs_network.specs.declared.network.ArcView.{ArcView};
-ghost use Rattle.dimacs_arrays.specs.inside.Lent.{TestsArcs, lent_arcs};
+ghost use Rattle.dimacs_arrays.specs.Lent.{lent_arcs};
+ghost use Rattle.dimacs_arrays.specs.inside.Lent.{TestsArcs};
 
 use crate::limits::{PastLimit, arcs_hold};
 use dimacs_network::{ArcView, Network};
@@ -33,7 +34,7 @@ impl<A: ArcArrays> Model for LentArcs<A> {
     ghost use Rattle.std.specs.Prelude.{◌<◌, ◌≤◌, ℕ};
     ghost use Rattle.dimacs_lines.specs.Limits.{most_count};
     ghost use Rattle.dimacs_network.specs.Arcs.{NetworkValue};
-    ghost use Rattle.dimacs_arrays.specs.inside.Lent.{lent_arcs};
+    ghost use Rattle.dimacs_arrays.specs.Lent.{lent_arcs};
 
     ghost Value = { NetworkValue };
 

@@ -6,8 +6,9 @@ ghost use Rattle.dimacs_records.specs.Ranges.{IsWhole};
 ghost use Rattle.dimacs_judging.specs.declared.verdict.JudgeError.TheVariants.{Refused};
 ghost use Rattle.dimacs_judging.specs.declared.verdict.Where.TheVariants as places;
 ghost use Rattle.dimacs_instance.specs.Graph.{IsGraph};
-ghost use Rattle.dimacs_arrays.specs.SolutionArrays.{ClaimsFlow, MakesSolution, MakesSolutionArrays, ReadsSolutionArrays, ReadsSolutionOver, end_arc, ends_lengths, ends_limits, ends_spelled, not_read};
+ghost use Rattle.dimacs_arrays.specs.SolutionArrays.{MakesSolution, MakesSolutionArrays, ReadsSolutionArrays, ReadsSolutionOver, end_arc, ends_lengths, ends_limits, ends_spelled, not_read};
 ghost use Rattle.dimacs_arrays.specs.inside.Answers.{Spells, TestsLengths};
+ghost use Rattle.dimacs_arrays.specs.inside.ClaimedFlows.{ClaimsFlow};
 
 use crate::error::{Array, ArrayError};
 use crate::lengths::{ArrayLength, lengths_hold};

@@ -41,11 +41,6 @@ abbrev pub TestsFeasible : ℕ → List ArcView → (ℕ → Option ℤ) → Lis
 TestsFeasible nodes arcs demand x (Ok balances) = AreBalances arcs x balances × AllClear (feasible_rows nodes arcs demand x)
 TestsFeasible nodes arcs demand x (Err error) = Refuses (First (feasible_rows nodes arcs demand x)) error
 
--- this total if all tests pass, or the first that fails
-abbrev pub TestsTotal : List Row → ℤ → Result ℤ JudgeError → Type 0
-TestsTotal rows total (Ok sum) = (sum ≡ total) × AllClear rows
-TestsTotal rows total (Err error) = Refuses (First rows) error
-
 -- source and sink may have any balance, every other node has to have 0
 abbrev pub max_demand : MaxValue → ℕ → Option ℤ
 max_demand i v = if v == i.source then None else (if v == i.sink then None else Some (pos 0))

@@ -8,7 +8,8 @@ ghost use Rattle.dimacs_judging.specs.Cuts.{members};
 ghost use Rattle.dimacs_judging.specs.Feasible.{value};
 ghost use Rattle.dimacs_judging.specs.FlowJudges.{PassesMaxFlow, PassesMinFlow};
 ghost use Rattle.dimacs_judging.specs.Flows.{cost, net};
-ghost use Rattle.dimacs_judging.specs.FlowTests.{TestsTotal, cost_row, feasible_rows};
+ghost use Rattle.dimacs_judging.specs.FlowTests.{cost_row, feasible_rows};
+ghost use Rattle.dimacs_judging.specs.inside.Tests.{TestsTotal};
 
 use crate::costs::cost_within;
 use crate::feasible::{Demands, balances_if_feasible};

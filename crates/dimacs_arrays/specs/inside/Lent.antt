@@ -1,16 +1,12 @@
--- Inside: the arcs that arrays hold, and whether they are in range.
-use Rattle.std.specs.Prelude.{ℕ, List, Result, Ok, Err, map}
-use Rattle.std.specs.List.{All, range_with_len}
+-- Inside: whether arcs are in range.
+use Rattle.std.specs.Prelude.{ℕ, List, Result, Ok, Err}
+use Rattle.std.specs.List.{All}
 use Rattle.dimacs_network.specs.declared.network.ArcView.{ArcView}
 use Rattle.dimacs_network.specs.Arcs.{JoinsNodes}
 use Rattle.dimacs_instance.specs.MinFlows.{HasBounds}
 use Rattle.dimacs_judging.specs.Tests.{FirstOfRow}
 use Rattle.dimacs_arrays.specs.Limits.{limit_row}
 use Rattle.dimacs_arrays.specs.declared.limits.PastLimit.{PastLimit}
-
--- so many arcs, by index
-abbrev pub lent_arcs : (ℕ → ArcView) → ℕ → List ArcView
-lent_arcs arc_of count = map arc_of (range_with_len 0 count)
 
 -- the arc joins nodes, and its numbers are in range
 abbrev pub IsInRange : ℕ → ArcView → Type 0

@@ -1,10 +1,10 @@
 -- Inside: rows of tests, in order, and the first test that fails.
-use Rattle.std.specs.Prelude.{List, Option, None, Some, Result, Ok, Err}
+use Rattle.std.specs.Prelude.{◌≡◌, ℤ, List, Option, None, Some, Result, Ok, Err}
 use Rattle.dimacs_records.specs.declared.reasons.Reason.{Reason}
 use Rattle.dimacs_judging.specs.declared.verdict.Where.{Where}
 use Rattle.dimacs_judging.specs.declared.verdict.JudgeError.{JudgeError}
 use Rattle.dimacs_judging.specs.declared.verdict.JudgeError.TheVariants.{Refused, Memory}
-use Rattle.dimacs_judging.specs.Tests.{Row, AllClear, First}
+use Rattle.dimacs_judging.specs.Tests.{Row, AllClear, First, Refuses}
 
 -- the result of rows of tests: all pass, or the first that fails
 abbrev pub TestsRows : List Row → Result Unit (Where × Reason) → Type 0
@@ -21,3 +21,8 @@ TestsAll rows (Err Memory) = Unit
 abbrev pub NamesReason : (Reason → Type 0) → Option Reason → Type 0
 NamesReason fails None = (reason : Reason) → ¬ fails reason
 NamesReason fails (Some reason) = fails reason
+
+-- this total if all tests pass, or the first that fails
+abbrev pub TestsTotal : List Row → ℤ → Result ℤ JudgeError → Type 0
+TestsTotal rows total (Ok sum) = (sum ≡ total) × AllClear rows
+TestsTotal rows total (Err error) = Refuses (First rows) error
