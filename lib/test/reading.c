@@ -25,18 +25,18 @@ static void mark(void) {
 }
 
 /* The call comes before what it hands out is looked at. */
-#define CHECK(name, call, wanted, text)                                                                                          \
-    do {                                                                                                                         \
-        uint32_t status = call;                                                                                                  \
-        check(name, status, out, needed, wanted, text);                                                                          \
+#define CHECK(name, call, wanted, text)                                                                                     \
+    do {                                                                                                                    \
+        uint32_t status = call;                                                                                             \
+        check(name, status, out, needed, wanted, text);                                                                     \
     } while (0)
 
 static const uint8_t *bytes(const char *text) { return (const uint8_t *)text; }
 
 static uint32_t read_max(const char *text, size_t room) {
     mark();
-    return dimacs_read_max(bytes(text), strlen(text), out, sizeof out, &needed, &nodes, &source, &sink, tails, room, heads, room,
-                           caps, room, &arcs);
+    return dimacs_read_max(bytes(text), strlen(text), out, sizeof out, &needed, &nodes, &source, &sink, tails, room, heads,
+                           room, caps, room, &arcs);
 }
 
 static uint32_t read_min(const char *text, size_t room, size_t nodes_room) {
@@ -47,8 +47,8 @@ static uint32_t read_min(const char *text, size_t room, size_t nodes_room) {
 
 static uint32_t read_graph(const char *text, size_t room) {
     mark();
-    return dimacs_read_graph(bytes(text), strlen(text), out, sizeof out, &needed, &nodes, tails, room, heads, room, costs, room,
-                             &arcs);
+    return dimacs_read_graph(bytes(text), strlen(text), out, sizeof out, &needed, &nodes, tails, room, heads, room, costs,
+                             room, &arcs);
 }
 
 /* The first items are these, and the next one is as it was. */
@@ -78,8 +78,8 @@ static void reads_max(void) {
     check_that("two arcs", arcs == 3 && are_nodes(tails, 2, NODES(1, 2)) && are_nodes(heads, 2, NODES(2, 4)) &&
                                are_numbers(caps, 2, NUMBERS(LAST, 5)));
     needed = 99;
-    uint32_t status = dimacs_read_max(bytes(MAX_TEXT), strlen(MAX_TEXT), NULL, 0, &needed, &nodes, &source, &sink, NULL, 0, NULL,
-                                      0, NULL, 0, &arcs);
+    uint32_t status = dimacs_read_max(bytes(MAX_TEXT), strlen(MAX_TEXT), NULL, 0, &needed, &nodes, &source, &sink, NULL, 0,
+                                      NULL, 0, NULL, 0, &arcs);
     check("no room", status, out, needed, 0, "");
     check_that("the number of arcs", arcs == 3 && nodes == 4);
     CHECK("no arcs", read_max("p max 2 0\nn 1 s\nn 2 t\n", MOST), 0, "");
@@ -87,7 +87,8 @@ static void reads_max(void) {
     CHECK("a capacity below 0", read_max("p max 2 1\nn 1 s\nn 2 t\na 1 2 -1\n", MOST), 1, "x instance 4 4 BoundOrder\n");
     check_that("nothing", arcs == 0 && nodes == 0 && source == 0 && sink == 0 && are_nodes(tails, 0, NULL) &&
                               are_nodes(heads, 0, NULL) && are_numbers(caps, 0, NULL));
-    CHECK("past 64 bits", read_max("p max 2 1\nn 1 s\nn 2 t\na 1 2 9223372036854775808\n", MOST), 1, "x instance 4 4 NumberRange\n");
+    CHECK("past 64 bits", read_max("p max 2 1\nn 1 s\nn 2 t\na 1 2 9223372036854775808\n", MOST), 1,
+          "x instance 4 4 NumberRange\n");
     CHECK("many arcs that aren't there", read_max("p max 2 268435456\nn 1 s\nn 2 t\n", MOST), 1, "x instance 4 0 TooFew\n");
     CHECK("an empty text", read_max("", MOST), 1, "x instance 1 0 ProblemMissing\n");
 }
@@ -104,7 +105,8 @@ static void reads_min(void) {
                                            are_numbers(supplies, 2, NUMBERS(4, 0)));
     CHECK("a node twice", read_min("p min 3 0\nn 3 1\nn 3 1\n", MOST, MOST), 1, "x instance 3 2 NodeTwice\n");
     check_that("nothing", arcs == 0 && nodes == 0 && supplies_needed == 0 && are_numbers(supplies, 0, NULL));
-    CHECK("a capacity below the lower bound", read_min("p min 2 1\na 1 2 3 2 0\n", MOST, MOST), 1, "x instance 2 5 BoundOrder\n");
+    CHECK("a capacity below the lower bound", read_min("p min 2 1\na 1 2 3 2 0\n", MOST, MOST), 1,
+          "x instance 2 5 BoundOrder\n");
 }
 
 static void reads_graphs(void) {
@@ -120,16 +122,19 @@ static void reads_graphs(void) {
 static void writes_instances(void) {
     read_max(MAX_TEXT, MOST);
     dimacs_max max = {nodes, source, sink, {tails, arcs}, {heads, arcs}, {caps, arcs}};
-    CHECK("a maximum flow instance", dimacs_write_max(&max, out, sizeof out, &needed), 0, "p max 4 3\nn 1 s\nn 4 t\na 1 2 9223372036854775807\na 2 4 5\na 1 4 0\n");
+    CHECK("a maximum flow instance", dimacs_write_max(&max, out, sizeof out, &needed), 0,
+          "p max 4 3\nn 1 s\nn 4 t\na 1 2 9223372036854775807\na 2 4 5\na 1 4 0\n");
     memset(out, '?', sizeof out);
-    check_that("room for 5 bytes", dimacs_write_max(&max, out, 5, &needed) == 0 && needed == 64 && !memcmp(out, "p max?", 6));
+    check_that("room for 5 bytes",
+               dimacs_write_max(&max, out, 5, &needed) == 0 && needed == 64 && !memcmp(out, "p max?", 6));
     max.sink = 1;
     CHECK("source and sink are one", dimacs_write_max(&max, out, sizeof out, &needed), 2, "x node 1 NodeTwice\n");
     max.caps.length = 2;
     CHECK("fewer capacities", dimacs_write_max(&max, out, sizeof out, &needed), 2, "");
     read_min(MIN_TEXT, MOST, MOST);
     dimacs_min min = {nodes, {tails, arcs}, {heads, arcs}, {lows, arcs}, {caps, arcs}, {costs, arcs}, {supplies, 3}};
-    CHECK("a minimum cost flow instance", dimacs_write_min(&min, out, sizeof out, &needed), 0, "p min 3 2\nn 1 4\nn 3 -4\na 1 2 0 9223372036854775807 -9223372036854775808\na 2 3 1 5 7\n");
+    CHECK("a minimum cost flow instance", dimacs_write_min(&min, out, sizeof out, &needed), 0,
+          "p min 3 2\nn 1 4\nn 3 -4\na 1 2 0 9223372036854775807 -9223372036854775808\na 2 3 1 5 7\n");
     lows[1] = -1;
     CHECK("a lower bound below 0", dimacs_write_min(&min, out, sizeof out, &needed), 2, "x arc 2 BoundOrder\n");
     read_graph(GRAPH_TEXT, MOST);
@@ -154,32 +159,38 @@ static void reads_solutions(void) {
     CHECK("a solution", read_solution("s 7\nf 1 2 3\nf 2 3 -7\nf 1 2 4\n", MOST), 0, "");
     check_that("its flow", value == 7 && flows_needed == 3 && are_numbers(flows, 3, NUMBERS(3, -7, 4)));
     CHECK("in another order", read_solution("f 2 3 7\nf 1 2 3\ns -9223372036854775808\n", 2), 0, "");
-    check_that("an arc without an entry carries 0", value == INT64_MIN && flows_needed == 3 && are_numbers(flows, 2, NUMBERS(3, 7)));
-    CHECK("an arc that isn't there", read_solution("s 0\nf 1 2 1\nf 2 1 1\nf 1 2 1\nf 1 2 1\n", MOST), 1, "x solution 3 0 UnknownArc\n");
+    check_that("an arc without an entry carries 0",
+               value == INT64_MIN && flows_needed == 3 && are_numbers(flows, 2, NUMBERS(3, 7)));
+    CHECK("an arc that isn't there", read_solution("s 0\nf 1 2 1\nf 2 1 1\nf 1 2 1\nf 1 2 1\n", MOST), 1,
+          "x solution 3 0 UnknownArc\n");
     check_that("nothing", value == 0 && flows_needed == 0 && are_numbers(flows, 0, NULL));
     CHECK("an entry too many", read_solution("s 0\nf 1 2 1\n\nf 1 2 1\nf 1 2 1\n", MOST), 1, "x solution 5 0 ArcTwice\n");
-    CHECK("a value past 64 bits", read_solution("f 1 2 1\ns 9223372036854775808\n", MOST), 1, "x solution 2 2 NumberRange\n");
-    CHECK("an entry before the value", read_solution("s 9223372036854775808\nf 3 1 1\n", MOST), 1, "x solution 2 0 UnknownArc\n");
-    CHECK("a fault of the text before both", read_solution("s 9223372036854775808\nf 3 1 1\nf\n", MOST), 1, "x solution 3 0 FieldCount\n");
+    CHECK("a value past 64 bits", read_solution("f 1 2 1\ns 9223372036854775808\n", MOST), 1,
+          "x solution 2 2 NumberRange\n");
+    CHECK("an entry before the value", read_solution("s 9223372036854775808\nf 3 1 1\n", MOST), 1,
+          "x solution 2 0 UnknownArc\n");
+    CHECK("a fault of the text before both", read_solution("s 9223372036854775808\nf 3 1 1\nf\n", MOST), 1,
+          "x solution 3 0 FieldCount\n");
     CHECK("no value", read_solution("f 1 2 1\n", MOST), 1, "x solution 2 0 SolutionMissing\n");
-    uint32_t status = dimacs_read_solution(3, some_tails, 3, some_heads, 2, bytes("s 0\n"), 4, out, sizeof out, &needed, &value,
-                                           flows, MOST, &flows_needed);
+    uint32_t status = dimacs_read_solution(3, some_tails, 3, some_heads, 2, bytes("s 0\n"), 4, out, sizeof out, &needed,
+                                           &value, flows, MOST, &flows_needed);
     check("fewer heads", status, out, needed, 2, "");
-    status = dimacs_read_solution(2, some_tails, 3, some_heads, 3, bytes("s 0\n"), 4, out, sizeof out, &needed, &value, flows,
-                                  MOST, &flows_needed);
+    status = dimacs_read_solution(2, some_tails, 3, some_heads, 3, bytes("s 0\n"), 4, out, sizeof out, &needed, &value,
+                                  flows, MOST, &flows_needed);
     check("an end above the nodes", status, out, needed, 2, "x arc 2 NodeRange\n");
 }
 
 static uint32_t write_solution(int64_t claimed, size_t count) {
-    return dimacs_write_solution(claimed, 3, some_tails, 3, some_heads, 3, NUMBERS(3, INT64_MIN, 0, 1), count, out, sizeof out,
-                                 &needed);
+    return dimacs_write_solution(claimed, 3, some_tails, 3, some_heads, 3, NUMBERS(3, INT64_MIN, 0, 1), count, out,
+                                 sizeof out, &needed);
 }
 
 static void writes_solutions(void) {
     CHECK("a solution", write_solution(-5, 3), 0, "s -5\nf 1 2 3\nf 2 3 -9223372036854775808\nf 1 2 0\n");
     CHECK("fewer amounts", write_solution(0, 2), 2, "");
     CHECK("more amounts", write_solution(0, 4), 2, "");
-    CHECK("no arcs", dimacs_write_solution(LAST, 0, NULL, 0, NULL, 0, NULL, 0, out, sizeof out, &needed), 0, "s 9223372036854775807\n");
+    CHECK("no arcs", dimacs_write_solution(LAST, 0, NULL, 0, NULL, 0, NULL, 0, out, sizeof out, &needed), 0,
+          "s 9223372036854775807\n");
 }
 
 /* ---- sets, potentials and queries ---- */
@@ -201,7 +212,8 @@ static void reads_and_writes_sets(void) {
     check_that("two bytes", inside_needed == 5 && !memcmp(inside, "\1\0M", 3));
     CHECK("a node twice", read_cut("p cut 5 2\nu 4\nu 4\n", MOST), 1, "x certificate 3 2 NodeTwice\n");
     check_that("nothing", inside_needed == 0 && inside[0] == 77);
-    CHECK("any byte but 0 is inside", dimacs_write_cut(bytes("\0\377\1\0"), 4, out, sizeof out, &needed), 0, "p cut 4 2\nu 2\nu 3\n");
+    CHECK("any byte but 0 is inside", dimacs_write_cut(bytes("\0\377\1\0"), 4, out, sizeof out, &needed), 0,
+          "p cut 4 2\nu 2\nu 3\n");
     CHECK("no nodes", dimacs_write_cut(NULL, 0, out, sizeof out, &needed), 0, "p cut 0 0\n");
 }
 
@@ -219,7 +231,8 @@ static void reads_and_writes_potentials(void) {
     CHECK("past 64 bits", read_potentials("p pot 4 2\ny 4 -9223372036854775809\ny 3 9223372036854775808\n", MOST), 1,
           "x node 3 NumberRange\n");
     check_that("nothing", supplies_needed == 0 && are_numbers(supplies, 0, NULL));
-    CHECK("a fault before", read_potentials("p pot 4 2\ny 4 -9223372036854775809\ny 5 1\n", MOST), 1, "x certificate 3 2 NodeRange\n");
+    CHECK("a fault before", read_potentials("p pot 4 2\ny 4 -9223372036854775809\ny 5 1\n", MOST), 1,
+          "x certificate 3 2 NodeRange\n");
     uint32_t status = dimacs_write_potentials(NUMBERS(0, INT64_MIN, 3), 3, out, sizeof out, &needed);
     check("written", status, out, needed, 0, "p pot 3 2\ny 2 -9223372036854775808\ny 3 3\n");
 }
@@ -234,9 +247,11 @@ static uint32_t read_queries(const char *text, size_t room) {
 
 static void reads_queries(void) {
     CHECK("sources", read_queries("p aux sp ss 2\ns 3\ns 1\n", MOST), 0, "");
-    check_that("their nodes", pairs == 0 && count_needed == 2 && are_nodes(tails, 2, NODES(3, 1)) && are_nodes(heads, 0, NULL));
+    check_that("their nodes",
+               pairs == 0 && count_needed == 2 && are_nodes(tails, 2, NODES(3, 1)) && are_nodes(heads, 0, NULL));
     CHECK("pairs", read_queries("p aux sp p2p 2\nq 3 1\nq 2 2\n", MOST), 0, "");
-    check_that("their nodes", pairs == 1 && count_needed == 2 && are_nodes(tails, 2, NODES(3, 2)) && are_nodes(heads, 2, NODES(1, 2)));
+    check_that("their nodes",
+               pairs == 1 && count_needed == 2 && are_nodes(tails, 2, NODES(3, 2)) && are_nodes(heads, 2, NODES(1, 2)));
     CHECK("room for one", read_queries("p aux sp p2p 2\nq 3 1\nq 2 2\n", 1), 0, "");
     check_that("one pair", count_needed == 2 && are_nodes(tails, 1, NODES(3)) && are_nodes(heads, 1, NODES(1)));
     CHECK("a query of the other kind", read_queries("p aux sp ss 1\nq 3 1\n", MOST), 1, "x query 2 0 RecordOrder\n");
