@@ -2,8 +2,8 @@
 
 A yes is returned, and a no is raised as Refused. Nothing is written to files or printed, and other threads run meanwhile.
 Claims are texts (certify_max, ..), arrays (certify_max_arrays, ..), those of networkx (certify_networkx_max, ..), or in a
-DataFrame of pandas (from_frame); dimacs.scipy has those of SciPy. proved is whether the library that was loaded is proved,
-and __version__ its version.
+DataFrame of pandas (from_frame); dimacs.scipy has those of SciPy. read makes arrays of texts. proved is whether the library
+that was loaded is proved, and __version__ its version.
 
 >>> import dimacs
 >>> dimacs.certify_max_arrays(3, 1, 3, [1, 2], [2, 3], [5, 4], [4, 4])
@@ -56,7 +56,9 @@ from .graphs import (
     solve_networkx_min,
     solve_networkx_paths,
 )
+from .instances import Graph, MaxInstance, MinInstance, Solution
 from .pictures import draw
+from .reading import read, write
 from .spread import spread_max_arrays, spread_min_arrays
 from .texts import (
     certify_infeasible,
@@ -90,11 +92,15 @@ __all__ = [
     "Drawing",
     "Feasible",
     "GaveUp",
+    "Graph",
     "Infeasible",
+    "MaxInstance",
+    "MinInstance",
     "NotOptimal",
     "Pair",
     "PastLimit",
     "Refused",
+    "Solution",
     "Solved",
     "Unbounded",
     "Verdict",
@@ -124,6 +130,7 @@ __all__ = [
     "judge_paths",
     "judge_paths_arrays",
     "proved",
+    "read",
     "show",
     "solve_max",
     "solve_max_arrays",
@@ -138,6 +145,7 @@ __all__ = [
     "spread_max_arrays",
     "spread_min",
     "spread_min_arrays",
+    "write",
 ]
 
 

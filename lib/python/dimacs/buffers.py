@@ -4,11 +4,13 @@ from __future__ import annotations
 
 import array
 import ctypes
+import gzip
 import math
 import operator
 import os
 import struct
 import sys
+import zlib
 from collections.abc import Mapping, Set
 from decimal import MAX_EMAX, MIN_EMIN, Context, Decimal
 from functools import partial
@@ -72,11 +74,22 @@ def _address_of(view: memoryview) -> int:
     return address
 
 
+def _bytes_in(path: Path) -> bytes:
+    """The bytes of a file. Raises ValueError with its name if it ends with .gz and isn't whole, or is no such file."""
+    if path.suffix != ".gz":
+        return path.read_bytes()
+    try:
+        with gzip.open(path) as packed:
+            return packed.read()
+    except (EOFError, gzip.BadGzipFile, zlib.error) as it:
+        raise ValueError(f"{path}: {it}") from None
+
+
 def bytes_of(text: Any, call: str = "this call") -> Buffer:
-    """The bytes of a text, or of the file that a Path names. A str is one of ASCII; a letter beyond that becomes bytes that
-    no text has."""
+    """The bytes of a text, or of the file that a Path names: what is packed in it, if the name ends with .gz. A str is one of
+    ASCII; a letter beyond that becomes bytes that no text has."""
     if isinstance(text, os.PathLike):
-        text = Path(text).read_bytes()
+        text = _bytes_in(Path(text))
     if isinstance(text, str):
         text = text.encode("utf-8", "surrogatepass")
     if type(text) is bytes:

@@ -14,6 +14,7 @@ from . import calls, library
 from .answers import Certified, Explainable, Feasible, Infeasible, NotOptimal, Solved
 from .buffers import LIMIT, LIMITS
 from .explained import like
+from .instances import Graph, MaxInstance, MinInstance
 from .given import DISTANCES, FLOWS, GRAPH, INSIDE, MAX, MIN, POTENTIALS, PREDECESSORS, Given, Names
 
 
@@ -190,9 +191,21 @@ class Frame:
         )
         return self._given(MIN, *arcs, self._supplies)
 
+    def _graph(self) -> Given:
+        return self._given(GRAPH, self._tails, self._heads, self._numbers_of("costs", 1))
+
     def _paths(self, source: Any) -> Given:
-        graph = self._given(GRAPH, self._tails, self._heads, self._numbers_of("costs", 1))
-        return graph.add_number("source", self._number(source))
+        return self._graph().add_number("source", self._number(source))
+
+    def max_instance(self, source: Any, sink: Any) -> MaxInstance:
+        """The network as arrays, whose names are the nodes. Without a capacity an edge has 2^63 - 1."""
+        return MaxInstance.of(self._max(source, sink), self.nodes)
+
+    def min_instance(self) -> MinInstance:
+        return MinInstance.of(self._min(), self.nodes)
+
+    def graph(self) -> Graph:
+        return Graph.of(self._graph(), self.nodes)
 
     def _is_name(self, flows: Any) -> bool:
         """Whether these flows are a column of the frame: one that it has, or what has letters, and so is no number."""

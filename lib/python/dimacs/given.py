@@ -148,6 +148,15 @@ class Given:
         self._test_limitless()
         return words
 
+    def instance(self, copied: Callable[[Buffer, Items], Any]) -> list[Any]:
+        """The numbers and copies of the arrays of the instance, as whole numbers."""
+        self.words()
+        numbers = [self._single(name, IDS) for name in self.form.numbers]
+        return [*numbers, *(self.array(kind, copied) for kind in self.form.arrays)]
+
+    def array(self, kind: Array, copied: Callable[[Buffer, Items], Any]) -> Any:
+        return copied(self._buffers[kind.name], kind.items)
+
     def forget(self) -> None:
         """Drops what words() made of the arguments; it makes the same again."""
         self._buffers = {}

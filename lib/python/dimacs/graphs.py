@@ -63,7 +63,7 @@ def _test_shape(has_it: bool, shape: str) -> None:
         raise TypeError(f"the flow isn't a dict of dicts with the amounts {shape}, as it has to be for this graph")
 
 
-class _Graph:
+class NumberedGraph:
     """The nodes and edges of a graph by the numbers that they have in arrays."""
 
     def __init__(self, graph: Any, scale: Any) -> None:
@@ -103,10 +103,12 @@ class _Graph:
         numbers = [0] * len(self.edges), self._of_edges("capacity", math.inf), self._of_edges("weight", 0)
         return Given(MIN, len(self.nodes), *self._ends, *numbers, demands, **self._how)
 
+    def graph(self) -> Given:
+        return Given(GRAPH, len(self.nodes), *self._ends, self._of_edges("weight", 1), **self._how)
+
     def paths(self, source: Any) -> Given:
         """The arguments of a call about distances."""
-        graph = Given(GRAPH, len(self.nodes), *self._ends, self._of_edges("weight", 1), **self._how)
-        return graph.add_number("source", self.number(source))
+        return self.graph().add_number("source", self.number(source))
 
     def by_node(self, values: Mapping[Any, Any], missing: Any, name: str) -> list[Any]:
         """The value of each node."""
@@ -195,7 +197,7 @@ def judge_networkx_max(graph: Any, source: Any, sink: Any, flow: Any, side: Any,
     >>> judge_networkx_max(graph, "spring", "town", {"spring": {"town": 3}}, {"spring"}).value
     3
     """
-    given = _Graph(graph, scale)
+    given = NumberedGraph(graph, scale)
     claim = given.max(source, sink).add(FLOWS, given.flows(flow)).add(INSIDE, given.inside(side))
     return calls.judge(library.judge_max_arrays, claim)
 
@@ -217,7 +219,7 @@ def judge_networkx_min(graph: Any, flow: Any, potentials: Any = None, *, scale: 
         certified = certify_networkx_min(graph, flow, scale=scale)
         answer: Verdict = like(Verdict("min", certified.value), certified)
         return answer
-    given = _Graph(graph, scale)
+    given = NumberedGraph(graph, scale)
     prices = given.by_node(potentials, 0, "potentials")
     return calls.judge(library.judge_min_arrays, given.min().add(FLOWS, given.flows(flow)).add(POTENTIALS, prices))
 
@@ -237,7 +239,7 @@ def certify_networkx_max(graph: Any, source: Any, sink: Any, flow: Any, *, scale
     Traceback (most recent call last):
     dimacs.answers.Refused: arc ('spring', 'town') AboveCap: it carries 4, its capacity is 3
     """
-    given = _Graph(graph, scale)
+    given = NumberedGraph(graph, scale)
     with given.shown():
         claim = given.max(source, sink).add(FLOWS, given.flows(flow))
         found = calls.certify(library.certify_max_arrays, claim, [], INSIDE, FLOWS)
@@ -260,7 +262,7 @@ def certify_networkx_min(graph: Any, flow: Any, *, scale: Any = None) -> Certifi
     >>> certify_networkx_min(graph, {"mine": {"port": 2}}).value
     14
     """
-    given = _Graph(graph, scale)
+    given = NumberedGraph(graph, scale)
     with given.shown():
         claim = given.min().add(FLOWS, given.flows(flow))
         found = calls.certify(library.certify_min_arrays, claim, [], POTENTIALS, FLOWS)
@@ -282,7 +284,7 @@ def certify_networkx_infeasible(graph: Any, *, scale: Any = None) -> Certified:
     >>> certify_networkx_infeasible(graph).inside
     {'mine'}
     """
-    given = _Graph(graph, scale)
+    given = NumberedGraph(graph, scale)
     with given.shown():
         found = calls.certify_infeasible(given.min(), [])
     answer: Certified = like(Certified(None, given.nodes_inside(found.inside)), found)
@@ -301,7 +303,7 @@ def certify_networkx_paths(graph: Any, source: Any, distances: Any, *, scale: An
     >>> certify_networkx_paths(graph, "a", {"a": 0, "b": 1, "c": 2}).predecessors
     {'a': None, 'b': 'a', 'c': 'b'}
     """
-    given = _Graph(graph, scale)
+    given = NumberedGraph(graph, scale)
     claim = given.paths(source).add(DISTANCES, given.by_node(distances, math.inf, "distances"))
     found = calls.certify(library.certify_paths_arrays, claim, [], PREDECESSORS)
     answer: Certified = like(Certified(None, given.predecessors(source, found.predecessors)), found)
@@ -320,7 +322,7 @@ def solve_networkx_max(graph: Any, source: Any, sink: Any, limit: int = LIMIT, *
     >>> solve_networkx_max(graph, "spring", "town", scale=10)
     Solved(value=Fraction(3, 10), solution={'spring': {'town': Fraction(3, 10)}, 'town': {}}, certificate={'spring'})
     """
-    given = _Graph(graph, scale)
+    given = NumberedGraph(graph, scale)
     with given.shown():
         found = calls.solve_max(given.max(source, sink).add_number("limit", limit, LIMITS), [])
     value, flows, inside = found
@@ -342,7 +344,7 @@ def solve_networkx_min(graph: Any, limit: int = LIMIT, *, scale: Any = None) -> 
     >>> solve_networkx_min(graph)[:2]
     (14, {'mine': {'port': 2}, 'port': {}})
     """
-    given = _Graph(graph, scale)
+    given = NumberedGraph(graph, scale)
     with given.shown():
         found = calls.solve_min(given.min().add_number("limit", limit, LIMITS), [])
     cost, flows, potentials = found
@@ -358,7 +360,7 @@ def solve_networkx_paths(graph: Any, source: Any, *, scale: Any = None) -> Solve
     >>> solve_networkx_paths(networkx.path_graph("abc", networkx.DiGraph), "a").distances
     {'a': 0, 'b': 1, 'c': 2}
     """
-    given = _Graph(graph, scale)
+    given = NumberedGraph(graph, scale)
     solved = calls.solve_paths(given.paths(source), [])
     found = given.predecessors(source, solved.predecessors)
     distances = {node: it for node, it in zip(given.nodes, solved.distances) if node in found}

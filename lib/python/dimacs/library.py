@@ -99,6 +99,17 @@ def explain() -> Callable[..., int]:
     return _export("dimacs_explain", texts=4)
 
 
+def reader(name: str, *words: Any, numbers: int, same: int, others: int) -> Callable[..., int]:
+    """The call that reads a text into numbers, arrays of the same length, and others. A library of version 0.1.0 has no such
+    call."""
+    arrays = [*[_address, _size] * same, *[_address] * (same > 0), *[_address, _size, _address] * others]
+    return _export(f"dimacs_read_{name}", *words, texts=1, more=[*_room, *[_address] * numbers, *arrays], rooms=0)
+
+
+def writer(name: str, *words: Any, arrays: int = 0) -> Callable[..., int]:
+    return _export(f"dimacs_write_{name}", *words, texts=arrays)
+
+
 judge_max_arrays = _export("dimacs_judge_max_arrays", _address, texts=2)
 judge_min_arrays = _export("dimacs_judge_min_arrays", _address, texts=2)
 judge_infeasible_arrays = _export("dimacs_judge_infeasible_arrays", _address, texts=1)
@@ -132,7 +143,7 @@ def _gave_up(function: Callable[..., int], words: Sequence[Any]) -> GaveUp:
     return GaveUp(_GAVE_UP.get(name, "a limit was reached").format(limit=words[-1]))
 
 
-def _raise_for(status: int, line: bytes, function: Callable[..., int], words: Sequence[Any]) -> None:
+def raise_for(status: int, line: bytes, function: Callable[..., int], words: Sequence[Any]) -> None:
     """Raises the exception of a status that leaves the claim undecided, or whose certificate doesn't fit."""
     if status == NO_MEMORY:
         raise MemoryError("there was not enough memory to judge")
@@ -157,7 +168,7 @@ def call(function: Callable[..., int], *words: Any) -> tuple[int, bytes]:
         line = ctypes.create_string_buffer(room)
     output = line.raw[: needed.value]
     if status != DONE and status != REFUSED:
-        _raise_for(status, output, function, words)
+        raise_for(status, output, function, words)
     return status, output
 
 
@@ -173,7 +184,7 @@ def call_for_texts(function: Callable[..., int], *words: Any, rooms: Sequence[in
             break
         rooms = [max(it) for it in zip(lengths, rooms)]
     outputs = [ctypes.string_at(*it) for it in zip(texts, lengths)]
-    _raise_for(status, outputs[0], function, words)
+    raise_for(status, outputs[0], function, words)
     return status, outputs
 
 
@@ -183,7 +194,7 @@ def call_with_rooms(function: Callable[..., int], words: list[Any], rooms: list[
     handed = [word for room in rooms for word in room.words()]
     status = function(*words, line, LINE, ctypes.byref(needed), *handed)
     output = line.raw[: needed.value]
-    _raise_for(status, output, function, words)
+    raise_for(status, output, function, words)
     return status, output
 
 

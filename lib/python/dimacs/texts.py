@@ -20,7 +20,7 @@ _NO_TEXT = b""
 
 
 @contextmanager
-def _read(call: str, *texts: Text) -> Iterator[list[Buffer]]:
+def bytes_from(call: str, *texts: Text) -> Iterator[list[Buffer]]:
     """The bytes of texts. If one is refused that names a file, an exception raised inside says so."""
     try:
         yield [bytes_of(it, call.split()[0]) for it in texts]
@@ -40,7 +40,7 @@ def _asked(call: str, no: Refused, *texts: Text) -> Asked:
     """What a refusal was asked of, and what it shows."""
     name, _, kind = call.partition(" ")
     if kind:
-        return Asked.of_text(name, kind, *texts)
+        return Asked.of_text("show" if name == "read" else name, kind, *texts)
     read = [it for it in texts if it is not _NO_TEXT]
     for exception, shown in ((NotOptimal, "better"), (Feasible, "flow")):
         found = getattr(no, shown) if isinstance(no, exception) else None
@@ -50,7 +50,7 @@ def _asked(call: str, no: Refused, *texts: Text) -> Asked:
 
 
 def _judge(kind: str, *read: Text) -> Verdict:
-    with _read(f"judge_{kind}", *read) as texts:
+    with bytes_from(f"judge_{kind}", *read) as texts:
         status, output, _ = run("judge", kind, texts)
         if status == library.REFUSED:
             raise library.refusal(output)
@@ -99,7 +99,7 @@ def _in_form_of(came: Text, text: bytes) -> Any:
 
 
 def _certify(kind: str, instance: Text, claim: Text) -> Certified:
-    with _read(f"certify_{kind}", instance, claim) as texts:
+    with bytes_from(f"certify_{kind}", instance, claim) as texts:
         status, line, (shown,) = run("certify", kind, texts)
         if status == library.REFUSED:
             raise _refusal(library.refusal(line), instance, claim, shown)
@@ -174,7 +174,7 @@ def certify_paths(graph: Text, distances: Text) -> Certified:
 
 
 def _spread(kind: str, instance: Text, solution: Text) -> Any:
-    with _read(f"spread_{kind}", instance, solution) as texts:
+    with bytes_from(f"spread_{kind}", instance, solution) as texts:
         status, line, (spread,) = run("spread", kind, texts)
         if status == library.REFUSED:
             raise library.refusal(line)
@@ -204,7 +204,7 @@ def spread_min(instance: Text, solution: Text) -> Any:
 
 
 def _solve(kind: str, instance: Text, queries: Text, limit: int) -> Solved:
-    with _read(f"solve_{kind}", instance, queries) as texts:
+    with bytes_from(f"solve_{kind}", instance, queries) as texts:
         status, output, (solution, certificate) = run("solve", kind, texts, number_of(limit, LIMITS, "limit"))
         if status == library.REFUSED:
             raise library.refusal(output)
@@ -258,7 +258,7 @@ def solve_paths(graph: Text, queries: Text) -> Solved:
 def _printed(call: str, kind: str, text: Text) -> Any:
     if kind not in TEXTS:
         raise ValueError(f"{kind!r} is no kind of text: these are {', '.join(TEXTS)}")
-    with _read(f"{call} {kind}", text) as texts:
+    with bytes_from(f"{call} {kind}", text) as texts:
         status, printed, _ = run(call, kind, texts)
         if status == library.REFUSED:
             raise library.refusal(printed)

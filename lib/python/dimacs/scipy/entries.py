@@ -153,3 +153,25 @@ def netted(entries: Any) -> Any:
 def numbers_of(vertices: Any) -> Any:
     """Vertices as the calls over arrays number them, from 1."""
     return (vertices + 1).astype(np.uint32)
+
+
+def summed(tails: Any, heads: Any, caps: Any, vertices: int) -> Any:
+    """The matrix of capacities between nodes that are numbered from 1."""
+    places = Places(tails.astype(np.int64) - 1, heads.astype(np.int64) - 1, vertices)
+    return matrix_of(places.rows, places.columns, places.fitting(caps, "the capacity"), vertices)
+
+
+def shortest(tails: Any, heads: Any, weights: Any, vertices: int) -> Any:
+    """The matrix of the least weights between nodes that are numbered from 1."""
+    order = np.lexsort((weights, heads, tails))
+    rows, columns = (it[order].astype(np.int64) - 1 for it in (tails, heads))
+    is_first = (np.diff(rows, prepend=-1) != 0) | (np.diff(columns, prepend=-1) != 0)
+    return matrix_of(rows[is_first], columns[is_first], weights[order][is_first], vertices)
+
+
+def incidence(tails: Any, heads: Any, vertices: int) -> Any:
+    """The matrix of what leaves each node less what enters it: a column for each arc."""
+    arcs = np.arange(len(tails))
+    signs = np.repeat(np.array([1, -1]), len(arcs))
+    ends = np.append(tails, heads).astype(np.int64) - 1
+    return sparse.csr_matrix((signs, (ends, np.append(arcs, arcs))), shape=(vertices, len(arcs)))

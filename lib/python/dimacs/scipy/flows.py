@@ -54,7 +54,7 @@ class _EntryNames(Names):
         return tuple(int(it[place]) for it in self._ends)
 
 
-class _Network:
+class Network:
     """The entries of a matrix of capacities as arcs, and the source and the sink."""
 
     def __init__(self, csgraph: Any, source: int, sink: int) -> None:
@@ -106,7 +106,7 @@ def maximum_flow(csgraph: Any, source: int, sink: int, *, method: str = "dinic")
     >>> int(found.flow_value), found.inside.tolist()
     (4, [True, True, False])
     """
-    given = _Network(csgraph, source, sink)
+    given = Network(csgraph, source, sink)
     if method not in ("edmonds_karp", "dinic"):
         raise ValueError(f"{method} method is not supported yet.")
     value, flows, inside = calls.solve_max(given.given().add_number("limit", LIMIT, LIMITS), given.caps)
@@ -127,7 +127,7 @@ def certify_maximum_flow(csgraph: Any, source: int, sink: int, flow: Any) -> Cer
     >>> certify_maximum_flow(capacities, 0, 2, csgraph.maximum_flow(capacities, 0, 2)).value
     4
     """
-    given = _Network(csgraph, source, sink)
+    given = Network(csgraph, source, sink)
     given.tails, given.heads, given.caps, flows = _by_pair(given, getattr(flow, "flow", flow))
     try:
         found = calls.certify(library.certify_max_arrays, given.given().add(FLOWS, flows), flows, INSIDE, FLOWS)
@@ -141,7 +141,7 @@ def certify_maximum_flow(csgraph: Any, source: int, sink: int, flow: Any) -> Cer
     return found
 
 
-def _by_pair(given: _Network, flow: Any) -> tuple[Any, Any, Any, Any]:
+def _by_pair(given: Network, flow: Any) -> tuple[Any, Any, Any, Any]:
     """Each pair of vertices from one of which to the other there is a capacity or a flow: the two, and the sum of either."""
     test_mask(flow, "the flow")
     matrix = sparse.coo_matrix(exact(flow))

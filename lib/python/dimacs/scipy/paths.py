@@ -70,7 +70,7 @@ def _sources(indices: Any, vertices: int) -> Any:
     return found
 
 
-def _arcs(csgraph: Any, directed: bool, unweighted: bool, has_more: bool = False) -> tuple[int, Any, Any, Any]:
+def arcs_of(csgraph: Any, directed: bool, unweighted: bool, has_more: bool = False) -> tuple[int, Any, Any, Any]:
     """The number of vertices, and the arcs: an edge of a graph that isn't directed is two. More than distances may be given."""
     vertices, tails, heads, weights = _edges(csgraph, not (unweighted or has_more))
     if unweighted:
@@ -138,7 +138,7 @@ def shortest_path(
         raise ValueError(f"unrecognized method '{method}'")
     if method == "FW" and indices is not None:
         raise ValueError("Cannot specify indices with method == 'FW'.")
-    vertices, tails, heads, weights = _arcs(csgraph, directed, unweighted)
+    vertices, tails, heads, weights = arcs_of(csgraph, directed, unweighted)
     sources = _sources(indices, vertices)
     distances = np.empty((sources.size, vertices), np.float64)
     predecessors = np.empty((sources.size, vertices), np.int32)
@@ -194,7 +194,7 @@ def certify_shortest_path(
     >>> certify_shortest_path([[0, 5, 0], [0, 0, 4], [0, 0, 0]], [[0, 5, 9]], indices=[0])
     array([[-9999,     0,     1]], dtype=int32)
     """
-    vertices, tails, heads, weights = _arcs(csgraph, directed, unweighted, predecessors is not None)
+    vertices, tails, heads, weights = arcs_of(csgraph, directed, unweighted, predecessors is not None)
     sources = _sources(indices, vertices)
     rows, before = _table(dist, "dist", sources, vertices), None
     if predecessors is not None:

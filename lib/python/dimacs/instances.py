@@ -1,0 +1,298 @@
+"""Instances and solutions as arrays, which dimacs.read makes of texts, and classmethods of graphs, matrices and frames.
+
+An instance has the arguments of the calls over arrays as its fields, and unpacks into them; its length is the number of its
+arcs. Nodes are numbered from 1; names has what they are called where the instance comes from, node 1 first, or is None.
+Arrays are those of numpy, which can't be written to; without numpy they are array.array.
+"""
+
+from __future__ import annotations
+
+import ctypes
+import importlib
+from array import array
+from collections.abc import Iterable, Sized
+from dataclasses import dataclass
+from typing import Any, ClassVar, Iterator, Sequence, TypeVar, Union
+
+from .buffers import NUMBERS, Buffer, Items, number_of
+from .given import FLOWS, GRAPH, MAX, MIN, UNSCALED, Form, Given
+
+#: The nodes by their numbers, from 1.
+NodeNames = Union[Sequence[Any], None]
+
+_Made = TypeVar("_Made", bound="_Value")
+
+
+def numpy() -> Any:
+    """The module, or None if it isn't installed."""
+    try:
+        return importlib.import_module("numpy")
+    except ImportError:
+        return None
+
+
+def _copied(buffer: Buffer, items: Items) -> Any:
+    """The items, which nobody else can write to."""
+    kept = ctypes.string_at(buffer.address, buffer.length * items.width) if buffer.length else b""
+    module = numpy()
+    return array(items.code, kept) if module is None else module.frombuffer(kept, items.code)
+
+
+class _Value(Sized, Iterable[Any]):
+    """Fields in an order, into which the value unpacks."""
+
+    fields: ClassVar[tuple[str, ...]]
+
+    @classmethod
+    def made(cls: type[_Made], *fields: Any, **more: Any) -> _Made:
+        """The value of fields that have been tested, and that nobody else has."""
+        value = object.__new__(cls)
+        value._set(*fields, **more)
+        return value
+
+    def _set(self, *fields: Any, **more: Any) -> None:
+        for name, it in (*zip(self.fields, fields), *more.items()):
+            object.__setattr__(self, name, it)
+
+    def __iter__(self) -> Iterator[Any]:
+        return iter([getattr(self, name) for name in self.fields])
+
+    def __eq__(self, other: object) -> bool:
+        if type(other) is not type(self):
+            return NotImplemented
+        return all(_bytes(one) == _bytes(two) for one, two in zip(self, other))
+
+    def __hash__(self) -> int:
+        return hash(tuple(map(_bytes, self)))
+
+
+def _bytes(field: Any) -> Any:
+    return field if isinstance(field, int) else bytes(memoryview(field).cast("B"))
+
+
+class Instance(_Value):
+    """What MaxInstance, MinInstance and Graph have in common."""
+
+    form: ClassVar[Form]
+    nodes: int
+    tails: Any
+    heads: Any
+    names: NodeNames
+
+    def __init_subclass__(cls) -> None:
+        cls.fields = (*cls.form.numbers, *(it.name for it in cls.form.arrays))
+
+    def __post_init__(self) -> None:
+        self._set(*Given(self.form, *self).instance(_copied))
+
+    @classmethod
+    def of(cls: type[_Made], given: Given, names: NodeNames) -> _Made:
+        """That of arguments."""
+        return cls.made(*given.instance(_copied), names=names)
+
+    def __len__(self) -> int:
+        return len(self.tails)
+
+    def __repr__(self) -> str:
+        return f"{type(self).__name__} of {self.nodes} nodes and {len(self)} arcs"
+
+    def _called(self) -> Sequence[Any]:
+        return range(1, self.nodes + 1) if self.names is None else self.names
+
+    def _listed(self, *names: str) -> Iterator[Any]:
+        """The arcs in order: the names of their ends, and these numbers."""
+        called = self._called()
+        ends = ([called[it - 1] for it in ends.tolist()] for ends in (self.tails, self.heads))
+        return zip(*ends, *(getattr(self, name).tolist() for name in names))
+
+    def _digraph(self, kind: str) -> Any:
+        graph = getattr(importlib.import_module("networkx"), kind)()
+        graph.add_nodes_from(self._called())
+        return graph
+
+    def to_frame(self) -> Any:
+        """The arcs in a DataFrame of pandas, a row each: tail, head, and their numbers. The index has the numbers of arcs."""
+        pandas = importlib.import_module("pandas")
+        by_arc = [_COLUMNS.get(name, name) for name in self.fields if name in _COLUMNS]
+        columns = dict(zip(("tail", "head"), ([row[k] for row in self._listed()] for k in (0, 1))))
+        columns.update(zip(by_arc, (getattr(self, name) for name in self.fields if name in _COLUMNS)))
+        return pandas.DataFrame(columns, pandas.RangeIndex(1, len(self) + 1, name="arc"))
+
+
+#: What the numbers of arcs are called in a frame.
+_COLUMNS = {"lows": "low", "caps": "capacity", "costs": "cost", "weights": "weight"}
+
+
+@dataclass(frozen=True, eq=False, repr=False)
+class MaxInstance(Instance):
+    """A maximum flow instance.
+
+    >>> import dimacs
+    >>> instance = MaxInstance(3, 1, 3, [1, 2], [2, 3], [5, 4])
+    >>> instance
+    MaxInstance of 3 nodes and 2 arcs
+    >>> dimacs.certify_max_arrays(*instance, [4, 4]).value
+    4
+    """
+
+    form = MAX
+    nodes: int
+    source: int
+    sink: int
+    tails: Any
+    heads: Any
+    caps: Any
+    names: NodeNames = None
+
+    @classmethod
+    def from_networkx(cls, graph: Any, source: Any, sink: Any) -> MaxInstance:
+        """That of a DiGraph or MultiDiGraph, with the capacities of its edges; without one an edge has 2^63 - 1."""
+        from .graphs import NumberedGraph
+
+        found = NumberedGraph(graph, UNSCALED)
+        return cls.of(found.max(source, sink), found.nodes)
+
+    @classmethod
+    def from_scipy(cls, matrix: Any, source: int, sink: int) -> MaxInstance:
+        """That of a matrix of capacities in CSR format, as maximum_flow takes it. Vertices are numbered from 0."""
+        from .scipy.flows import Network
+
+        return cls.of(Network(matrix, source, sink).given(), range(matrix.shape[0]))
+
+    def to_networkx(self) -> Any:
+        """A DiGraph, which networkx' maximum flows need. An edge has the capacities of parallel arcs, added up."""
+        graph = self._digraph("DiGraph")
+        for tail, head, cap in self._listed("caps"):
+            before = graph[tail][head]["capacity"] if graph.has_edge(tail, head) else 0
+            graph.add_edge(tail, head, capacity=before + cap)
+        return graph
+
+    def to_scipy(self) -> Any:
+        """A matrix of capacities in CSR format, of 64 bits. An entry has the capacities of parallel arcs, added up."""
+        from .scipy.entries import summed
+
+        return summed(self.tails, self.heads, self.caps, self.nodes)
+
+
+@dataclass(frozen=True, eq=False, repr=False)
+class MinInstance(Instance):
+    """A minimum cost flow instance. A supply is what leaves a node less what enters it.
+
+    >>> import dimacs
+    >>> instance = MinInstance(2, [1, 1], [2, 2], [0, 0], [5, 5], [3, 7], [6, -6])
+    >>> dimacs.solve_min_arrays(*instance).value
+    22
+    """
+
+    form = MIN
+    nodes: int
+    tails: Any
+    heads: Any
+    lows: Any
+    caps: Any
+    costs: Any
+    supplies: Any
+    names: NodeNames = None
+
+    @classmethod
+    def from_networkx(cls, graph: Any) -> MinInstance:
+        """That of a DiGraph or MultiDiGraph, as network_simplex takes it; without a capacity an edge has 2^63 - 1."""
+        from .graphs import NumberedGraph
+
+        found = NumberedGraph(graph, UNSCALED)
+        return cls.of(found.min(), found.nodes)
+
+    def to_networkx(self) -> Any:
+        """A MultiDiGraph whose keys are the places of arcs, from 0. It has no lower bounds: what they take is moved to the
+        ends, and a flow of the graph is what flows above them."""
+        graph = self._digraph("MultiDiGraph")
+        for node, supply in zip(self._called(), self.supplies.tolist()):
+            graph.nodes[node]["demand"] = -supply
+        for key, (tail, head, low, cap, cost) in enumerate(self._listed("lows", "caps", "costs")):
+            graph.add_edge(tail, head, key, capacity=cap - low, weight=cost)
+            graph.nodes[tail]["demand"] += low
+            graph.nodes[head]["demand"] -= low
+        return graph
+
+    def to_scipy(self) -> dict[str, Any]:
+        """The arguments of linprog: linprog(**instance.to_scipy()). Potentials are the duals of its equations."""
+        from .scipy.entries import incidence
+
+        rows = incidence(self.tails, self.heads, self.nodes)
+        bounds = list(zip(self.lows.tolist(), self.caps.tolist()))
+        return {"c": self.costs, "A_eq": rows, "b_eq": self.supplies, "bounds": bounds}
+
+
+@dataclass(frozen=True, eq=False, repr=False)
+class Graph(Instance):
+    """A graph whose arcs have weights, for shortest paths.
+
+    >>> import dimacs
+    >>> graph = Graph(3, [1, 2], [2, 3], [5, 4])
+    >>> dimacs.solve_paths_arrays(*graph, 1).distances.tolist()
+    [0, 5, 9]
+    """
+
+    form = GRAPH
+    nodes: int
+    tails: Any
+    heads: Any
+    weights: Any
+    names: NodeNames = None
+
+    @classmethod
+    def from_networkx(cls, graph: Any) -> Graph:
+        """That of a DiGraph or MultiDiGraph; without a weight an edge is 1 long."""
+        from .graphs import NumberedGraph
+
+        found = NumberedGraph(graph, UNSCALED)
+        return cls.of(found.graph(), found.nodes)
+
+    @classmethod
+    def from_scipy(cls, matrix: Any) -> Graph:
+        """That of a matrix of weights, as shortest_path takes it. Vertices are numbered from 0."""
+        from .scipy.entries import numbers_of
+        from .scipy.paths import arcs_of
+
+        vertices, tails, heads, weights = arcs_of(matrix, True, False)
+        given = Given(GRAPH, vertices, numbers_of(tails), numbers_of(heads), weights)
+        return cls.of(given, range(vertices))
+
+    def to_networkx(self) -> Any:
+        """A MultiDiGraph whose keys are the places of arcs, from 0."""
+        graph = self._digraph("MultiDiGraph")
+        for key, (tail, head, weight) in enumerate(self._listed("weights")):
+            graph.add_edge(tail, head, key, weight=weight)
+        return graph
+
+    def to_scipy(self) -> Any:
+        """A matrix of weights in CSR format, of 64 bits. An entry has the weight of the shortest of parallel arcs."""
+        from .scipy.entries import shortest
+
+        return shortest(self.tails, self.heads, self.weights, self.nodes)
+
+
+@dataclass(frozen=True, eq=False, repr=False)
+class Solution(_Value):
+    """A claimed value or cost, and the amount that each arc of an instance carries.
+
+    >>> value, flows = Solution(4, [4, 4], MaxInstance(3, 1, 3, [1, 2], [2, 3], [5, 4]))
+    >>> flows.tolist()
+    [4, 4]
+    """
+
+    fields = ("value", "flows")
+    value: int
+    flows: Any
+    instance: Instance
+
+    def __post_init__(self) -> None:
+        given = Given(self.instance.form, *self.instance).add(FLOWS, self.flows)
+        given.words()
+        self._set(number_of(self.value, NUMBERS, "value"), given.array(FLOWS, _copied))
+
+    def __len__(self) -> int:
+        return len(self.flows)
+
+    def __repr__(self) -> str:
+        return f"Solution of the value {self.value} on {len(self)} arcs"

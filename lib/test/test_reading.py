@@ -1,0 +1,358 @@
+"""Texts as arrays, and back."""
+
+import copy
+import gzip
+import importlib.util
+import os
+import pathlib
+import pickle
+import random
+import sys
+import tempfile
+import time
+import unittest
+from array import array
+from unittest import mock
+
+import dimacs
+from dimacs import Graph, MaxInstance, MinInstance, Solution, instances
+from spoiled_texts import JUDGES, judged_texts
+
+try:
+    import numpy
+except ImportError:
+    numpy = None
+
+MAX = "c pipes\np max 4 3\nn 4 t\nn 1 s\na 1 2 9223372036854775807\n\na 2 4 +05\na 1 4 0\n"
+MIN = "p min 3 2\nn 3 -4\nn 1 4\na 1 2 0 9223372036854775807 -9223372036854775808\na 2 3 1 5 7\n"
+GRAPH = "p sp 3 2\na 1 2 -9223372036854775808\na 3 3 9223372036854775807\n"
+CASES = int(os.environ.get("CASES", 2000))
+LAST = 2**63 - 1
+
+
+def listed(value):
+    return [it if isinstance(it, int) else it.tolist() for it in value]
+
+
+class Rows(unittest.TestCase):
+    """A kind, a text, the fields, and the canonical text."""
+
+    rows = [
+        ("max", MAX, [4, 1, 4, [1, 2, 1], [2, 4, 4], [LAST, 5, 0]], MaxInstance),
+        ("max", "p max 2 0\nn 1 s\nn 2 t\n", [2, 1, 2, [], [], []], MaxInstance),
+        ("min", MIN, [3, [1, 2], [2, 3], [0, 1], [LAST, 5], [-LAST - 1, 7], [4, 0, -4]], MinInstance),
+        ("min", "p min 9 0\nn 9 -2\n", [9, [], [], [], [], [], [0] * 8 + [-2]], MinInstance),
+        ("gr", GRAPH, [3, [1, 3], [2, 3], [-LAST - 1, LAST]], Graph),
+    ]
+
+    def test_instances(self):
+        for kind, text, fields, form in self.rows:
+            with self.subTest(text):
+                found = dimacs.read(kind, text)
+                self.assertIs(type(found), form)
+                self.assertEqual(listed(found), fields)
+                self.assertEqual(len(found), len(fields[-2] if kind == "min" else fields[-1]))
+                self.assertEqual(found, form(*fields))
+                self.assertEqual(dimacs.write(found), dimacs.convert(kind, text.encode()))
+                for it in (text.encode(), bytearray(text, "ascii"), memoryview(text.encode())):
+                    self.assertEqual(dimacs.read(kind, it), found)
+
+    def test_solutions(self):
+        instance = MaxInstance(3, 1, 3, [1, 2, 1, 1], [2, 3, 2, 3], [5, 4, 1, 2])
+        rows = [
+            ("s 9\nf 1 2 3\nf 2 3 4\nf 1 2 1\n", 9, [3, 4, 1, 0]),
+            ("s -7\n", -7, [0, 0, 0, 0]),
+            ("f 1 3 -2\nc\ns 0\n", 0, [0, 0, 0, -2]),
+        ]
+        for text, value, flows in rows:
+            found = dimacs.read("solution", text, instance)
+            self.assertEqual((found.value, found.flows.tolist(), len(found)), (value, flows, 4))
+            self.assertEqual((type(found), found), (Solution, Solution(value, flows, instance)))
+            self.assertEqual(dimacs.read("solution", dimacs.write(found), instance), found)
+        self.assertEqual(dimacs.write(found), b"s 0\nf 1 2 0\nf 2 3 0\nf 1 2 0\nf 1 3 -2\n")
+        refused = [
+            ("s 9\nf 1 2 3\nf 3 1 4\n", "x solution 3 0 UnknownArc"),
+            ("s 9\nf 1 3 3\nf 1 3 4\n", "x solution 3 0 ArcTwice"),
+            (f"s {LAST + 1}\n", "x solution 1 2 NumberRange"),
+            ("s 9\nf 4 4 1\nf 1 2 x\n", "x solution 3 4 BadNumber"),
+        ]
+        for text, line in refused:
+            with self.assertRaises(dimacs.Refused) as caught:
+                dimacs.read("solution", text, instance)
+            self.assertEqual(caught.exception.printed, line)
+
+    def test_three_calls(self):
+        instance = dimacs.read("max", "p max 3 2\nn 1 s\nn 3 t\na 1 2 5\na 2 3 4\n")
+        value, flows = dimacs.read("solution", "s 4\nf 1 2 4\nf 2 3 4\n", instance)
+        found = dimacs.certify_max_arrays(*instance, flows)
+        self.assertEqual((found.value, value), (4, 4))
+        self.assertEqual(dimacs.judge_max_arrays(*instance, flows, found.inside).value, 4)
+        least = dimacs.read("min", "p min 2 2\nn 1 6\nn 2 -6\na 1 2 0 5 3\na 1 2 0 5 7\n")
+        self.assertEqual(dimacs.certify_min_arrays(*least, dimacs.solve_min_arrays(*least).flows).value, 22)
+        graph = dimacs.read("gr", "p sp 3 2\na 1 2 5\na 2 3 4\n")
+        self.assertEqual(list(dimacs.certify_paths_arrays(*graph, 1, [0, 5, 9]).predecessors), [0, 1, 2])
+
+    def test_words(self):
+        instance = dimacs.read("gr", GRAPH)
+        cases = [
+            (ValueError, "'grr' is no kind", lambda: dimacs.read("grr", GRAPH)),
+            (TypeError, "takes an instance for a solution", lambda: dimacs.read("solution", "s 1\n")),
+            (TypeError, "takes an instance for a solution", lambda: dimacs.read("gr", GRAPH, instance)),
+            (TypeError, "read takes texts, not int", lambda: dimacs.read("gr", 3)),
+            (ValueError, "read takes texts, and 'road.gr' ", lambda: dimacs.read("gr", "road.gr")),
+            (TypeError, "write takes what read returns", lambda: dimacs.write(GRAPH)),
+            (ValueError, "heads has 1 items, and there are 2 arcs", lambda: Graph(2, [1, 1], [2], [3, 4])),
+            (ValueError, r"weights\[1\] is 0.5", lambda: Graph(2, [1, 1], [2, 2], [3, 0.5])),
+            (ValueError, "flows has 1 items", lambda: Solution(3, [1], instance)),
+            (dimacs.PastLimit, "arc 2 NodeRange", lambda: dimacs.write(Graph(2, [1, 1], [2, 3], [3, 4]))),
+            (dimacs.PastLimit, "arc 1 BoundOrder", lambda: dimacs.write(MaxInstance(2, 1, 2, [1], [2], [-3]))),
+        ]
+        for kind, message, call in cases:
+            with self.subTest(message), self.assertRaisesRegex(kind, message):
+                call()
+
+
+class Values(unittest.TestCase):
+    def test_one_line(self):
+        self.assertEqual(repr(dimacs.read("max", MAX)), "MaxInstance of 4 nodes and 3 arcs")
+        self.assertEqual(repr(dimacs.read("min", MIN)), "MinInstance of 3 nodes and 2 arcs")
+        solution = Solution(3, [1, 2], dimacs.read("gr", GRAPH))
+        self.assertEqual(repr(solution), "Solution of the value 3 on 2 arcs")
+
+    def test_nothing_changes_them(self):
+        caps = [5, 4]
+        found = MaxInstance(3, 1, 3, [1, 2], [2, 3], caps)
+        caps[0] = 7
+        self.assertEqual(found.caps.tolist(), [5, 4])
+        with self.assertRaises(AttributeError):
+            found.nodes = 4
+        for value in found, dimacs.read("max", MAX):
+            if numpy:
+                with self.assertRaises(ValueError):
+                    value.caps[0] = 7
+            else:
+                self.assertIsInstance(value.caps, array)
+            self.assertEqual(pickle.loads(pickle.dumps(value)), value)
+            self.assertEqual(copy.copy(value), value)
+            self.assertEqual(len({value, copy.deepcopy(value)}), 1)
+
+    def test_what_differs(self):
+        one = Graph(2, [1], [2], [3])
+        for other in Graph(3, [1], [2], [3]), Graph(2, [1], [2], [4]), Graph(2, [], [], []), dimacs.read("max", MAX), 3:
+            self.assertNotEqual(one, other)
+
+    def test_without_numpy(self):
+        with mock.patch.object(instances, "numpy", lambda: None), mock.patch.object(dimacs.reading, "numpy", lambda: None):
+            for kind, text in ("max", MAX), ("min", MIN), ("gr", GRAPH):
+                found = dimacs.read(kind, text)
+                self.assertIsInstance(found.tails, array)
+                self.assertEqual(found.tails.typecode, "I")
+                self.assertEqual(dimacs.write(found), dimacs.convert(kind, text.encode()))
+
+
+def random_instance(rng):
+    """An instance of numbers near all limits."""
+    nodes = rng.choice([1, 2, 2, 3, 7, 2**27 if rng.random() < 0.01 else 2**10])
+    count = rng.choice([0, 1, 2, 5, 40])
+
+    def number(least=-LAST - 1):
+        return rng.choice([max(least, it) for it in (least, least + 1, -1, 0, 1, 9, 10, LAST - 1, LAST, rng.randint(least, LAST))])
+
+    ends = [[rng.choice([1, nodes, rng.randint(1, nodes)]) for _ in range(count)] for _ in (0, 1)]
+    kind = rng.choice(["max", "min", "gr"])
+    if kind == "gr":
+        return kind, Graph(nodes, *ends, [number() for _ in range(count)])
+    if kind == "max":
+        nodes += nodes == 1
+        return kind, MaxInstance(nodes, *rng.choice([(1, nodes), (nodes, 1)]), *ends, [number(0) for _ in range(count)])
+    nodes = min(nodes, 2**10)
+    ends = [[min(it, nodes) for it in column] for column in ends]
+    bounds = [sorted((number(0), number(0))) for _ in range(count)]
+    lows, caps = ([it[k] for it in bounds] for k in (0, 1))
+    return kind, MinInstance(nodes, *ends, lows, caps, [number() for _ in range(count)], [number() for _ in range(nodes)])
+
+
+class Laws(unittest.TestCase):
+    def test_read_after_write(self):
+        rng = random.Random(1)
+        for _ in range(CASES):
+            kind, instance = random_instance(rng)
+            text = dimacs.write(instance)
+            self.assertEqual(dimacs.read(kind, text), instance)
+            self.assertEqual(dimacs.convert(kind, text), text)
+            solution = Solution(rng.randint(-LAST - 1, LAST), [rng.randint(-LAST - 1, LAST) for _ in instance.tails], instance)
+            self.assertEqual(dimacs.read("solution", dimacs.write(solution), instance), solution)
+
+    def test_spoiled_texts(self):
+        """Each fault is named as the command names it."""
+        seen = {kind: [0, 0] for kind in dimacs.reading.KINDS}
+        for seed in range(CASES):
+            command = list(JUDGES)[seed % len(JUDGES)]
+            texts = dict(zip(JUDGES[command][1], (it.encode("latin-1") for it in judged_texts(command, seed))))
+            instance = None
+            for kind, text in texts.items():
+                if kind in seen and (kind != "solution" or instance):
+                    found = self.compare(kind, text, instance)
+                    instance = found if kind != "solution" else instance
+                    seen[kind][found is None] += 1
+        for kind, counts in seen.items():
+            self.assertGreater(min(counts), CASES // 50, kind)
+
+    def compare(self, kind, text, instance):
+        """Reads a text as the command does, and returns the value if it has no fault."""
+        wanted = no = None
+        try:
+            wanted = dimacs.convert(kind, text)
+        except dimacs.Refused as it:
+            no = it.printed
+        try:
+            found = dimacs.read(kind, text, *([instance] if instance else []))
+        except dimacs.Refused as it:
+            if no is None and kind == "solution":
+                self.assertIn(it.reason, ("UnknownArc", "ArcTwice", "NumberRange"))
+                return None
+            self.assertEqual(it.printed, no, text)
+            return None
+        self.assertIsNone(no, text)
+        if kind != "solution":
+            self.assertEqual(dimacs.write(found), wanted)
+        return found
+
+
+class Files(unittest.TestCase):
+    def setUp(self):
+        place = tempfile.TemporaryDirectory()
+        self.addCleanup(place.cleanup)
+        self.place = pathlib.Path(place.name)
+
+    def test_paths(self):
+        for name, packed in ("pipes.max", bytes), ("pipes.max.gz", gzip.compress):
+            path = self.place / name
+            path.write_bytes(packed(MAX.encode()))
+            self.assertEqual(dimacs.read("max", path), dimacs.read("max", MAX))
+            self.assertEqual(dimacs.show("max", path), "i max 4 3 1 4\n")
+        with self.assertRaises(FileNotFoundError):
+            dimacs.read("max", self.place / "none.gz")
+
+    def test_packed_files_that_are_not_whole(self):
+        packed = gzip.compress(MAX.encode())
+        damaged = packed[:20] + bytes([packed[20] ^ 255]) + packed[21:]
+        for text in packed[:-9], packed[:12], damaged, MAX.encode():
+            path = self.place / "pipes.max.gz"
+            path.write_bytes(text)
+            with self.assertRaisesRegex(ValueError, "pipes.max.gz: "):
+                dimacs.read("max", path)
+
+    def test_texts_that_are_none(self):
+        for text, line in [
+            (GRAPH.replace("3 3", "3\0 3"), "x instance 3 2 BadNumber"),
+            ("c" * (2**20 + 1) + "\n" + GRAPH, "x instance 1 0 LineTooLong"),
+            ("", "x instance 1 0 ProblemMissing"),
+            (gzip.compress(GRAPH.encode()), None),
+        ]:
+            with self.assertRaises(dimacs.Refused) as caught:
+                dimacs.read("gr", text)
+            with self.assertRaises(dimacs.Refused) as wanted:
+                dimacs.show("gr", text)
+            self.assertEqual(caught.exception.printed, wanted.exception.printed)
+            self.assertEqual(caught.exception.explain(), wanted.exception.explain())
+            if line:
+                self.assertEqual(caught.exception.printed, line)
+
+    @unittest.skipUnless(sys.platform == "linux", "another system")
+    def test_no_memory_for_arcs_that_are_declared(self):
+        import resource
+
+        before, begun = resource.getrusage(resource.RUSAGE_SELF).ru_maxrss, time.process_time()
+        for kind, text in [
+            ("max", "p max 2 268435456\nn 1 s\nn 2 t\n"),
+            ("min", "p min 2 268435456\n"),
+            ("gr", "p sp 2 268435456\n"),
+        ]:
+            with self.assertRaisesRegex(dimacs.Refused, "TooFew"):
+                dimacs.read(kind, text)
+        self.assertLess(resource.getrusage(resource.RUSAGE_SELF).ru_maxrss - before, 10_000)  # kB
+        self.assertLess(time.process_time() - begun, 1)
+
+
+def needs(name):
+    return unittest.skipUnless(importlib.util.find_spec(name) and numpy, f"no {name}")
+
+
+class Converted(unittest.TestCase):
+    least = MinInstance(3, [1, 1, 2], [2, 2, 3], [0, 1, 2], [5, 5, 9], [3, 7, 1], [6, 0, -6])
+    graph = Graph(4, [1, 1, 2, 4], [2, 2, 3, 4], [5, 3, 0, 7])
+    most = MaxInstance(4, 2, 3, [2, 2, 2, 1], [1, 1, 3, 3], [5, 3, 1, 9])
+
+    @needs("networkx")
+    def test_networkx(self):
+        import networkx as nx
+
+        graph = self.most.to_networkx()
+        self.assertEqual(sorted(graph.edges(data="capacity")), [(1, 3, 9), (2, 1, 8), (2, 3, 1)])
+        self.assertEqual(nx.maximum_flow_value(graph, 2, 3), dimacs.solve_max_arrays(*self.most).value)
+        found = MaxInstance.from_networkx(graph, 2, 3)
+        self.assertEqual((found.names, found.source, found.sink), ([1, 2, 3, 4], 2, 3))
+        self.assertEqual(dimacs.solve_max_arrays(*found).value, 9)
+        again = Graph.from_networkx(self.graph.to_networkx())
+        self.assertEqual(again, self.graph)
+        graph = self.least.to_networkx()
+        cost, flow = nx.network_simplex(graph)
+        flows = [flow[u][v][k] + low for k, (u, v, low) in enumerate(zip(*listed(self.least)[1:4]))]
+        self.assertEqual(cost + 7 * 1 + 1 * 2, dimacs.certify_min_arrays(*self.least, flows).value)
+        self.assertEqual(dimacs.solve_min_arrays(*MinInstance.from_networkx(graph)).value, cost)
+
+    @needs("networkx")
+    def test_names(self):
+        import networkx as nx
+
+        graph = nx.DiGraph()
+        graph.add_edge("mine", "port", capacity=4, weight=2)
+        graph.add_edge("port", "town", weight=1)
+        graph.nodes["mine"]["demand"], graph.nodes["town"]["demand"] = -3, 3
+        found = MaxInstance.from_networkx(graph, "mine", "town")
+        self.assertEqual((found.names, listed(found)), (["mine", "port", "town"], [3, 1, 3, [1, 2], [2, 3], [4, LAST]]))
+        self.assertEqual(sorted(found.to_networkx().edges(data="capacity")), [("mine", "port", 4), ("port", "town", LAST)])
+        self.assertEqual(listed(MinInstance.from_networkx(graph))[-2:], [[2, 1], [3, 0, -3]])
+        self.assertEqual(listed(Graph.from_networkx(graph))[-1], [2, 1])
+        graph["mine"]["port"]["capacity"] = 0.5
+        with self.assertRaisesRegex(ValueError, r"capacity of edge \('mine', 'port'\) is 0.5, not a whole number$"):
+            MaxInstance.from_networkx(graph, "mine", "town")
+
+    @needs("scipy")
+    def test_scipy(self):
+        from scipy.optimize import linprog
+        from scipy.sparse.csgraph import dijkstra, maximum_flow
+
+        matrix = self.most.to_scipy()
+        self.assertEqual(matrix.toarray().tolist(), [[0, 0, 9, 0], [8, 0, 1, 0], [0, 0, 0, 0], [0, 0, 0, 0]])
+        self.assertEqual(maximum_flow(matrix.astype("int32"), 1, 2).flow_value, 9)
+        found = MaxInstance.from_scipy(matrix, 1, 2)
+        self.assertEqual((list(found.names), dimacs.solve_max_arrays(*found).value), ([0, 1, 2, 3], 9))
+        matrix = self.graph.to_scipy()
+        self.assertEqual(dijkstra(matrix, indices=0).tolist(), [0, 3, 3, float("inf")])
+        found = Graph.from_scipy(matrix)
+        self.assertEqual(listed(found), [4, [1, 2, 4], [2, 3, 4], [3, 0, 7]])
+        program = self.least.to_scipy()
+        self.assertEqual(linprog(**program).fun, dimacs.solve_min_arrays(*self.least).value)
+        with self.assertRaisesRegex(ValueError, r"the capacity at \(0, 1\) is \d+, which has more than 64 bits"):
+            MaxInstance(2, 1, 2, [1, 1], [2, 2], [LAST, LAST]).to_scipy()
+
+    @needs("pandas")
+    def test_frames(self):
+        table = self.least.to_frame()
+        self.assertEqual(list(table.columns), ["tail", "head", "low", "capacity", "cost"])
+        self.assertEqual((table.index.tolist(), table["cost"].tolist()), ([1, 2, 3], [3, 7, 1]))
+        supply = dict(enumerate(self.least.supplies.tolist(), 1))
+        frame = dimacs.from_frame(table, "tail", "head", low="low", capacity="capacity", cost="cost", supply=supply)
+        self.assertEqual((frame.min_instance(), frame.min_instance().names), (self.least, [1, 2, 3]))
+        frame = dimacs.from_frame(self.graph.to_frame(), "tail", "head", cost="weight")
+        self.assertEqual((listed(frame.graph())[-1], frame.graph().names), ([5, 3, 0, 7], [1, 2, 4, 3]))
+        frame = dimacs.from_frame(self.most.to_frame(), "tail", "head", capacity="capacity")
+        found = frame.max_instance(2, 3)
+        self.assertEqual((found.names[found.source - 1], dimacs.solve_max_arrays(*found).value), (2, 9))
+        self.assertEqual(found.to_frame()[["tail", "head"]].values.tolist(), [[2, 1], [2, 1], [2, 3], [1, 3]])
+
+
+if __name__ == "__main__":
+    unittest.main()
