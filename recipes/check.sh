@@ -6,8 +6,8 @@
 #
 #   recipes/check.sh [BINARY]
 #
-# BINARY is the built `dimacs`; without it the variable DIMACS, or else crates/dimacs/out/dimacs. The recipes that judge
-# in their own process need the library too, in the folder BUILD.
+# BINARY is the built `dimacs`; without it the variable DIMACS, or else crates/dimacs/out/dimacs. The recipes in Python, and
+# those that judge in their own process, need the library too, in the folder BUILD.
 #
 # Environment:
 #   PYTHON   the Python that has the packages; python3
@@ -122,7 +122,7 @@ is_there() {
 lacks() {
     if ! is_there "$2" "$3"; then
         echo "$2 $3"
-    elif is_in_process "$1" && [ ! -e "$DIMACS_LIBRARY" ]; then
+    elif [[ $1 == *.py || $1 == *_library.* ]] && [ ! -e "$DIMACS_LIBRARY" ]; then
         echo "the library"
     fi
 }
@@ -209,17 +209,18 @@ ends() {
 
 # A text with an arc from node 0, one argument too many, and a path without dimacs: try_ends RECIPE RUN
 try_ends() {
-    local texts written=("$dir/written" "$dir/written.2") name=${1%.cpp}
+    local texts right written=("$dir/written" "$dir/written.2") name=${1%.cpp}
     case $2 in
-        *-max) texts=("$dir/zero.max") ;;
-        *-min) texts=("$dir/zero.min") ;;
-        *-infeasible) texts=("$dir/zero.min") written=("$dir/written") ;;
-        *-paths) texts=("$dir/zero.gr" "$examples/road.query") written=("$dir/written") ;;
+        *-max) texts=("$dir/zero.max") right=("$examples/pipes.max") ;;
+        *-min) texts=("$dir/zero.min") right=("$examples/freight.min") ;;
+        *-infeasible) texts=("$dir/zero.min") right=("$examples/shortage.min") written=("$dir/written") ;;
+        *-paths) texts=("$dir/zero.gr") right=("$examples/road.gr") written=("$dir/written") ;;
     esac
-    is_in_process "$1" || texts+=("${written[@]}")
+    [[ $2 != *-paths ]] || texts+=("$examples/road.query") right+=("$examples/road.query")
+    is_in_process "$1" || texts+=("${written[@]}") right+=("${written[@]}")
     ends "$1" 1 "x instance [0-9]* 2 NumberRange" "${texts[@]}"
     ends "$1" 2 ".*${name/scaling/min} [A-Z ]*" "${texts[@]}" more
-    is_in_process "$1" || DIMACS=$dir/bin/dimacs ends "$1" 3 "can't run $dir/bin/dimacs.*" "${texts[@]}"
+    is_in_process "$1" || DIMACS=$dir/bin/dimacs ends "$1" 3 "can't run $dir/bin/dimacs.*" "${right[@]}"
 }
 
 # All instances of a recipe's run: try_all RECIPE RUN

@@ -1,7 +1,12 @@
-"""Runs dimacs for the recipes in Python. Copy this file with the one that you change."""
+"""What the recipes in Python share: they read texts by the package dimacs, and run the program. Copy this file with the one
+that you change."""
+import operator
 import os
+import pathlib
 import subprocess
 import sys
+
+import dimacs
 
 
 def arguments(doc):
@@ -13,17 +18,80 @@ def arguments(doc):
     return sys.argv[1:]
 
 
-def run(*words, **how):
+def run(*words):
     """Runs dimacs, and returns its exit status. The variable DIMACS names it, if it isn't on the path."""
     program = os.environ.get("DIMACS", "dimacs")
     try:
-        return subprocess.call([program, *words], **how)
+        return subprocess.call([program, *words])
     except OSError as error:
         print(f"can't run {program}: {error.strerror}. Put dimacs on the path, or name it by DIMACS", file=sys.stderr)
         sys.exit(3)
 
 
-def test(kind, path):
-    """Ends the program if a text has a fault, which dimacs then explains. So a recipe can read it as it comes."""
-    if run("show", kind, path, stdout=subprocess.DEVNULL, stderr=subprocess.DEVNULL):
-        sys.exit(run("explain", "show", kind, path))
+def read(kind, path, call=dimacs.read):
+    """The text of a file as arrays. If it has a fault, that is explained, and the program ends."""
+    try:
+        return call(kind, pathlib.Path(path))
+    except dimacs.Refused as refused:
+        print(refused.explain(), end="")
+        sys.exit(1)
+
+
+def read_queries(path):
+    """The queries, each as its nodes: one for all distances from it, two for one distance."""
+    lines = read("query", path, dimacs.convert).splitlines()[1:]
+    return [list(map(int, line.split()[1:])) for line in lines]
+
+
+def write(path, *lines):
+    with open(path, "w", encoding="ascii") as text:
+        text.writelines(f"{line}\n" for line in lines)
+
+
+def write_solution(path, value, flows, instance):
+    """A value may have more than 64 bits, and so more than dimacs.Solution holds."""
+    ends = zip(instance.tails, instance.heads)
+    write(path, f"s {value}", *(f"f {tail} {head} {flow}" for (tail, head), flow in zip(ends, flows)))
+
+
+def write_distances(path, nodes, blocks):
+    lines = [f"p distances {nodes} {len(blocks)}"]
+    for source, far in blocks.items():
+        lines.append(f"t {source} {len(far) - 1}")
+        lines += [f"d {node} {int(length)}" for node, length in far.items() if node != source]
+    write(path, *lines)
+
+
+def judge_max(doc, solve):
+    """Reads INSTANCE, writes SOLUTION and CUT, and has them judged. solve(instance) returns the flow's value, the flow of each
+    arc, and the nodes on the source's side of a minimum cut."""
+    path, solution, cut = arguments(doc)
+    instance = read("max", path)
+    value, flows, side = solve(instance)
+    write_solution(solution, value, flows, instance)
+    write(cut, f"p cut {instance.nodes} {len(side)}", *(f"u {node}" for node in side))
+    return run("judge-max", path, solution, cut)
+
+
+def cost_of(flows, instance):
+    """The cost, which may have more than 64 bits."""
+    return sum(map(operator.mul, instance.costs.tolist(), flows))
+
+
+def certify_min(doc, solve):
+    """Reads INSTANCE, writes SOLUTION, and has it certified. solve(instance) returns the flow of each arc."""
+    path, solution, potentials = arguments(doc)
+    instance = read("min", path)
+    flows = solve(instance)
+    write_solution(solution, cost_of(flows, instance), flows, instance)
+    return run("certify-min", path, solution, potentials)
+
+
+def certify_paths(doc, solve):
+    """Reads GRAPH and QUERY, writes DISTANCES, and has them certified. solve(graph, sources) returns the distances from each
+    source: a dict of the nodes that are reached."""
+    path, query, distances = arguments(doc)
+    graph = read("gr", path)
+    sources = {source for source, *_ in read_queries(query)}
+    write_distances(distances, graph.nodes, solve(graph, sources))
+    return run("certify-paths", path, distances)

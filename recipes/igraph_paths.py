@@ -13,48 +13,15 @@ import igraph
 import command
 
 
-def read_graph(path):
-    """The graph, with node 1 as its vertex 0, and the weights of its arcs."""
-    arcs, weights = [], []
-    with open(path, encoding="latin-1") as text:
-        for line in text:
-            match line.split():
-                case ["p", _, count, _]:
-                    nodes = int(count)
-                case ["a", tail, head, weight]:
-                    arcs.append((int(tail) - 1, int(head) - 1))
-                    weights.append(int(weight))
-    return igraph.Graph(nodes, arcs, directed=True), weights
-
-
-def read_sources(path):
-    """The sources of the queries, each once."""
-    with open(path, encoding="latin-1") as text:
-        words = [line.split() for line in text]
-    return dict.fromkeys(int(word[1]) for word in words if word and word[0] in ("s", "q"))
-
-
-def block(graph, weights, source):
-    """The lines of one source's distances, in any order."""
-    (distance,) = graph.distances(source - 1, weights=weights)
-    reached = [node for node, length in enumerate(distance) if length < math.inf and node != source - 1]
-    yield f"t {source} {len(reached)}"
-    for node in reached:
-        yield f"d {node + 1} {int(distance[node])}"
-
-
-def main():
-    graph_path, query, distances = command.arguments(__doc__)
-    command.test("gr", graph_path)
-    command.test("query", query)
-    graph, weights = read_graph(graph_path)
-    sources = read_sources(query)
-    with open(distances, "w", encoding="ascii") as text:
-        text.write(f"p distances {graph.vcount()} {len(sources)}\n")
-        for source in sources:
-            text.writelines(f"{line}\n" for line in block(graph, weights, source))
-    return command.run("certify-paths", graph_path, distances)
+def solve(graph, sources):
+    """The distances from each source, by node. igraph counts nodes from 0."""
+    ends = zip((graph.tails - 1).tolist(), (graph.heads - 1).tolist())
+    roads, found = igraph.Graph(graph.nodes, ends, directed=True), {}
+    for source in sources:
+        (far,) = roads.distances(source - 1, weights=graph.weights.tolist())
+        found[source] = {node: length for node, length in enumerate(far, 1) if length < math.inf}
+    return found
 
 
 if __name__ == "__main__":
-    sys.exit(main())
+    sys.exit(command.certify_paths(__doc__, solve))

@@ -11,51 +11,15 @@ import networkx as nx
 import command
 
 
-def read(path):
-    """The supply by node, and the arcs (tail, head, low, capacity, cost) in the text's order."""
-    supply, arcs = {}, []
-    with open(path, encoding="latin-1") as text:
-        for line in text:
-            match line.split():
-                case ["p", _, nodes, _]:
-                    supply = dict.fromkeys(range(1, int(nodes) + 1), 0)
-                case ["n", node, units]:
-                    supply[int(node)] = int(units)
-                case ["a", *numbers]:
-                    arcs.append(tuple(map(int, numbers)))
-    return supply, arcs
-
-
-def solve(supply, arcs):
-    """The flow of each arc: networkx knows no lower bounds, so it is asked for what flows above them."""
-    graph = nx.MultiDiGraph()
-    for node, units in supply.items():
-        graph.add_node(node, demand=-units)
-    for key, (tail, head, low, capacity, cost) in enumerate(arcs):
-        graph.add_edge(tail, head, key, capacity=capacity - low, weight=cost)
-        graph.nodes[tail]["demand"] += low
-        graph.nodes[head]["demand"] -= low
+def solve(instance):
+    """The flow of each arc. networkx knows no lower bounds: its flow is what flows above them."""
     try:
-        _, flow = nx.network_simplex(graph)
+        _, flow = nx.network_simplex(instance.to_networkx())
     except nx.NetworkXUnfeasible as error:
         sys.exit(str(error))
-    return [low + flow[tail][head][key] for key, (tail, head, low, _, _) in enumerate(arcs)]
-
-
-def write(path, lines):
-    with open(path, "w", encoding="ascii") as text:
-        text.writelines(f"{line}\n" for line in lines)
-
-
-def main():
-    instance, solution, potentials = command.arguments(__doc__)
-    command.test("min", instance)
-    supply, arcs = read(instance)
-    flows = solve(supply, arcs)
-    cost = sum(arc[4] * flow for arc, flow in zip(arcs, flows))
-    write(solution, [f"s {cost}", *(f"f {arc[0]} {arc[1]} {flow}" for arc, flow in zip(arcs, flows))])
-    return command.run("certify-min", instance, solution, potentials)
+    arcs = zip(instance.tails.tolist(), instance.heads.tolist(), instance.lows.tolist())
+    return [low + flow[tail][head][key] for key, (tail, head, low) in enumerate(arcs)]
 
 
 if __name__ == "__main__":
-    sys.exit(main())
+    sys.exit(command.certify_min(__doc__, solve))

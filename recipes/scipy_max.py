@@ -1,64 +1,37 @@
 #!/usr/bin/env python3
 """A maximum flow by SciPy, certified: scipy_max.py INSTANCE SOLUTION CUT
 
-Reads INSTANCE, writes what flows between each pair of nodes as SOLUTION, has `dimacs spread-max` deal it out to parallel
-arcs, and runs `dimacs certify-max` on the two, which writes CUT. The variable DIMACS names the program. SciPy's capacities
-have 32 bits; a greater one ends it with a message.
+Reads INSTANCE, deals what flows between two nodes out to parallel arcs, writes SOLUTION, and runs `dimacs certify-max` on
+the two, which writes CUT. The variable DIMACS names the program. SciPy's capacities have 32 bits; a greater one ends it
+with a message.
 """
 import sys
 
-from scipy.sparse import csr_matrix
+import dimacs
 from scipy.sparse.csgraph import maximum_flow
 
 import command
 
 
-def read(path):
-    """The number of nodes, the source, the sink, and the arcs (tail, head, capacity) in the text's order."""
-    arcs = []
-    with open(path, encoding="latin-1") as text:
-        for line in text:
-            match line.split():
-                case ["p", _, count, _]:
-                    nodes = int(count)
-                case ["n", node, "s"]:
-                    source = int(node)
-                case ["n", node, "t"]:
-                    sink = int(node)
-                case ["a", tail, head, capacity]:
-                    arcs.append((int(tail), int(head), int(capacity)))
-    return nodes, source, sink, arcs
-
-
-def solve(nodes, source, sink, arcs):
-    """What flows between each pair of nodes. Row and column 0 stay empty."""
-    between = {}
-    for tail, head, capacity in arcs:
-        between[tail, head] = between.get((tail, head), 0) + capacity
-    for (tail, head), capacity in between.items():
-        if capacity + between.get((head, tail), 0) >= 2**31:
-            sys.exit(f"the capacities between {tail} and {head} don't fit 32 bits")
-    tails, heads = zip(*between) if between else ((), ())
-    capacities = csr_matrix((list(between.values()), (tails, heads)), shape=(nodes + 1, nodes + 1), dtype="int32")
-    flow = maximum_flow(capacities, source, sink).flow.todok()
+def solve(instance):
+    """The flow's value, and the flow of each arc. SciPy counts nodes from 0."""
+    caps = instance.to_scipy()  # an entry has the capacities of parallel arcs, added up
+    both = (caps.astype(float) + caps.T).tocoo()
+    if both.nnz and both.data.max() >= 2**31:
+        at = both.data.argmax()
+        sys.exit(f"the capacities between {both.row[at] + 1} and {both.col[at] + 1} don't fit 32 bits")
+    found = maximum_flow(caps.astype("int32"), instance.source - 1, instance.sink - 1)
     # Of two arcs that lead to and fro the matrix has the difference of the flows: less than 0 on one of them.
-    return {ends: max(0, int(flow.get(ends, 0))) for ends in between}
-
-
-def write(path, lines):
-    with open(path, "w", encoding="ascii") as text:
-        text.writelines(f"{line}\n" for line in lines)
+    flow = found.flow.tocoo()
+    tails, heads, flows = (it[flow.data > 0] for it in (flow.row + 1, flow.col + 1, flow.data))
+    return found.flow_value, dimacs.spread_max_arrays(*instance, tails, heads, flows)
 
 
 def main():
-    instance, solution, cut = command.arguments(__doc__)
-    command.test("max", instance)
-    nodes, source, sink, arcs = read(instance)
-    flow = solve(nodes, source, sink, arcs)
-    value = sum(amount * ((tail == source) - (head == source)) for (tail, head), amount in flow.items())
-    write(solution, [f"s {value}", *(f"f {tail} {head} {amount}" for (tail, head), amount in flow.items())])
-    spread = command.run("spread-max", instance, solution, solution)
-    return spread or command.run("certify-max", instance, solution, cut)
+    path, solution, cut = command.arguments(__doc__)
+    instance = command.read("max", path)
+    command.write_solution(solution, *solve(instance), instance)
+    return command.run("certify-max", path, solution, cut)
 
 
 if __name__ == "__main__":

@@ -58,7 +58,7 @@ class _Value(Sized, Iterable[Any]):
         return iter([getattr(self, name) for name in self.fields])
 
     def __eq__(self, other: object) -> bool:
-        if type(other) is not type(self):
+        if not isinstance(other, _Value) or type(other) is not type(self):
             return NotImplemented
         return all(_bytes(one) == _bytes(two) for one, two in zip(self, other))
 
