@@ -28,19 +28,13 @@ def run(*words):
         sys.exit(3)
 
 
-def read(kind, path, call=dimacs.read):
+def read(kind, path):
     """The text of a file as arrays. If it has a fault, that is explained, and the program ends."""
     try:
-        return call(kind, pathlib.Path(path))
+        return dimacs.read(kind, pathlib.Path(path))
     except dimacs.Refused as refused:
         print(refused.explain(), end="")
         sys.exit(1)
-
-
-def read_queries(path):
-    """The queries, each as its nodes: one for all distances from it, two for one distance."""
-    lines = read("query", path, dimacs.convert).splitlines()[1:]
-    return [list(map(int, line.split()[1:])) for line in lines]
 
 
 def write(path, *lines):
@@ -92,6 +86,6 @@ def certify_paths(doc, solve):
     source: a dict of the nodes that are reached."""
     path, query, distances = arguments(doc)
     graph = read("gr", path)
-    sources = {source for source, *_ in read_queries(query)}
+    sources = set(read("query", query).froms.tolist())
     write_distances(distances, graph.nodes, solve(graph, sources))
     return run("certify-paths", path, distances)

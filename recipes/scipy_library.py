@@ -27,18 +27,18 @@ def certify(graph, sources):
 
 def main():
     path, query = command.arguments(__doc__)
-    graph, queries = command.read("gr", path), command.read_queries(query)
+    graph, queries = command.read("gr", path), command.read("query", query)
     try:
-        distances = certify(graph, {source for source, *_ in queries})
+        distances = certify(graph, set(queries.froms.tolist()))
     except dimacs.Refused as refused:
         print(refused.printed)
         return 1
-    if queries and len(queries[0]) == 1:
+    if queries.tos is None:
         print("v sp ss", len(queries))
-    for source, *target in queries:
-        for node in target:
-            far = distances[source][node - 1]
-            print("v", source, node, int(far) if np.isfinite(far) else "unreachable")
+        return 0
+    for source, node in zip(*map(list, queries)):
+        far = distances[source][node - 1]
+        print("v", source, node, int(far) if np.isfinite(far) else "unreachable")
     return 0
 
 

@@ -15,7 +15,7 @@ from array import array
 from unittest import mock
 
 import dimacs
-from dimacs import Graph, MaxInstance, MinInstance, Solution, instances
+from dimacs import Cut, Graph, MaxInstance, MinInstance, Queries, Solution, instances
 from spoiled_texts import JUDGES, judged_texts
 
 try:
@@ -31,7 +31,7 @@ LAST = 2**63 - 1
 
 
 def listed(value):
-    return [it if isinstance(it, int) else it.tolist() for it in value]
+    return [it.tolist() if hasattr(it, "tolist") else it for it in value]
 
 
 class Rows(unittest.TestCase):
@@ -42,6 +42,10 @@ class Rows(unittest.TestCase):
         ("max", "p max 2 0\nn 1 s\nn 2 t\n", [2, 1, 2, [], [], []], MaxInstance),
         ("min", MIN, [3, [1, 2], [2, 3], [0, 1], [LAST, 5], [-LAST - 1, 7], [4, 0, -4]], MinInstance),
         ("min", "p min 9 0\nn 9 -2\n", [9, [], [], [], [], [], [0] * 8 + [-2]], MinInstance),
+        # As many arcs as so many bytes can have.
+        ("max", "p max 2 50\nn 1 s\nn 2 t\n" + "a 1 2 0\n" * 50, [2, 1, 2, [1] * 50, [2] * 50, [0] * 50], MaxInstance),
+        ("min", "p min 1 50\n" + "a 1 1 0 0 0\n" * 50, [1, *[[1] * 50] * 2, *[[0] * 50] * 3, [0]], MinInstance),
+        ("gr", "p sp 1 50\n" + "a 1 1 0\n" * 50, [1, *[[1] * 50] * 2, [0] * 50], Graph),
         ("gr", GRAPH, [3, [1, 3], [2, 3], [-LAST - 1, LAST]], Graph),
     ]
 
@@ -81,6 +85,35 @@ class Rows(unittest.TestCase):
                 dimacs.read("solution", text, instance)
             self.assertEqual(caught.exception.printed, line)
 
+    def test_cuts(self):
+        rows = [
+            ("p cut 3 2\nu 3\nu 1\n", [1, 0, 1], b"p cut 3 2\nu 1\nu 3\n"),
+            ("p cut 1 0\n", [0], b"p cut 1 0\n"),
+            ("p cut 500 1\nu 500\n", [0] * 499 + [1], b"p cut 500 1\nu 500\n"),
+        ]
+        for text, inside, canonical in rows:
+            found = dimacs.read("cut", text)
+            self.assertEqual((type(found), list(map(int, found.inside)), len(found)), (Cut, inside, len(inside)))
+            self.assertEqual((found, dimacs.write(found)), (Cut(inside), canonical))
+        self.assertEqual(repr(found), "Cut of 500 nodes, of which 1 are inside")
+        self.assertEqual(Cut([0, 7, 255]), Cut([False, True, True]) if numpy else Cut(b"\0\7\xff"))
+        instance = MaxInstance(3, 1, 3, [1, 2], [2, 3], [5, 4])
+        self.assertEqual(dimacs.judge_max_arrays(*instance, [4, 4], *Cut([1, 1, 0])).value, 4)
+        self.assertEqual(dimacs.write(Cut(dimacs.certify_max_arrays(*instance, [4, 4]).inside)), b"p cut 3 2\nu 1\nu 2\n")
+
+    def test_queries(self):
+        rows = [
+            ("p aux sp p2p 3\nq 1 2\nq 4 4\nq 1 134217728\n", [[1, 4, 1], [2, 4, 2**27]], "Queries for 3 pairs"),
+            ("p aux sp ss 2\ns 7\ns 1\n", [[7, 1], None], "Queries for 2 sources"),
+            ("p aux sp ss 50\n" + "s 1\n" * 50, [[1] * 50, None], "Queries for 50 sources"),
+            ("p aux sp p2p 0\n", [[], []], "Queries for 0 pairs"),
+            ("p aux sp ss 0\n", [[], None], "Queries for 0 sources"),
+        ]
+        for text, fields, shown in rows:
+            found = dimacs.read("query", text)
+            self.assertEqual((type(found), listed(found), len(found)), (Queries, fields, len(fields[0])))
+            self.assertEqual((found, repr(found)), (Queries(*fields), shown))
+
     def test_three_calls(self):
         instance = dimacs.read("max", "p max 3 2\nn 1 s\nn 3 t\na 1 2 5\na 2 3 4\n")
         value, flows = dimacs.read("solution", "s 4\nf 1 2 4\nf 2 3 4\n", instance)
@@ -100,7 +133,9 @@ class Rows(unittest.TestCase):
             (TypeError, "takes an instance for a solution", lambda: dimacs.read("gr", GRAPH, instance)),
             (TypeError, "read takes texts, not int", lambda: dimacs.read("gr", 3)),
             (ValueError, "read takes texts, and 'road.gr' ", lambda: dimacs.read("gr", "road.gr")),
-            (TypeError, "write takes what read returns", lambda: dimacs.write(GRAPH)),
+            (TypeError, "write takes an instance, a solution or a cut", lambda: dimacs.write(GRAPH)),
+            (ValueError, "tos has 1 items, and froms has 2", lambda: Queries([1, 2], [3])),
+            (TypeError, "inside: None, an array is wanted", lambda: Cut(None)),
             (ValueError, "heads has 1 items, and there are 2 arcs", lambda: Graph(2, [1, 1], [2], [3, 4])),
             (ValueError, r"weights\[1\] is 0.5", lambda: Graph(2, [1, 1], [2, 2], [3, 0.5])),
             (ValueError, "flows has 1 items", lambda: Solution(3, [1], instance)),
@@ -143,11 +178,11 @@ class Values(unittest.TestCase):
 
     def test_without_numpy(self):
         with mock.patch.object(instances, "numpy", lambda: None), mock.patch.object(dimacs.reading, "numpy", lambda: None):
-            for kind, text in ("max", MAX), ("min", MIN), ("gr", GRAPH):
+            for kind, text in ("max", MAX), ("min", MIN), ("gr", GRAPH), ("cut", "p cut 3 1\nu 2\n"):
                 found = dimacs.read(kind, text)
-                self.assertIsInstance(found.tails, array)
-                self.assertEqual(found.tails.typecode, "I")
+                self.assertIsInstance(list(found)[-1], array)
                 self.assertEqual(dimacs.write(found), dimacs.convert(kind, text.encode()))
+            self.assertEqual(dimacs.read("query", "p aux sp ss 1\ns 3\n").froms.typecode, "I")
 
 
 def random_instance(rng):
@@ -182,6 +217,8 @@ class Laws(unittest.TestCase):
             self.assertEqual(dimacs.convert(kind, text), text)
             solution = Solution(rng.randint(-LAST - 1, LAST), [rng.randint(-LAST - 1, LAST) for _ in instance.tails], instance)
             self.assertEqual(dimacs.read("solution", dimacs.write(solution), instance), solution)
+            cut = Cut([rng.randrange(2) for _ in range(rng.choice([1, 2, 30]))])
+            self.assertEqual(dimacs.read("cut", dimacs.write(cut)), cut)
 
     def test_spoiled_texts(self):
         """Each fault is named as the command names it."""
@@ -191,9 +228,9 @@ class Laws(unittest.TestCase):
             texts = dict(zip(JUDGES[command][1], (it.encode("latin-1") for it in judged_texts(command, seed))))
             instance = None
             for kind, text in texts.items():
-                if kind in seen and (kind != "solution" or instance):
+                if kind in seen and (kind != "solution" or instance is not None):
                     found = self.compare(kind, text, instance)
-                    instance = found if kind != "solution" else instance
+                    instance = found if kind in ("max", "min") else instance
                     seen[kind][found is None] += 1
         for kind, counts in seen.items():
             self.assertGreater(min(counts), CASES // 50, kind)
@@ -206,7 +243,7 @@ class Laws(unittest.TestCase):
         except dimacs.Refused as it:
             no = it.printed
         try:
-            found = dimacs.read(kind, text, *([instance] if instance else []))
+            found = dimacs.read(kind, text, *([instance] if kind == "solution" else []))
         except dimacs.Refused as it:
             if no is None and kind == "solution":
                 self.assertIn(it.reason, ("UnknownArc", "ArcTwice", "NumberRange"))
@@ -214,7 +251,9 @@ class Laws(unittest.TestCase):
             self.assertEqual(it.printed, no, text)
             return None
         self.assertIsNone(no, text)
-        if kind != "solution":
+        if kind == "query":
+            self.assertEqual(len(found), int(wanted.split()[4]))
+        elif kind != "solution":
             self.assertEqual(dimacs.write(found), wanted)
         return found
 
@@ -297,6 +336,8 @@ class Converted(unittest.TestCase):
         again = Graph.from_networkx(self.graph.to_networkx())
         self.assertEqual(again, self.graph)
         graph = self.least.to_networkx()
+        self.assertEqual(sorted(it for *_, it in graph.edges(keys=True, data="capacity")), [4, 5, 7])
+        self.assertEqual(dict(graph.nodes(data="demand")), {1: -5, 2: 1, 3: 4})
         cost, flow = nx.network_simplex(graph)
         flows = [flow[u][v][k] + low for k, (u, v, low) in enumerate(zip(*listed(self.least)[1:4]))]
         self.assertEqual(cost + 7 * 1 + 1 * 2, dimacs.certify_min_arrays(*self.least, flows).value)

@@ -56,7 +56,7 @@ from .graphs import (
     solve_networkx_min,
     solve_networkx_paths,
 )
-from .instances import Graph, MaxInstance, MinInstance, Solution
+from .instances import Cut, Graph, MaxInstance, MinInstance, Queries, Solution
 from .pictures import draw
 from .reading import read, write
 from .spread import spread_max_arrays, spread_min_arrays
@@ -89,6 +89,7 @@ __all__ = [
     "UNREACHED",
     "Beyond",
     "Certified",
+    "Cut",
     "Drawing",
     "Feasible",
     "GaveUp",
@@ -99,6 +100,7 @@ __all__ = [
     "NotOptimal",
     "Pair",
     "PastLimit",
+    "Queries",
     "Refused",
     "Solution",
     "Solved",

@@ -387,12 +387,17 @@ def test_text(numbers: Any, items: Items, name: str) -> None:
         raise TypeError(f"{name} is a text, {numbers!r}, and no array of numbers")
 
 
-def list_of(numbers: Any, items: Items, name: Name) -> list[int]:
-    """The items of an array as ints."""
+def only_array_of(numbers: Any, items: Items, name: Name) -> Buffer:
+    """The items of an array, and TypeError for a text or one number."""
     test_text(numbers, items, _array(name))
     if is_single(numbers):
         raise TypeError(f"{_array(name)}: {'None' if numbers is None else 'one number'}, an array is wanted")
-    return array_of(numbers, items, name).listed(items)
+    return array_of(numbers, items, name)
+
+
+def list_of(numbers: Any, items: Items, name: Name) -> list[int]:
+    """The items of an array as ints."""
+    return only_array_of(numbers, items, name).listed(items)
 
 
 def number_of(number: Any, items: Items, name: str) -> int:

@@ -1,4 +1,4 @@
-"""Instances and solutions as arrays, which dimacs.read makes of texts, and classmethods of graphs, matrices and frames.
+"""Instances, solutions, cuts and queries as arrays, which dimacs.read makes of texts, and classmethods of graphs, matrices and frames.
 
 An instance has the arguments of the calls over arrays as its fields, and unpacks into them; its length is the number of its
 arcs. Nodes are numbered from 1; names has what they are called where the instance comes from, node 1 first, or is None.
@@ -14,7 +14,7 @@ from collections.abc import Iterable, Sized
 from dataclasses import dataclass
 from typing import Any, ClassVar, Iterator, Sequence, TypeVar, Union
 
-from .buffers import NUMBERS, Buffer, Items, number_of
+from .buffers import IDS, MARKS, NUMBERS, Buffer, Items, number_of, only_array_of
 from .given import FLOWS, GRAPH, MAX, MIN, UNSCALED, Form, Given
 
 #: The nodes by their numbers, from 1.
@@ -35,7 +35,16 @@ def _copied(buffer: Buffer, items: Items) -> Any:
     """The items, which nobody else can write to."""
     kept = ctypes.string_at(buffer.address, buffer.length * items.width) if buffer.length else b""
     module = numpy()
-    return array(items.code, kept) if module is None else module.frombuffer(kept, items.code)
+    if module is None:
+        return array(items.code, kept)
+    found = module.frombuffer(kept, items.code)
+    return fixed(found != 0) if items is MARKS else found
+
+
+def fixed(found: Any) -> Any:
+    """An array of numpy, which can't be written to any more."""
+    found.flags.writeable = False
+    return found
 
 
 class _Value(Sized, Iterable[Any]):
@@ -67,7 +76,7 @@ class _Value(Sized, Iterable[Any]):
 
 
 def _bytes(field: Any) -> Any:
-    return field if isinstance(field, int) else bytes(memoryview(field).cast("B"))
+    return field if field is None or isinstance(field, int) else bytes(memoryview(field).cast("B"))
 
 
 class Instance(_Value):
@@ -296,3 +305,55 @@ class Solution(_Value):
 
     def __repr__(self) -> str:
         return f"Solution of the value {self.value} on {len(self)} arcs"
+
+
+@dataclass(frozen=True, eq=False, repr=False)
+class Cut(_Value):
+    """A cut or a set: whether each node is inside. Its length is the number of nodes.
+
+    >>> cut = Cut([True, True, False])
+    >>> cut
+    Cut of 3 nodes, of which 2 are inside
+    >>> import dimacs
+    >>> dimacs.judge_max_arrays(*MaxInstance(3, 1, 3, [1, 2], [2, 3], [5, 4]), [4, 4], *cut).value
+    4
+    """
+
+    fields = ("inside",)
+    inside: Any
+
+    def __post_init__(self) -> None:
+        self._set(_copied(only_array_of(self.inside, MARKS, "inside"), MARKS))
+
+    def __len__(self) -> int:
+        return len(self.inside)
+
+    def __repr__(self) -> str:
+        return f"Cut of {len(self)} nodes, of which {sum(map(bool, self.inside))} are inside"
+
+
+@dataclass(frozen=True, eq=False, repr=False)
+class Queries(_Value):
+    """What distances are asked for: from each node of froms to that of tos, or to all nodes if tos is None.
+
+    >>> Queries([1, 1], [4, 5])
+    Queries for 2 pairs
+    >>> len(Queries([1, 1]))
+    2
+    """
+
+    fields = ("froms", "tos")
+    froms: Any
+    tos: Any = None
+
+    def __post_init__(self) -> None:
+        given = zip(self.fields, (self.froms,) if self.tos is None else (self.froms, self.tos))
+        self._set(*(_copied(only_array_of(it, IDS, name), IDS) for name, it in given))
+        if self.tos is not None and len(self.tos) != len(self):
+            raise ValueError(f"tos has {len(self.tos)} items, and froms has {len(self)}")
+
+    def __len__(self) -> int:
+        return len(self.froms)
+
+    def __repr__(self) -> str:
+        return f"Queries for {len(self)} {'sources' if self.tos is None else 'pairs'}"

@@ -4,13 +4,14 @@ from __future__ import annotations
 
 import ctypes
 from array import array
+from contextlib import nullcontext
 from typing import Any, Callable, Literal, overload
 
 from . import library
 from .answers import Refused
-from .buffers import IDS, NUMBERS, Buffer, Items, array_of
+from .buffers import IDS, MARKS, NUMBERS, Buffer, Items, array_of
 from .given import FLOWS, GRAPH, MAX, MIN, Array, Given
-from .instances import Graph, Instance, MaxInstance, MinInstance, Solution, numpy
+from .instances import Cut, Graph, Instance, MaxInstance, MinInstance, Queries, Solution, fixed, numpy
 from .texts import Text, bytes_from, show
 
 #: Instances by the kinds of their texts, what calls of the library name them, and the bytes that an arc has at least.
@@ -19,10 +20,10 @@ _WORDS = {MAX: "max", MIN: "min", GRAPH: "graph"}
 _LEAST = {MAX: 8, MIN: 12, GRAPH: 8}
 
 #: The kinds of texts that become arrays.
-KINDS = (*_INSTANCES, "solution")
+KINDS = (*_INSTANCES, "query", "solution", "cut")
 
 #: About as many bytes as an arc has in a text.
-_ARC = 32
+_LINE = 32
 
 
 class _Room:
@@ -38,12 +39,11 @@ class _Room:
 
     def filled(self, count: int) -> Any:
         """The first items, which nobody else can write to."""
-        if self._is_numpy:
-            self._kept.resize(count, refcheck=False)
-            self._kept.flags.writeable = False
-        else:
+        if not self._is_numpy:
             del self._kept[count:]
-        return self._kept
+            return self._kept
+        self._kept.resize(count, refcheck=False)
+        return fixed(self._kept.view(bool) if self._items is MARKS else self._kept)
 
 
 def _call(function: Callable[..., int], words: list[Any], handed: list[Any]) -> None:
@@ -95,6 +95,28 @@ def _read_solution(text: Buffer, instance: Instance) -> Solution:
     return Solution.made(value.value, flows.filled(len(instance)), instance=instance)
 
 
+def _read_cut(text: Buffer) -> Cut:
+    function = library.reader("cut", numbers=0, same=0, others=1)
+    inside, count = _Room(MARKS, text.length), ctypes.c_size_t()
+    _call(function, [*text.words()], [*inside.words(), ctypes.byref(count)])
+    if count.value > inside.length:  # nodes have no line each
+        inside = _Room(MARKS, count.value)
+        _call(function, [*text.words()], [*inside.words(), ctypes.byref(count)])
+    return Cut.made(inside.filled(count.value))
+
+
+def _read_queries(text: Buffer) -> Queries:
+    """A query takes 4 bytes at least."""
+    function = library.reader("queries", numbers=1, same=2, others=0)
+    pairs, count = ctypes.c_uint32(), ctypes.c_size_t()
+    froms, tos = (_Room(IDS, (text.length + 1) // 4) for _ in range(2))
+    _call(function, [*text.words()], [ctypes.byref(pairs), *froms.words(), *tos.words(), ctypes.byref(count)])
+    return Queries.made(froms.filled(count.value), tos.filled(count.value) if pairs.value else None)
+
+
+_OTHERS: dict[str, Callable[[Buffer], Any]] = {"query": _read_queries, "cut": _read_cut}
+
+
 @overload
 def read(kind: Literal["max"], text: Text) -> MaxInstance: ...
 @overload
@@ -102,10 +124,14 @@ def read(kind: Literal["min"], text: Text) -> MinInstance: ...
 @overload
 def read(kind: Literal["gr"], text: Text) -> Graph: ...
 @overload
+def read(kind: Literal["query"], text: Text) -> Queries: ...
+@overload
+def read(kind: Literal["cut"], text: Text) -> Cut: ...
+@overload
 def read(kind: Literal["solution"], text: Text, instance: Instance) -> Solution: ...
 def read(kind: str, text: Text, instance: Instance | None = None) -> Any:
-    r"""A text as arrays: of the kind "max" a MaxInstance, "min" a MinInstance, "gr" a Graph; "solution" a Solution over an
-    instance. Texts are those of convert and show, and a Path whose name ends with .gz is unpacked.
+    r"""A text as arrays: of the kind "max" a MaxInstance, "min" a MinInstance, "gr" a Graph, "query" Queries, "cut" a Cut;
+    "solution" a Solution over an instance. Texts are those of convert and show, and a Path whose name ends with .gz is unpacked.
 
     The k-th entry of a solution with given ends belongs to the k-th arc with them; an arc without one carries 0. Raises
     Refused if the text has a fault, if an entry belongs to no arc (UnknownArc, ArcTwice), or if a value doesn't fit in 64
@@ -123,7 +149,7 @@ def read(kind: str, text: Text, instance: Instance | None = None) -> Any:
         raise TypeError(f"read takes an instance for a solution: here the kind is {kind!r}, the instance {instance!r}")
     with bytes_from(f"read {kind}", text) as (buffer,):
         if instance is None:
-            return _read_instance(_INSTANCES[kind], buffer)
+            return _OTHERS[kind](buffer) if kind in _OTHERS else _read_instance(_INSTANCES[kind], buffer)
         try:
             return _read_solution(buffer, instance)
         except Refused as it:
@@ -132,25 +158,32 @@ def read(kind: str, text: Text, instance: Instance | None = None) -> Any:
     raise no
 
 
-def write(value: Instance | Solution) -> bytes:
-    r"""The canonical text of an instance or a solution, which read again is the same. A solution has an entry for each arc.
+def _writing(value: Instance | Solution | Cut) -> tuple[Callable[..., int], list[Any], Given | None]:
+    """The call that writes a value, what it takes, and the arguments that name arcs and nodes."""
+    if isinstance(value, Cut):
+        return library.writer("cut", arrays=1), [*array_of(value.inside, MARKS, "inside").words()], None
+    instance = value.instance if isinstance(value, Solution) else value
+    given = Given(instance.form, *instance)
+    words = given.words()
+    if isinstance(value, Instance):
+        return library.writer(_WORDS[instance.form], ctypes.c_void_p), words, given
+    flows = array_of(value.flows, NUMBERS, FLOWS.name)
+    function = library.writer("solution", ctypes.c_int64, ctypes.c_uint32, arrays=3)
+    return function, [value.value, *_ends(instance), *flows.words()], given
+
+
+def write(value: Instance | Solution | Cut) -> bytes:
+    r"""The canonical text of an instance, a solution or a cut, which read again is the same. A solution has an entry for each
+    arc.
 
     Raises PastLimit if a number is past a limit of texts.
 
     >>> write(Graph(2, [1], [2], [5]))
     b'p sp 2 1\na 1 2 5\n'
     """
-    if not isinstance(value, (Instance, Solution)):
-        raise TypeError(f"write takes what read returns, not {type(value).__name__}")
-    instance = value.instance if isinstance(value, Solution) else value
-    given = Given(instance.form, *instance)
-    words: list[Any] = given.words()
-    if isinstance(value, Solution):
-        flows = array_of(value.flows, NUMBERS, FLOWS.name)
-        function = library.writer("solution", ctypes.c_int64, ctypes.c_uint32, arrays=3)
-        words = [value.value, *_ends(instance), *flows.words()]
-    else:
-        function = library.writer(_WORDS[instance.form], ctypes.c_void_p)
-    with given.named():
-        _, (text,) = library.call_for_texts(function, *words, rooms=[library.LINE + _ARC * len(instance)])
+    if not isinstance(value, (Instance, Solution, Cut)):
+        raise TypeError(f"write takes an instance, a solution or a cut, not {type(value).__name__}")
+    function, words, given = _writing(value)
+    with given.named() if given else nullcontext():
+        _, (text,) = library.call_for_texts(function, *words, rooms=[library.LINE + _LINE * len(value)])
     return text
