@@ -313,6 +313,15 @@ class Files(unittest.TestCase):
         self.assertLess(resource.getrusage(resource.RUSAGE_SELF).ru_maxrss - before, 10_000)  # kB
         self.assertLess(time.process_time() - begun, 1)
 
+    @unittest.skipUnless(sys.platform == "linux", "another system")
+    def test_no_memory_for_lines_that_a_cut_lacks(self):
+        import resource
+
+        cut = Cut(bytes(2**24) + b"\1")
+        before = resource.getrusage(resource.RUSAGE_SELF).ru_maxrss
+        self.assertEqual(dimacs.write(cut), b"p cut 16777217 1\nu 16777217\n")
+        self.assertLess(resource.getrusage(resource.RUSAGE_SELF).ru_maxrss - before, 100_000)  # kB
+
 
 def needs(name):
     return unittest.skipUnless(importlib.util.find_spec(name) and numpy, f"no {name}")

@@ -102,6 +102,10 @@ class Instance(_Value):
     def __len__(self) -> int:
         return len(self.tails)
 
+    def lines(self) -> int:
+        """About as many lines as its text has."""
+        return len(self)
+
     def __repr__(self) -> str:
         return f"{type(self).__name__} of {self.nodes} nodes and {len(self)} arcs"
 
@@ -303,6 +307,9 @@ class Solution(_Value):
     def __len__(self) -> int:
         return len(self.flows)
 
+    def lines(self) -> int:
+        return len(self)
+
     def __repr__(self) -> str:
         return f"Solution of the value {self.value} on {len(self)} arcs"
 
@@ -329,7 +336,11 @@ class Cut(_Value):
         return len(self.inside)
 
     def __repr__(self) -> str:
-        return f"Cut of {len(self)} nodes, of which {sum(map(bool, self.inside))} are inside"
+        return f"Cut of {len(self)} nodes, of which {self.lines()} are inside"
+
+    def lines(self) -> int:
+        """The number of nodes inside, each of which has a line in a text."""
+        return len(self) - memoryview(self.inside).tobytes().count(0)
 
 
 @dataclass(frozen=True, eq=False, repr=False)

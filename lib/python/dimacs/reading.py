@@ -22,7 +22,7 @@ _LEAST = {MAX: 8, MIN: 12, GRAPH: 8}
 #: The kinds of texts that become arrays.
 KINDS = (*_INSTANCES, "query", "solution", "cut")
 
-#: About as many bytes as an arc has in a text.
+#: About as many bytes as a line has.
 _LINE = 32
 
 
@@ -185,5 +185,5 @@ def write(value: Instance | Solution | Cut) -> bytes:
         raise TypeError(f"write takes an instance, a solution or a cut, not {type(value).__name__}")
     function, words, given = _writing(value)
     with given.named() if given else nullcontext():
-        _, (text,) = library.call_for_texts(function, *words, rooms=[library.LINE + _LINE * len(value)])
+        _, (text,) = library.call_for_texts(function, *words, rooms=[library.LINE + _LINE * value.lines()])
     return text
