@@ -25,10 +25,11 @@ impl<'a, A: Reopen> Page<'a, A> {
             return Ok(());
         };
         let count = self.parallel(tail, head, 0)?.all;
+        let file = Value::File(self.texts.instance()?.file);
         self.write(
             "{} has {} arc{} from {} to {}, and as many earlier entries have these ends\n",
             &[
-                Value::File(self.texts.instance()?.file),
+                file,
                 count.into(),
                 ending(count).into(),
                 tail.into(),
