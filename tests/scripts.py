@@ -28,7 +28,7 @@ nothing | 750    | tests/promises.py
 nothing | 13     | tests/theorem.py
 nothing | 40     | tests/completion.py
 nothing | 110    | tests/man_pages.py
-build   | 200000 | tests/library.py --build {build}
+build   | 120000 | tests/library.py --build {build}
 build   | 11400  | tests/referee.py {build}/dimacs
 build   | 106    | tests/refusals.py {build}/dimacs {tests}
 build   | 1900   | tests/explain.py {build}/dimacs

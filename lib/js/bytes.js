@@ -1,5 +1,5 @@
 // The bytes of texts.
-const ENCODER = new TextEncoder(), DECODER = new TextDecoder("latin1");
+const ENCODER = new TextEncoder(), DECODER = new TextDecoder();
 
 /** The bytes of a text. A letter beyond ASCII becomes bytes that no text has. */
 export function bytesOf(text) {

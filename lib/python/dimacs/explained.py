@@ -53,7 +53,7 @@ def like(answer: Any, old: Explainable) -> Any:
 def _explanation(command: str, texts: Sequence[Any]) -> list[str]:
     words = [bytes_of(command.encode("ascii")), *map(bytes_of, [*texts, b"", b"", b""][:3])]
     _, lines = library.call(library.explain(), *(word for it in words for word in it.words()))
-    return lines.decode("ascii").splitlines()
+    return lines.decode().splitlines()
 
 
 def _forgotten() -> None:
