@@ -749,7 +749,7 @@ def report(place, binary):
     assert not re.search(r"https?:|src=|href=|@import|url\(", page)
     assert page.count("<circle") == 15 and page.count("<dt>") == 4, page
     assert "<td class=\"\">careless</td><td class=\"number\">0</td><td class=\"number\">1</td>" in page, page
-    assert "arc 2 carries 8, more than its CAP, 3" in page and "the nearest leads there at 1400" in page, page
+    assert "arc 2 carries 8, more than its CAP, 3" in page and "the nearest leads there at distance 1400" in page, page
     os.rename(place.path("table.csv"), place.path("<b>&.csv"))
     place.run("--report", "<b>&.csv", program=binary)
     assert "<b>&.csv" not in place.read("<b>&.html") and "&lt;b&gt;&amp;.csv" in place.read("<b>&.html")
