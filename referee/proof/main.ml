@@ -55,7 +55,7 @@ let rec is_utf8 s k =
 
 let status =
   Sys.set_signal Sys.sigpipe Sys.Signal_ignore;
-  Gc.(set { (get ()) with minor_heap_size = 1 lsl 20; space_overhead = 30 });
+  Gc.(set { (get ()) with minor_heap_size = 1 lsl 20; space_overhead = 60 });
   let command, files = match Array.to_list Sys.argv with _ :: command :: files -> command, files | _ -> "", [] in
   try
     let yes, lines =
