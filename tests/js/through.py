@@ -126,7 +126,8 @@ class Function:
     same = differing = 0
 
     def __init__(self, name, node, native):
-        self.name, self.node, self.native = name, node, native
+        self.name = self.__name__ = name
+        self.node, self.native = node, native
         self.argtypes = self.restype = None
 
     def __call__(self, *given):
