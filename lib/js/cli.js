@@ -161,13 +161,16 @@ function writeTexts(job, handed, created) {
 /** What stands for the blanks in a file's name, where blanks separate words: no line has it otherwise. */
 const BLANKS = [" ", "\t", "\r"], STAND_INS = ["\u0001", "\u0002", "\u0003"];
 
+/** How lines quote these, and a blank. */
+const QUOTED = ["\\x01", "\\x02", "\\x03"], SPACES = [" ", " ", " "];
+
 const replaced = (text, from, to) => from.reduce((made, it, i) => made.replaceAll(it, to[i]), text);
 
 /** The lines of an answer, and those that explain it, over the texts that were read and those that were made. */
 function explained(texts, {explains}, read, made) {
     const words = explains.map((it) => replaced(it, BLANKS, STAND_INS)).join(" ");
     const {handed: [lines]} = texts.explain(Buffer.from(words), ...[...read, ...made, NONE, NONE].slice(0, 3));
-    return replaced(Buffer.from(lines).toString(), STAND_INS, BLANKS);
+    return replaced(Buffer.from(lines).toString(), QUOTED, SPACES);
 }
 
 function run(texts, job) {
