@@ -54,7 +54,7 @@ ARM = aarch64-linux-gnu
 %/aarch64/dimacs.o: OBJCOPY = $(ARM)-objcopy
 %/aarch64/dimacs.o: HEAP = $(@D)/heap.o
 
-%/aarch64/dimacs.o: %/aarch64/heap.o
+build/aarch64/dimacs.o build/quick/aarch64/dimacs.o: %/dimacs.o: %/heap.o
 
 %/aarch64/heap.o: lib/glue/heap.c
 	mkdir -p $(@D)
