@@ -8,8 +8,12 @@ let usage =
 
 (* The system's numbers of errors, as on Linux. *)
 let numbers =
-  Unix.[ EPERM, 1; ENOENT, 2; EIO, 5; ENXIO, 6; EBADF, 9; EAGAIN, 11; ENOMEM, 12; EACCES, 13; ENODEV, 19; ENOTDIR, 20;
-         EISDIR, 21; EINVAL, 22; ENFILE, 23; EMFILE, 24; EFBIG, 27; ENOSPC, 28; EPIPE, 32; ENAMETOOLONG, 36; ELOOP, 40 ]
+  Unix.[ EPERM, 1; ENOENT, 2; ESRCH, 3; EIO, 5; ENXIO, 6; EBADF, 9; EAGAIN, 11; ENOMEM, 12; EACCES, 13; EFAULT, 14;
+         EBUSY, 16; ENODEV, 19; ENOTDIR, 20; EISDIR, 21; EINVAL, 22; ENFILE, 23; EMFILE, 24; ENOTTY, 25; EFBIG, 27;
+         ENOSPC, 28; ESPIPE, 29; EROFS, 30; EPIPE, 32; ENAMETOOLONG, 36; ELOOP, 40; EOVERFLOW, 75; ETIMEDOUT, 110 ]
+
+(* f (), again if a signal interrupted it. *)
+let rec again f = try f () with Unix.Unix_error (EINTR, _, _) -> again f
 
 (* f (), or a message that names what failed. *)
 let trying name what f =
@@ -17,7 +21,7 @@ let trying name what f =
     let number = match error with EUNKNOWNERR n -> n | _ -> Option.value (List.assoc_opt error numbers) ~default:0 in
     raise (Device (Printf.sprintf "%s: cannot be %s: %s (os error %d)" name what (Unix.error_message error) number))
 
-let opened name = name, trying name "opened" (fun () -> Unix.openfile name [ Unix.O_RDONLY ] 0)
+let opened name = name, trying name "opened" (fun () -> again (fun () -> Unix.openfile name [ Unix.O_RDONLY ] 0))
 let bytes = Array.init 256 Z.of_int
 let piece = Bytes.create 65536
 
@@ -25,7 +29,7 @@ let piece = Bytes.create 65536
 let rec read command state (name, file) =
   if Judge.report_of state <> None then state
   else
-    match trying name "read" (fun () -> Unix.read file piece 0 (Bytes.length piece)) with
+    match trying name "read" (fun () -> again (fun () -> Unix.read file piece 0 (Bytes.length piece))) with
     | 0 -> Judge.text_ended command state
     | n ->
         let state = ref state in
