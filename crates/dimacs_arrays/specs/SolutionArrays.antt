@@ -20,7 +20,7 @@ use Rattle.dimacs_judging.specs.declared.verdict.JudgeError.{JudgeError}
 use Rattle.dimacs_judging.specs.declared.verdict.JudgeError.TheVariants.{Refused, Memory}
 use Rattle.dimacs_judging.specs.declared.verdict.Where.TheVariants as places
 use Rattle.dimacs_judging.specs.Claims.{Carries, entry_row}
-use Rattle.dimacs_judging.specs.Entries.{IsSolutionOf}
+use Rattle.dimacs_decide.specs.Entries.{IsSolutionOf}
 use Rattle.dimacs_judging.specs.Rows.{one_test}
 use Rattle.dimacs_judging.specs.Tests.{Row, Settles}
 use Rattle.dimacs_arrays.specs.declared.error.Array.TheVariants as arrays

@@ -100,6 +100,14 @@ impl Distances {
     {
         &self.labels
     }
+
+    /// The same, in their place.
+    pub fn into_labels(self) -> Labels
+        ensures labels { result ≡ self }
+        ensures bare { AreBare self }
+    {
+        self.labels
+    }
 }
 
 /// Reads the records of distances.

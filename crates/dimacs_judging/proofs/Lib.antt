@@ -22,7 +22,6 @@ pub mod PathsPassing
 mod OnePass
 pub mod MaxJudge
 pub mod MinJudge
-pub mod SolutionLemmas
 mod HubLemmas
 pub mod LeastLemmas
 mod CrossLemmas

@@ -1,5 +1,4 @@
 pub mod Flows
-pub mod Entries
 pub mod Feasible
 pub mod Optimum
 pub mod Cuts

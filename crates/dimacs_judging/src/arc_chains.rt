@@ -32,7 +32,7 @@ pub(crate) struct ArcChains {
 
 impl ArcChains {
     /// No arcs, and memory for those of a network: 5 to 6 bytes for each.
-    pub(crate) fn room<N: Network>(alloc: Global, network: &N) -> Result<ArcChains, Memory>
+    pub(crate) fn with_room_for<N: Network>(alloc: Global, network: &N) -> Result<ArcChains, Memory>
         ensures { IfOk result (AreChained (N.list network.now)) }
     {
         let arcs = network.arcs();

@@ -23,7 +23,7 @@ pub struct Balances {
 pub(crate) trait NodeBalances {
     ghost balance: { Self → ℕ → ℤ };
 
-    fn balance_of(&self, node: u32) -> i128
+    fn of(&self, node: u32) -> i128
         ensures { result ≡ balance self.now node };
 }
 
@@ -31,8 +31,8 @@ impl NodeBalances for Balances {
     ghost balance = { λ balances v. value_of balances.sums v };
 
     #[inline(always)]
-    fn balance_of(&self, node: u32) -> i128 {
-        self.of(node)
+    fn of(&self, node: u32) -> i128 {
+        Balances::of(self, node)
     }
 }
 

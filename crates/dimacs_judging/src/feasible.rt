@@ -131,7 +131,7 @@ pub(crate) fn balances_hold<N: Network, B: NodeBalances, D: Demands>(
         → TestsRow (balance_row (N.node_count network.now) (N.list network.now) (D.demand demands.now) x) result }
 {
     for v in 1..network.nodes() + 1 {
-        if let Some(reason) = balance_fault(demands.demand_at(v), balances.balance_of(v)) {
+        if let Some(reason) = balance_fault(demands.demand_at(v), balances.of(v)) {
             return Err((Where::Node(v), reason));
         }
     }

@@ -212,7 +212,7 @@ impl<T: NodeStates> NodeBalances for Sums<T> {
     ghost balance = { λ sums v. (T.state sums.states v).balance };
 
     #[inline(always)]
-    fn balance_of(&self, node: u32) -> i128 {
+    fn of(&self, node: u32) -> i128 {
         i128::from(self.states.state_at(node).balance)
     }
 }
@@ -279,7 +279,8 @@ pub(crate) fn totals_if_passed<N: Network, D: Demands, P: HasPotentials>(
     requires arc_limit { length (N.list network.now) ≤ most_count }
     requires joined { All (JoinsNodes (N.node_count network.now)) (N.list network.now) }
     requires one_each { length flow.now ≡ length (N.list network.now) }
-    ensures { IfSome result (HavePassed (N.node_count network.now) (N.list network.now) (D.demand demands.now) (P.potential potentials.now) (P.fails potentials.now) flow.now node) }
+    ensures { IfSome result (HavePassed (N.node_count network.now) (N.list network.now) (D.demand demands.now)
+        (P.potential potentials.now) (P.fails potentials.now) flow.now node) }
 {
     if has_dense_ids(network) {
         let states = DenseTable::new(alloc, BLANK, network.nodes()).ok()?;
@@ -303,7 +304,8 @@ fn totals_by<N: Network, D: Demands, P: HasPotentials, T: NodeStates + Drop>(
     requires arc_limit { length (N.list network.now) ≤ most_count }
     requires joined { All (JoinsNodes (N.node_count network.now)) (N.list network.now) }
     requires one_each { length flow.now ≡ length (N.list network.now) }
-    ensures { IfSome result (HavePassed (N.node_count network.now) (N.list network.now) (D.demand demands.now) (P.potential potentials.now) (P.fails potentials.now) flow.now node) }
+    ensures { IfSome result (HavePassed (N.node_count network.now) (N.list network.now) (D.demand demands.now)
+        (P.potential potentials.now) (P.fails potentials.now) flow.now node) }
 {
     let mut sums = Sums::new(states, network, potentials)?;
     for i in 0..network.arcs() {
@@ -311,7 +313,7 @@ fn totals_by<N: Network, D: Demands, P: HasPotentials, T: NodeStates + Drop>(
     }
     match balances_hold(network, &sums, demands) {
         Ok(()) => Some(Totals {
-            balance: sums.balance_of(node),
+            balance: sums.of(node),
             cost: sums.cost,
         }),
         Err(_) => None,

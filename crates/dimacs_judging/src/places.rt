@@ -179,7 +179,7 @@ impl<'a, N: Network> FlowPlaces<'a, N> {
     {
         if !self.out_of_order {
             if self.index.is_some() && self.comes_soon(entry) {
-                if let Ok(chains) = ArcChains::room(self.alloc, self.network) {
+                if let Ok(chains) = ArcChains::with_room_for(self.alloc, self.network) {
                     self.chains = Some(chains);
                 }
             }

@@ -54,7 +54,8 @@ pub(crate) fn cost_if_feasible<N: Network, D: Demands>(
     requires arc_limit { length (N.list network.now) ≤ most_count }
     requires joined { All (JoinsNodes (N.node_count network.now)) (N.list network.now) }
     requires one_each { length flow.now ≡ length (N.list network.now) }
-    ensures { TestsTotal (feasible_rows (N.node_count network.now) (N.list network.now) (D.demand demands.now) flow.now ++ cost_row (N.list network.now) flow.now ∷ [])
+    ensures { TestsTotal (feasible_rows (N.node_count network.now) (N.list network.now) (D.demand demands.now) flow.now
+        ++ cost_row (N.list network.now) flow.now ∷ [])
         (cost (N.list network.now) flow.now) result }
 {
     if let Some(totals) = totals_if_passed(alloc, network, flow, demands, &NoPotentials, 0) {

@@ -16,14 +16,14 @@ use Rattle.dimacs_network.specs.Arcs.{JoinsNodes, no_arc}
 use Rattle.dimacs_instance.specs.MaxFlows.{HasCapacityAlone, IsMax, MaxValue}
 use Rattle.dimacs_instance.specs.MinFlows.{HasBounds, IsMin, MinValue}
 use Rattle.dimacs_judging.specs.Claims.{Carries, entry_at, no_entry}
-use Rattle.dimacs_judging.specs.Entries.{IsSolutionOf}
+use Rattle.dimacs_decide.specs.Entries.{IsSolutionOf}
 use Rattle.dimacs_judging.specs.Feasible.{value}
 use Rattle.dimacs_judging.specs.Flows.{cost, net, sum_arcs, when}
 use Rattle.dimacs_judging.specs.FlowTests.{cost_through}
 use Rattle.dimacs_judging.specs.MaxJudge.{IsMaxClaim}
 use Rattle.dimacs_judging.specs.MinJudge.{IsMinClaim}
 use Rattle.dimacs_judging.specs.Rows.{amount_at}
-use Rattle.dimacs_judging.proofs.SolutionLemmas.{carried}
+use Rattle.dimacs_decide.proofs.SolutionLemmas.{carried}
 
 -- ---- the lines of entries
 on_line : (e : Entry) (n : ℕ) → e.line ≡ n → record e { line = n } ≡ e

@@ -18,7 +18,7 @@ use Rattle.dimacs_instance.specs.MinFlows.{MinValue}
 use Rattle.dimacs_instance.specs.MinTexts.{GivesMin}
 use Rattle.dimacs_judging.specs.declared.verdict.Where.{Where}
 use Rattle.dimacs_judging.specs.declared.verdict.Where.TheVariants.{Solution}
-use Rattle.dimacs_judging.specs.Entries.{IsMaxSolutionOf, IsMinSolutionOf}
+use Rattle.dimacs_decide.specs.Entries.{IsMaxSolutionOf, IsMinSolutionOf}
 use Rattle.dimacs_judging.specs.Feasible.{FeasibleMin}
 use Rattle.dimacs_judging.specs.FlowTests.{LeavesCostRange}
 use Rattle.dimacs_judging.specs.InfeasibleJudge.{ShowsNoFlow}

@@ -8,7 +8,7 @@ use Rattle.dimacs_claims.specs.SolutionTexts.{SolutionValue, GivesSolution, cano
 use Rattle.dimacs_instance.specs.MaxTexts.{GivesMax}
 use Rattle.dimacs_instance.specs.MinTexts.{GivesMin}
 use Rattle.dimacs_judging.specs.declared.verdict.Where.{Where}
-use Rattle.dimacs_judging.specs.Entries.{IsSolutionOf}
+use Rattle.dimacs_decide.specs.Entries.{IsSolutionOf}
 use Rattle.dimacs_judging.specs.Tests.{AllClear, First}
 use Rattle.dimacs_network.specs.declared.network.ArcView.{ArcView}
 use Rattle.dimacs_solve.specs.Spread.{Deals, NoneCheaper, spread_rows}

@@ -30,9 +30,11 @@ use crate::report::{Report, ReportSink};
 use crate::status::{RunError, Status};
 use crate::texts_in_turn::{place_solution, read};
 use dimacs_claims::Placed;
-use dimacs_decide::{MaxDecision, MinDecision, certify_max_placed, certify_min_placed};
+use dimacs_decide::{
+    MaxDecision, MinDecision, certify_max_placed, certify_min_placed, max_solution, min_solution,
+};
 use dimacs_instance::{MaxInstance, MinInstance};
-use dimacs_judging::{Flow, FlowPlaces, Verdict, Where, max_solution, min_solution};
+use dimacs_judging::{Flow, FlowPlaces, Verdict, Where};
 use dimacs_lines::{Sink, Source};
 use dimacs_network::{ArcView, CapacityArc, Network, PlainArcs};
 use dimacs_records::Reason;

@@ -9,7 +9,7 @@ use Rattle.dimacs_solve.specs.declared.maximum.MaxAnswer.TheVariants.{Optimal, G
 use Rattle.dimacs_solve.specs.declared.error.SolveError.{SolveError}
 use Rattle.dimacs_solve.specs.declared.error.SolveError.TheVariants.{NegativeWeight, Refused, Memory}
 use Rattle.dimacs_solve.specs.Climbing.{GivesUp}
-use Rattle.dimacs_judging.specs.Entries.{IsSolutionOf}
+use Rattle.dimacs_decide.specs.Entries.{IsSolutionOf}
 
 -- the solution has an entry for every arc, and the cut shows that its flow is maximum
 abbrev pub IsOptimal : MaxValue → SolutionValue → CutValue → Type 0

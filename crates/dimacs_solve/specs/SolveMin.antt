@@ -11,7 +11,7 @@ use Rattle.dimacs_solve.specs.declared.error.SolveError.TheVariants.{NegativeWei
 use Rattle.dimacs_solve.specs.declared.least.MinAnswer.{MinAnswer}
 use Rattle.dimacs_solve.specs.declared.least.MinAnswer.TheVariants.{Optimal, Infeasible, GaveUp}
 use Rattle.dimacs_solve.specs.Descending.{GivesUpMin, start_flow}
-use Rattle.dimacs_judging.specs.Entries.{IsSolutionOf}
+use Rattle.dimacs_decide.specs.Entries.{IsSolutionOf}
 
 -- an entry for every arc, and potentials that show that the flow costs least; with limit 0 it is the start flow
 abbrev pub IsLeastAnswer : MinValue → ℕ → SolutionValue → PotentialsValue → Type 0

@@ -10,8 +10,9 @@ ghost use Rattle.dimacs_solve.specs.SolveMin.{SolvesMin};
 use crate::descend::{MinFlowAnswer, solve_min_flow};
 use crate::error::SolveError;
 use dimacs_claims::{Cut, Potentials, Solution};
+use dimacs_decide::min_solution;
 use dimacs_instance::MinInstance;
-use dimacs_judging::{Flow, min_solution};
+use dimacs_judging::Flow;
 use dimacs_network::Network;
 use std::alloc::Global;
 

@@ -5,8 +5,8 @@ ghost use Rattle.dimacs_solve.specs.SolveMax.{SolvesMax};
 use crate::climb::{MaxFlowAnswer, solve_max_flow};
 use crate::error::SolveError;
 use dimacs_claims::{Cut, Solution};
+use dimacs_decide::max_solution;
 use dimacs_instance::MaxInstance;
-use dimacs_judging::max_solution;
 use dimacs_network::Network;
 use std::alloc::Global;
 

@@ -19,8 +19,8 @@ use dimacs_records::Reason;
 use std::alloc::Global;
 
 /// Between any two nodes, the result carries the sum of the solution's entries. Their arcs keep their bounds if they
-/// can: parallel arcs are filled in the order of the instance. Otherwise all but the first carry their lower bounds, or
-/// their capacities, and the first what is left: `judge_max` refuses the flow there.
+/// can. Otherwise all but the first carry their lower bounds, or their capacities, and the first what is left:
+/// `judge_max` refuses the flow there.
 ///
 /// `UnknownArc` at the first entry without an arc. Then `BelowLow` or `AboveCap` at the first arc whose amount doesn't
 /// fit 64 bits, as `judge_max` would refuse it.
@@ -38,7 +38,7 @@ pub fn spread_max<N: Network>(
 }
 
 /// The same for a minimum cost flow. Between two nodes whose arcs can keep their bounds, no amounts with this sum that
-/// keep them cost less: parallel arcs are filled by cost, then in the order of the instance.
+/// keep them cost less.
 pub fn spread_min<N: Network>(
     alloc: Global,
     instance: &MinInstance<N>,

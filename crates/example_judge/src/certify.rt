@@ -7,9 +7,8 @@ ghost use Rattle.dimacs_judging.specs.Optimum.{Maximum};
 
 use crate::failure::Failure;
 use dimacs_claims::{Solution, write_cut, write_solution};
-use dimacs_decide::{MaxDecision, certify_max};
+use dimacs_decide::{MaxDecision, certify_max, max_solution};
 use dimacs_instance::MaxInstance;
-use dimacs_judging::max_solution;
 use dimacs_lines::Sink;
 use dimacs_network::Network;
 use std::alloc::Global;

@@ -1,6 +1,6 @@
 use Rattle.std.proofs.Common.{refl, inl, inr}
 use Rattle.dimacs_claims.specs.SolutionTexts.{claimed}
-use Rattle.dimacs_judging.specs.Entries.{IsMinSolutionOf}
+use Rattle.dimacs_decide.specs.Entries.{IsMinSolutionOf}
 use Rattle.dimacs_judging.specs.FlowTests.{LeavesCostRange}
 use Rattle.dimacs_runs.proofs.CertifyingLemmas.{cheaper_certifies, no_solution_certifies}
 use Rattle.dimacs_runs.proofs.certify.refuse_least.Goals as goal

@@ -1,6 +1,6 @@
 use Rattle.std.proofs.Common.{refl, inl, inr}
 use Rattle.dimacs_claims.specs.SolutionTexts.{claimed}
-use Rattle.dimacs_judging.specs.Entries.{IsMinSolutionOf}
+use Rattle.dimacs_decide.specs.Entries.{IsMinSolutionOf}
 use Rattle.dimacs_judging.specs.FlowTests.{LeavesCostRange}
 use Rattle.dimacs_runs.proofs.CertifyingLemmas.{feasible_certifies, no_solution_feasible}
 use Rattle.dimacs_runs.proofs.certify_infeasible.refuse_infeasible.Goals as goal

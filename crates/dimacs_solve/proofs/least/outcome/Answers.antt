@@ -1,7 +1,7 @@
 use Rattle.std.proofs.Common.{List, ℤ, subst}
 use Rattle.dimacs_claims.specs.SolutionTexts.{claimed}
 use Rattle.dimacs_judging.specs.Claims.{Carries}
-use Rattle.dimacs_judging.specs.Entries.{IsMinSolutionOf}
+use Rattle.dimacs_decide.specs.Entries.{IsMinSolutionOf}
 use Rattle.dimacs_solve.proofs.least.outcome.Goals as goal
 
 pub min_solution-requires : goal.min_solution-requires

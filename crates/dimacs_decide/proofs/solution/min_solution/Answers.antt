@@ -3,13 +3,13 @@ use Rattle.std.specs.Int.{w128}
 use Rattle.std.proofs.lemmas.Int.{to_z-of_z}
 use Rattle.std.proofs.lemmas.Slice.Zip.{AllZip-long}
 use Rattle.dimacs_judging.specs.Claims.{Carries}
-use Rattle.dimacs_judging.specs.Entries.{AreEntriesOf}
+use Rattle.dimacs_decide.specs.Entries.{AreEntriesOf}
 use Rattle.dimacs_judging.specs.Flows.{cost}
 use Rattle.dimacs_judging.specs.FlowTests.{cost_row}
 use Rattle.dimacs_judging.specs.Tests.{Clear}
 use Rattle.dimacs_judging.proofs.Passing.{costs_wide}
-use Rattle.dimacs_judging.proofs.SolutionLemmas.{carried}
-use Rattle.dimacs_judging.proofs.solution.min_solution.Goals as goal
+use Rattle.dimacs_decide.proofs.SolutionLemmas.{carried}
+use Rattle.dimacs_decide.proofs.solution.min_solution.Goals as goal
 
 pub cost_within-requires : goal.cost_within-requires
 cost_within-requires g c = record { one_each = rw c.network-network.ensures.arcs (AllZip-long _ c.args.instance.now.arcs c.args.flow.now c.requires.within) }

@@ -5,8 +5,8 @@ use Rattle.std.proofs.lemmas.Option.{get_or_from_slice_get}
 use Rattle.dimacs_claims.specs.declared.solution.Entry.{Entry}
 use Rattle.dimacs_judging.specs.Rows.{amount_at}
 use Rattle.dimacs_network.specs.Arcs.{arc_at, no_arc}
-use Rattle.dimacs_judging.proofs.SolutionLemmas.{entries_more}
-use Rattle.dimacs_judging.proofs.solution.entries_for.Goals as goal
+use Rattle.dimacs_decide.proofs.SolutionLemmas.{entries_more}
+use Rattle.dimacs_decide.proofs.solution.entries_for.Goals as goal
 
 pub loop-i-preserved : goal.loop-i-preserved
 loop-i-preserved g c =

@@ -3,9 +3,9 @@ use Rattle.std.specs.Int.{w128}
 use Rattle.std.proofs.lemmas.Int.{to_z-of_z}
 use Rattle.std.proofs.lemmas.Slice.Zip.{AllZip-long}
 use Rattle.dimacs_judging.specs.Claims.{Carries}
-use Rattle.dimacs_judging.specs.Entries.{AreEntriesOf}
-use Rattle.dimacs_judging.proofs.SolutionLemmas.{carried}
-use Rattle.dimacs_judging.proofs.solution.max_solution.Goals as goal
+use Rattle.dimacs_decide.specs.Entries.{AreEntriesOf}
+use Rattle.dimacs_decide.proofs.SolutionLemmas.{carried}
+use Rattle.dimacs_decide.proofs.solution.max_solution.Goals as goal
 
 pub value_of-value-requires : goal.value_of-value-requires
 value_of-value-requires g c = AllZip-long _ c.args.instance.now.arcs c.args.flow.now c.requires.within

@@ -12,7 +12,7 @@ use Rattle.dimacs_network.specs.declared.network.ArcView.{ArcView}
 use Rattle.dimacs_network.specs.Arcs.{joins, no_arc, arc_at}
 use Rattle.dimacs_judging.specs.Claims.{is_between, entry_at, no_entry, claimed_of, HasArc, Carries}
 use Rattle.dimacs_judging.specs.Rows.{amount_at}
-use Rattle.dimacs_judging.specs.Entries.{IsEntryOf, AreEntriesOf}
+use Rattle.dimacs_decide.specs.Entries.{IsEntryOf, AreEntriesOf}
 
 -- ---- one more entry, for the next arc
 pub entries_more : (arcs : List ArcView) (es : List Entry) (e : Entry) (i : ℕ) → length es ≡ i → ((k : ℕ) → k < i → IsEntryOf (arc_at arcs k) (k + 2) (entry_at es k)) → IsEntryOf (arc_at arcs i) (i + 2) e → (k : ℕ) → k < i + 1 → IsEntryOf (arc_at arcs k) (k + 2) (entry_at (es ++ e ∷ []) k)

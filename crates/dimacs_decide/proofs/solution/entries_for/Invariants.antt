@@ -2,8 +2,8 @@ use Rattle.std.proofs.Common.{ℕ, ◌≡◌, ◌+◌, ◌<◌, length, map, tak
 use Rattle.dimacs_claims.specs.declared.solution.Entry.{Entry}
 use Rattle.dimacs_judging.specs.Claims.{entry_at}
 use Rattle.dimacs_network.specs.Arcs.{arc_at}
-use Rattle.dimacs_judging.specs.Entries.{IsEntryOf}
-use Rattle.dimacs_judging.proofs.solution.entries_for.Given as goal
+use Rattle.dimacs_decide.specs.Entries.{IsEntryOf}
+use Rattle.dimacs_decide.proofs.solution.entries_for.Given as goal
 
 abbrev pub invariant-loop-i : goal.invariant-loop-i
 invariant-loop-i g l = record {

@@ -4,15 +4,13 @@ ghost use Rattle.std.specs.Prelude.{◌≡◌, ◌≤◌, ◌+◌, length, IfNon
 ghost use Rattle.dimacs_lines.specs.Limits.{most_count};
 ghost use Rattle.dimacs_claims.specs.declared.solution.Entry.{Entry};
 ghost use Rattle.dimacs_claims.specs.SolutionTexts.{claimed};
-ghost use Rattle.dimacs_judging.specs.Entries.{AreEntriesOf, IsEntryOf, IsMaxSolutionOf, IsMinSolutionOf};
+ghost use Rattle.dimacs_decide.specs.Entries.{AreEntriesOf, IsEntryOf, IsMaxSolutionOf, IsMinSolutionOf};
 ghost use Rattle.dimacs_judging.specs.Feasible.{FeasibleMax, FeasibleMin};
 ghost use Rattle.dimacs_judging.specs.FlowTests.{LeavesCostRange};
 
-use crate::costs::cost_within;
-use crate::flow::Flow;
-use crate::value::value_of;
 use dimacs_claims::{Entry, Solution};
 use dimacs_instance::{MaxInstance, MinInstance};
+use dimacs_judging::{Flow, cost_within, value_of};
 use dimacs_lines::Memory;
 use dimacs_network::{ArcView, Network};
 use std::alloc::Global;
