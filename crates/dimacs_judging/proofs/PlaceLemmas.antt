@@ -14,6 +14,7 @@ use Rattle.dimacs_judging.proofs.Claims.{claims_carried}
 use Rattle.dimacs_judging.specs.Claims.{is_between, Carries, EntryFails}
 use Rattle.dimacs_judging.specs.declared.verdict.Where.{Where}
 use Rattle.dimacs_judging.specs.Places.{PlacesValue, HavePlaced, Hold, placed_between, counted_or}
+use Rattle.dimacs_judging.specs.inside.Places.{left_order}
 use Rattle.dimacs_judging.proofs.EntryLemmas.{joined_at, one_kth, between_ends, counted_more, counted_same, none_claimed, between_own, claimed_more, clear_more, first_still}
 use Rattle.dimacs_judging.proofs.SupportLemmas.{ends_joined, counted_before, counted_in_all}
 
@@ -69,13 +70,13 @@ module _ (arcs : List ArcView) (before : List Entry) (e : Entry) where
       elim fails [ inl u ↦ u.1 (omega (arith, fewer)) | inr t ↦ absurd (omega (arith, fewer, t.2)) ]
 
 -- ---- no entry
-pub none_placed : (arcs : List ArcView) (n : ℕ) (flow : List ℤ) (counts : List ℕ) → n ≡ length arcs → flow ≡ replicate n (pos 0) → counts ≡ replicate n 0
+pub none_placed : (arcs : List ArcView) (n : ℕ) (flow : List ℤ) (counts : List ℕ) → n ≡ length arcs → flow ≡ replicate n (pos 0) → counts ≡ []
     → HavePlaced (record { arcs = arcs; flow = flow; counts = counts; in_order = 0; out_of_order = false; searched = false; refusal = None }) []
-none_placed arcs n flow counts one_each zero_flow zeros = record {
+none_placed arcs n flow counts one_each zero_flow none = record {
   clear = λ k place reason f. absurd (omega (arith, f.0));
   amounts = zero_flow ∙ none_claimed arcs n one_each;
-  counted = λ tail head first found. rw (zeros, zero_at n first) refl;
-  uncounted = λ e k. rw zeros (zero_at n k);
+  counted = λ tail head first found. rw none refl;
+  uncounted = λ e k. rw none refl;
   ordered = λ e tail head. refl;
 }
 
@@ -99,11 +100,17 @@ none_placed_between p tail head first found after uncounted = rw (uncounted, non
 -- ---- one more entry
 module _ (p : PlacesValue) (before : List Entry) (e : Entry) (placed : HavePlaced p before) where
   -- from now on entries may come in any order
-  pub placed_in_any_order : HavePlaced (record p { out_of_order = true }) before
+  counted_left : (tail head first : ℕ) → IsKthBetween p.arcs tail head 0 (Some first) → placed_between (left_order p) tail head first ≡ count_by (is_between tail head) before
+  counted_left tail head first found = elim (cases_Bool p.out_of_order) [
+    | inl out ↦ rw out (placed.counted tail head first found)
+    | inr still ↦ rw (still, zero_at (length p.arcs) first) (rw (placed.uncounted still first) at (placed.counted tail head first found))
+  ]
+
+  pub placed_in_any_order : HavePlaced (left_order p) before
   placed_in_any_order = record {
     clear = placed.clear;
     amounts = placed.amounts;
-    counted = placed.counted;
+    counted = counted_left;
     uncounted = λ e. absurd (cc);
     ordered = λ e. absurd (cc);
   }

@@ -6,7 +6,7 @@ ghost use Rattle.dimacs_network.specs.declared.network.ArcView.{ArcView};
 ghost use Rattle.dimacs_network.specs.Arcs.{joins, IsKthBetween, arc_at};
 ghost use Rattle.dimacs_judging.specs.Claims.{Carries, entry_row};
 ghost use Rattle.dimacs_judging.specs.Places.{ArePlaced, HavePlaced, placed_between};
-ghost use Rattle.dimacs_judging.specs.inside.Places.{IsIndexFor, PutsEntry, FindsFlow};
+ghost use Rattle.dimacs_judging.specs.inside.Places.{IsIndexFor, PutsEntry, FindsFlow, left_order};
 ghost use Rattle.dimacs_judging.specs.inside.ArcChains.{IsFirstBetween};
 ghost use Rattle.dimacs_judging.specs.Tests.{FirstOfRow};
 
@@ -30,7 +30,8 @@ use std::marker::Model;
 pub struct FlowPlaces<'a, N: Network> {
     network: &'a N,
     flow: Flow,
-    /// At the first arc between two nodes, the number of entries between them; 0 if none came out of order.
+    /// At the first arc between two nodes, the number of entries between them; 0 if none came out of order. Empty before
+    /// the first entry out of order: then most texts have none, and its memory is never touched.
     counts: Vec<u32>,
     /// The number of entries before the first one out of order.
     in_order: u32,
@@ -47,6 +48,7 @@ pub struct FlowPlaces<'a, N: Network> {
 }
 
 impl<'a, N: Network> Model for FlowPlaces<'a, N> {
+    ghost use Rattle.std.specs.Prelude.{◌≡◌, ◌≤◌, false, length, vec_capacity};
     ghost use Rattle.dimacs_judging.specs.Claims.{Carries, entry_row};
     ghost use Rattle.dimacs_judging.specs.Places.{PlacesValue};
     ghost use Rattle.dimacs_judging.specs.inside.Places.{HaveRoom, IsIndexFor};
@@ -73,6 +75,7 @@ impl<'a, N: Network> Model for FlowPlaces<'a, N> {
       searched = p.searched;
       refusal = p.refusal;
     })
+        × (p.out_of_order ≡ false → length (N.list p.network.now) ≤ vec_capacity p.counts)
         × IsIndexFor (N.list p.network.now) p.searched p.index
         × AreChainedIf (N.list p.network.now) p.chains };
 }
@@ -87,7 +90,7 @@ impl<'a, N: Network> FlowPlaces<'a, N> {
         Ok(FlowPlaces {
             network,
             flow: Flow::zero(alloc, arcs)?,
-            counts: vec![in alloc; 0u32; arcs as usize]?,
+            counts: Vec::with_capacity(alloc, arcs as usize)?,
             in_order: 0,
             out_of_order: false,
             chains: None,
@@ -175,7 +178,7 @@ impl<'a, N: Network> FlowPlaces<'a, N> {
     /// entry's arc comes soon.
     #[inline]
     fn leave_order(&mut self, entry: Entry)
-        ensures { self.new ≡ record self.old { out_of_order = true } }
+        ensures { self.new ≡ left_order self.old }
     {
         if !self.out_of_order {
             if self.index.is_some() && self.comes_soon(entry) {
@@ -183,6 +186,8 @@ impl<'a, N: Network> FlowPlaces<'a, N> {
                     self.chains = Some(chains);
                 }
             }
+            // It has memory for them: this can't fail.
+            let _ = self.counts.resize(self.network.arcs() as usize, 0);
             self.out_of_order = true;
         }
     }
@@ -215,6 +220,7 @@ impl<'a, N: Network> FlowPlaces<'a, N> {
     /// The first arc with the ends of this entry, if it is among the next ones and no earlier entry has them.
     #[inline(always)]
     fn next_first(&mut self, entry: Entry) -> Option<u32>
+        requires { self.old.out_of_order ≡ true }
         ensures unchanged { self.new ≡ self.old }
         ensures first { IfSome result (λ arc. IsFirstBetween self.old.arcs entry.tail entry.head arc
             × (placed_between self.old entry.tail entry.head arc ≡ 0)) }
@@ -265,6 +271,7 @@ impl<'a, N: Network> FlowPlaces<'a, N> {
 
     /// The number of entries so far with the ends of this one; `first` is the first such arc.
     fn placed_count(&self, entry: Entry, first: u32) -> u32
+        requires out_of_order { self.now.out_of_order ≡ true }
         requires searched { self.now.searched ≡ true }
         requires first { IsKthBetween self.now.arcs entry.tail entry.head 0 (Some first) }
         ensures { result ≡ placed_between self.now entry.tail entry.head first }

@@ -1,5 +1,5 @@
 -- Inside: a flow while entries are put on their arcs, entry by entry.
-use Rattle.std.specs.Prelude.{List, ℤ, Result, Ok, Err, ◌++◌, ◌∷◌, [], ◌≡◌, ◌<◌, ◌≤◌, ◌^◌, Bool, true, false, length, Option, None, Some}
+use Rattle.std.specs.Prelude.{List, ℤ, Result, Ok, Err, ◌++◌, ◌∷◌, [], ◌≡◌, ◌<◌, ◌≤◌, ◌^◌, Bool, true, false, length, replicate, if◌then◌else◌, Option, None, Some}
 use Rattle.dimacs_network.specs.declared.network.ArcView.{ArcView}
 use Rattle.dimacs_claims.specs.declared.solution.Entry.{Entry}
 use Rattle.dimacs_records.specs.declared.reasons.Reason.{Reason}
@@ -10,12 +10,17 @@ use Rattle.dimacs_judging.specs.Places.{PlacesValue, HavePlaced}
 use Rattle.dimacs_network.specs.declared.arc_index.ArcIndex.{ArcIndex}
 use Rattle.dimacs_network.specs.ArcOrder.{HasRoom, Indexes}
 
--- an amount and a count for each arc
+-- an amount for each arc and, from the first entry out of order on, a count
 pub record HaveRoom (p : PlacesValue) : Type 0 where
   pub flow : length p.flow ≡ length p.arcs
-  pub counts : length p.counts ≡ length p.arcs
+  pub counts : p.out_of_order ≡ true → length p.counts ≡ length p.arcs
+  pub no_counts : p.out_of_order ≡ false → p.counts ≡ []
   pub in_order : p.in_order ≤ length p.arcs
   pub arc_limit : length p.arcs < 2 ^ 32
+
+-- entries are counted from now on
+abbrev pub left_order : PlacesValue → PlacesValue
+left_order p = record p { out_of_order = true; counts = if p.out_of_order then p.counts else replicate (length p.arcs) 0 }
 
 -- an index of these arcs, if there is one: filled, or with room for them
 abbrev pub IsIndexFor : List ArcView → Bool → Option ArcIndex → Type 0

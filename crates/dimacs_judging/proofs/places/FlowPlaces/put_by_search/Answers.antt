@@ -22,5 +22,5 @@ returns-clause-puts g c =
     let count = rw (← c.self.view_is) at c.placed_count-count.ensures in
     let searched : c.self.inside.out_of_order ≡ true = rw (← c.self.view_is) at c.requires.out_of_order in
     let first = rw (← c.self.view_is) at c.in-Some.ensures in
-    let room : c.in-Some.first < length c.self.inside.counts.items = omega (arith, first.0, c.self.invariant.0.counts) in
+    let room : c.in-Some.first < length c.self.inside.counts.items = omega (arith, first.0, c.self.invariant.0.counts searched) in
     rw (← c.self.view_is, c.set.ensures, to_z-of_z w64 c.args.entry.flow fits) (λ before placed. found_placed _ before c.args.entry placed searched c.in-Some.first c.placed_count-count.result c.in-Some-kth.arc first count found room)
