@@ -229,8 +229,41 @@ stale "$one/crates.txt" sed -i 's/dimacs:/dimacs: clap/' "$one/crates.txt"
 stale "$kit/version" sed -i 's/^/another /' "$kit/version"
 stale "$one/build/dimacs" cp README.md "$one/build/dimacs"
 
+# A build during which a source changes is made again.
+built_twice() {
+    cp "$one/crates/dimacs/src/lib.rt" "$room/kept"
+    rm -f "$one/build/sources"
+    PATH="$kit/bin:$PATH" python "
+import os, sys
+builds, crates = [], '$one/crates'
+def build(*made):
+    builds.append(made)
+    for path in made:
+        os.makedirs(os.path.dirname(path), exist_ok=True)
+        open(path, 'w').close()
+    with open(f'{crates}/dimacs/src/lib.rt', 'a') as it:
+        it.write(f'// {len(builds)}')
+import $1 as it
+it.kits.folder = lambda *needed: '$kit'
+$2
+it.main()
+it.main()
+print('OK' if len(builds) == 2 else builds)"
+    mv "$room/kept" "$one/crates/dimacs/src/lib.rt"
+}
+
+built_twice quick_build "
+sys.argv[1:] = ['program', '$one/build/quick/dimacs']
+it.program = lambda kit, room, *_: build(f'{room}/made', '$one/build/quick/dimacs.bc')
+it.keep_module = lambda *_: None"
+built_twice proved_build "
+sys.argv[1:] = ['$one/build']
+it.test_kit = lambda: None
+it.calls_words = lambda kit, listed, room: room
+it.prove_all = lambda _, room: build(it.PROGRAM, it.ARCHIVE, f'{room}/dimacs_c.bc', f'{room}/dimacs_c.words')"
+
 # What rt ci proved is that of the sources too.
-mkdir "$one/crates/dimacs/out"
+mkdir -p "$one/crates/dimacs/out"
 touch "$one/crates/dimacs/out/dimacs"
 PATH="$kit/bin:$PATH" "$one/tools/sources.py" "$one/crates/dimacs/out/dimacs" >/dev/null
 sed -i 's/1/2/' "$one/crates/dimacs/src/lib.rt"

@@ -61,7 +61,7 @@ def refuse(why):
 
 def test_proved(name):
     """Refuses what isn't built of what stands here, or isn't proved. What is for another system is built first."""
-    if not sources.is_current("build/sources", sources.PROVED, [f"build/{it}" for it in proved_build.BUILT]):
+    if not sources.is_current("build/sources", sources.summed(sources.PROVED), [f"build/{it}" for it in proved_build.BUILT]):
         refuse("build isn't of these sources: make proves and builds them")
     files = [f"build{SYSTEMS[name].folder}/{it}" for it in SYSTEMS[name].built]
     if name != "x86_64" and subprocess.run(["make", "-s", "UNPROVED=", *files], check=False).returncode:

@@ -108,10 +108,11 @@ def main():
     words.add_argument("folder")
     asked = words.parse_args()
     noted, built = f"{asked.folder}/sources", [f"{asked.folder}/{it}" for it in BUILT]
-    if not asked.by_ci and sources.is_current(noted, sources.PROVED, built):
+    made_of = sources.summed(sources.PROVED)
+    if not asked.by_ci and sources.is_current(noted, made_of, built):
         return
     kit, listed = kits.folder("bin/rattle", "c/liblibc_c.a"), kits.crates()
-    if asked.by_ci and not sources.is_current(BY_CI, sources.PROVED, [PROGRAM]):
+    if asked.by_ci and not sources.is_current(BY_CI, made_of, [PROGRAM]):
         sys.exit("crates/dimacs/out/dimacs isn't what rt ci proved of these sources: .ci/gate proves and builds it")
     test_kit()
     os.makedirs(f"{CRATES}/dimacs_c/out", exist_ok=True)
@@ -124,7 +125,7 @@ def main():
             prove_all(listed, calls)
         for made, kept in zip([PROGRAM, ARCHIVE, f"{room}/dimacs_c.bc", f"{room}/dimacs_c.words"], built):
             shutil.copy(made, kept)
-    sources.note(noted, sources.PROVED, built)
+    sources.note(noted, made_of, built)
 
 
 if __name__ == "__main__":

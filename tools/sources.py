@@ -43,21 +43,21 @@ def summed(parts):
     return lines
 
 
-def lines_for(parts, built):
-    return [*summed(parts), *(f"{digest(it)} {os.path.basename(it)}" for it in built)]
+def lines_for(made_of, built):
+    return [*made_of, *(f"{digest(it)} {os.path.basename(it)}" for it in built)]
 
 
-def note(path, parts, built):
-    """Writes beside what was built what it was made of."""
+def note(path, made_of, built):
+    """Writes beside what was built what it was made of, as it was summed before: a source may change meanwhile."""
     with open(path, "w", encoding="utf-8") as it:
-        it.writelines(f"{line}\n" for line in lines_for(parts, built))
+        it.writelines(f"{line}\n" for line in lines_for(made_of, built))
 
 
-def is_current(path, parts, built):
-    """Whether this was built, and of what stands here now."""
+def is_current(path, made_of, built):
+    """Whether this was built, and of what sums up to this."""
     if not all(map(os.path.exists, [path, *built])):
         return False
-    now = lines_for(parts, built)
+    now = lines_for(made_of, built)
     with open(path, encoding="utf-8") as it:
         noted = it.read().splitlines()
     if not any(it.startswith("kit ") for it in now):
@@ -66,6 +66,7 @@ def is_current(path, parts, built):
 
 
 if __name__ == "__main__":
+    made_of = summed(PROVED)
     if sys.argv[1:]:
-        note(f"{os.path.dirname(sys.argv[1])}/sources", PROVED, sys.argv[1:])
-    print("\n".join(summed(PROVED)))
+        note(f"{os.path.dirname(sys.argv[1])}/sources", made_of, sys.argv[1:])
+    print("\n".join(made_of))
