@@ -14,18 +14,21 @@ import tempfile
 
 TOP = os.path.dirname(os.path.dirname(os.path.abspath(__file__)))
 BUILT = f"{TOP}/build/referee"
-STATED = f"{TOP}/tests/second_proof.v"
 NEEDED = ["coqc", "ocamlfind", "flock"]
 
-# What is replaced in Judge.v, by what.
+# What is replaced in Judge.v, by what, and what is found wrong then.
 PROMISE = "Theorem promise_infeasible a c out"
-PROVED = "rewrite run_infeasible_is. intros (i & I"
+PROOF = "rewrite run_infeasible_is. intros (i & I"
+UNPROVED, AXIOM, UNSTATED = "Judge.v isn't proved", "a promise uses an axiom", "a statement isn't proved"
 SPOILED = {
-    "a proof is left out": [("exists i, k. auto.\nQed.", "exists i, k. auto.\nAdmitted.")],
-    "an axiom is used": [(PROMISE, f"Axiom all_is_well : False.\n{PROMISE}"), (PROVED, f"destruct all_is_well. {PROVED}")],
-    "a promise is missing": [(PROMISE, f"{PROMISE}_or_not".replace(" a c out_or_not", "_or_not a c out"))],
-    "a statement is weaker": [("/\\ no_flow i /\\ out", "/\\ (no_flow i \\/ out = out) /\\ out"), ("exists i, k. auto.", "exists i, k. auto 6.")],
-    "another program is promised": [("quick_infeasible i k", "None")],
+    "a proof is left out": (AXIOM, [("exists i, k. auto.\nQed.", "exists i, k. auto.\nAdmitted.")]),
+    "an axiom is used": (AXIOM, [(PROMISE, f"Axiom is_well : False.\n{PROMISE}"), (PROOF, f"assert (well := is_well). {PROOF}")]),
+    "a promise is missing": (UNSTATED, [(PROMISE, f"{PROMISE}_or_not".replace(" a c out_or_not", "_or_not a c out"))]),
+    "a statement is weaker": (
+        UNSTATED,
+        [("/\\ no_flow i /\\ out", "/\\ (no_flow i \\/ out = out) /\\ out"), ("exists i, k. auto.", "exists i, k. auto 6.")],
+    ),
+    "another program is promised": (UNPROVED, [("quick_infeasible i k", "None")]),
 }
 
 
@@ -35,23 +38,31 @@ def coqc(folder, file):
     return ran.stdout + ran.stderr, ran.returncode == 0
 
 
-def wrong_in(folder, stated):
-    """Yields what is wrong with what is proved in a folder."""
-    shutil.copy(STATED, folder)
+def stated():
+    """The text of second_proof.v, and the theorems that it states."""
+    with open(f"{TOP}/tests/second_proof.v", encoding="utf-8") as it:
+        text = it.read()
+    return text, [name for name in re.findall(r"^Check @?(\w+) :", text, re.MULTILINE) if name != "eq_refl"]
+
+
+def wrong_in(folder):
+    """Yields what is wrong with what is proved in a folder. One question for all axioms takes less time than one for each."""
+    text, names = stated()
+    with open(f"{folder}/second_proof.v", "w", encoding="utf-8") as it:
+        it.write(f"{text}Definition stated := ({', '.join(f'@{name}' for name in names)}).\nPrint Assumptions stated.\n")
     output, accepted = coqc(folder, "second_proof.v")
-    asked, closed = stated.count("Print Assumptions"), output.count("Closed under the global context")
     if not accepted:
-        yield f"a statement isn't proved: {output[-1500:]}"
-    elif asked != closed:
-        yield f"{asked - closed} promises aren't closed: {output[-1500:]}"
+        yield f"{UNSTATED}: {output[-1500:]}"
+    elif not output.endswith("Closed under the global context\n"):
+        yield f"{AXIOM}: {output[-1500:]}"
 
 
-def unstated(stated):
+def unstated():
     """Yields each theorem of Judge.v and Canonical.v that isn't stated in second_proof.v."""
     for file in ("Judge", "Canonical"):
         with open(f"{TOP}/referee/proof/{file}.v", encoding="utf-8") as it:
             for name in re.findall(r"^Theorem (\w+)", it.read(), re.MULTILINE):
-                if f"Print Assumptions {name}." not in stated and name not in HELPERS:
+                if name not in [*stated()[1], *HELPERS]:
                     yield f"{name} isn't stated in second_proof.v"
 
 
@@ -59,12 +70,17 @@ def unstated(stated):
 HELPERS = ["run_is", "run_without_second_is", "read_written"]
 
 
-def unfound(edits, stated):
-    """Yields how an edit of Judge.v fails to be found wrong."""
+def link_built(folder, *but):
+    """Puts what coqc made of the files into a folder, but of these."""
+    for name in os.listdir(BUILT):
+        if name.endswith(".vo") and name not in but:
+            os.symlink(f"{BUILT}/{name}", f"{folder}/{name}")
+
+
+def unfound(wanted, edits):
+    """Yields how an edit of Judge.v fails to be found wrong, for this reason."""
     with tempfile.TemporaryDirectory() as folder:
-        for name in os.listdir(BUILT):
-            if name.endswith(".vo") and name != "Judge.vo":
-                os.symlink(f"{BUILT}/{name}", f"{folder}/{name}")
+        link_built(folder, "Judge.vo")
         with open(f"{TOP}/referee/proof/Judge.v", encoding="utf-8") as it:
             text = it.read()
         for old, new in edits:
@@ -73,8 +89,9 @@ def unfound(edits, stated):
             text = text.replace(old, new)
         with open(f"{folder}/Judge.v", "w", encoding="utf-8") as it:
             it.write(text)
-        if coqc(folder, "Judge.v")[1] and not list(wrong_in(folder, stated)):
-            yield "nothing is found wrong"
+        found = list(wrong_in(folder)) if coqc(folder, "Judge.v")[1] else [UNPROVED]
+        if not any(it.startswith(wanted) for it in found):
+            yield f"found is {found or 'nothing'}, and not: {wanted}"
 
 
 def main():
@@ -86,18 +103,14 @@ def main():
     if ran.returncode:
         print(f"{ran.stdout}{ran.stderr}FAILED: the proofs aren't accepted\n0 passed, 1 failed")
         return 1
-    with open(STATED, encoding="utf-8") as it:
-        stated = it.read()
     with tempfile.TemporaryDirectory() as folder:
-        for name in os.listdir(BUILT):
-            if name.endswith(".vo"):
-                os.symlink(f"{BUILT}/{name}", f"{folder}/{name}")
-        failures = [*wrong_in(folder, stated), *unstated(stated)]
-    for name, edits in SPOILED.items():
-        failures += [f"{name}: {it}" for it in unfound(edits, stated)]
+        link_built(folder)
+        failures = [*wrong_in(folder), *unstated()]
+    for name, spoiled in SPOILED.items():
+        failures += [f"{name}: {it}" for it in unfound(*spoiled)]
     for it in failures:
         print(f"FAILED: {it}")
-    tests = stated.count("Print Assumptions") + len(SPOILED) + 1
+    tests = len(stated()[1]) + len(SPOILED) + 1
     print(f"{max(tests - len(failures), 0)} passed, {len(failures)} failed")
     return int(bool(failures))
 
