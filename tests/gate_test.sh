@@ -154,6 +154,39 @@ edit.settle(None)
 it.judge_errors(edit, [": `goal-3` is not in scope", ": the record has no field `goal-4`"])
 print("OK" if edit.result == it.BAD else edit.result)'
 
+# What is proved but for a function that it calls, and what isn't. A check that can't show of one function that a twin is
+# proved is made again for the others.
+python '
+import collections, try_bodies as it
+verdicts = {
+    "one": "proved",
+    "two": "not proved; it stands on `Rattle.c.proofs.m.other.Answers.returns`, which antt refuses; it calls `c::m::other`",
+    "three": "no proof: it calls `c::m::other`, which is not proved",
+    "four": "not proved; it stands on `Rattle.c.proofs.m.four.Answers.returns`, which antt refuses",
+    "five": "no proof: expected answers in ./proofs/m/five/Answers.antt; it calls `c::m::other`, which is not proved",
+}
+report = it.Report(1, "".join(f"fn c::m::{name}: {verdict}\n" for name, verdict in verdicts.items()), collections.Counter(c=1))
+proved = [name for name in verdicts if it.is_as_proved(["m", name], report)]
+assert proved == ["one", "two", "three"], proved
+
+class Trial:
+    put_holes, check = lambda self, edits: None, lambda self, log: report
+    def __init__(self, crate, room):
+        self.control, self.paths = None, {}
+    def put_twins(self, edits):
+        self.control, self.paths = edits[0], {edit: [["m", edit.name]] for edit in edits}
+
+class Edit(it.Edit):
+    log, may_have_twin = str, lambda self: True
+    def __init__(self, name, function):
+        self.crate, self.name, self.functions, self.result = "c", name, [function], None
+
+it.Trial = Trial
+edits = [Edit("four", "f"), Edit("five", "f"), Edit("one", "g")]
+minutes = it.try_together(edits)
+found = [edit.result for edit in edits]
+print("OK" if found == [None, None, it.PROVED] and minutes["c"] == 2 else [found, minutes])'
+
 # .ci/run installs what isn't there, and runs the gate, where nothing may be left out, only if that is there then.
 mkdir "$room/debian"
 cp -r .ci "$one"

@@ -7,8 +7,9 @@ They are mistakes made on purpose, and a contract has to refuse each. Without a 
 One check of a copy of a crate tries many. Most are tried on a twin: the function stays as it is, and after it, under
 another name, comes one with its contract, its proof files and the wrong body. A method of a trait can have no twin, nor
 can several functions: they are edited in place, each function once in a check. The check asks for these alone, and takes
-the other functions of a proved library by their contracts. In each check a twin without an edit has to be proved. What
-lies outside of functions is tried by a check of the whole crate, as is what such a check doesn't report.
+the other functions of a proved library by their contracts. In each check a twin without an edit has to be proved, but
+for what it calls that is edited in place; if it isn't, the twins of other functions are tried by another check. What lies
+outside of functions is tried by a check of the whole crate, as is what such checks don't report.
 
 A wrong body is refused if the proof of the function fails. It fails this script if it is proved, and where it is bad: it
 can't be applied or compiled, or the proof fails only since a proof file names what the edit took away.
@@ -51,8 +52,10 @@ PROOF_ERROR = re.compile(r"^(?:note: )?(?:\./)?(proofs/\S+?):\d+:\d+: error(.*(?
 CODE_ERROR = re.compile(r"^(?:\./)?(src/\S+?):(\d+):\d+: error(.*)", re.M)
 LOST = re.compile(r"has\s+no field|is not in scope|has\s+no `|was not admitted")
 
-# What a check reports of what is proved, or is but for functions that are taken by their contracts, and how these are.
+# What a check reports of what is proved, or is but for functions that are taken by their contracts, and how these are; and
+# of what isn't since another function isn't.
 AS_PROVED = ("proved", "no holes", "depends on a hole")
+OF_OTHERS = ("not proved; it stands on ", "no proof: it calls ", "no proof: it passes ")
 HOLE = """use Rattle.{module}.Statement.{{statement}}
 
 pub {name}_spec : {{M : Type 1}} → statement M
@@ -343,6 +346,13 @@ def verdict_at(path, report):
     return found[0] if len(found) == 1 else ""
 
 
+def is_as_proved(path, report):
+    """Whether the function at a path is proved, or would be but for others: what it calls may be edited in place."""
+    verdict = verdict_at(path, report)
+    own = f".{'.'.join(path)}."
+    return verdict.startswith(AS_PROVED) or verdict.startswith(OF_OTHERS) and own not in verdict
+
+
 def closure_verdicts(path, report):
     """What a check reports of the closures in a function."""
     ends = "|".join(re.escape("::".join(it)) for it in within(path)[1:])
@@ -389,8 +399,10 @@ def try_together(edits):
     rest = [it for it in edits if it.result is None]
     if 0 < len(rest) < len(edits):
         return report.minutes + try_together(rest)
-    if trial.control and not verdict_at(trial.paths[trial.control][0], report).startswith(AS_PROVED):
-        return report.minutes
+    of_control = trial.control.functions if trial.control else []
+    if of_control and not is_as_proved(trial.paths[trial.control][0], report):
+        others = [it for it in rest if it.functions != of_control]
+        return report.minutes + (try_together(others) if others else collections.Counter())
     for edit in rest:
         judge(edit, trial.paths[edit], report)
     return report.minutes
