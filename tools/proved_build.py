@@ -6,9 +6,9 @@ work and how many are left; and puts the program `dimacs` and the archive `dimac
 the folder, with a file of what they were made of. What is there already of the same sources is left as it is. Beside
 that it keeps `dimacs_c.bc`, the LLVM module of which clang made the archive, and `dimacs_c.words`, clang's words: builds
 for other systems are made of the module. With --by-ci it takes what rt ci proved: its program, and for the library the
-crates below, over which dimacs_c is proved again. rt lib takes none of these, since they hold statements alone, and would
-prove them all again. What was proved by rt ci has to be what stands here now: .ci/gate writes down, after rt ci, what it
-was.
+crates below, over which dimacs_c is proved again: rt ci only checks a static library, and records no check of which
+rattle could build it. rt lib takes none of the crates below, since they hold statements alone, and would prove them all
+again. What was proved by rt ci has to be what stands here now: .ci/gate writes down, after rt ci, what it was.
 """
 import argparse
 import os
