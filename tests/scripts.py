@@ -19,9 +19,8 @@ TOP = os.path.dirname(os.path.dirname(os.path.abspath(__file__)))
 TABLE = """
 nothing | 28     | tests/second_proof.py
 nothing | 440    | tests/lower_addresses.py
-nothing | 49     | tests/gate_test.sh
+nothing | 42     | tests/gate_test.sh
 nothing | 0      | tools/try_bodies.py --apply
-nothing | 0      | tests/wrong_bodies.py --apply
 nothing | 0      | tools/believed.py
 nothing | 0      | tools/crate_tables.py --check
 nothing | 750    | tests/promises.py

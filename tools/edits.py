@@ -1,5 +1,5 @@
 #!/usr/bin/env python3
-"""Reads wrong bodies, which are mistakes made on purpose, for the scripts that have them refused.
+"""Reads wrong bodies, which are mistakes made on purpose, for tools/try_bodies.py.
 
 A file of them has for each a line `name: NAME`, a line `file: PATH`, and lines `old: TEXT` and `new: TEXT`, each TEXT one
 line. Further pairs apply to what the earlier ones made; a line `file` may stand before each.
@@ -15,17 +15,16 @@ class Fault(Exception):
 
 
 class Edit:
-    """A wrong body: the pairs of texts by which it changes files, and the other lines that it has, by their words."""
+    """A wrong body: the pairs of texts by which it changes files."""
 
-    def __init__(self, path, name, lines, others):
-        self.path, self.name = path, name
-        self.pairs, self.words, self.fault = [], {}, None
+    def __init__(self, name, lines):
+        self.name, self.pairs, self.fault = name, [], None
         try:
-            self.read(lines, others)
+            self.read(lines)
         except Fault as fault:
             self.fault = str(fault)
 
-    def read(self, lines, others):
+    def read(self, lines):
         file = old = None
         for line in lines:
             word, is_line, text = line.partition(": ")
@@ -36,13 +35,10 @@ class Edit:
             elif word == "new" and is_line and old:
                 self.pairs.append((file, old, text))
                 old = None
-            elif word in others and is_line and word not in self.words:
-                self.words[word] = text
             else:
                 raise Fault(f"the line {line!r} can't be read")
-        lacking = [it for it in others if it not in self.words]
-        if not self.pairs or old or lacking:
-            raise Fault(f"it has no line {', '.join(lacking or ['new'])}")
+        if not self.pairs or old:
+            raise Fault("it has no line new")
 
     def applied(self, root):
         """The texts that it makes of files below a folder, by their paths."""
@@ -67,15 +63,15 @@ def text_of(root, file):
         raise Fault(f"{file}: {error.strerror}") from None
 
 
-def edits_in(path, others=()):
-    """The edits of a file; none if it isn't there. Each has to have a line for each of the other words too."""
+def edits_in(path):
+    """The edits of a file; none if it isn't there."""
     if not os.path.exists(path):
         return []
     with open(path, encoding="utf-8") as it:
         found = [named.splitlines() for named in re.split(r"^name: ", it.read(), flags=re.M)]
     stray = [line for line in found[0] if line]
     named = [(lines[0], [line for line in lines[1:] if line]) for lines in found[1:]]
-    return [Edit(path, name, lines, others) for name, lines in ([("", stray)] if stray else []) + named]
+    return [Edit(name, lines) for name, lines in ([("", stray)] if stray else []) + named]
 
 
 def showing_nothing(kit, edits, root_of):
