@@ -287,19 +287,6 @@ def test_again(its):
             its.expect(f"{name} made again", is_there and first == open(f"{again}/{name}", "rb").read())
 
 
-def test_recipe(its):
-    """The recipe for Arch, whose script is bash, names the tarball by its sum, and installs it."""
-    recipe, tarball = its.only("PKGBUILD"), its.only("*-x86_64-linux.tar.gz")
-    with open(tarball, "rb") as it:
-        digest = hashlib.sha256(it.read()).hexdigest()
-    with open(f"{its.dist}/PKGBUILD", encoding="utf-8") as it:
-        its.message = it.read()
-    its.expect("the recipe for Arch", recipe and digest in its.message and not re.search("@[A-Z0-9_]+@", its.message))
-    if its.has("the recipe for Arch", "bash"):
-        its.run("bash", "-ec", f'tar -xzf "{tarball}"; pkgdir="$PWD/arch"; . "{its.dist}/PKGBUILD"; package')
-        test_program(its, f"{its.place}/arch/usr/bin/dimacs")
-
-
 def test_debian(its, is_root):
     """Installs or unpacks the packages for Debian."""
     found = [its.only(f"{it}_*.deb") for it in DEBIAN]
@@ -514,7 +501,6 @@ def test_runs(its, before):
     if its.is_foreign:
         test_library_of_wheel(its)
         return
-    test_recipe(its)
     test_batch(its)
     test_draw(its)
     test_cmake(its)

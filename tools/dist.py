@@ -3,11 +3,10 @@
 
 SYSTEM is x86_64, else aarch64 or windows. Of what `make` proved and built for it, in build/ or build/SYSTEM/, it makes in
 OUT, or in dist/ or dist/SYSTEM/, a tarball with all that `make install` installs, packages for Debian (where dpkg-deb is;
-tools/debian.py), a wheel for Python, for x86_64 the recipe for Arch with the tarball's sum, and SHA256SUMS; for Windows
-the wheel and the sums alone.
+tools/debian.py), a wheel for Python, and SHA256SUMS; for Windows the wheel and the sums alone.
 What is of other sources, or doesn't have the mark of what is proved, it refuses, with the status 2. The same files give
 the same packages: they are of the time that SOURCE_DATE_EPOCH has in seconds, or of the last date in CHANGELOG.md.
-MAINTAINER is the contact that packages for Debian name, URL the place of the tarball that the recipe names.
+MAINTAINER is the contact that packages for Debian name.
 """
 import argparse
 import calendar
@@ -110,16 +109,6 @@ def make_tarball(build, room, out, release):
     install(build, room, f"prefix=/{name}")
     os.remove(f"{room}/{name}/share/dimacs/files")  # of make uninstall, which has nothing to do with a tarball
     write_tar(out, f"{room}/{name}", name, release.epoch)
-    return name
-
-
-def write_recipe(out, release, name):
-    """Writes the recipe for Arch, which installs the tarball of this name."""
-    words = {"NAME": name, "NUMBERS": release.version.partition("-")[0], "SHA256": dict(sums_of(out))[f"{name}.tar.gz"]}
-    words |= {"URL": os.environ.get("URL") or f"https://example.invalid/{name}.tar.gz"}
-    words["LICENCE"] = text("LICENCE-STATUS").split("\n")[0]
-    with open(f"{out}/PKGBUILD", "w", encoding="utf-8") as it:
-        it.write(re.sub(r"@([A-Z0-9_]+)@", lambda found: words[found[1]], text("packaging/PKGBUILD")))
 
 
 def files_of(folder):
@@ -137,9 +126,7 @@ def make_wheel(build, name, out):
 
 def make_for_linux(build, release, room, out):
     """Makes the packages that are for Linux alone, and the wheel."""
-    name = make_tarball(build, f"{room}/tarball", out, release)
-    if release.machine == "x86_64":
-        write_recipe(out, release, name)
+    make_tarball(build, f"{room}/tarball", out, release)
     wheel = make_wheel(build, release.machine, out)
     if shutil.which("dpkg-deb"):
         install(build, f"{room}/installed", *debian.folders(release.machine))
