@@ -243,107 +243,25 @@ DECLARED = [
     ("distances", "p distances 134217728 268435456\nt 1 268435456\n", "p distances 1 1\nt 1 1\n"),
 ]
 
-# Tiny texts that declare the greatest number of nodes: the words of a run, its texts, and what it prints.
-FAR = [
-    (
-        "judge-max I S C",
-        "p max 134217728 1\nn 1 s\nn 134217728 t\na 1 134217728 5\n",
-        "s 5\nf 1 134217728 5\n",
-        "p cut 134217728 1\nu 1\n",
-        "v max 5\n",
-    ),
-    (
-        "judge-max I S C",
-        "p max 134217728 1\nn 134217728 s\nn 1 t\na 134217728 1 5\n",
-        "s 5\nf 134217728 1 5\n",
-        "p cut 134217728 1\nu 134217728\n",
-        "v max 5\n",
-    ),
-    (
-        "judge-min I S C",
-        "p min 134217728 1\nn 1 3\nn 134217728 -3\na 1 134217728 0 5 2\n",
-        "s 6\nf 1 134217728 3\n",
-        "p pot 134217728 1\ny 134217728 -2\n",
-        "v min 6\n",
-    ),
-    (
-        "judge-infeasible I C",
-        "p min 134217728 1\nn 134217728 1\na 1 134217728 0 5 2\n",
-        "",
-        "p cut 134217728 1\nu 134217728\n",
-        "v infeasible\n",
-    ),
-    (
-        "judge-paths I S C",
-        "p sp 134217728 1\na 1 134217728 5\n",
-        "p aux sp p2p 2\nq 1 134217728\nq 134217728 1\n",
-        "p dist 134217728 2\nt 1 1\nd 134217728 5 1\nt 134217728 0\n",
-        "v 1 134217728 5\nv 134217728 1 unreachable\n",
-    ),
-    (
-        "judge-paths I S C",
-        "p sp 134217728 0\n",
-        "p aux sp ss 1\ns 134217728\n",
-        "p dist 134217728 1\nt 134217728 0\n",
-        "v sp ss 1\n",
-    ),
-    (
-        "certify-max I S SHOWN",
-        "p max 134217728 2\nn 1 s\nn 134217728 t\na 1 134217728 5\na 134217728 134217728 1\n",
-        "s 5\nf 1 134217728 5\n",
-        "",
-        "v max 5\n",
-    ),
-    (
-        "certify-min I S SHOWN",
-        "p min 134217728 1\nn 1 3\nn 134217728 -3\na 1 134217728 0 5 2\n",
-        "s 6\nf 1 134217728 3\n",
-        "",
-        "v min 6\n",
-    ),
-    (
-        "certify-infeasible I SHOWN",
-        "p min 134217728 1\nn 134217728 1\na 1 134217728 0 5 2\n",
-        "",
-        "",
-        "v infeasible\n",
-    ),
-    (
-        "certify-paths I S SHOWN",
-        "p sp 134217728 1\na 1 134217728 5\n",
-        "p distances 134217728 2\nt 1 1\nd 134217728 5\nt 134217728 0\n",
-        "",
-        "v sp distances 2\n",
-    ),
-    (
-        "solve-max I CLAIM SHOWN",
-        "p max 134217728 2\nn 1 s\nn 134217728 t\na 1 134217728 5\na 134217728 134217728 1\n",
-        "",
-        "",
-        "v max 5\n",
-    ),
-    (
-        "solve-min I CLAIM SHOWN",
-        "p min 134217728 1\nn 1 3\nn 134217728 -3\na 1 134217728 0 5 2\n",
-        "",
-        "",
-        "v min 6\n",
-    ),
-    (
-        "solve-min I CLAIM SHOWN",
-        "p min 134217728 1\nn 134217728 1\na 1 134217728 0 5 2\n",
-        "",
-        "",
-        "v infeasible\n",
-    ),
-    (
-        "solve-paths I S SHOWN",
-        "p sp 134217728 1\na 134217728 1 5\n",
-        "p aux sp p2p 1\nq 134217728 1\n",
-        "",
-        "v 134217728 1 5\n",
-    ),
-]
+# Tiny texts that declare the greatest number of nodes: the words of a run, its texts, and what it prints. A line ends at `;`,
+# and MOST is that number.
+MOST = "134217728"
+FAR = """
+judge-max I S C | p max MOST 1;n 1 s;n MOST t;a 1 MOST 5 | s 5;f 1 MOST 5 | p cut MOST 1;u 1 | v max 5
+judge-max I S C | p max MOST 1;n MOST s;n 1 t;a MOST 1 5 | s 5;f MOST 1 5 | p cut MOST 1;u MOST | v max 5
+judge-min I S C | p min MOST 1;n 1 3;n MOST -3;a 1 MOST 0 5 2 | s 6;f 1 MOST 3 | p pot MOST 1;y MOST -2 | v min 6
+judge-infeasible I C | p min MOST 1;n MOST 1;a 1 MOST 0 5 2 | | p cut MOST 1;u MOST | v infeasible
+judge-paths I S C | p sp MOST 1;a 1 MOST 5 | p aux sp p2p 2;q 1 MOST;q MOST 1 | p dist MOST 2;t 1 1;d MOST 5 1;t MOST 0 | v 1 MOST 5;v MOST 1 unreachable
+judge-paths I S C | p sp MOST 0 | p aux sp ss 1;s MOST | p dist MOST 1;t MOST 0 | v sp ss 1
+certify-max I S SHOWN | p max MOST 2;n 1 s;n MOST t;a 1 MOST 5;a MOST MOST 1 | s 5;f 1 MOST 5 | | v max 5
+certify-min I S SHOWN | p min MOST 1;n 1 3;n MOST -3;a 1 MOST 0 5 2 | s 6;f 1 MOST 3 | | v min 6
+certify-infeasible I SHOWN | p min MOST 1;n MOST 1;a 1 MOST 0 5 2 | | | v infeasible
+certify-paths I S SHOWN | p sp MOST 1;a 1 MOST 5 | p distances MOST 2;t 1 1;d MOST 5;t MOST 0 | | v sp distances 2
+solve-max I CLAIM SHOWN | p max MOST 2;n 1 s;n MOST t;a 1 MOST 5;a MOST MOST 1 | | | v max 5
+solve-min I CLAIM SHOWN | p min MOST 1;n 1 3;n MOST -3;a 1 MOST 0 5 2 | | | v min 6
+solve-min I CLAIM SHOWN | p min MOST 1;n MOST 1;a 1 MOST 0 5 2 | | | v infeasible
+solve-paths I S SHOWN | p sp MOST 1;a MOST 1 5 | p aux sp p2p 1;q MOST 1 | | v MOST 1 5
+"""
 
 # The most memory that these may hold at once, in kB.
 FAR_PEAK = 64 * 1024
@@ -757,8 +675,10 @@ def main():
             cases.count(miss(runs, call))
         for texts in DECLARED:
             cases.count(declare(runs, *texts))
-        for words, *texts, printed in FAR:
-            cases.count(judge_far(runs, words, texts, printed))
+        for row in FAR.strip().splitlines():
+            cells = [cell.strip().replace("MOST", MOST).replace(";", "\n") for cell in row.split("|")]
+            words, *texts = [cells[0], *(f"{it}\n" for it in cells[1:])]
+            cases.count(judge_far(runs, words, texts[:-1], texts[-1]))
         if len(sys.argv) > 2 or os.path.exists(tests):
             names = tests_of(tests)
             if not names:
