@@ -152,10 +152,9 @@ release:
 	$(MAKE) dist ARCH=aarch64
 	@echo 'dimacs $(VERSION) can be tagged v$(VERSION), with what CHANGELOG.md says of it'
 
-## make theorem: writes docs/THEOREM.md, and build/THEOREM.html with links from names to their definitions
+## make theorem: writes docs/THEOREM.md
 theorem:
 	tools/theorem.py
-	tools/theorem.py --html build/THEOREM.html
 
 ## make bench: measures; WORK=WORD measures one work, and bench/README.md names them
 bench:

@@ -2,12 +2,10 @@
 """Counts the lines of definitions that one has to believe of the judge, of the command and of the whole library.
 
 usage: tools/believed.py [--others]
-       tools/believed.py --print judge|command
 
 What one has to believe of the judge is what the clauses of `run_judge` rest on, of the command what those of
 `run_command` do, of the library what those of all that is public do. To the clauses of a function belong the laws of the
-traits that it is generic over, as a source's, since they define what its sources do. --print gives the definitions of
-the judge, or of the command, as one text, each file of them after those that it cites.
+traits that it is generic over, as a source's, since they define what its sources do.
 
 A definition counts if a clause of a public function or trait, or what a public type stands for, names it, or if
 another that counts does. Public is what the lib.rt of a crate exports, with the types that signatures of it name. The
@@ -279,13 +277,6 @@ def lines_of(defined, definitions):
     return sum(len(defined.blocks[it]) for it in definitions)
 
 
-def print_circle(defined, circle):
-    for module in modules_in_order(defined, circle):
-        blocks = ["\n".join(block) for it, block in defined.blocks.items() if it[0] == module and it in circle]
-        if blocks:
-            print("\n\n".join([f"---- {module.removeprefix('Rattle.').replace('.specs.', ': ')}", *blocks]), end="\n\n")
-
-
 # What must be believed of a run: the definitions that the clauses of these functions rest on.
 CIRCLES = {
     "judge": ("dimacs_runs/src/judge.rt", "run_judge"),
@@ -296,9 +287,6 @@ CIRCLES = {
 def main(words):
     defined = all_definitions()
     circles = {name: reached_from(defined, named_by(*where)) for name, where in CIRCLES.items()}
-    if words[:1] == ["--print"] and words[1:] and words[1] in circles:
-        print_circle(defined, circles[words[1]])
-        return 0
     reached = reached_from(defined, named_by_all())
     counts, others, misplaced = {}, {}, []
     for it, block in defined.blocks.items():

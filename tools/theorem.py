@@ -1,8 +1,7 @@
 #!/usr/bin/env python3
-"""Makes the page of all that the judge's contract cites: tools/theorem.py [--check | --html FILE]
+"""Makes the page of all that the judge's contract cites: tools/theorem.py [--check]
 
-It writes docs/THEOREM.md, or with --html the same as one page of HTML, where each name in a definition is a link to its
-own. tools/theorem.md has the text, with these lines between:
+It writes docs/THEOREM.md. tools/theorem.md has the text, with these lines between:
 
     @contract FILE FUNCTION     the declaration of a public function, without its body
     @trait FILE NAME            a trait of Rust
@@ -19,7 +18,6 @@ something there isn't cited, stands twice or before what it uses, or if a defini
 in the text above it. With --check it writes nothing, and also ends with 1 if the page isn't what it would write.
 """
 import functools
-import html
 import itertools
 import os
 import re
@@ -27,7 +25,6 @@ import sys
 import textwrap
 
 import believed
-import man_pages
 
 ROOT = believed.ROOT
 FRAME = f"{ROOT}/tools/theorem.md"
@@ -40,12 +37,6 @@ WIDTH = 120
 # A kit's module, or that of a type of Rust.
 KIT = re.compile(r"Rattle\.(std|core)\.specs\.")
 DECLARED = re.compile(r"\.specs\.declared\..*?([A-Z]\w*)")
-
-STYLE = """
-body { max-width: 60em; margin: 2em auto; padding: 0 1em; font: 17px/1.5 serif; color: #111; background: #fff }
-pre, code { font: 14px/1.45 monospace } pre { white-space: pre-wrap; padding: .7em; background: #f5f5f2 }
-pre a, code a { color: inherit; text-decoration: underline dotted #888 } :target { background: #fe9 }
-table { border-collapse: collapse } td, th { border: 1px solid #bbb; padding: .2em .5em; text-align: left }"""
 
 
 class Page:
@@ -69,7 +60,7 @@ class Page:
 
     def declared(self, path, *names):
         self.types.update(names)
-        self.add_code(["\n".join(shortened(item_of(path, "(?:enum|struct)", name)) for name in names)], "rust", names)
+        self.add_code(["\n".join(shortened(item_of(path, "(?:enum|struct)", name)) for name in names)], "rust")
 
     def define(self, *names):
         self.spread |= {it[:-1] for it in names if it.endswith("!")}
@@ -138,23 +129,10 @@ class Page:
         by_definitions = (self.defined.rests_on[it] for it in self.circle)
         return set().union(believed.named_by(*believed.CIRCLES[CIRCLE]), *by_definitions)
 
-    def anchored(self):
-        """All names that have a place on the page of HTML, each with the name at that place: its own."""
-        kit = (it for it in self.kit if it.isidentifier() and it.isascii())
-        return {it: it for it in (*self.shown, *self.types, *kit)}
-
-    def names_in(self, name):
-        """Those of them that a definition uses. A variant has the place of its type."""
-        places = {name: name}
-        for module, it in self.defined.rests_on[self.by_name[name]]:
-            type_of = DECLARED.search(module)
-            places[it] = type_of[1] if type_of else it
-        return {it: place for it, place in places.items() if place in self.anchored()}
-
     def add_definitions(self, names, blocks):
         for name in names:
             self.check(name)
-        self.add_code([bare(it, name in self.spread) for name, it in zip(names, blocks)], "text", names)
+        self.add_code([bare(it, name in self.spread) for name, it in zip(names, blocks)], "text")
 
     def check(self, name):
         it = self.by_name.get(name)
@@ -175,17 +153,17 @@ class Page:
 
     def add_text(self, text):
         self.text += text + "\n"
-        self.parts.append(("prose", text, ()))
+        self.parts.append(("prose", text))
 
-    def add_code(self, blocks, kind, names=()):
+    def add_code(self, blocks, kind):
         if self.parts and self.parts[-1][0] != "prose":
-            before_kind, before, earlier = self.parts[-1]
+            before_kind, before = self.parts[-1]
             # types of Rust on one line each stand among the definitions
             if before_kind == kind or not any("\n" in it for it in (before if kind == "text" else blocks)):
                 joint = "text" if "text" in (kind, before_kind) else kind
-                self.parts[-1] = joint, [*before, *blocks], [*earlier, *names]
+                self.parts[-1] = joint, [*before, *blocks]
                 return
-        self.parts.append((kind, blocks, names))
+        self.parts.append((kind, blocks))
 
     def end(self):
         types = {it[1] for it in map(DECLARED.search, (module for module, _ in self.named())) if it}
@@ -351,82 +329,8 @@ def follow(page, paragraph):
 
 
 def markdown(page):
-    blocks = [it if kind == "prose" else f"```{kind}\n{spaced(it)}\n```" for kind, it, _ in page.parts]
+    blocks = [it if kind == "prose" else f"```{kind}\n{spaced(it)}\n```" for kind, it in page.parts]
     return "\n\n".join(blocks) + "\n"
-
-
-# ---- the page of HTML
-
-
-def html_page(page):
-    body = []
-    for kind, text, names in page.parts:
-        if kind == "prose":
-            body += [html_block(page, *it) for it in man_pages.blocks(text)]
-        else:
-            body.append(f"<pre>{linked(page, spaced(text), names)}</pre>")
-    title = '<!DOCTYPE html>\n<html lang="en"><meta charset="utf-8"><title>The theorem</title>'
-    head = f"{title}\n<style>{STYLE}</style>\n"
-    return head + "\n".join(body).replace("</ul>\n<ul>\n", "\n") + "\n</html>\n"
-
-
-def linked(page, text, names=()):
-    """Code with links from names to their definitions. Of these names it has the definitions."""
-    here, known, lines = set(names), page.anchored(), []
-
-    def token(it):
-        name, word = it[0], html.escape(it[0])
-        if starts and name == starts[1] and name in here:
-            here.remove(name)
-            return f'<b id="{anchor(name)}">{word}</b>'
-        is_field = it.string[: it.start()].endswith(".") or it.string[it.end() :].startswith(":")
-        return f'<a href="#{anchor(known[name])}">{word}</a>' if name in known and not is_field else word
-
-    for line in text.split("\n"):
-        starts = re.match(r"(?:record |data |pub enum |pub struct )?(\w+)", line)
-        if starts and starts[1] in names and starts[1] in page.by_name:
-            known = page.names_in(starts[1])
-        code, comment = re.match(r"(.*?)(\s*//.*|--.*|)$", line).groups()
-        lines.append(believed.WORD.sub(token, code) + html.escape(comment))
-    return "\n".join(lines)
-
-
-def anchor(name):
-    return f"of-{html.escape(name)}"
-
-
-def html_block(page, kind, lines):
-    if kind == "heading":
-        marks, title = lines[0].split(" ", 1)
-        return f'<h{len(marks)} id="{man_pages.slug(title)}">{inline(page, title)}</h{len(marks)}>'
-    if kind == "item":
-        return f"<ul>\n<li>{inline(page, ' '.join(lines)[2:])}\n</ul>"
-    if kind == "table":
-        rows = [re.split(r" (?<!\\)\| ", line.strip("| ")) for line in lines if not line.startswith("|--")]
-        cells = ["<td>".join([first_cell(page, row[0]), *(inline(page, it) for it in row[1:])]) for row in rows]
-        return "<table>\n" + "\n".join(f"<tr><td>{it}" for it in cells) + "\n</table>"
-    return f"<p>{inline(page, ' '.join(lines))}"
-
-
-def first_cell(page, text):
-    """The first cell of a row. If it has names of the kit alone, links to them lead here."""
-    names = [it.strip("`") for it in text.split(", ")]
-    spelled = {as_code(it).strip("`") for it in page.kit}
-    if not spelled.issuperset(names):
-        return inline(page, text)
-    return ", ".join(f'<code id="{anchor(it)}">{html.escape(it)}</code>' for it in names)
-
-
-def inline(page, text):
-    parts = []
-    for part in re.split(r"(`[^`]+`)", text.replace("\\|", "|")):
-        if part.startswith("`"):
-            parts.append(f"<code>{linked(page, part[1:-1])}</code>")
-        else:
-            parts.append(re.sub(r"\*\*([^*]+)\*\*", r"<strong>\1</strong>", html.escape(part)))
-    # the page of HTML stands beside docs
-    text = re.sub(r"\]\((?=\w)", "](../docs/", "".join(parts))
-    return re.sub(r"\[([^\]]*)\]\(([^)]*)\)", r'<a href="\2">\1</a>', text)
 
 
 def unlike(text):
@@ -439,12 +343,11 @@ def main(words):
     wrong = page.wrong
     if words == ["--check"]:
         wrong = wrong + unlike(markdown(page))
-    elif words[:1] == ["--html"] and len(words) == 2:
-        write(words[1], html_page(page))
     elif not words:
-        write(PAGE, markdown(page))
+        with open(PAGE, "w", encoding="utf-8") as it:
+            it.write(markdown(page))
     else:
-        sys.exit("usage: tools/theorem.py [--check | --html FILE]")
+        sys.exit("usage: tools/theorem.py [--check]")
     print("\n".join(wrong), end="\n" if wrong else "")
     return 1 if wrong else 0
 
@@ -452,12 +355,6 @@ def main(words):
 def read(path):
     with open(path, encoding="utf-8") as it:
         return it.read()
-
-
-def write(path, text):
-    os.makedirs(os.path.dirname(os.path.abspath(path)), exist_ok=True)
-    with open(path, "w", encoding="utf-8") as it:
-        it.write(text)
 
 
 if __name__ == "__main__":
