@@ -10,6 +10,8 @@ import re
 import subprocess
 import sys
 
+import scripts
+
 TOP = os.path.dirname(os.path.dirname(os.path.abspath(__file__)))
 
 
@@ -64,15 +66,9 @@ def compared(library):
 
 def main():
     build = sys.argv[1] if len(sys.argv) > 1 else f"{TOP}/build"
-    passed = failed = 0
-    for name, found, wanted in compared(f"{build}/libdimacs.so.0"):
-        passed += found == wanted
-        failed += found != wanted
-        if found != wanted:
-            print(f"{name}: {found}, and in the file abi {wanted}")
-    print(f"{passed} passed, {failed} failed")
-    return 1 if failed or not passed else 0
+    cases = compared(f"{build}/libdimacs.so.0")
+    scripts.end_with((f"{name}: {found}, and in the file abi {wanted}", found == wanted) for name, found, wanted in cases)
 
 
 if __name__ == "__main__":
-    sys.exit(main())
+    main()

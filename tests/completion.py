@@ -8,8 +8,9 @@ import os
 import re
 import shutil
 import subprocess
-import sys
 import tempfile
+
+import scripts
 
 TOP = os.path.realpath(os.path.join(os.path.dirname(os.path.abspath(__file__)), ".."))
 
@@ -100,8 +101,8 @@ def checks(shell, folder, made):
         yield f"files of the kind: {found}{complaint}", "a.max" in found and not complaint
 
 
-def main():
-    failed = passed = 0
+def cases():
+    """Yields what was looked at in each shell that is there, and whether it is right."""
     _, kinds = usage()
     with tempfile.TemporaryDirectory() as folder, tempfile.TemporaryDirectory() as made:
         subprocess.run([f"{TOP}/tools/completions.py", made], check=True)
@@ -111,14 +112,8 @@ def main():
             if not shutil.which(shell):
                 print(f"left out: {shell}")
                 continue
-            for what, right in checks(shell, folder, made):
-                passed += right
-                failed += not right
-                if not right:
-                    print(f"{shell}: {what}")
-    print(f"{passed} passed, {failed} failed")
-    return 1 if failed or not passed else 0
+            yield from ((f"{shell}: {what}", right) for what, right in checks(shell, folder, made))
 
 
 if __name__ == "__main__":
-    sys.exit(main())
+    scripts.end_with(cases())

@@ -13,6 +13,7 @@ import sys
 import tempfile
 
 import explained_yes
+import scripts
 from instances import BINARY, MEMORY
 
 MAX = "p max 4 5\nn 1 s\nn 4 t\na 1 2 4\na 1 3 2\na 2 3 2\na 2 4 3\na 3 4 5\n"
@@ -398,25 +399,16 @@ def reasons():
 def main():
     binary, count, seed = [*sys.argv[1:], *[BINARY, "150", "1"][len(sys.argv) - 1 :]]
     binary = os.path.abspath(binary)
-    passed = failed = 0
     faults = [(f"{case[0]}: explain {case[1]}", fault_of(binary, case)) for case in CASES]
     faults += [(f"explain {case[0]}", yes_fault(binary, *case)) for case in YES]
     faults += [(f"explain with a pipe, {size} MB", pipe_fault(binary, size)) for size in (0, 60, 70)]
     faults += [("explain with a pipe named twice", twice_fault(binary))]
     faults += [("explain with a line feed in a name", name_fault(binary))]
     faults += [("explain", fault) for fault in reader_faults(binary, int(count), int(seed))]
-    for words, fault in faults:
-        passed += fault is None
-        failed += fault is not None
-        if fault:
-            print(f"{words}: {fault}")
     missing = reasons() - {case[0] for case in CASES} - LEFT_OUT
-    if missing:
-        failed += 1
-        print(f"no case for {sorted(missing)}")
-    print(f"{passed} passed, {failed} failed")
-    return 1 if failed or not passed else 0
+    faults += [(f"no case for {it}", "") for it in sorted(missing)]
+    scripts.end_with((f"{words}: {fault}", fault is None) for words, fault in faults)
 
 
 if __name__ == "__main__":
-    sys.exit(main())
+    main()

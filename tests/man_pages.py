@@ -12,6 +12,8 @@ import subprocess
 import sys
 import tempfile
 
+import scripts
+
 TOP = os.path.join(os.path.dirname(os.path.abspath(__file__)), "..")
 PAGES = ["dimacs.1", "dimacs.5", "dimacs-batch.1", "dimacs-draw.1"]
 
@@ -69,28 +71,21 @@ def warnings(file):
         yield name, ran.stderr + (ran.stdout if name == "mandoc" else "")
 
 
-def main():
-    failed = passed = 0
+def cases():
+    """Yields what was looked at in the pages, and whether it is right."""
     with tempfile.TemporaryDirectory() as out:
         subprocess.run([sys.executable, "-B", f"{TOP}/tools/man_pages.py", out], check=True)
         pages = {}
         for page in PAGES:
             with open(os.path.join(out, page), encoding="utf-8") as it:
                 pages[page] = shown(it.read())
-        checks = [(f"{page}: no {what} {words}", words in pages[page]) for page, what, words in wanted()]
-        checks += [(f"{page}: a link or a definition is left", ".antt" not in pages[page] and "](" not in pages[page])
-                   for page in PAGES]
-        for page in PAGES:
-            found = warnings(os.path.join(out, page))
-            checks += [(f"{page}: {name}: {message}", not message) for name, message in found]
-    for complaint, is_right in checks:
-        passed += is_right
-        failed += not is_right
-        if not is_right:
-            print(complaint)
-    print(f"{passed} passed, {failed} failed")
-    return 1 if failed or not passed else 0
+            is_plain = ".antt" not in pages[page] and "](" not in pages[page]
+            yield f"{page}: a link or a definition is left", is_plain
+            for name, message in warnings(os.path.join(out, page)):
+                yield f"{page}: {name}: {message}", not message
+    for page, what, words in wanted():
+        yield f"{page}: no {what} {words}", words in pages[page]
 
 
 if __name__ == "__main__":
-    sys.exit(main())
+    scripts.end_with(cases())

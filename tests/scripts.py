@@ -120,6 +120,16 @@ def run_all(jobs):
     return passed, failed
 
 
+def end_with(cases):
+    """Prints which of these cases, each a name and whether it is right, are wrong, and ends with their counts."""
+    counts = collections.Counter()
+    for name, is_right in cases:
+        counts[bool(is_right)] += 1
+        if not is_right:
+            print(name)
+    finish(counts[True], counts[False])
+
+
 def finish(passed, failed):
     """Prints the counts, and ends with their status."""
     print(f"{passed} passed, {failed} failed")

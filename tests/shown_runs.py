@@ -15,6 +15,8 @@ import subprocess
 import sys
 import tempfile
 
+import scripts
+from instances import BINARY
 from pages import commands
 
 PAGES = ["README.md", "examples/README.md", "docs/JUDGING.md", "man/dimacs.1.md", "referee/README.md"]
@@ -54,33 +56,24 @@ def status(lines):
     return 5 if lines[0] == "g limit" else 0
 
 
-def main():
-    top = os.path.join(os.path.dirname(os.path.abspath(__file__)), "..")
-    built = sys.argv[1] if len(sys.argv) > 1 else os.path.join(top, "crates/dimacs/out/dimacs")
-    binary = os.path.abspath(built)
-    os.chdir(top)
+def cases(binary):
+    """Yields what is wrong with pages, and each run with what it prints, and whether that is shown."""
     programs = {"dimacs": binary, REFEREE: os.path.abspath(REFEREE)}
-    failed = passed = 0
+    yield from ((fault, False) for fault in wrong_pages())
     with tempfile.TemporaryDirectory() as place:
         shutil.copytree("examples", os.path.join(place, "examples"))
-        for fault in wrong_pages():
-            failed += 1
-            print(fault)
-        for page in PAGES:
-            for program, words, lines in shown(page):
-                ran = subprocess.run(
-                    [programs[program], *words], capture_output=True, text=True, check=False, cwd=place
-                )
-                printed = ran.stdout.rstrip("\n").split("\n")
-                result = (ran.returncode, ran.stderr)
-                if is_shown(printed, lines) and result == (status(lines), ""):
-                    passed += 1
-                else:
-                    failed += 1
-                    print(f"{page}: {program} {' '.join(words)}: status {ran.returncode}, prints\n{ran.stdout}{ran.stderr}")
-    print(f"{passed} passed, {failed} failed")
-    return 1 if failed or not passed else 0
+        for page, (program, words, lines) in ((page, it) for page in PAGES for it in shown(page)):
+            ran = subprocess.run([programs[program], *words], capture_output=True, text=True, check=False, cwd=place)
+            is_so = is_shown(ran.stdout.rstrip("\n").split("\n"), lines) and (ran.returncode, ran.stderr) == (status(lines), "")
+            told = f"status {ran.returncode}, prints\n{ran.stdout}{ran.stderr}"
+            yield f"{page}: {program} {' '.join(words)}: {told}", is_so
+
+
+def main():
+    binary = os.path.abspath(sys.argv[1] if len(sys.argv) > 1 else BINARY)
+    os.chdir(scripts.TOP)
+    scripts.end_with(cases(binary))
 
 
 if __name__ == "__main__":
-    sys.exit(main())
+    main()

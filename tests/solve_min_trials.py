@@ -11,9 +11,9 @@ again. BINARY is the built program; crates/dimacs/out/dimacs by default.
 """
 import random
 import resource
-import sys
 import tempfile
 
+import scripts
 from instances import Program, asked, cost, flows, min_text, nets, network
 
 
@@ -175,18 +175,12 @@ def trials(rng, count):
 
 def main():
     count, seed, binary = asked()
-    rng = random.Random(seed)
-    passed = failed = 0
+    made = enumerate(trials(random.Random(seed), count))
     with tempfile.TemporaryDirectory() as folder:
         program = Trials(binary, folder)
-        for number, (lines, wanted, may_give_up) in enumerate(trials(rng, count)):
-            faults = list(program.faults(lines, wanted, number % 10 == 0, may_give_up))
-            passed, failed = passed + (not faults), failed + bool(faults)
-            for fault in faults:
-                print(f"{lines}{fault}\n")
-    print(f"{passed} passed, {failed} failed")
-    return 1 if failed or not passed else 0
+        found = ((lines, [*program.faults(lines, wanted, it % 10 == 0, may)]) for it, (lines, wanted, may) in made)
+        scripts.end_with((f"{lines}{'; '.join(faults)}\n", not faults) for lines, faults in found)
 
 
 if __name__ == "__main__":
-    sys.exit(main())
+    main()

@@ -10,6 +10,8 @@ import re
 import subprocess
 import sys
 
+import scripts
+
 from instances import BINARY
 
 TOP = os.path.join(os.path.dirname(os.path.abspath(__file__)), "..")
@@ -111,15 +113,8 @@ def cases(binary):
 
 def main():
     binary = os.path.abspath(sys.argv[1] if len(sys.argv) > 1 else BINARY)
-    passed = failed = 0
-    for words, answer, is_right in cases(binary):
-        passed += is_right
-        failed += not is_right
-        if not is_right:
-            print(f"{words}: {answer}")
-    print(f"{passed} passed, {failed} failed")
-    return 1 if failed or not passed else 0
+    scripts.end_with((f"{words}: {answer}", is_right) for words, answer, is_right in cases(binary))
 
 
 if __name__ == "__main__":
-    sys.exit(main())
+    main()

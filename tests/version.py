@@ -11,6 +11,8 @@ import shutil
 import subprocess
 import sys
 
+import scripts
+
 TOP = os.path.dirname(os.path.dirname(os.path.abspath(__file__)))
 
 # What tools/quick_build.py leaves in what it builds.
@@ -103,15 +105,9 @@ def found(build, wanted):
 
 def main():
     build = sys.argv[1] if len(sys.argv) > 1 else f"{TOP}/build"
-    passed = failed = 0
-    for place, named, wanted in found(build, read("VERSION").strip()):
-        passed += named == wanted
-        failed += named != wanted
-        if named != wanted:
-            print(f"{place} has {named}, and not {wanted}")
-    print(f"{passed} passed, {failed} failed")
-    return 1 if failed or not passed else 0
+    cases = found(build, read("VERSION").strip())
+    scripts.end_with((f"{place} has {named}, and not {wanted}", named == wanted) for place, named, wanted in cases)
 
 
 if __name__ == "__main__":
-    sys.exit(main())
+    main()
