@@ -356,6 +356,41 @@ uint32_t dimacs_read_queries(const uint8_t *text, size_t length, uint8_t *out, s
                              uint32_t *pairs, uint32_t *froms, size_t froms_room, uint32_t *tos, size_t tos_room,
                              size_t *count);
 
+/* Writes queries: if `pairs` is 0, for the distances from the nodes `froms` to all nodes, and `tos` has no item then;
+ * otherwise for the distance from each node of `froms` to that of `tos`, which has as many items. There are at most 2^28
+ * queries, otherwise `froms` has a wrong length. The first ID that isn't from 1 to 2^27, of a query FROM before TO, is
+ * past its limit: `x node ID NumberRange`. */
+uint32_t dimacs_write_queries(uint32_t pairs, const uint32_t *froms, size_t froms_length, const uint32_t *tos,
+                              size_t tos_length, uint8_t *out, size_t room, size_t *needed);
+
+/* Reads the block of this source from distances: a distance for each node, 0 at the source, DIMACS_UNREACHED at a node
+ * without a line. After a fault of the text it refuses a source that has no block, by `x node ID BlockMissing`; then the
+ * first line of the block whose distance is 2^63 - 1 or doesn't fit in 64 bits, by `x node ID NumberRange`. */
+uint32_t dimacs_read_distances(const uint8_t *text, size_t length, uint32_t source, uint8_t *out, size_t room,
+                               size_t *needed, int64_t *distances, size_t distances_room, size_t *distances_needed);
+
+/* Writes distances: one block, of this source, with a line for each other node that is reached, by ID. There are as many
+ * nodes as distances. Tests the number of nodes and the source first, as the calls above do, then refuses a distance of
+ * the source that isn't 0, with DIMACS_REFUSED and `x node ID NotShortest`. */
+uint32_t dimacs_write_distances(uint32_t source, const int64_t *distances, size_t distances_length, uint8_t *out,
+                                size_t room, size_t *needed);
+
+/* Reads the block of this source from labels, as dimacs_read_distances, and a predecessor for each node: 0 at the source
+ * and at a node without a label. *radius is the radius of the block, DIMACS_UNREACHED if it has none. With a radius the
+ * nodes without a label are farther, and may be reached: the calls above take distances without one. Refuses a radius
+ * that is 2^63 - 1 or doesn't fit in 64 bits before the labels, by `x node ID NumberRange` of the source. */
+uint32_t dimacs_read_labels(const uint8_t *text, size_t length, uint32_t source, uint8_t *out, size_t room,
+                            size_t *needed, int64_t *radius, int64_t *distances, size_t distances_room,
+                            size_t *distances_needed, uint32_t *predecessors, size_t predecessors_room,
+                            size_t *predecessors_needed);
+
+/* Writes labels: one block, of this source, without a radius. Each label comes after that of its predecessor, otherwise
+ * they are ordered by ID. There are as many nodes as distances. Tests as dimacs_write_distances, then makes the tests of
+ * dimacs_judge_paths_arrays up to PredUnknown, and hands out the same lines with DIMACS_REFUSED. */
+uint32_t dimacs_write_labels(uint32_t source, const int64_t *distances, size_t distances_length,
+                             const uint32_t *predecessors, size_t predecessors_length, uint8_t *out, size_t room,
+                             size_t *needed);
+
 #ifdef __cplusplus
 }
 #endif
