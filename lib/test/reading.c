@@ -193,7 +193,7 @@ static void writes_solutions(void) {
           "s 9223372036854775807\n");
 }
 
-/* ---- sets, potentials and queries ---- */
+/* ---- sets, potentials, queries, distances and labels ---- */
 
 static uint8_t inside[MOST];
 static size_t inside_needed, count_needed;
@@ -258,6 +258,109 @@ static void reads_queries(void) {
     check_that("nothing", pairs == 0 && count_needed == 0 && are_nodes(tails, 0, NULL));
 }
 
+static void writes_queries(void) {
+    CHECK("sources", dimacs_write_queries(0, NODES(3, 1), 2, NULL, 0, out, sizeof out, &needed), 0,
+          "p aux sp ss 2\ns 3\ns 1\n");
+    CHECK("pairs", dimacs_write_queries(7, NODES(3, 2), 2, NODES(134217728, 2), 2, out, sizeof out, &needed), 0,
+          "p aux sp p2p 2\nq 3 134217728\nq 2 2\n");
+    CHECK("no pairs", dimacs_write_queries(1, NULL, 0, NULL, 0, out, sizeof out, &needed), 0, "p aux sp p2p 0\n");
+    CHECK("sources with an item of `tos`", dimacs_write_queries(0, NODES(3, 1), 2, NODES(1), 1, out, sizeof out, &needed),
+          2, "");
+    CHECK("fewer `tos`", dimacs_write_queries(1, NODES(3, 1), 2, NODES(1), 1, out, sizeof out, &needed), 2, "");
+    CHECK("more `tos`", dimacs_write_queries(1, NODES(3), 1, NODES(1, 2), 2, out, sizeof out, &needed), 2, "");
+    CHECK("node 0", dimacs_write_queries(0, NODES(3, 0), 2, NULL, 0, out, sizeof out, &needed), 2,
+          "x node 0 NumberRange\n");
+    CHECK("TO comes before the next FROM",
+          dimacs_write_queries(1, NODES(3, 0), 2, NODES(134217729, 1), 2, out, sizeof out, &needed), 2,
+          "x node 134217729 NumberRange\n");
+    CHECK("FROM comes before its TO", dimacs_write_queries(1, NODES(0), 1, NODES(134217729), 1, out, sizeof out, &needed),
+          2, "x node 0 NumberRange\n");
+}
+
+static uint32_t read_distances(const char *text, uint32_t from, size_t room) {
+    mark();
+    return dimacs_read_distances(bytes(text), strlen(text), from, out, sizeof out, &needed, costs, room, &supplies_needed);
+}
+
+/* In the second block the distance of node 1 fits, and those of the others don't. */
+#define BLOCKS "p distances 4 3\nt 2 2\nd 4 -7\nd 1 9223372036854775806\nt 3 3\n" \
+    "d 1 -9223372036854775808\nd 4 9223372036854775807\nd 2 -9223372036854775809\nt 4 0\n"
+
+static void reads_distances(void) {
+    CHECK("distances", read_distances(BLOCKS, 2, MOST), 0, "");
+    check_that("one for each node", supplies_needed == 4 && are_numbers(costs, 4, NUMBERS(LAST - 1, 0, DIMACS_UNREACHED, -7)));
+    CHECK("room for one", read_distances(BLOCKS, 2, 1), 0, "");
+    check_that("one", supplies_needed == 4 && are_numbers(costs, 1, NUMBERS(LAST - 1)));
+    CHECK("a block without lines", read_distances(BLOCKS, 4, MOST), 0, "");
+    check_that("the source alone is reached", are_numbers(costs, 4, NUMBERS(LAST, LAST, LAST, 0)));
+    CHECK("the distance that stands for none", read_distances(BLOCKS, 3, MOST), 1, "x node 4 NumberRange\n");
+    check_that("nothing", supplies_needed == 0 && are_numbers(costs, 0, NULL));
+    CHECK("a source without a block", read_distances(BLOCKS, 1, MOST), 1, "x node 1 BlockMissing\n");
+    CHECK("a source that is no node", read_distances(BLOCKS, 0, MOST), 1, "x node 0 BlockMissing\n");
+    CHECK("many nodes without a line", read_distances("p distances 134217728 1\nt 134217728 0\n", 134217728, 2), 0, "");
+    check_that("two", supplies_needed == 134217728 && are_numbers(costs, 2, NUMBERS(LAST, LAST)));
+    CHECK("a fault", read_distances("p distances 4 1\nt 2 1\nd 2 1\n", 1, MOST), 1, "x distances 3 2 NodeTwice\n");
+}
+
+static uint32_t write_distances(uint32_t from, const int64_t *some, size_t count) {
+    return dimacs_write_distances(from, some, count, out, sizeof out, &needed);
+}
+
+static void writes_distances(void) {
+    CHECK("distances", write_distances(2, NUMBERS(LAST - 1, 0, LAST, INT64_MIN), 4), 0,
+          "p distances 4 1\nt 2 2\nd 1 9223372036854775806\nd 4 -9223372036854775808\n");
+    CHECK("the source isn't at 0", write_distances(2, NUMBERS(0, 1), 2), 1, "x node 2 NotShortest\n");
+    CHECK("the source isn't reached", write_distances(2, NUMBERS(0, LAST), 2), 1, "x node 2 NotShortest\n");
+    CHECK("the source is no node", write_distances(3, NUMBERS(0, 0), 2), 2, "x node 3 NodeRange\n");
+    CHECK("no nodes", write_distances(0, NULL, 0), 2, "x node 0 NodeRange\n");
+}
+
+static int64_t radius;
+
+static uint32_t read_labels(const char *text, uint32_t from, size_t room) {
+    mark();
+    radius = 77;
+    count_needed = 99;
+    return dimacs_read_labels(bytes(text), strlen(text), from, out, sizeof out, &needed, &radius, costs, room,
+                              &supplies_needed, tails, room, &count_needed);
+}
+
+#define LABELS "p dist 4 3\nt 2 2\nd 4 -7 2\nd 1 9223372036854775806 4\nt 3 1 9223372036854775806\nd 2 5 3\n" \
+    "t 4 1 9223372036854775807\nd 2 -9223372036854775809 4\n"
+
+static void reads_labels(void) {
+    CHECK("labels", read_labels(LABELS, 2, MOST), 0, "");
+    check_that("distances and predecessors",
+               radius == DIMACS_UNREACHED && supplies_needed == 4 && count_needed == 4 &&
+                   are_numbers(costs, 4, NUMBERS(LAST - 1, 0, LAST, -7)) && are_nodes(tails, 4, NODES(4, 0, 0, 2)));
+    CHECK("room for three", read_labels(LABELS, 3, 3), 0, "");
+    check_that("three, and a radius", radius == LAST - 1 && count_needed == 4 && are_numbers(costs, 3, NUMBERS(LAST, 5, 0)) &&
+                                          are_nodes(tails, 3, NODES(0, 3, 0)));
+    CHECK("a radius that stands for none", read_labels(LABELS, 4, MOST), 1, "x node 4 NumberRange\n");
+    check_that("nothing", radius == 0 && supplies_needed == 0 && count_needed == 0 && are_numbers(costs, 0, NULL) &&
+                              are_nodes(tails, 0, NULL));
+    CHECK("a distance past 64 bits", read_labels("p dist 3 1\nt 1 2\nd 2 1 1\nd 3 -9223372036854775809 1\n", 1, MOST), 1,
+          "x node 3 NumberRange\n");
+    CHECK("a source without a block", read_labels(LABELS, 1, MOST), 1, "x node 1 BlockMissing\n");
+    CHECK("a fault", read_labels("p dist 3 1\nt 1 1\nd 2 1 3\n", 1, MOST), 1, "x certificate 3 0 PredUnknown\n");
+}
+
+static uint32_t write_labels(uint32_t from, const int64_t *some, size_t count, const uint32_t *preds, size_t preds_count) {
+    return dimacs_write_labels(from, some, count, preds, preds_count, out, sizeof out, &needed);
+}
+
+static void writes_labels(void) {
+    CHECK("labels", write_labels(2, NUMBERS(5, 0, LAST, -7), 4, NODES(4, 0, 0, 2), 4), 0,
+          "p dist 4 1\nt 2 2\nd 4 -7 2\nd 1 5 4\n");
+    CHECK("fewer predecessors", write_labels(2, NUMBERS(5, 0), 2, NODES(2), 1), 2, "");
+    CHECK("the source is no node", write_labels(3, NUMBERS(1, 1), 2, NODES(9, 9), 2), 2, "x node 3 NodeRange\n");
+    CHECK("the source isn't at 0", write_labels(2, NUMBERS(5, 1), 2, NODES(9, 0), 2), 1, "x node 2 NotShortest\n");
+    CHECK("a predecessor that is no node", write_labels(2, NUMBERS(5, 0), 2, NODES(3, 0), 2), 1, "x node 1 NodeRange\n");
+    CHECK("a predecessor of a node that isn't reached", write_labels(2, NUMBERS(LAST, 0), 2, NODES(2, 0), 2), 1,
+          "x node 1 NodeRange\n");
+    CHECK("a cycle", write_labels(1, NUMBERS(0, 1, 1), 3, NODES(0, 3, 2), 3), 1, "x node 2 PredUnknown\n");
+}
+
 int main(void) {
     reads_max();
     reads_min();
@@ -268,5 +371,10 @@ int main(void) {
     reads_and_writes_sets();
     reads_and_writes_potentials();
     reads_queries();
+    writes_queries();
+    reads_distances();
+    writes_distances();
+    reads_labels();
+    writes_labels();
     return count();
 }

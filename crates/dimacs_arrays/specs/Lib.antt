@@ -6,6 +6,7 @@ pub mod Limits
 pub mod MaxArrays
 pub mod MinArrays
 pub mod Paths
+pub mod PathsSpelled
 pub mod SolutionArrays
 pub mod Spelled
 pub mod inside

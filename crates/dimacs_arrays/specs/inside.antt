@@ -5,3 +5,4 @@ pub mod Lent
 pub mod MinCertified
 pub mod LabelDistances
 pub mod TightPredecessors
+pub mod PathsSpelled

@@ -21,6 +21,8 @@ pub enum Array {
     Potentials,
     Distances,
     Predecessors,
+    Froms,
+    Tos,
 }
 
 impl fmt::Display for Array {
@@ -37,6 +39,8 @@ impl fmt::Display for Array {
             Array::Potentials => "potentials",
             Array::Distances => "distances",
             Array::Predecessors => "predecessors",
+            Array::Froms => "froms",
+            Array::Tos => "tos",
         })
     }
 }

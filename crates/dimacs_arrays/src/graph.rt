@@ -3,18 +3,16 @@
 ghost use Rattle.std.specs.Prelude.{◌≡◌, ◌<◌, length, IfOk, OnOk};
 ghost use Rattle.dimacs_lines.specs.Limits.{IsNode};
 ghost use Rattle.dimacs_instance.specs.Graph.{IsGraph};
-ghost use Rattle.dimacs_arrays.specs.GraphArrays.{graph_lengths, graph_limits, graph_spelled, source_rows, weighted_arc};
+ghost use Rattle.dimacs_arrays.specs.GraphArrays.{graph_lengths, graph_limits, graph_spelled, weighted_arc};
 ghost use Rattle.dimacs_arrays.specs.Spelled.{arc_limits};
-ghost use Rattle.dimacs_arrays.specs.inside.Answers.{Spells, TestsLengths, TestsLimits};
+ghost use Rattle.dimacs_arrays.specs.inside.Answers.{Spells, TestsLengths};
 
 use crate::error::{Array, ArrayError};
 use crate::lengths::{ArrayLength, lengths_hold};
 use crate::lent_arcs::{ArcArrays, LentArcs};
-use crate::limits::{PastLimit, counts_hold};
+use crate::limits::{counts_hold, node_holds};
 use dimacs_instance::Graph;
-use dimacs_judging::Where;
 use dimacs_network::ArcView;
-use dimacs_records::Reason;
 
 /// A graph as arrays: the k-th arc goes from the k-th tail to the k-th head and has the k-th weight.
 #[repr(C)]
@@ -54,19 +52,6 @@ impl<'a> GraphArrays<'a> {
         ])
     }
 
-    fn source_holds(&self, source: u32) -> Result<(), PastLimit>
-        ensures first_fault { TestsLimits (source_rows self.now.nodes source) result }
-        ensures source { OnOk result (IsNode self.now.nodes source) }
-    {
-        if source == 0 || source > self.nodes {
-            return Err(PastLimit {
-                place: Where::Node(source),
-                reason: Reason::NodeRange,
-            });
-        }
-        Ok(())
-    }
-
     /// The graph that the arrays spell, or the first number past its limit.
     pub(crate) fn without_source(&self) -> Result<Graph<LentArcs<GraphArrays<'a>>>, ArrayError>
         requires heads { length self.now.heads.now ≡ length self.now.tails.now }
@@ -87,7 +72,7 @@ impl<'a> GraphArrays<'a> {
         ensures source { OnOk result (IsNode self.now.nodes source) }
     {
         counts_hold(self.nodes, self.tails.len())?;
-        self.source_holds(source)?;
+        node_holds(self.nodes, source)?;
         Ok(Graph::over(LentArcs::of(*self, self.nodes, self.tails.len())?))
     }
 }

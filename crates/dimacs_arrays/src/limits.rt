@@ -1,7 +1,8 @@
 //! Tests the numbers of an instance against the limits of texts.
 
 ghost use Rattle.std.specs.Prelude.{◌≤◌, IfNone, OnOk};
-ghost use Rattle.dimacs_lines.specs.Limits.{most_count, most_nodes};
+ghost use Rattle.dimacs_lines.specs.Limits.{IsNode, most_count, most_nodes};
+ghost use Rattle.dimacs_arrays.specs.GraphArrays.{source_rows};
 ghost use Rattle.dimacs_arrays.specs.Limits.{ArcFails, count_rows};
 ghost use Rattle.dimacs_arrays.specs.inside.Answers.{TestsLimits};
 ghost use Rattle.dimacs_arrays.specs.inside.Lent.{IsInRange, TestsArcs};
@@ -34,6 +35,20 @@ pub(crate) fn counts_hold(nodes: u32, arcs: usize) -> Result<(), PastLimit>
         return Err(PastLimit {
             place: Where::Arc(MAX_ARCS + 1),
             reason: Reason::NumberRange,
+        });
+    }
+    Ok(())
+}
+
+/// Tests that this ID is a node.
+pub(crate) fn node_holds(nodes: u32, id: u32) -> Result<(), PastLimit>
+    ensures first_fault { TestsLimits (source_rows nodes id) result }
+    ensures node { OnOk result (IsNode nodes id) }
+{
+    if id == 0 || id > nodes {
+        return Err(PastLimit {
+            place: Where::Node(id),
+            reason: Reason::NodeRange,
         });
     }
     Ok(())

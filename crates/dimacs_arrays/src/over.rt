@@ -75,7 +75,7 @@ pub fn potentials_over(alloc: Global, numbers: &[i64]) -> Result<Potentials, Arr
 }
 
 /// Tests a number of nodes.
-fn nodes_hold(nodes: usize) -> Result<(), PastLimit>
+pub(crate) fn nodes_hold(nodes: usize) -> Result<(), PastLimit>
     ensures few { OnOk result (nodes ≤ most_nodes) }
     ensures past { IfErr result (λ limit. (most_nodes < nodes) × (limit.place ≡ Node (most_nodes + 1)) × (limit.reason ≡ NumberRange)) }
 {

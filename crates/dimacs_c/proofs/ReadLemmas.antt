@@ -6,16 +6,14 @@ use Rattle.dimacs_records.specs.declared.kinds.TextKind.{TextKind}
 use Rattle.dimacs_lines.specs.declared.device.DeviceFault.{DeviceFault}
 use Rattle.dimacs_arrays.specs.declared.error.ArrayError.{ArrayError}
 use Rattle.dimacs_arrays.specs.declared.solution.ClaimedFlow.{ClaimedFlow}
-use Rattle.dimacs_fill.specs.declared.potentials.PotentialsError.{PotentialsError}
-use Rattle.dimacs_fill.specs.declared.potentials.PotentialsError.TheVariants.{Unread, PastRange}
-use Rattle.dimacs_fill.specs.Filling.{Array, ReadsInto}
-use Rattle.dimacs_fill.specs.PotentialsFilled.{FillsIf, ReadsPotentialsInto}
-use Rattle.dimacs_claims.specs.Potentials.{PotentialsValue}
+use Rattle.dimacs_fill.specs.declared.error.FillError.{FillError}
+use Rattle.dimacs_fill.specs.declared.error.FillError.TheVariants.{Unread, Node}
+use Rattle.dimacs_fill.specs.Filling.{ReadsFitting, ReadsInto}
 use Rattle.dimacs_c.specs.ArrayTexts.{value_read}
 use Rattle.dimacs_c.specs.Calls.{Handed, handed}
-use Rattle.dimacs_c.specs.Reading.{AnswersPotentials, AnswersRead}
+use Rattle.dimacs_c.specs.Reading.{AnswersFilled, AnswersRead}
 use Rattle.dimacs_c.specs.inside.ArrayTexts.{value_if}
-use Rattle.dimacs_c.specs.inside.Reading.{EndsPotentials, EndsUnread}
+use Rattle.dimacs_c.specs.inside.Reading.{EndsUnfilled, EndsUnread}
 use Rattle.dimacs_c.proofs.ArrayLemmas.{IsSet, none_by}
 
 -- out of memory is a possible result after any other error
@@ -39,22 +37,20 @@ pub value_set : (put : Result ℕ DeviceFault) (r : Result ClaimedFlow ArrayErro
 value_set (Ok status) r value is = is
 value_set (Err fault) r value is = is
 
--- ---- potentials
-potentials_memory : (text : List ℕ) (a : Array ℤ) → a.1 ≡ a.0 → ReadsPotentialsInto text a (Err (Unread Memory))
-potentials_memory text a same = (Err Memory, tt, (refl, same))
+-- ---- texts whose numbers items may not hold
+pub fill_memory : {V W : Type 0} (kind : TextKind) (text : List ℕ) (spells : V → Type 0) (fills : V → Result W FillError → Type 0) (kept : Type 0) (error : FillError)
+    → ReadsFitting kind text spells fills kept (Err error) → ReadsFitting kind text spells fills kept (Err (Unread Memory))
+fill_memory kind text spells fills kept error (answer, reads, is, same) = (Err Memory, tt, refl, same)
 
-unchanged : (a : Array ℤ) (error : PotentialsError) (answer : Result PotentialsValue ReadError) → FillsIf a answer (Err error) → a.1 ≡ a.0
-unchanged a (Unread error) (Ok p) never = absurd never
-unchanged a (PastRange id) (Ok p) left = left.1
-unchanged a error (Err other) left = left.1
+module _ {W : Type 0} (reads sets : Result W FillError → Type 0) (text : List ℕ) where
+  pub was_filled : (sizes : W) → reads (Ok sizes) → sets (Ok sizes) → (out : List ℕ) (exit_status needed : ℕ) → exit_status ≡ 0 → needed ≡ 0 → AnswersFilled reads sets text exit_status (handed out out needed)
+  was_filled sizes holds set out exit_status needed status none = (Ok sizes, holds, status, none_by (handed out out needed) (record { needed = none; unchanged = refl }), set)
 
-pub potentials_unread : (text : List ℕ) (a : Array ℤ) (error : PotentialsError) → ReadsPotentialsInto text a (Err error) → (exit_status : ℕ) (h : Handed ℕ) → EndsPotentials error exit_status h
-    → AnswersPotentials (ReadsPotentialsInto text a) 0 exit_status h
-potentials_unread text a (Unread (Refused place reason)) reads exit_status h (inl ends) = (Err (Unread (Refused place reason)), reads, ends.0, ends.1, refl)
-potentials_unread text a (Unread (Refused place reason)) reads exit_status h (inr ends) =
-    (Err (Unread Memory), potentials_memory text a (unchanged a (Unread (Refused place reason)) reads.0 reads.2), ends.0, none_by h ends.1, refl)
-potentials_unread text a (Unread Device) reads exit_status h ends = (Err (Unread Device), reads, ends.0, none_by h ends.1, refl)
-potentials_unread text a (Unread Memory) reads exit_status h ends = (Err (Unread Memory), reads, ends.0, none_by h ends.1, refl)
-potentials_unread text a (PastRange id) reads exit_status h (inl ends) = (Err (PastRange id), reads, ends.0, ends.1, refl)
-potentials_unread text a (PastRange id) reads exit_status h (inr ends) =
-    (Err (Unread Memory), potentials_memory text a (unchanged a (PastRange id) reads.0 reads.2), ends.0, none_by h ends.1, refl)
+  pub unfilled : (error : FillError) → reads (Err error) → reads (Err (Unread Memory)) → sets (Err error) → sets (Err (Unread Memory)) → (exit_status : ℕ) (h : Handed ℕ) → EndsUnfilled text error exit_status h
+      → AnswersFilled reads sets text exit_status h
+  unfilled (Unread (Refused place reason)) holds memory set cleared exit_status h (inl ends) = (Err (Unread (Refused place reason)), holds, ends.0, ends.1, set)
+  unfilled (Unread (Refused place reason)) holds memory set cleared exit_status h (inr ends) = (Err (Unread Memory), memory, ends.0, none_by h ends.1, cleared)
+  unfilled (Unread Device) holds memory set cleared exit_status h ends = (Err (Unread Device), holds, ends.0, none_by h ends.1, set)
+  unfilled (Unread Memory) holds memory set cleared exit_status h ends = (Err (Unread Memory), holds, ends.0, none_by h ends.1, set)
+  unfilled (Node id reason) holds memory set cleared exit_status h (inl ends) = (Err (Node id reason), holds, ends.0, ends.1, set)
+  unfilled (Node id reason) holds memory set cleared exit_status h (inr ends) = (Err (Unread Memory), memory, ends.0, none_by h ends.1, cleared)

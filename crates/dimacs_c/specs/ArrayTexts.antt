@@ -6,7 +6,12 @@ use Rattle.dimacs_instance.specs.MaxFlows.{MaxValue}
 use Rattle.dimacs_instance.specs.MaxTexts.{canonical_max}
 use Rattle.dimacs_instance.specs.MinFlows.{MinValue}
 use Rattle.dimacs_instance.specs.MinTexts.{canonical_min}
+use Rattle.dimacs_instance.specs.declared.queries.Queries.{Queries}
+use Rattle.dimacs_instance.specs.QueryTexts.{asked, canonical_queries}
 use Rattle.dimacs_claims.specs.Cuts.{CutValue, canonical_cut}
+use Rattle.dimacs_claims.specs.DistanceTexts.{canonical_distances}
+use Rattle.dimacs_claims.specs.Labels.{LabelsValue}
+use Rattle.dimacs_claims.specs.LabelTexts.{canonical_labels}
 use Rattle.dimacs_claims.specs.declared.solution.Solution.{Solution}
 use Rattle.dimacs_claims.specs.Potentials.{PotentialsValue, canonical_potentials}
 use Rattle.dimacs_claims.specs.SolutionTexts.{canonical_solution, claimed}
@@ -29,6 +34,15 @@ cut_text c = only 0 (canonical_cut c)
 
 abbrev pub potentials_text : PotentialsValue → Printed
 potentials_text p = only 0 (canonical_potentials p)
+
+abbrev pub queries_text : Queries → Printed
+queries_text queries = only 0 (canonical_queries (asked queries))
+
+abbrev pub distances_text : LabelsValue → Printed
+distances_text d = only 0 (canonical_distances d)
+
+abbrev pub labels_text : LabelsValue → Printed
+labels_text labels = only 0 (canonical_labels labels)
 
 abbrev pub solution_text : Solution → Printed
 solution_text s = only 0 (canonical_solution (claimed s))

@@ -1,15 +1,15 @@
 -- What calls that read a text into arrays return and hand out.
-use Rattle.std.specs.Prelude.{ℕ, ◌≡◌, if◌then◌else◌, List, [], Result, Ok, Err, codes}
+use Rattle.std.specs.Prelude.{ℕ, ℤ, ◌≡◌, if◌then◌else◌, List, [], pos, Result, Ok, Err}
 use Rattle.dimacs_records.specs.declared.faults.ReadError.{ReadError}
 use Rattle.dimacs_records.specs.declared.faults.ReadError.TheVariants.{Refused, Device, Memory}
+use Rattle.dimacs_fill.specs.declared.error.FillError.{FillError}
+use Rattle.dimacs_fill.specs.declared.error.FillError.TheVariants as fills
 use Rattle.dimacs_fill.specs.declared.graph.GraphSizes.{GraphSizes}
+use Rattle.dimacs_fill.specs.declared.labels.LabelSizes.{LabelSizes}
 use Rattle.dimacs_fill.specs.declared.max.MaxSizes.{MaxSizes}
 use Rattle.dimacs_fill.specs.declared.min.MinSizes.{MinSizes}
-use Rattle.dimacs_fill.specs.declared.potentials.PotentialsError.{PotentialsError}
-use Rattle.dimacs_fill.specs.declared.potentials.PotentialsError.TheVariants.{Unread, PastRange}
 use Rattle.dimacs_fill.specs.declared.queries.QuerySizes.{QuerySizes}
 use Rattle.dimacs_judging.specs.declared.verdict.Where.TheVariants.{Node}
-use Rattle.dimacs_records.specs.declared.reasons.Reason.TheVariants.{NumberRange}
 use Rattle.dimacs_runs.specs.Refusals.{refusal_line}
 use Rattle.dimacs_runs.specs.Verdicts.{failure_line}
 use Rattle.dimacs_c.specs.Calls.{Handed, HandsOut}
@@ -48,7 +48,7 @@ SetsGraph nodes arcs (Ok sizes) = (nodes ≡ sizes.nodes) × (arcs ≡ sizes.arc
 SetsGraph nodes arcs (Err error) = (nodes ≡ 0) × (arcs ≡ 0)
 
 -- the length of an array that a call hands out
-abbrev pub SetsLength : ℕ → Result ℕ ReadError → Type 0
+abbrev pub SetsLength : {E : Type 0} → ℕ → Result ℕ E → Type 0
 SetsLength needed (Ok length) = needed ≡ length
 SetsLength needed (Err error) = needed ≡ 0
 
@@ -57,22 +57,23 @@ abbrev pub SetsQueries : ℕ → ℕ → Result QuerySizes ReadError → Type 0
 SetsQueries pairs count (Ok sizes) = (pairs ≡ (if sizes.pairs then 1 else 0)) × (count ≡ sizes.count)
 SetsQueries pairs count (Err error) = (pairs ≡ 0) × (count ≡ 0)
 
--- the status, the line and the length after reading potentials
-abbrev pub potentials_status : Result ℕ PotentialsError → ℕ
-potentials_status (Ok nodes) = 0
-potentials_status (Err (Unread error)) = read_status {W = ℕ} (Err error)
-potentials_status (Err (PastRange id)) = 1
+-- the radius of a block, and the lengths of its arrays
+abbrev pub SetsLabels : ℤ → ℕ → ℕ → Result LabelSizes FillError → Type 0
+SetsLabels radius distances preds (Ok sizes) = (radius ≡ sizes.radius) × (distances ≡ sizes.nodes) × (preds ≡ sizes.nodes)
+SetsLabels radius distances preds (Err error) = (radius ≡ pos 0) × (distances ≡ 0) × (preds ≡ 0)
 
-abbrev pub potentials_line : Result ℕ PotentialsError → List ℕ
-potentials_line (Ok nodes) = []
-potentials_line (Err (Unread error)) = fault_line {W = ℕ} (codes "certificate") (Err error)
-potentials_line (Err (PastRange id)) = failure_line (Node id) NumberRange
+-- the status and the line after reading a text whose numbers items may not hold: a node can be refused, too
+abbrev pub fill_status : {W : Type 0} → Result W FillError → ℕ
+fill_status (Ok sizes) = 0
+fill_status {W} (Err (fills.Unread error)) = read_status {W = W} (Err error)
+fill_status (Err (fills.Node id reason)) = 1
 
-abbrev pub potentials_length : Result ℕ PotentialsError → ℕ
-potentials_length (Ok nodes) = nodes
-potentials_length (Err error) = 0
+abbrev pub fill_line : {W : Type 0} → List ℕ → Result W FillError → List ℕ
+fill_line text (Ok sizes) = []
+fill_line {W} text (Err (fills.Unread error)) = fault_line {W = W} text (Err error)
+fill_line text (Err (fills.Node id reason)) = failure_line (Node id) reason
 
--- as AnswersRead; the first potential that doesn't fit into 64 bits has a line, too
-abbrev pub AnswersPotentials : (Result ℕ PotentialsError → Type 0) → ℕ → ℕ → Handed ℕ → Type 0
-AnswersPotentials reads needed exit_status h =
-    (r : Result ℕ PotentialsError) × reads r × (exit_status ≡ potentials_status r) × HandsOut (potentials_line r) h × (needed ≡ potentials_length r)
+-- as AnswersRead
+abbrev pub AnswersFilled : {W : Type 0} → (Result W FillError → Type 0) → (Result W FillError → Type 0) → List ℕ → ℕ → Handed ℕ → Type 0
+AnswersFilled {W} reads sets text exit_status h =
+    (r : Result W FillError) × reads r × (exit_status ≡ fill_status r) × HandsOut (fill_line text r) h × sets r

@@ -8,10 +8,12 @@
 mod answer;
 mod certify;
 mod cut;
+mod distances;
 mod explain;
 mod infeasible;
 mod judge;
 mod kinds;
+mod labels;
 mod lines;
 mod max;
 mod min;

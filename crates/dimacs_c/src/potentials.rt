@@ -1,24 +1,21 @@
 //! Reading potentials into arrays, and writing them.
 
-ghost use Rattle.std.specs.Prelude.{◌≡◌, None, IfOk};
+ghost use Rattle.std.specs.Prelude.{◌≡◌, None, IfOk, codes};
 ghost use Rattle.dimacs_lines.specs.Puts.{Puts};
 ghost use Rattle.dimacs_fill.specs.PotentialsFilled.{ReadsPotentialsInto};
 ghost use Rattle.dimacs_arrays.specs.Spelled.{SpellsPotentialsArray};
 ghost use Rattle.dimacs_c.specs.ArrayTexts.{potentials_text};
 ghost use Rattle.dimacs_c.specs.Arrays.{AnswersItems, buffers, printed};
 ghost use Rattle.dimacs_c.specs.Calls.{handed};
-ghost use Rattle.dimacs_c.specs.Reading.{AnswersPotentials};
-ghost use Rattle.dimacs_c.specs.inside.Reading.{EndsPotentials};
+ghost use Rattle.dimacs_c.specs.Reading.{AnswersFilled, SetsLength};
 
 use crate::answer::hand_printed;
-use crate::lines::{put_error, put_no};
-use crate::reading::{end_read, end_unread};
+use crate::lines::put_error;
+use crate::reading::{end_read, end_unfilled};
 use dimacs_arrays::{ArrayError, potentials_over};
 use dimacs_claims::{Potentials, write_potentials};
-use dimacs_fill::{PotentialsError, read_potentials_into};
-use dimacs_judging::Where;
+use dimacs_fill::read_potentials_into;
 use dimacs_lines::{DeviceFault, MemorySink, MemorySource, Sink};
-use dimacs_records::Reason;
 use std::alloc::Global;
 
 const DONE: u32 = 0;
@@ -33,7 +30,7 @@ pub extern "C" fn dimacs_read_potentials(
     potentials: &mut [i64],
     potentials_needed: &mut usize,
 ) -> u32
-    ensures { AnswersPotentials (ReadsPotentialsInto text.now (potentials.old, potentials.new)) potentials_needed.new result
+    ensures { AnswersFilled (ReadsPotentialsInto text.now (potentials.old, potentials.new)) (SetsLength potentials_needed.new) (codes "certificate") result
         (handed out.old out.new needed.new) }
 {
     match read_potentials_into(alloc, &mut MemorySource::new(text), potentials) {
@@ -43,21 +40,7 @@ pub extern "C" fn dimacs_read_potentials(
         }
         Err(error) => {
             *potentials_needed = 0;
-            end_potentials(alloc, error, out, needed)
-        }
-    }
-}
-
-/// Copies the line of a text's fault, or that of the potential that doesn't fit, and returns the status.
-fn end_potentials(alloc: Global, error: PotentialsError, out: &mut [u8], needed: &mut usize) -> u32
-    ensures { EndsPotentials error result (handed out.old out.new needed.new) }
-{
-    match error {
-        PotentialsError::Unread(error) => end_unread(alloc, b"certificate", error, out, needed),
-        PotentialsError::PastRange(id) => {
-            let mut line = MemorySink::new(alloc);
-            let status = put_no(&mut line, Where::Node(id), Reason::NumberRange);
-            hand_printed(status, line.bytes(), out, needed)
+            end_unfilled(alloc, b"certificate", error, out, needed)
         }
     }
 }

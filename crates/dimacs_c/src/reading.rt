@@ -4,9 +4,12 @@ ghost use Rattle.std.specs.Prelude.{◌≡◌, IfOk};
 ghost use Rattle.dimacs_lines.specs.Puts.{Puts};
 ghost use Rattle.dimacs_runs.specs.Refusals.{refusal_line};
 ghost use Rattle.dimacs_c.specs.Calls.{handed};
-ghost use Rattle.dimacs_c.specs.inside.Reading.{EndsUnread};
+ghost use Rattle.dimacs_c.specs.inside.Reading.{EndsUnfilled, EndsUnread};
 
 use crate::answer::{NO_MEMORY, hand_printed, misuse};
+use crate::lines::put_no;
+use dimacs_fill::FillError;
+use dimacs_judging::Where;
 use dimacs_lines::{DeviceFault, MemorySink, Sink};
 use dimacs_records::{At, Part, ReadError, Reason, put_line};
 use std::alloc::Global;
@@ -45,6 +48,26 @@ pub(crate) fn end_unread(
         ReadError::Device | ReadError::Memory => {
             misuse(needed);
             NO_MEMORY
+        }
+    }
+}
+
+/// The same, or copies the line of the node that is refused.
+pub(crate) fn end_unfilled(
+    alloc: Global,
+    text: &[u8],
+    error: FillError,
+    out: &mut [u8],
+    needed: &mut usize,
+) -> u32
+    ensures { EndsUnfilled text.now error result (handed out.old out.new needed.new) }
+{
+    match error {
+        FillError::Unread(error) => end_unread(alloc, text, error, out, needed),
+        FillError::Node(id, reason) => {
+            let mut line = MemorySink::new(alloc);
+            let status = put_no(&mut line, Where::Node(id), reason);
+            hand_printed(status, line.bytes(), out, needed)
         }
     }
 }

@@ -1,11 +1,13 @@
 -- The arrays of a caller, filled with as many items as fit.
-use Rattle.std.specs.Prelude.{ℕ, ◌≡◌, ◌<◌, ◌++◌, List, length, take, drop, map, Some, slice_get, ℤ, Result, Ok, Err}
+use Rattle.std.specs.Prelude.{ℕ, ◌≡◌, ◌<◌, ◌++◌, List, length, take, drop, map, Some, slice_get, ℤ, IfErr, Result, Ok, Err}
 use Rattle.dimacs_lines.specs.Lines.{lines}
 use Rattle.dimacs_network.specs.declared.network.ArcView.{ArcView}
 use Rattle.dimacs_records.specs.declared.faults.ReadError.{ReadError}
 use Rattle.dimacs_records.specs.declared.kinds.TextKind.{TextKind}
 use Rattle.dimacs_records.specs.Faults.{Fault}
 use Rattle.dimacs_records.specs.Texts.{Reads}
+use Rattle.dimacs_fill.specs.declared.error.FillError.{FillError}
+use Rattle.dimacs_fill.specs.declared.error.FillError.TheVariants.{Unread}
 
 -- as many of the items as fit, then the rest of the array as it was
 abbrev pub filled : {X : Type 0} → List X → List X → List X
@@ -17,6 +19,10 @@ Array X = List X × List X
 
 abbrev pub IsFilled : {X : Type 0} → List X → Array X → Type 0
 IsFilled items a = a.1 ≡ filled items a.0
+
+-- the array is as it was
+abbrev pub IsKept : {X : Type 0} → Array X → Type 0
+IsKept a = a.1 ≡ a.0
 
 -- these are the items of the numbers below `count`, in order
 pub record AreItems {X : Type 0} (gives : ℕ → X → Type 0) (count : ℕ) (items : List X) : Type 0 where
@@ -37,6 +43,16 @@ size_of f (Err error) = Err error
 abbrev pub ReadsInto : {V W : Type 0} → TextKind → List ℕ → (V → Type 0) → V → (V → W) → (V → Type 0) → Result W ReadError → Type 0
 ReadsInto {V} kind text spells none size gets result =
     (answer : Result V ReadError) × Reads spells (Fault kind (lines text)) answer × (result ≡ size_of size answer) × gets (value_or none answer)
+
+abbrev pub FillsIf : {V W : Type 0} → (V → Result W FillError → Type 0) → Result V ReadError → Result W FillError → Type 0
+FillsIf fills (Ok v) result = fills v result
+FillsIf fills (Err error) result = result ≡ Err (Unread error)
+
+-- what the only value that the text spells fills, unless its numbers can't be items; or the text's only fault; after an
+-- error the arrays are kept
+abbrev pub ReadsFitting : {V W : Type 0} → TextKind → List ℕ → (V → Type 0) → (V → Result W FillError → Type 0) → Type 0 → Result W FillError → Type 0
+ReadsFitting {V} kind text spells fills kept result =
+    (answer : Result V ReadError) × Reads spells (Fault kind (lines text)) answer × FillsIf fills answer result × IfErr result (λ error. kept)
 
 abbrev pub tails_of : List ArcView → List ℕ
 tails_of arcs = map (λ (a : ArcView). a.tail) arcs

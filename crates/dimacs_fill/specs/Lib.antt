@@ -1,3 +1,4 @@
+pub mod BlockFilled
 pub mod CutFilled
 pub mod Filling
 pub mod GraphFilled
@@ -5,3 +6,4 @@ pub mod MaxFilled
 pub mod MinFilled
 pub mod PotentialsFilled
 pub mod QueriesFilled
+pub mod inside

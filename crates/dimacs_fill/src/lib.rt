@@ -6,18 +6,25 @@
 #![tactic(auto)]
 
 mod arcs;
+mod block;
 mod cut;
+mod distances;
+mod error;
 mod filling;
 mod graph;
+mod labels;
 mod max;
 mod min;
 mod potentials;
 mod queries;
 
 pub use cut::read_cut_into;
+pub use distances::read_distances_into;
+pub use error::FillError;
 pub use filling::fill;
 pub use graph::{GraphSizes, read_graph_into};
+pub use labels::{LabelSizes, read_labels_into};
 pub use max::{MaxSizes, read_max_into};
 pub use min::{MinSizes, read_min_into};
-pub use potentials::{PotentialsError, read_potentials_into};
+pub use potentials::read_potentials_into;
 pub use queries::{QuerySizes, read_queries_into};

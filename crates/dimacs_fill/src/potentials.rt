@@ -1,49 +1,36 @@
 //! Reading potentials into arrays.
 
-ghost use Rattle.std.specs.Prelude.{◌≡◌, ◌+◌, ◌<◌, ◌^◌, ℕ, List, Some, IfNone, IfSome, IsTrue, ◌↔◌};
+ghost use Rattle.std.specs.Prelude.{◌≡◌, ◌+◌, ◌<◌, ◌^◌, ℕ, List, Some, IfErr, IfNone, IfSome, IsTrue, ◌↔◌};
 ghost use Rattle.dimacs_claims.specs.Potentials.{potential_of};
 ghost use Rattle.dimacs_records.specs.Ranges.{IsWhole};
-ghost use Rattle.dimacs_fill.specs.Filling.{filled};
+ghost use Rattle.dimacs_fill.specs.Filling.{IsKept, filled};
 ghost use Rattle.dimacs_fill.specs.PotentialsFilled.{AllFit, FillsPotentials, IsFirstPast, ReadsPotentialsInto, numbers_of};
 
+use crate::error::FillError;
 use crate::filling::fill;
 use dimacs_claims::{Potentials, read_potentials};
 use dimacs_lines::Source;
-use dimacs_records::ReadError;
+use dimacs_records::Reason;
 use std::alloc::Global;
-use std::fmt;
-use thiserror::Error;
-
-/// Why potentials aren't read into an array.
-#[derive(Clone, Copy, Debug, PartialEq, Eq, Error)]
-pub enum PotentialsError {
-    /// The text isn't read.
-    #[error("{0}")]
-    Unread(ReadError),
-    /// The potential of this node, the first such one, doesn't fit into 64 bits.
-    #[error("the potential of node {0} takes more than 64 bits")]
-    PastRange(u32),
-}
 
 /// Reads the text of potentials. The array gets that of each node. Returns the number of nodes.
 pub fn read_potentials_into<S: Source>(
     alloc: Global,
     text: &mut S,
     numbers: &mut [i64],
-) -> Result<u32, PotentialsError>
+) -> Result<u32, FillError>
     ensures { (bytes : List ℕ) → S.coming text.old ≡ Some bytes → ReadsPotentialsInto bytes (numbers.old, numbers.new) result }
 {
-    match read_potentials(alloc, text) {
-        Ok(potentials) => fill_potentials(&potentials, numbers),
-        Err(error) => Err(PotentialsError::Unread(error)),
-    }
+    let potentials = read_potentials(alloc, text)?;
+    fill_potentials(&potentials, numbers)
 }
 
-fn fill_potentials(potentials: &Potentials, numbers: &mut [i64]) -> Result<u32, PotentialsError>
-    ensures { FillsPotentials (numbers.old, numbers.new) potentials.now result }
+fn fill_potentials(potentials: &Potentials, numbers: &mut [i64]) -> Result<u32, FillError>
+    ensures filled { FillsPotentials (numbers.old, numbers.new) potentials.now result }
+    ensures kept { IfErr result (λ error. IsKept (numbers.old, numbers.new)) }
 {
     if let Some(id) = first_past(potentials) {
-        return Err(PotentialsError::PastRange(id));
+        return Err(FillError::Node(id, Reason::NumberRange));
     }
     fill_numbers(potentials, numbers);
     Ok(potentials.nodes())

@@ -1,4 +1,4 @@
-use Rattle.std.proofs.Common.{◌+◌, arith, rules}
+use Rattle.std.proofs.Common.{◌+◌, arith}
 use Rattle.dimacs_claims.specs.Potentials.{potential_of}
 use Rattle.dimacs_fill.specs.PotentialsFilled.{numbers_of}
 use Rattle.dimacs_fill.proofs.FillLemmas.{each_node}

@@ -1,0 +1,22 @@
+use Rattle.std.proofs.Common.{[], ◌∷◌, length, rules}
+use Rattle.dimacs_judging.specs.Tests.{Settles}
+use Rattle.dimacs_decide.specs.Claims.{claimed_by_node}
+use Rattle.dimacs_arrays.specs.declared.error.Array.TheVariants.{Predecessors}
+use Rattle.dimacs_arrays.specs.Answers.{length_of}
+use Rattle.dimacs_arrays.specs.Paths.{label_rows, pred_by_node}
+use Rattle.dimacs_arrays.specs.PathsSpelled.{AreOrderedLabels, HasSource, source_limits}
+use Rattle.dimacs_arrays.proofs.AnswerLemmas.{tells_refusal}
+use Rattle.dimacs_arrays.proofs.PathsOverLemmas.{none_ordered}
+use Rattle.dimacs_arrays.proofs.paths_over.labels_over.Goals as goal
+
+pub returns-in_err-labels_by_node : goal.returns-in_err-labels_by_node
+returns-in_err-labels_by_node c =
+    let nodes = length c.args.distances.now in
+    let s = c.args.source in
+    let claim = claimed_by_node c.args.distances.now in
+    let pred = pred_by_node c.args.predecessors.now in
+    let rows = label_rows nodes s claim pred in
+    let law : HasSource nodes s = search rules in
+    let error = c.in_err-labels_by_node.field-0.0 in
+    tells_refusal (length_of Predecessors (length c.args.predecessors.now) nodes ∷ []) (source_limits nodes s) (HasSource nodes s) (Settles (AreOrderedLabels nodes s claim pred) rows)
+    (rw c.of.ensures at c.in_ok-lengths_hold.ensures) law error (none_ordered nodes s claim pred rows error c.in_err-labels_by_node.ensures.labels) _ c.from_residual-in_err-labels_by_node.ensures.1

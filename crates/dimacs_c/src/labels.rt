@@ -1,0 +1,90 @@
+//! Reading labels into arrays, and writing them.
+
+ghost use Rattle.std.specs.Prelude.{◌≡◌, None, IfOk, codes};
+ghost use Rattle.dimacs_lines.specs.Puts.{Puts};
+ghost use Rattle.dimacs_fill.specs.BlockFilled.{ReadsLabelsInto};
+ghost use Rattle.dimacs_arrays.specs.PathsSpelled.{SpellsLabelArrays};
+ghost use Rattle.dimacs_c.specs.ArrayTexts.{labels_text};
+ghost use Rattle.dimacs_c.specs.Arrays.{AnswersItems, buffers, printed};
+ghost use Rattle.dimacs_c.specs.Calls.{handed};
+ghost use Rattle.dimacs_c.specs.Reading.{AnswersFilled, SetsLabels};
+
+use crate::answer::hand_printed;
+use crate::lines::put_error;
+use crate::reading::{end_read, end_unfilled};
+use dimacs_arrays::{ArrayError, labels_over};
+use dimacs_claims::{Labels, write_labels};
+use dimacs_fill::read_labels_into;
+use dimacs_lines::{DeviceFault, MemorySink, MemorySource, Sink};
+use std::alloc::Global;
+
+const DONE: u32 = 0;
+
+/// Reads the block of this source, as `read_labels_into`. The arrays get a distance and a predecessor for each node.
+#[unsafe(no_mangle)]
+pub extern "C" fn dimacs_read_labels(
+    alloc: Global,
+    text: &[u8],
+    source: u32,
+    out: &mut [u8],
+    needed: &mut usize,
+    radius: &mut i64,
+    distances: &mut [i64],
+    distances_needed: &mut usize,
+    predecessors: &mut [u32],
+    predecessors_needed: &mut usize,
+) -> u32
+    ensures { AnswersFilled (ReadsLabelsInto text.now source (distances.old, distances.new) (predecessors.old, predecessors.new))
+        (SetsLabels radius.new distances_needed.new predecessors_needed.new) (codes "certificate") result (handed out.old out.new needed.new) }
+{
+    let text = &mut MemorySource::new(text);
+    match read_labels_into(alloc, text, source, distances, predecessors) {
+        Ok(sizes) => {
+            *radius = sizes.radius;
+            *distances_needed = sizes.nodes as usize;
+            *predecessors_needed = sizes.nodes as usize;
+            end_read(needed)
+        }
+        Err(error) => {
+            *radius = 0;
+            *distances_needed = 0;
+            *predecessors_needed = 0;
+            end_unfilled(alloc, b"certificate", error, out, needed)
+        }
+    }
+}
+
+/// Writes one block, as `labels_over`.
+#[unsafe(no_mangle)]
+pub extern "C" fn dimacs_write_labels(
+    alloc: Global,
+    source: u32,
+    distances: &[i64],
+    predecessors: &[u32],
+    out: &mut [u8],
+    needed: &mut usize,
+) -> u32
+    ensures { AnswersItems labels_text (SpellsLabelArrays source distances.now predecessors.now) result
+        (buffers (handed out.old out.new needed.new) None None None) }
+{
+    let answer = labels_over(alloc, source, distances, predecessors);
+    let mut text = MemorySink::new(alloc);
+    let status = put_labels(&mut text, &answer);
+    hand_printed(status, text.bytes(), out, needed)
+}
+
+fn put_labels<K: Sink>(
+    sink: &mut K,
+    answer: &Result<Labels, ArrayError>,
+) -> Result<u32, DeviceFault>
+    ensures status { IfOk result (λ status. status ≡ (printed labels_text answer.now).status) }
+    ensures text { Puts result (K.seen sink.old) (printed labels_text answer.now).line (K.seen sink.new) }
+{
+    match answer {
+        Ok(labels) => {
+            write_labels(labels, sink)?;
+            Ok(DONE)
+        }
+        Err(error) => put_error(sink, *error),
+    }
+}
