@@ -122,6 +122,32 @@ struct Graph {
     Numbers weights;
 };
 
+// The same with arrays of their own, as they are read from texts. Calls take them as the instances above, which refer
+// to them.
+struct MaxArrays {
+    std::uint32_t nodes = 0, source = 0, sink = 0;
+    std::vector<std::uint32_t> tails, heads;
+    std::vector<std::int64_t> caps;
+
+    operator MaxInstance() const noexcept { return {nodes, source, sink, tails, heads, caps}; }
+};
+
+struct MinArrays {
+    std::uint32_t nodes = 0;
+    std::vector<std::uint32_t> tails, heads;
+    std::vector<std::int64_t> lows, caps, costs, supplies;
+
+    operator MinInstance() const noexcept { return {nodes, tails, heads, lows, caps, costs, supplies}; }
+};
+
+struct GraphArrays {
+    std::uint32_t nodes = 0;
+    std::vector<std::uint32_t> tails, heads;
+    std::vector<std::int64_t> weights;
+
+    operator Graph() const noexcept { return {nodes, tails, heads, weights}; }
+};
+
 // The distance of a node that isn't reached. Its predecessor is 0, as that of the source.
 inline constexpr std::int64_t unreached = DIMACS_UNREACHED;
 
@@ -320,6 +346,19 @@ struct SolvedPathsText {
     std::uint64_t sources = 0;
     std::vector<Pair> pairs;
     std::string labels;
+};
+
+// A solution over an instance: the value that it claims, and a flow.
+template <class Flow>
+struct Solution {
+    std::int64_t value = 0;
+    Flow flows;
+};
+
+// Queries for the distances from these nodes to all nodes, or from each of them to the one at its place in `tos`.
+struct Queries {
+    std::vector<std::uint32_t> froms;
+    std::optional<std::vector<std::uint32_t>> tos;
 };
 
 // ---- What is answered: a no ----
@@ -611,6 +650,33 @@ class Room {
 
   private:
     std::vector<T> items_;
+};
+
+// Room for what is read from a text, by arc or by node. It isn't touched before a call fills it: a text may have fewer
+// items.
+template <class T>
+class ReadRoom {
+  public:
+    explicit ReadRoom(std::size_t room) : items_(new T[room]), room_(room) {}
+
+    T *at() noexcept { return items_.get(); }
+    std::size_t room() const noexcept { return room_; }
+    bool fits() const noexcept { return needed <= room_; }
+    void grow() {
+        if (!fits()) *this = ReadRoom(needed);
+    }
+
+    std::vector<T> take(std::size_t count) {
+        const auto items = std::move(items_);
+        return {items.get(), items.get() + count};
+    }
+    std::vector<T> take() { return take(needed); }
+
+    std::size_t needed = 0;
+
+  private:
+    std::unique_ptr<T[]> items_;
+    std::size_t room_;
 };
 
 // Makes a call with three arguments for each room.
@@ -1101,6 +1167,183 @@ inline Answer<SolvedPaths, GaveUp, Refused> solve_paths(const Graph &graph, std:
     if (status == DIMACS_GAVE_UP) return GaveUp{};
     if (status == DIMACS_REFUSED) return detail::refused(line.text());
     return SolvedPaths{distances.take(), predecessors.take()};
+}
+
+// ---- Texts as arrays, and back ----
+
+namespace detail {
+
+// As many items as a text of this length has at most, each of which takes so many bytes.
+inline std::size_t most_items(std::string_view text, std::size_t bytes) noexcept { return (text.size() + 1) / bytes; }
+
+// Reads an array by node.
+template <class T, class Call>
+Answer<std::vector<T>, Refused> read_by_node(const Call &function, std::string_view text) {
+    TextRoom line;
+    ReadRoom<T> items(most_items(text, sizeof(T)));
+    const auto call = [&](auto... rooms) { return function(bytes(text), text.size(), rooms...); };
+    if (call_for_texts(call, line, items) == DIMACS_REFUSED) return refused(line.text());
+    return items.take();
+}
+
+// Writes so many lines.
+template <class Call>
+std::string write(const Call &call, std::size_t lines) {
+    TextRoom text(line_room + 32 * lines);
+    call_for_texts(call, text);
+    return text.take();
+}
+
+}  // namespace detail
+
+// Reads a maximum flow instance. Refused, as by each call that reads, for the text's fault.
+inline Answer<MaxArrays, Refused> read_max(std::string_view text) {
+    const std::size_t most = detail::most_items(text, 8);
+    detail::TextRoom line;
+    detail::ReadRoom<std::uint32_t> tails(most), heads(most);
+    detail::ReadRoom<std::int64_t> caps(most);
+    MaxArrays it;
+    std::size_t arcs = 0;
+    const auto call = [&](auto... room) {
+        return dimacs_read_max(detail::bytes(text), text.size(), room..., &it.nodes, &it.source, &it.sink, tails.at(),
+                               most, heads.at(), most, caps.at(), most, &arcs);
+    };
+    if (detail::call_for_items(call, line) == DIMACS_REFUSED) return detail::refused(line.text());
+    it.tails = tails.take(arcs);
+    it.heads = heads.take(arcs);
+    it.caps = caps.take(arcs);
+    return {std::move(it)};
+}
+
+// Reads a minimum cost flow instance.
+inline Answer<MinArrays, Refused> read_min(std::string_view text) {
+    const std::size_t most = detail::most_items(text, 12);
+    detail::TextRoom line;
+    detail::ReadRoom<std::uint32_t> tails(most), heads(most);
+    detail::ReadRoom<std::int64_t> lows(most), caps(most), costs(most), supplies(most);
+    MinArrays it;
+    std::size_t arcs = 0;
+    const auto call = [&](std::uint8_t *out, std::size_t room, std::size_t *needed, auto... by_node) {
+        return dimacs_read_min(detail::bytes(text), text.size(), out, room, needed, &it.nodes, tails.at(), most,
+                               heads.at(), most, lows.at(), most, caps.at(), most, costs.at(), most, &arcs, by_node...);
+    };
+    if (detail::call_for_texts(call, line, supplies) == DIMACS_REFUSED) return detail::refused(line.text());
+    it.tails = tails.take(arcs);
+    it.heads = heads.take(arcs);
+    it.lows = lows.take(arcs);
+    it.caps = caps.take(arcs);
+    it.costs = costs.take(arcs);
+    it.supplies = supplies.take();
+    return {std::move(it)};
+}
+
+// Reads a graph.
+inline Answer<GraphArrays, Refused> read_graph(std::string_view text) {
+    const std::size_t most = detail::most_items(text, 8);
+    detail::TextRoom line;
+    detail::ReadRoom<std::uint32_t> tails(most), heads(most);
+    detail::ReadRoom<std::int64_t> weights(most);
+    GraphArrays it;
+    std::size_t arcs = 0;
+    const auto call = [&](auto... room) {
+        return dimacs_read_graph(detail::bytes(text), text.size(), room..., &it.nodes, tails.at(), most, heads.at(),
+                                 most, weights.at(), most, &arcs);
+    };
+    if (detail::call_for_items(call, line) == DIMACS_REFUSED) return detail::refused(line.text());
+    it.tails = tails.take(arcs);
+    it.heads = heads.take(arcs);
+    it.weights = weights.take(arcs);
+    return {std::move(it)};
+}
+
+// Reads queries.
+inline Answer<Queries, Refused> read_queries(std::string_view text) {
+    const std::size_t most = detail::most_items(text, 4);
+    detail::TextRoom line;
+    detail::ReadRoom<std::uint32_t> froms(most), tos(most);
+    std::uint32_t pairs = 0;
+    std::size_t count = 0;
+    const auto call = [&](auto... room) {
+        return dimacs_read_queries(detail::bytes(text), text.size(), room..., &pairs, froms.at(), most, tos.at(), most,
+                                   &count);
+    };
+    if (detail::call_for_items(call, line) == DIMACS_REFUSED) return detail::refused(line.text());
+    return Queries{froms.take(count), pairs != 0 ? std::optional(tos.take(count)) : std::nullopt};
+}
+
+// Reads a solution over an instance of any kind, of which only the nodes and the ends of arcs matter. The k-th entry
+// with given ends belongs to the k-th arc with them; an arc without one carries 0. Refused also for an entry that
+// belongs to no arc, and for a value of more than 64 bits. Throws WrongLength and PastLimit.
+template <class Instance>
+Answer<Solution<Flows>, Refused> read_solution(std::string_view text, const Instance &instance) {
+    const Nodes tails = instance.tails, heads = instance.heads;
+    detail::test_by_arc(instance, "heads", heads);
+    detail::TextRoom line;
+    detail::Room<std::int64_t> flows(tails.size());
+    std::int64_t value = 0;
+    const auto call = [&](std::uint8_t *out, std::size_t room, std::size_t *needed, auto... by_arc) {
+        return dimacs_read_solution(instance.nodes, tails.data(), tails.size(), heads.data(), heads.size(),
+                                    detail::bytes(text), text.size(), out, room, needed, &value, by_arc...);
+    };
+    if (detail::call_for_items(call, line, flows) == DIMACS_REFUSED) return detail::refused(line.text());
+    return Solution<Flows>{value, flows.take()};
+}
+
+// Reads a cut or a set: a byte for each node.
+inline Answer<Inside, Refused> read_cut(std::string_view text) {
+    return detail::read_by_node<std::uint8_t>(dimacs_read_cut, text);
+}
+
+// Reads potentials. Refused also for the first one of more than 64 bits.
+inline Answer<Potentials, Refused> read_potentials(std::string_view text) {
+    return detail::read_by_node<std::int64_t>(dimacs_read_potentials, text);
+}
+
+// The canonical text of a maximum flow instance, which read again is the same. Throws, as each call that writes,
+// WrongLength and PastLimit.
+inline std::string write_max(const MaxInstance &instance) {
+    const dimacs_max arrays = detail::arrays(instance);
+    return detail::write([&](auto... room) { return dimacs_write_max(&arrays, room...); }, instance.tails.size());
+}
+
+// The same of a minimum cost flow instance.
+inline std::string write_min(const MinInstance &instance) {
+    const dimacs_min arrays = detail::arrays(instance);
+    return detail::write([&](auto... room) { return dimacs_write_min(&arrays, room...); },
+                         instance.tails.size() + instance.nodes);
+}
+
+// The same of a graph.
+inline std::string write_graph(const Graph &graph) {
+    const dimacs_graph arrays = detail::arrays(graph);
+    return detail::write([&](auto... room) { return dimacs_write_graph(&arrays, room...); }, graph.tails.size());
+}
+
+// A solution that claims a value, with an entry for each arc of an instance of any kind, in their order.
+template <class Instance>
+std::string write_solution(std::int64_t value, const Instance &instance, Numbers flows) {
+    const Nodes tails = instance.tails, heads = instance.heads;
+    detail::test_by_arc(instance, "heads", heads);
+    detail::test_by_arc(instance, "flows", flows);
+    const auto call = [&](auto... room) {
+        return dimacs_write_solution(value, instance.nodes, tails.data(), tails.size(), heads.data(), heads.size(),
+                                     flows.data(), flows.size(), room...);
+    };
+    return detail::write(call, flows.size());
+}
+
+// The set of the nodes whose byte isn't 0, as a cut.
+inline std::string write_cut(Marks inside) {
+    return detail::write([&](auto... room) { return dimacs_write_cut(inside.data(), inside.size(), room...); },
+                         inside.size() / 4);
+}
+
+// Potentials, by node.
+inline std::string write_potentials(Numbers potentials) {
+    const auto call = [&](auto... room) {
+        return dimacs_write_potentials(potentials.data(), potentials.size(), room...);
+    };
+    return detail::write(call, potentials.size());
 }
 
 }  // namespace DIMACS_SPAN

@@ -336,6 +336,42 @@ static void limits() {
     is("an edge that carries nothing", certify(0, INT64_MAX)->value.str(), "0");
 }
 
+/* Texts as graphs, and back. */
+static void texts() {
+    namespace ours = dimacs::boost;
+    const std::string max = "p max 3 4\nn 1 s\nn 3 t\na 2 1 5\na 1 2 7\na 2 3 9\na 1 2 1\n";
+    Graph graph;
+    const auto capacity = get(&Street::capacity, graph), left = get(&Street::residual, graph);
+    const auto reverse = get(&Street::reverse, graph);
+    Vertex from = 7, to = 7;
+    const auto arcs = ours::read_max(max, graph, capacity, reverse, from, to);
+    check_that("the edges of a text", arcs && arcs->size() == 4 && num_vertices(graph) == 3 && num_edges(graph) == 8 &&
+                                          graph[(*arcs)[2]].capacity == 9 && from == 0 && to == 2);
+    is("written", ours::write_max(graph, *arcs, from, to, capacity), max);
+    const long value =
+        boost::push_relabel_max_flow(graph, from, to, capacity, left, reverse, get(boost::vertex_index, graph));
+    check_that("certified", ours::certify_max(graph, from, to, capacity, left)->value == value);
+    const std::string flow = ours::write_solution(graph, *arcs, value, capacity, left);
+    is("a solution", flow, "s 8\nf 2 1 0\nf 1 2 7\nf 2 3 8\nf 1 2 1\n");
+    Graph other;
+    is("a fault", ours::read_max("p max 2 1\nn 1 s\n", other, capacity, reverse, from, to).message(),
+       "x instance 3 0 EndMissing");
+
+    using Narrow = boost::adjacency_list<boost::setS, boost::vecS, boost::directedS, boost::no_property,
+                                         boost::property<boost::edge_weight_t, short>>;
+    Narrow narrow;
+    const auto weight = get(boost::edge_weight, narrow);
+    is("a weight that doesn't fit", ours::read_graph("p sp 2 2\na 1 2 7\na 2 1 32768\n", narrow, weight).message(),
+       "x arc 2 NumberRange");
+    check_that("all as it was", num_vertices(narrow) == 0);
+    const std::string roads = "p sp 3 2\na 1 2 -7\na 3 2 7\n";
+    check_that("a graph", ours::read_graph(roads, narrow, weight)->size() == 2);
+    is("written", ours::write_graph(narrow, boost::make_iterator_range(edges(narrow)), weight), roads);
+    throws<std::invalid_argument>(
+        "two edges in place of one", [&] { return ours::read_graph("p sp 2 2\na 1 2 7\na 1 2 8\n", narrow, weight); },
+        "the graph doesn't keep several edges with the same ends");
+}
+
 int main() {
     Graph graph(NODES);
     make(graph, EDGES);
@@ -349,5 +385,6 @@ int main() {
     values_past_64_bits();
     hidden_vertices();
     limits();
+    texts();
     return count();
 }

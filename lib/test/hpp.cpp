@@ -285,6 +285,82 @@ static void distances() {
         dimacs::solve_paths({3, Ids{1, 2}, Ids{2, 3}, Amounts{INT64_MAX, 1}}, 1).get_if<dimacs::GaveUp>() != nullptr);
 }
 
+/* Texts in their canonical form, read and written again. */
+static void reads_and_writes() {
+    const auto network_of = dimacs::read_max(max).value();
+    check_that("a maximum flow instance", network_of.nodes == 4 && network_of.source == 1 && network_of.sink == 4 &&
+                                              network_of.tails == tails && network_of.heads == heads &&
+                                              network_of.caps == caps);
+    is("written", dimacs::write_max(network_of), max);
+    const auto made = dimacs::solve_max(network_of).value();
+    check_that("read, solved and certified", dimacs::certify_max(network_of, made.flows).has_value());
+    const auto shipping_of = dimacs::read_min(min).value();
+    check_that("an instance of least cost", shipping_of.nodes == 4 && shipping_of.tails == tails &&
+                                                shipping_of.heads == heads && shipping_of.lows == lows &&
+                                                shipping_of.caps == caps && shipping_of.costs == costs &&
+                                                shipping_of.supplies == supplies);
+    is("written", dimacs::write_min(shipping_of), min);
+    check_that("solved", dimacs::solve_min(shipping_of)->cost == 14);
+    const auto roads = dimacs::read_graph(graph).value();
+    check_that("a graph", roads.nodes == 4 && roads.tails == Ids({1, 3, 4}) && roads.heads == Ids({2, 4, 3}) &&
+                              roads.weights == Amounts({5, 0, 0}));
+    is("written", dimacs::write_graph(roads), graph);
+    check_that("solved", dimacs::solve_paths(roads, 1)->distances[1] == 5);
+    const auto claim = dimacs::read_solution(flow, network_of).value();
+    check_that("a solution", claim.value == 6 && claim.flows == Flows({4, 2, 1, 3, 3}));
+    is("written", dimacs::write_solution(claim.value, network, claim.flows), flow);
+    check_that("one without some entries", dimacs::read_solution(least, shipping)->flows == Flows({2, 2, 2, 0, 4}));
+    is("a cut", dimacs::write_cut(dimacs::read_cut(cut).value()), cut);
+    is("one of more nodes than bytes", dimacs::write_cut(dimacs::read_cut("p cut 99 0\n").value()), "p cut 99 0\n");
+    is("potentials", dimacs::write_potentials(dimacs::read_potentials(pot).value()), pot);
+    const auto far = dimacs::read_min("p min 99 0\nn 98 7\nn 99 -7\n");
+    check_that("more nodes than lines", far && far->supplies.size() == 99 && far->supplies[98] == -7);
+    const auto asked = dimacs::read_queries(pairs).value(), all = dimacs::read_queries(source).value();
+    check_that("queries for pairs", asked.froms == Ids({1, 1}) && asked.tos == Ids({2, 4}));
+    check_that("queries for all distances", all.froms == Ids({1}) && !all.tos);
+}
+
+/* What isn't read, and by which line. */
+static void refuses_texts() {
+    using dimacs::read_max, dimacs::read_min, dimacs::read_graph, dimacs::read_solution;
+    const std::string most = "9223372036854775808";
+    is("arcs that aren't there", read_max("p max 2 268435456\nn 1 s\nn 2 t\n").message(), "x instance 4 0 TooFew");
+    is("of least cost", read_min("p min 2 268435456\n").message(), "x instance 2 0 TooFew");
+    is("of a graph", read_graph("p sp 2 268435456\n").message(), "x instance 2 0 TooFew");
+    is("a byte 0", read_graph(std::string("p sp 2 1\na 1 2 7\0\n", 18)).message(), "x instance 2 4 BadNumber");
+    is("a long line", read_graph("p sp 2 1\na 1 2 " + std::string(1 << 20, '7')).message(),
+       "x instance 2 0 LineTooLong");
+    is("of another kind", read_min(max).message(), "x instance 1 2 BadWord");
+    is("queries", dimacs::read_queries("p aux sp p2p 1\nq 1\n").message(), "x query 2 0 FieldCount");
+    is("a cut", dimacs::read_cut("p cut 1 1\nu 2\n").message(), "x certificate 2 2 NodeRange");
+    is("no arc", read_solution("s 6\nf 4 1 6\n", network).message(), "x solution 2 0 UnknownArc");
+    is("an arc twice", read_solution("s 6\nf 1 2 6\nf 1 2 6\n", network).message(), "x solution 3 0 ArcTwice");
+    is("a value past 64 bits", read_solution("s " + most + "\n", network).message(), "x solution 1 2 NumberRange");
+    is("a potential past 64 bits", dimacs::read_potentials("p pot 2 1\ny 2 " + most + "\n").message(),
+       "x node 2 NumberRange");
+    throws_length(
+        "fewer flows", [] { return dimacs::write_solution(6, network, Amounts(1)); },
+        "flows has 1 items, and there are 5 arcs");
+    throws_length(
+        "fewer heads",
+        [] {
+            return read_solution("s 0\n", dimacs::Graph{4, tails, {}, caps});
+        },
+        "heads has 0 items, and there are 5 arcs");
+    throws_limit(
+        "a node too high",
+        [] {
+            return dimacs::write_graph({3, tails, heads, caps});
+        },
+        "x arc 4 NodeRange");
+    throws_limit(
+        "of a solution",
+        [] {
+            return read_solution("s 0\n", dimacs::Graph{3, tails, heads, caps});
+        },
+        "x arc 4 NodeRange");
+}
+
 /* What converts to a value, and is the same number. */
 __extension__ typedef __int128 Wide;
 __extension__ typedef unsigned __int128 UnsignedWide;
@@ -382,6 +458,8 @@ int main() {
     misuses();
     least_costs();
     distances();
+    reads_and_writes();
+    refuses_texts();
     takes_what_has_items();
     values();
     unknown_answers();

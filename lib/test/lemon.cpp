@@ -281,6 +281,51 @@ static void other_graphs() {
     check_that("for flows too", dimacs::lemon::certify_max(edges, length, one, other, flow.flowMap())->value == 4);
 }
 
+/* Texts as graphs, and back. Parallel arcs keep their order. */
+static void texts() {
+    namespace ours = dimacs::lemon;
+    const std::string max = "p max 3 4\nn 1 s\nn 3 t\na 1 2 7\na 2 3 9\na 1 2 1\na 2 2 0\n";
+    const std::string flow = "s 8\nf 1 2 7\nf 2 3 8\nf 1 2 1\nf 2 2 0\n";
+    Graph graph;
+    Numbers capacity(graph), cost(graph), low(graph);
+    Supplies supply(graph), potential(graph);
+    Node source = graph.addNode(), target;
+    const auto arcs = ours::read_max(max, graph, capacity, source, target);
+    check_that("the arcs of a text", arcs && arcs->size() == 4 && graph.id((*arcs)[3]) == 3 &&
+                                         capacity[(*arcs)[1]] == 9 && countNodes(graph) == 3 && graph.id(source) == 0 &&
+                                         graph.id(target) == 2);
+    is("written", ours::write_max(graph, capacity, source, target), max);
+    lemon::Preflow<Graph, Numbers> solver(graph, capacity, source, target);
+    solver.run();
+    is("a solution", ours::write_solution(graph, solver.flowValue(), solver.flowMap()), flow);
+    const auto claim = ours::read_solution(flow, graph);
+    check_that("read", claim && claim->value == 8 && claim->flows[(*arcs)[2]] == 1);
+    is("of another graph", ours::read_solution("s 8\nf 1 3 8\n", graph).message(), "x solution 2 0 UnknownArc");
+    const auto yes = ours::certify_max(graph, capacity, source, target, claim->flows);
+    is("a cut", ours::write_cut(graph, yes->inside), "p cut 3 1\nu 1\n");
+
+    lemon::SmartDigraph::ArcMap<signed char> byte(graph, 1);
+    is("a capacity that doesn't fit",
+       ours::read_max("p max 2 1\nn 1 s\nn 2 t\na 1 2 128\n", graph, byte, source, target).message(),
+       "x arc 1 NumberRange");
+    check_that("all as it was", byte[(*arcs)[3]] == 1 && countArcs(graph) == 4);
+    is("a fault", ours::read_graph("p sp 2 1\na 1 3 7\n", graph, cost).message(), "x instance 2 3 NodeRange");
+
+    const std::string min = "p min 3 2\nn 1 4\nn 3 -4\na 1 2 1 5 2\na 2 3 0 9 -3\n";
+    check_that("an instance of least cost", ours::read_min(min, graph, low, capacity, cost, supply).has_value());
+    is("written", ours::write_min(graph, low, capacity, cost, supply), min);
+    for (int id = 0; id < 3; id++) potential[graph.nodeFromId(id)] = id;
+    is("potentials", ours::write_potentials(graph, potential), "p pot 3 2\ny 2 -1\ny 3 -2\n");
+    const std::string roads = "p sp 3 2\na 3 2 7\na 1 2 -7\n";
+    check_that("a graph", ours::read_graph(roads, graph, cost)->size() == 2);
+    is("written", ours::write_graph(graph, cost), roads);
+    cost[graph.arcFromId(0)] = 5;
+    graph.addNode();
+    lemon::ConstMap<Arc, Wide> wide(Wide(1) << 64);
+    throws<std::out_of_range>(
+        "a number that texts don't hold", [&] { return ours::write_graph(graph, wide); }, "x arc 0 NumberRange");
+}
+
 /* Exceptions that were moved from have what they had. */
 static void moved_exceptions() {
     const dimacs::RefusedAt<Node, Arc> at{"x node 7 NumberRange", "NumberRange", Node(lemon::INVALID), std::nullopt};
@@ -302,6 +347,7 @@ int main() {
     other_graphs();
     limits();
     missing_nodes();
+    texts();
     moved_exceptions();
     return count();
 }

@@ -17,7 +17,7 @@ enum { CASES = 400 };
 
 static const Wide LEAST = INT64_MIN, MOST = INT64_MAX;
 
-/* A random graph, with the nodes and arcs in LEMON's order. */
+/* A random graph, with the nodes and arcs by their IDs. */
 struct Sides {
     Graph graph;
     Net net;
@@ -25,19 +25,15 @@ struct Sides {
     std::vector<Graph::Arc> arcs;
 
     explicit Sides(Chance &chance) {
-        const std::size_t count = 2 + chance.below(3);
-        for (std::size_t k = 0; k < count; k++) graph.addNode();
-        for (std::size_t left = chance.below(7); left > 0; left--) graph.addArc(any(chance), any(chance));
-        std::vector<std::size_t> places(count);
-        for (Graph::NodeIt node(graph); node != lemon::INVALID; ++node) {
-            places[std::size_t(graph.id(node))] = nodes.size();
-            nodes.push_back(node);
-            net.nodes.push_back(std::to_string(graph.id(node)));
+        for (std::size_t left = 2 + chance.below(3); left > 0; left--) {
+            nodes.push_back(graph.addNode());
+            net.nodes.push_back(std::to_string(graph.id(nodes.back())));
         }
-        for (Graph::ArcIt arc(graph); arc != lemon::INVALID; ++arc) {
+        for (std::size_t left = chance.below(7); left > 0; left--) {
+            const Graph::Arc arc = graph.addArc(any(chance), any(chance));
             arcs.push_back(arc);
-            net.arcs.push_back({places[std::size_t(graph.id(graph.source(arc)))],
-                                places[std::size_t(graph.id(graph.target(arc)))], std::to_string(graph.id(arc))});
+            net.arcs.push_back({std::size_t(graph.id(graph.source(arc))), std::size_t(graph.id(graph.target(arc))),
+                                std::to_string(graph.id(arc))});
         }
     }
 
@@ -173,9 +169,8 @@ template <class Number>
 struct Search {
     const Far &far;
 
-    std::size_t place(Graph::Node node) const { return far.size() - 1 - std::size_t(Graph::id(node)); }
-    bool reached(Graph::Node node) const { return far[place(node)].has_value(); }
-    Number dist(Graph::Node node) const { return Number(far[place(node)].value()); }
+    bool reached(Graph::Node node) const { return far[std::size_t(Graph::id(node))].has_value(); }
+    Number dist(Graph::Node node) const { return Number(far[std::size_t(Graph::id(node))].value()); }
 };
 
 /* The first distance that arrays don't hold. */

@@ -1,5 +1,7 @@
-// dimacs/boost.hpp: flows and distances over the graphs and property maps of Boost, certified.
+// dimacs/boost.hpp: flows and distances over the graphs and property maps of Boost, read and certified.
 //
+//     const auto edges = dimacs::boost::read_max(text, graph, capacity, reverse, source, target);
+//     if (!edges) std::cerr << edges.message();    // x instance 4 2 NumberRange
 //     boost::push_relabel_max_flow(graph, source, target, capacity, residual, reverse, index);
 //     auto answer = dimacs::boost::certify_max(graph, source, target, capacity, residual);
 //     if (!answer) std::cerr << answer.message();  // x arc (0,3) AboveCap
@@ -14,6 +16,7 @@
 
 #include <boost/graph/graph_traits.hpp>
 #include <boost/property_map/property_map.hpp>
+#include <boost/range/iterator_range.hpp>
 
 #include <map>
 
@@ -107,15 +110,18 @@ class Index {
     using Potential = VertexMap<Node, std::int64_t>;
     using Flow = std::vector<std::pair<Arc, std::int64_t>>;
 
-    explicit Index(const G &graph) {
+    explicit Index(const G &graph) : Index(graph, ::boost::make_iterator_range(edges(graph))) {}
+
+    // The same of these edges alone.
+    template <class Edges>
+    Index(const G &graph, const Edges &some_edges) {
         auto numbering = std::make_shared<detail::Numbering<Node>>();
         for (auto range = vertices(graph); range.first != range.second; ++range.first) {
             nodes_.push_back(*range.first);
             numbering->add(*range.first, size());
         }
         numbering_ = std::move(numbering);
-        for (auto range = edges(graph); range.first != range.second; ++range.first) {
-            const Arc arc = *range.first;
+        for (const Arc &arc : some_edges) {
             add(arc, source(arc, graph), target(arc, graph));
             if (!is_directed(graph)) add(arc, target(arc, graph), source(arc, graph));
         }
@@ -279,6 +285,109 @@ dimacs::detail::CertifiedPathsOver<Index<G>> certify_paths(const G &graph, const
     };
     const auto distances = dimacs::detail::by_node(index, read), weights = index.by_arc(weight);
     return dimacs::detail::certify_paths_over(index, index.number(source_vertex), weights, distances);
+}
+
+// ---- Texts as graphs, and back ----
+
+namespace detail {
+
+// Vertices that are added to a graph, and edges between them, by their numbers from 1.
+template <class G>
+class Made {
+  public:
+    using Node = typename Index<G>::Node;
+    using Arc = typename Index<G>::Arc;
+
+    Made(G &graph, std::uint32_t count) : graph_(&graph) {
+        for (std::uint32_t k = 0; k < count; k++) vertices_.push_back(add_vertex(graph));
+    }
+
+    Node vertex(std::uint32_t number) const { return vertices_[number - 1]; }
+    Arc edge(std::uint32_t tail, std::uint32_t head) const {
+        const auto [edge, is_added] = add_edge(vertex(tail), vertex(head), *graph_);
+        if (!is_added) throw std::invalid_argument("the graph doesn't keep several edges with the same ends");
+        return edge;
+    }
+
+  private:
+    G *graph_;
+    std::vector<Node> vertices_;
+};
+
+template <class Values>
+using value_of = typename ::boost::property_traits<Values>::value_type;
+
+}  // namespace detail
+
+// Reads a maximum flow instance into a graph without vertices, and adds an edge back of capacity 0 for each arc, as
+// read_dimacs_max_flow does. A yes has the edges of the arcs, in the text's order. Refused for the fault of the text,
+// or for the first number that doesn't fit the values of the map, by `x arc 3 NumberRange`: its third arc. Then all is
+// as it was. Throws std::invalid_argument if the graph doesn't keep several edges with the same ends, and the text has
+// such arcs.
+template <class G, class Capacity, class Reverse>
+Answer<std::vector<typename Index<G>::Arc>, Refused> read_max(std::string_view text, G &graph, Capacity capacity,
+                                                              Reverse reverse, typename Index<G>::Node &source_vertex,
+                                                              typename Index<G>::Node &target_vertex) {
+    const auto it = dimacs::read_max(text);
+    if (!it) return *it.template get_if<Refused>();
+    if (auto no = dimacs::detail::unfit<detail::value_of<Capacity>>("arc", it->caps)) return *no;
+    const detail::Made<G> made(graph, it->nodes);
+    std::vector<typename Index<G>::Arc> arcs;
+    for (std::size_t k = 0; k < it->caps.size(); k++) {
+        const auto arc = made.edge(it->tails[k], it->heads[k]), back = made.edge(it->heads[k], it->tails[k]);
+        put(capacity, arc, detail::value_of<Capacity>(it->caps[k]));
+        put(capacity, back, 0);
+        put(reverse, arc, back);
+        put(reverse, back, arc);
+        arcs.push_back(arc);
+    }
+    source_vertex = made.vertex(it->source);
+    target_vertex = made.vertex(it->sink);
+    return {std::move(arcs)};
+}
+
+// The same for a graph with weights, without edges back.
+template <class G, class Weight>
+Answer<std::vector<typename Index<G>::Arc>, Refused> read_graph(std::string_view text, G &graph, Weight weight) {
+    const auto it = dimacs::read_graph(text);
+    if (!it) return *it.template get_if<Refused>();
+    if (auto no = dimacs::detail::unfit<detail::value_of<Weight>>("arc", it->weights)) return *no;
+    const detail::Made<G> made(graph, it->nodes);
+    std::vector<typename Index<G>::Arc> arcs;
+    for (std::size_t k = 0; k < it->weights.size(); k++) {
+        arcs.push_back(made.edge(it->tails[k], it->heads[k]));
+        put(weight, arcs.back(), detail::value_of<Weight>(it->weights[k]));
+    }
+    return {std::move(arcs)};
+}
+
+// The text of an instance that has these edges as its arcs, such as those that read_max gave, and all vertices.
+template <class G, class Edges, class Capacity>
+std::string write_max(const G &graph, const Edges &arcs, const typename Index<G>::Node &source_vertex,
+                      const typename Index<G>::Node &target_vertex, const Capacity &capacity) {
+    const Index<G> index(graph, arcs);
+    const auto caps = index.by_arc(capacity);
+    const auto from = index.number(source_vertex), to = index.number(target_vertex);
+    return dimacs::detail::over(index,
+                                [&] { return dimacs::write_max(dimacs::detail::max_over(index, from, to, caps)); });
+}
+
+// The same for a graph with weights.
+template <class G, class Edges, class Weight>
+std::string write_graph(const G &graph, const Edges &arcs, const Weight &weight) {
+    const Index<G> index(graph, arcs);
+    const auto weights = index.by_arc(weight);
+    return dimacs::detail::over(index, [&] { return dimacs::write_graph(dimacs::detail::graph_over(index, weights)); });
+}
+
+// The text of a solution with this value over such an instance: what each edge carries by certify_max.
+template <class G, class Edges, class Capacity, class Residual>
+std::string write_solution(const G &graph, const Edges &arcs, std::int64_t value, const Capacity &capacity,
+                           const Residual &residual) {
+    const Index<G> index(graph, arcs);
+    const auto flows = detail::flows_of(index, index.by_arc(capacity), residual);
+    return dimacs::detail::over(index,
+                                [&] { return dimacs::write_solution(value, dimacs::detail::arcs_of(index), flows); });
 }
 
 }  // namespace boost

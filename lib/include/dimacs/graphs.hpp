@@ -105,6 +105,17 @@ std::optional<std::int64_t> narrow(Number number) noexcept {
     return fits ? std::optional(narrowed) : std::nullopt;
 }
 
+// Refuses the first number of arcs or nodes that a type doesn't hold, if there is one.
+template <class Number>
+std::optional<Refused> unfit(const std::string &item, Numbers numbers) {
+    static_assert(is_integer<Number>, "whole numbers are read: the values of the map have to be integers");
+    for (std::size_t k = 0; k < numbers.size(); k++) {
+        const auto narrowed = static_cast<Number>(numbers[k]);
+        if (narrow(narrowed) != numbers[k]) return refused("x " + item + " " + std::to_string(k + 1) + " NumberRange");
+    }
+    return std::nullopt;
+}
+
 // So many numbers. `read` has the k-th, if it fits in 64 bits, and `refused` makes a refusal of it.
 template <class Read, class At>
 std::vector<std::int64_t> numbers_of(std::size_t count, const Read &read, const At &refused) {
@@ -143,6 +154,22 @@ auto over(const Index &index, const Call &call) {
     } catch (const PastLimit &it) {
         throw PastLimitAt<typename Index::Node, typename Index::Arc>(it.refused(), refused_over(index, it.refused()));
     }
+}
+
+// The arcs of a graph, by the numbers of their ends.
+struct Arcs {
+    std::uint32_t nodes;
+    Nodes tails, heads;
+};
+
+template <class Index>
+Arcs arcs_of(const Index &index) {
+    return {index.size(), index.tails(), index.heads()};
+}
+
+template <class Index>
+Graph graph_over(const Index &index, Numbers weights) {
+    return {index.size(), index.tails(), index.heads(), weights};
 }
 
 template <class Index>
@@ -205,8 +232,7 @@ using CertifiedPathsOver = Answer<Judged, RefusedOver<Index>>;
 template <class Index>
 CertifiedPathsOver<Index> certify_paths_over(const Index &index, std::uint32_t source, Numbers weights,
                                              Numbers distances) {
-    const Graph graph{index.size(), index.tails(), index.heads(), weights};
-    const auto answer = over(index, [&] { return certify_paths(graph, source, distances); });
+    const auto answer = over(index, [&] { return certify_paths(graph_over(index, weights), source, distances); });
     if (answer) return Judged{};
     return refused_over(index, *answer.template get_if<Refused>());
 }

@@ -1,5 +1,8 @@
-// dimacs/lemon.hpp: flows, cuts, potentials and distances over the graphs and maps of LEMON, judged and certified.
+// dimacs/lemon.hpp: flows, cuts, potentials and distances over the graphs and maps of LEMON, read, judged and
+// certified.
 //
+//     const auto arcs = dimacs::lemon::read_max(text, graph, capacity, source, target);
+//     if (!arcs) std::cerr << arcs.message();      // x instance 4 2 NumberRange
 //     lemon::Preflow<Graph, Map> preflow(graph, capacity, source, target);
 //     preflow.run();
 //     auto answer = dimacs::lemon::certify_max(graph, capacity, source, target, preflow.flowMap());
@@ -39,8 +42,7 @@ class Map {
     std::vector<Number> numbers_;
 };
 
-// The arcs and nodes of a graph, in the order in which LEMON goes over them. Its INVALID may have to be linked, so it
-// isn't named here.
+// The arcs and nodes of a graph, by their IDs. LEMON's INVALID may have to be linked, so it isn't named here.
 template <class G>
 class Index {
   public:
@@ -51,14 +53,12 @@ class Index {
     using Flow = Map<G, Arc, std::int64_t>;
 
     explicit Index(const G &graph) : graph_(&graph), numbers_(static_cast<std::size_t>(graph.maxNodeId() + 1)) {
-        Node node;
-        for (graph.first(node); node != ::lemon::Invalid(); graph.next(node)) {
-            nodes_.push_back(node);
-            numbers_[static_cast<std::size_t>(graph.id(node))] = size();
+        add_all(nodes_);
+        for (std::size_t k = 0; k < nodes_.size(); k++) {
+            numbers_[static_cast<std::size_t>(graph.id(nodes_[k]))] = static_cast<std::uint32_t>(k + 1);
         }
-        Arc arc;
-        for (graph.first(arc); arc != ::lemon::Invalid(); graph.next(arc)) {
-            arcs_.push_back(arc);
+        add_all(arcs_);
+        for (const Arc &arc : arcs_) {
             tails_.push_back(number(graph.source(arc)));
             heads_.push_back(number(graph.target(arc)));
         }
@@ -127,6 +127,16 @@ class Index {
     }
 
   private:
+    // LEMON goes over most graphs from the last ID to the first.
+    template <class Item>
+    void add_all(std::vector<Item> &items) {
+        Item item;
+        for (graph_->first(item); item != ::lemon::Invalid(); graph_->next(item)) items.push_back(item);
+        std::reverse(items.begin(), items.end());
+        const auto is_before = [this](const Item &it, const Item &other) { return graph_->id(it) < graph_->id(other); };
+        if (!std::is_sorted(items.begin(), items.end(), is_before)) std::sort(items.begin(), items.end(), is_before);
+    }
+
     template <class Values, class Item>
     static auto value_at(const Values &map, const Item &item) -> std::decay_t<decltype(map[item])> {
         return map[item];
@@ -138,11 +148,11 @@ class Index {
     std::vector<Arc> arcs_;
 };
 
-// The arrays of a minimum cost flow instance.
+// A minimum cost flow instance over the arcs of a graph.
 template <class G>
-struct MinArrays {
+struct IndexedMin {
     template <class Lower, class Upper, class Cost, class Supply>
-    MinArrays(const G &graph, const Lower &lower, const Upper &upper, const Cost &cost, const Supply &supply)
+    IndexedMin(const G &graph, const Lower &lower, const Upper &upper, const Cost &cost, const Supply &supply)
         : index(graph),
           lows(index.by_arc(lower)),
           caps(index.by_arc(upper)),
@@ -182,7 +192,7 @@ detail::JudgedFlowOver<Index<G>> judge_max(const G &graph, const Capacity &capac
 template <class G, class Lower, class Upper, class Cost, class Supply, class Flow>
 detail::CertifiedMinOver<Index<G>> certify_min(const G &graph, const Lower &lower, const Upper &upper, const Cost &cost,
                                                const Supply &supply, const Flow &flow) {
-    const MinArrays<G> arrays(graph, lower, upper, cost, supply);
+    const IndexedMin<G> arrays(graph, lower, upper, cost, supply);
     const auto flows = arrays.index.by_arc(flow);
     return detail::certify_min_over(arrays.index, arrays.instance(), flows);
 }
@@ -205,7 +215,7 @@ detail::CertifiedInfeasibleOver<Index<G>> certify_infeasible(const G &graph, con
 template <class G, class Lower, class Upper, class Cost, class Supply, class Flow, class Potential>
 detail::JudgedFlowOver<Index<G>> judge_min(const G &graph, const Lower &lower, const Upper &upper, const Cost &cost,
                                            const Supply &supply, const Flow &flow, const Potential &potential) {
-    const MinArrays<G> arrays(graph, lower, upper, cost, supply);
+    const IndexedMin<G> arrays(graph, lower, upper, cost, supply);
     const Index<G> &index = arrays.index;
     const auto flows = index.by_arc(flow), potentials = index.turned(index.by_node(potential));
     return detail::judge_over(index, [&] { return dimacs::judge_min(arrays.instance(), flows, potentials); });
@@ -225,6 +235,128 @@ detail::CertifiedPathsOver<Index<G>> certify_paths(const G &graph, const Length 
     });
     const auto weights = index.by_arc(length);
     return detail::certify_paths_over(index, index.number(source), weights, distances);
+}
+
+// ---- Texts as graphs, and back ----
+
+// The nodes and arcs of a graph that is made anew, in the order of a text.
+template <class G>
+struct Made {
+    Made(G &graph, std::uint32_t count, Nodes tails, Nodes heads) {
+        graph.clear();
+        for (std::uint32_t k = 0; k < count; k++) nodes.push_back(graph.addNode());
+        for (std::size_t k = 0; k < tails.size(); k++) {
+            arcs.push_back(graph.addArc(nodes[tails[k] - 1], nodes[heads[k] - 1]));
+        }
+    }
+
+    // Numbers by node or by arc, set in a map.
+    template <class Item, class Values>
+    static void set(const std::vector<Item> &items, Numbers numbers, Values &map) {
+        for (std::size_t k = 0; k < items.size(); k++) map.set(items[k], typename Values::Value(numbers[k]));
+    }
+
+    std::vector<typename G::Node> nodes;
+    std::vector<typename G::Arc> arcs;
+};
+
+// Reads a maximum flow instance into a graph and its map, in place of what they had, as readDimacsMax does. Nodes and
+// arcs have the order of their IDs, which begin with 0. A yes has the arcs. Refused for the fault of the text, or for
+// the first number that doesn't fit the values of the map, by `x arc 3 NumberRange`: its third arc. Then all is as it
+// was.
+template <class G, class Capacity>
+Answer<std::vector<typename G::Arc>, Refused> read_max(std::string_view text, G &graph, Capacity &capacity,
+                                                       typename G::Node &source, typename G::Node &target) {
+    const auto it = dimacs::read_max(text);
+    if (!it) return *it.template get_if<Refused>();
+    if (auto no = detail::unfit<typename Capacity::Value>("arc", it->caps)) return *no;
+    Made<G> made(graph, it->nodes, it->tails, it->heads);
+    made.set(made.arcs, it->caps, capacity);
+    source = made.nodes[it->source - 1];
+    target = made.nodes[it->sink - 1];
+    return std::move(made.arcs);
+}
+
+// The same for a minimum cost flow instance, as readDimacsMin.
+template <class G, class Lower, class Upper, class Cost, class Supply>
+Answer<std::vector<typename G::Arc>, Refused> read_min(std::string_view text, G &graph, Lower &lower, Upper &upper,
+                                                       Cost &cost, Supply &supply) {
+    const auto it = dimacs::read_min(text);
+    if (!it) return *it.template get_if<Refused>();
+    if (auto no = detail::unfit<typename Lower::Value>("arc", it->lows)) return *no;
+    if (auto no = detail::unfit<typename Upper::Value>("arc", it->caps)) return *no;
+    if (auto no = detail::unfit<typename Cost::Value>("arc", it->costs)) return *no;
+    if (auto no = detail::unfit<typename Supply::Value>("node", it->supplies)) return *no;
+    Made<G> made(graph, it->nodes, it->tails, it->heads);
+    made.set(made.arcs, it->lows, lower);
+    made.set(made.arcs, it->caps, upper);
+    made.set(made.arcs, it->costs, cost);
+    made.set(made.nodes, it->supplies, supply);
+    return std::move(made.arcs);
+}
+
+// The same for a graph with lengths, as readDimacsSp.
+template <class G, class Length>
+Answer<std::vector<typename G::Arc>, Refused> read_graph(std::string_view text, G &graph, Length &length) {
+    const auto it = dimacs::read_graph(text);
+    if (!it) return *it.template get_if<Refused>();
+    if (auto no = detail::unfit<typename Length::Value>("arc", it->weights)) return *no;
+    Made<G> made(graph, it->nodes, it->tails, it->heads);
+    made.set(made.arcs, it->weights, length);
+    return std::move(made.arcs);
+}
+
+// Reads a solution over the arcs of a graph, in the order of their IDs. A yes has the claimed value, and a map of
+// flows. Refused as dimacs::read_solution.
+template <class G>
+Answer<Solution<typename Index<G>::Flow>, Refused> read_solution(std::string_view text, const G &graph) {
+    const Index<G> index(graph);
+    const auto it = detail::over(index, [&] { return dimacs::read_solution(text, detail::arcs_of(index)); });
+    if (!it) return *it.template get_if<Refused>();
+    return Solution<typename Index<G>::Flow>{it->value, index.flow(it->flows)};
+}
+
+// The text of an instance. Its nodes and arcs have the order of their IDs, as in all texts that are written here.
+template <class G, class Capacity>
+std::string write_max(const G &graph, const Capacity &capacity, typename G::Node source, typename G::Node target) {
+    const Index<G> index(graph);
+    const auto caps = index.by_arc(capacity);
+    const auto instance = detail::max_over(index, index.number(source), index.number(target), caps);
+    return detail::over(index, [&] { return dimacs::write_max(instance); });
+}
+
+template <class G, class Lower, class Upper, class Cost, class Supply>
+std::string write_min(const G &graph, const Lower &lower, const Upper &upper, const Cost &cost, const Supply &supply) {
+    const IndexedMin<G> arrays(graph, lower, upper, cost, supply);
+    return detail::over(arrays.index, [&] { return dimacs::write_min(arrays.instance()); });
+}
+
+template <class G, class Length>
+std::string write_graph(const G &graph, const Length &length) {
+    const Index<G> index(graph);
+    const auto weights = index.by_arc(length);
+    return detail::over(index, [&] { return dimacs::write_graph(detail::graph_over(index, weights)); });
+}
+
+// The text of a solution with this value and an entry for each arc.
+template <class G, class Flow>
+std::string write_solution(const G &graph, std::int64_t value, const Flow &flow) {
+    const Index<G> index(graph);
+    const auto flows = index.by_arc(flow);
+    return detail::over(index, [&] { return dimacs::write_solution(value, detail::arcs_of(index), flows); });
+}
+
+// The text of a cut or a set: a map by node that is true inside.
+template <class G, class Cut>
+std::string write_cut(const G &graph, const Cut &cut) {
+    return dimacs::write_cut(Index<G>(graph).marks(cut));
+}
+
+// The text of LEMON's potentials, with the sign that texts have.
+template <class G, class Potential>
+std::string write_potentials(const G &graph, const Potential &potential) {
+    const Index<G> index(graph);
+    return dimacs::write_potentials(index.turned(index.by_node(potential)));
 }
 
 }  // namespace lemon
