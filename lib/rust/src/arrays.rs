@@ -116,7 +116,7 @@ pub struct SolvedPaths {
 }
 
 /// The library tests lengths too, but doesn't report which one is wrong.
-fn test(array: &'static str, items: usize, wanted: usize) -> Result<(), Error> {
+pub(crate) fn test(array: &'static str, items: usize, wanted: usize) -> Result<(), Error> {
     if items == wanted {
         return Ok(());
     }
@@ -124,7 +124,7 @@ fn test(array: &'static str, items: usize, wanted: usize) -> Result<(), Error> {
 }
 
 impl MaxInstance<'_> {
-    fn raw(&self) -> Result<Max, Error> {
+    pub(crate) fn raw(&self) -> Result<Max, Error> {
         let arcs = self.tails.len();
         test("heads", self.heads.len(), arcs)?;
         test("caps", self.caps.len(), arcs)?;
@@ -140,7 +140,7 @@ impl MaxInstance<'_> {
 }
 
 impl MinInstance<'_> {
-    fn raw(&self) -> Result<Min, Error> {
+    pub(crate) fn raw(&self) -> Result<Min, Error> {
         let by_arc = [("heads", self.heads.len()), ("lows", self.lows.len()), ("caps", self.caps.len())];
         for (array, items) in by_arc.into_iter().chain([("costs", self.costs.len())]) {
             test(array, items, self.tails.len())?;
@@ -159,7 +159,7 @@ impl MinInstance<'_> {
 }
 
 impl Graph<'_> {
-    fn raw(&self) -> Result<RawGraph, Error> {
+    pub(crate) fn raw(&self) -> Result<RawGraph, Error> {
         test("heads", self.heads.len(), self.tails.len())?;
         test("weights", self.weights.len(), self.tails.len())?;
         Ok(RawGraph {
@@ -172,7 +172,7 @@ impl Graph<'_> {
 }
 
 /// The line of a yes, or what the status means.
-fn line_of(status: u32, line: Room<u8>) -> Result<String, Error> {
+pub(crate) fn line_of(status: u32, line: Room<u8>) -> Result<String, Error> {
     let line = line.text()?;
     match status {
         DONE => Ok(line),

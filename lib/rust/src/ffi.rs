@@ -281,4 +281,150 @@ extern "C" {
         predecessors_room: usize,
         predecessors_needed: *mut usize,
     ) -> u32;
+
+    pub fn dimacs_read_max(
+        text: *const u8,
+        length: usize,
+        out: *mut u8,
+        room: usize,
+        needed: *mut usize,
+        nodes: *mut u32,
+        source: *mut u32,
+        sink: *mut u32,
+        tails: *mut u32,
+        tails_room: usize,
+        heads: *mut u32,
+        heads_room: usize,
+        caps: *mut i64,
+        caps_room: usize,
+        arcs: *mut usize,
+    ) -> u32;
+
+    pub fn dimacs_read_min(
+        text: *const u8,
+        length: usize,
+        out: *mut u8,
+        room: usize,
+        needed: *mut usize,
+        nodes: *mut u32,
+        tails: *mut u32,
+        tails_room: usize,
+        heads: *mut u32,
+        heads_room: usize,
+        lows: *mut i64,
+        lows_room: usize,
+        caps: *mut i64,
+        caps_room: usize,
+        costs: *mut i64,
+        costs_room: usize,
+        arcs: *mut usize,
+        supplies: *mut i64,
+        supplies_room: usize,
+        supplies_needed: *mut usize,
+    ) -> u32;
+
+    pub fn dimacs_read_graph(
+        text: *const u8,
+        length: usize,
+        out: *mut u8,
+        room: usize,
+        needed: *mut usize,
+        nodes: *mut u32,
+        tails: *mut u32,
+        tails_room: usize,
+        heads: *mut u32,
+        heads_room: usize,
+        weights: *mut i64,
+        weights_room: usize,
+        arcs: *mut usize,
+    ) -> u32;
+
+    pub fn dimacs_write_max(instance: *const Max, out: *mut u8, room: usize, needed: *mut usize) -> u32;
+
+    pub fn dimacs_write_min(instance: *const Min, out: *mut u8, room: usize, needed: *mut usize) -> u32;
+
+    pub fn dimacs_write_graph(graph: *const Graph, out: *mut u8, room: usize, needed: *mut usize) -> u32;
+
+    pub fn dimacs_read_solution(
+        nodes: u32,
+        tails: *const u32,
+        tails_length: usize,
+        heads: *const u32,
+        heads_length: usize,
+        text: *const u8,
+        length: usize,
+        out: *mut u8,
+        room: usize,
+        needed: *mut usize,
+        value: *mut i64,
+        flows: *mut i64,
+        flows_room: usize,
+        flows_needed: *mut usize,
+    ) -> u32;
+
+    pub fn dimacs_write_solution(
+        value: i64,
+        nodes: u32,
+        tails: *const u32,
+        tails_length: usize,
+        heads: *const u32,
+        heads_length: usize,
+        flows: *const i64,
+        flows_length: usize,
+        out: *mut u8,
+        room: usize,
+        needed: *mut usize,
+    ) -> u32;
+
+    pub fn dimacs_read_cut(
+        text: *const u8,
+        length: usize,
+        out: *mut u8,
+        room: usize,
+        needed: *mut usize,
+        inside: *mut u8,
+        inside_room: usize,
+        inside_needed: *mut usize,
+    ) -> u32;
+
+    pub fn dimacs_write_cut(
+        inside: *const u8,
+        inside_length: usize,
+        out: *mut u8,
+        room: usize,
+        needed: *mut usize,
+    ) -> u32;
+
+    pub fn dimacs_read_potentials(
+        text: *const u8,
+        length: usize,
+        out: *mut u8,
+        room: usize,
+        needed: *mut usize,
+        potentials: *mut i64,
+        potentials_room: usize,
+        potentials_needed: *mut usize,
+    ) -> u32;
+
+    pub fn dimacs_write_potentials(
+        potentials: *const i64,
+        potentials_length: usize,
+        out: *mut u8,
+        room: usize,
+        needed: *mut usize,
+    ) -> u32;
+
+    pub fn dimacs_read_queries(
+        text: *const u8,
+        length: usize,
+        out: *mut u8,
+        room: usize,
+        needed: *mut usize,
+        pairs: *mut u32,
+        froms: *mut u32,
+        froms_room: usize,
+        tos: *mut u32,
+        tos_room: usize,
+        count: *mut usize,
+    ) -> u32;
 }

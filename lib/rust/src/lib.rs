@@ -1,6 +1,7 @@
 //! Claims about flows and distances judged, certified and made in memory, by functions that are proved.
 //!
-//! [`arrays`] has the calls over slices, and [`texts`] those over DIMACS texts. A yes is `Ok`, and each no a variant of
+//! [`arrays`] has the calls over slices, [`texts`] those over DIMACS texts, and [`reading`] those from texts to vectors and
+//! back. A yes is `Ok`, and each no a variant of
 //! [`Error`] with its evidence: a better flow, a set whose supplies no flow can meet, or the first test that fails.
 //!
 //! ```
@@ -23,6 +24,7 @@
 pub mod arrays;
 mod error;
 mod ffi;
+pub mod reading;
 mod rooms;
 pub mod texts;
 mod words;

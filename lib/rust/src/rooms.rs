@@ -15,17 +15,17 @@ pub fn room_for(nodes: u32) -> usize {
     }
 }
 
-/// Room for items, and the number of items to hand out.
+/// Room for items that a call hands out, and their number.
 pub struct Room<T> {
     items: Vec<T>,
     needed: usize,
 }
 
-impl<T: Copy + Default> Room<T> {
+impl<T: Copy> Room<T> {
+    /// Memory that isn't touched before a call fills it.
     pub fn new(room: usize) -> Result<Room<T>, NoAnswer> {
         let mut items = Vec::new();
         items.try_reserve_exact(room)?;
-        items.resize(room, T::default());
         Ok(Room { items, needed: 0 })
     }
 
@@ -34,7 +34,7 @@ impl<T: Copy + Default> Room<T> {
     }
 
     pub fn room(&self) -> usize {
-        self.items.len()
+        self.items.capacity()
     }
 
     pub fn needed(&mut self) -> *mut usize {
@@ -42,7 +42,7 @@ impl<T: Copy + Default> Room<T> {
     }
 
     pub fn fits(&self) -> bool {
-        self.needed <= self.items.len()
+        self.needed <= self.room()
     }
 
     /// Makes enough room for all items, if there wasn't.
@@ -54,8 +54,16 @@ impl<T: Copy + Default> Room<T> {
     }
 
     /// The items that were handed out.
-    pub fn take(mut self) -> Vec<T> {
-        self.items.truncate(self.needed);
+    pub fn take(self) -> Vec<T> {
+        let count = self.needed;
+        self.first(count)
+    }
+
+    /// So many items, of which the call has reported the number elsewhere.
+    pub fn first(mut self, count: usize) -> Vec<T> {
+        let count = count.min(self.room());
+        // The call has written them.
+        unsafe { self.items.set_len(count) };
         self.items
     }
 }

@@ -1,6 +1,7 @@
 //! What the documentation doesn't show: refusals with their places, misuse, numbers past 64 bits, and longer texts.
 
 use dimacs::arrays::{self, Graph, MaxInstance, MinInstance};
+use dimacs::reading::{self, Arcs};
 use dimacs::texts::{self, Distance, Kind, Paths};
 use dimacs::{Error, Place, Refused};
 
@@ -108,4 +109,42 @@ fn answers_are_explained() {
     assert!(yes.starts_with("v max 6\non the source's side of the cut, 1 of the 4 nodes: 1\n"));
     assert_eq!(texts::explain("solve-max I S C --limit 0", max, "", "").as_deref(), Ok("g limit\n"));
     assert_eq!(texts::explain("judge-max I S", max, flow, cut), Err(Error::NoCommand));
+}
+
+#[test]
+fn what_is_read_is_written() {
+    let (max, min) = ("p max 3 2\nn 1 s\nn 3 t\na 1 2 5\na 2 3 4\n", "p min 9 1\nn 1 3\nn 9 -3\na 1 9 0 5 -2\n");
+    let (graph, solution) = ("p sp 3 2\na 3 2 7\na 1 2 -7\n", "s 4\nf 1 2 4\nf 2 3 4\n");
+    let network = reading::read_max(max).unwrap();
+    assert_eq!(reading::write_max(&network.instance()).as_deref(), Ok(max));
+    assert_eq!(reading::write_min(&reading::read_min(min).unwrap().instance()).as_deref(), Ok(min));
+    assert_eq!(reading::write_graph(&reading::read_graph(graph).unwrap().graph()).as_deref(), Ok(graph));
+    let claim = reading::read_solution(solution, network.instance()).unwrap();
+    assert_eq!(reading::write_solution(claim.value, network.instance(), &claim.flows).as_deref(), Ok(solution));
+    let set = "p cut 99 2\nu 2\nu 98\n";
+    assert_eq!(reading::write_cut(&reading::read_cut(set).unwrap()).as_deref(), Ok(set));
+    let potentials = "p pot 99 1\ny 98 -7\n";
+    assert_eq!(reading::write_potentials(&reading::read_potentials(potentials).unwrap()).as_deref(), Ok(potentials));
+}
+
+#[test]
+fn what_is_not_read_has_its_line() {
+    let long = format!("p sp 2 1\na 1 2 {}\n", "7".repeat(1 << 20));
+    let said = |it: Result<_, arrays::Error>| it.map(|_: reading::GraphArrays| ()).unwrap_err().to_string();
+    assert_eq!(said(reading::read_graph("p sp 2 268435456\n")), "x instance 2 0 TooFew");
+    assert_eq!(said(reading::read_graph("p sp 2 1\na 1 2 7\0\n")), "x instance 2 4 BadNumber");
+    assert_eq!(said(reading::read_graph(long)), "x instance 2 0 LineTooLong");
+    let most = "9223372036854775808";
+    let far = reading::read_potentials(format!("p pot 2 1\ny 2 {most}\n"));
+    assert_eq!(far, Err(Error::Refused(refused(Place::Node(2), "NumberRange"))));
+    let arcs = Arcs::from(ARC);
+    let much = reading::read_solution(format!("s {most}\n"), arcs);
+    assert_eq!(much.unwrap_err().to_string(), "x solution 1 2 NumberRange");
+    let few = Arcs { nodes: 1, ..arcs };
+    assert_eq!(reading::read_solution("s 0\n", few), Err(Error::PastLimit(refused(Place::Arc(1), "NodeRange"))));
+    let short = Arcs { heads: &[], ..arcs };
+    assert_eq!(
+        reading::write_solution(0, short, &[0]),
+        Err(Error::WrongLength { array: "heads", items: 0, wanted: 1 })
+    );
 }

@@ -1,7 +1,7 @@
 //! Each allocation of the crate is refused in turn: a call returns that it is out of memory, and the process goes on.
 
 use dimacs::arrays::{self, Graph, MaxInstance, MinInstance};
-use dimacs::{texts, Error};
+use dimacs::{reading, texts, Error};
 use std::alloc::{GlobalAlloc, Layout, System};
 use std::cell::Cell;
 use std::fmt::Debug;
@@ -120,6 +120,28 @@ fn over_texts() {
         refuse_each(|| texts::spread_max(pipe, "s 7\nf 1 2 7\n")),
         refuse_each(|| texts::convert(texts::Kind::Cut, "p cut 4 1\nu 2\n")),
         refuse_each(|| texts::show(texts::Kind::Cut, "p cut 4 1\nu 2\n")),
+    ];
+    assert!(counts.iter().all(|&count| count > 0), "{counts:?}");
+}
+
+#[test]
+fn from_texts_to_vectors_and_back() {
+    let pipe = "p max 2 1\nn 1 s\nn 2 t\na 1 2 7\n";
+    let counts = [
+        refuse_each(|| reading::read_max(pipe)),
+        refuse_each(|| reading::read_max("p max 2 1\n")),
+        refuse_each(|| reading::read_min("p min 99 1\na 1 2 0 5 2\n")),
+        refuse_each(|| reading::read_graph("p sp 2 1\na 1 2 7\n")),
+        refuse_each(|| reading::read_queries("p aux sp p2p 1\nq 1 2\n")),
+        refuse_each(|| reading::read_solution("s 7\nf 1 2 7\n", STREET)),
+        refuse_each(|| reading::read_cut("p cut 99 1\nu 2\n")),
+        refuse_each(|| reading::read_potentials("p pot 99 1\ny 2 7\n")),
+        refuse_each(|| reading::write_max(&PIPES)),
+        refuse_each(|| reading::write_min(&ROAD)),
+        refuse_each(|| reading::write_graph(&STREET)),
+        refuse_each(|| reading::write_solution(4, PIPES, &[4, 4])),
+        refuse_each(|| reading::write_cut(&[true; 200])),
+        refuse_each(|| reading::write_potentials(&[7, -7])),
     ];
     assert!(counts.iter().all(|&count| count > 0), "{counts:?}");
 }

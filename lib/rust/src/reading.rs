@@ -1,0 +1,486 @@
+//! The calls that read DIMACS texts into vectors, and write them. Texts are `&str`, bytes, or anything else that has bytes.
+//!
+//! Nodes and arcs are numbered from 1, as in [`arrays`](crate::arrays), whose calls take what is read here. Each call that
+//! reads returns [`Error::Refused`] for the fault of the text. Each call that writes returns the canonical text, which read
+//! again is the same, or [`Error::PastLimit`] or [`Error::WrongLength`]. All may return [`Error::OutOfMemory`] and
+//! [`Error::UnknownAnswer`].
+//!
+//! ```
+//! # use dimacs::{arrays, reading};
+//! let network = reading::read_max("p max 3 2\nn 1 s\nn 3 t\na 1 2 5\na 2 3 4\n")?;
+//! let flows = vec![4; network.caps.len()]; // by a solver
+//! let yes = arrays::certify_max(&network.instance(), &flows)?;
+//! assert_eq!(yes.value, 4);
+//! # Ok::<(), arrays::Error>(())
+//! ```
+
+use crate::arrays::{line_of, test, Error, Graph, MaxInstance, MinInstance};
+use crate::ffi;
+use crate::rooms::{Room, LINE};
+
+/// A maximum flow instance that owns its arrays.
+#[derive(Clone, Debug, PartialEq, Eq)]
+pub struct MaxArrays {
+    /// How many nodes there are.
+    pub nodes: u32,
+    /// Where flow comes from.
+    pub source: u32,
+    /// Where it goes to.
+    pub sink: u32,
+    /// By arc.
+    pub tails: Vec<u32>,
+    /// By arc.
+    pub heads: Vec<u32>,
+    /// By arc.
+    pub caps: Vec<i64>,
+}
+
+/// A minimum cost flow instance that owns its arrays.
+#[derive(Clone, Debug, PartialEq, Eq)]
+pub struct MinArrays {
+    /// How many nodes there are.
+    pub nodes: u32,
+    /// By arc.
+    pub tails: Vec<u32>,
+    /// By arc.
+    pub heads: Vec<u32>,
+    /// By arc.
+    pub lows: Vec<i64>,
+    /// By arc.
+    pub caps: Vec<i64>,
+    /// By arc.
+    pub costs: Vec<i64>,
+    /// By node.
+    pub supplies: Vec<i64>,
+}
+
+/// A graph that owns its arrays.
+#[derive(Clone, Debug, PartialEq, Eq)]
+pub struct GraphArrays {
+    /// How many nodes there are.
+    pub nodes: u32,
+    /// By arc.
+    pub tails: Vec<u32>,
+    /// By arc.
+    pub heads: Vec<u32>,
+    /// By arc.
+    pub weights: Vec<i64>,
+}
+
+/// A solution over an instance.
+#[derive(Clone, Debug, PartialEq, Eq)]
+pub struct Solution {
+    /// The value that it claims.
+    pub value: i64,
+    /// An amount for each arc.
+    pub flows: Vec<i64>,
+}
+
+/// What queries ask for.
+#[derive(Clone, Debug, PartialEq, Eq)]
+pub enum Queries {
+    /// The distances from each of these nodes to all nodes.
+    Sources(Vec<u32>),
+    /// The distances from one node to another.
+    Pairs(Vec<(u32, u32)>),
+}
+
+impl MaxArrays {
+    /// The instance in slices of these vectors.
+    pub fn instance(&self) -> MaxInstance<'_> {
+        let MaxArrays { nodes, source, sink, tails, heads, caps } = self;
+        MaxInstance { nodes: *nodes, source: *source, sink: *sink, tails, heads, caps }
+    }
+}
+
+impl MinArrays {
+    /// The instance in slices of these vectors.
+    pub fn instance(&self) -> MinInstance<'_> {
+        let MinArrays { nodes, tails, heads, lows, caps, costs, supplies } = self;
+        MinInstance { nodes: *nodes, tails, heads, lows, caps, costs, supplies }
+    }
+}
+
+impl GraphArrays {
+    /// The graph in slices of these vectors.
+    pub fn graph(&self) -> Graph<'_> {
+        let GraphArrays { nodes, tails, heads, weights } = self;
+        Graph { nodes: *nodes, tails, heads, weights }
+    }
+}
+
+/// The nodes of an instance of any kind, and the ends of its arcs: all that matters of it for a solution.
+#[derive(Clone, Copy, Debug)]
+pub struct Arcs<'a> {
+    /// How many nodes there are.
+    pub nodes: u32,
+    /// By arc.
+    pub tails: &'a [u32],
+    /// By arc.
+    pub heads: &'a [u32],
+}
+
+impl<'a> From<MaxInstance<'a>> for Arcs<'a> {
+    fn from(it: MaxInstance<'a>) -> Self {
+        Arcs { nodes: it.nodes, tails: it.tails, heads: it.heads }
+    }
+}
+
+impl<'a> From<MinInstance<'a>> for Arcs<'a> {
+    fn from(it: MinInstance<'a>) -> Self {
+        Arcs { nodes: it.nodes, tails: it.tails, heads: it.heads }
+    }
+}
+
+impl<'a> From<Graph<'a>> for Arcs<'a> {
+    fn from(it: Graph<'a>) -> Self {
+        Arcs { nodes: it.nodes, tails: it.tails, heads: it.heads }
+    }
+}
+
+/// The number of lines: at least as many as there are arcs.
+fn lines(text: &[u8]) -> usize {
+    text.iter().filter(|&&it| it == b'\n').count() + 1
+}
+
+/// Reads a maximum flow instance.
+///
+/// ```
+/// # use dimacs::reading::read_max;
+/// let pipe = read_max("p max 2 1\nn 1 s\nn 2 t\na 1 2 7\n").unwrap();
+/// assert_eq!((pipe.nodes, pipe.source, pipe.sink, pipe.caps), (2, 1, 2, vec![7]));
+/// assert_eq!(read_max("p max 2 1\nn 1 s\nn 2 t\na 1 3 7\n").unwrap_err().to_string(), "x instance 4 3 NodeRange");
+/// ```
+pub fn read_max(text: impl AsRef<[u8]>) -> Result<MaxArrays, Error> {
+    let text = text.as_ref();
+    let (mut line, most) = (Room::new(LINE)?, lines(text));
+    let (mut tails, mut heads, mut caps) = (Room::new(most)?, Room::new(most)?, Room::new(most)?);
+    let (mut nodes, mut source, mut sink, mut arcs) = (0, 0, 0, 0);
+    // The pointers and lengths are those of slices that outlive the call, and what is written is borrowed alone. So it is
+    // in all calls here.
+    let status = unsafe {
+        ffi::dimacs_read_max(
+            text.as_ptr(),
+            text.len(),
+            line.at(),
+            line.room(),
+            line.needed(),
+            &mut nodes,
+            &mut source,
+            &mut sink,
+            tails.at(),
+            tails.room(),
+            heads.at(),
+            heads.room(),
+            caps.at(),
+            caps.room(),
+            &mut arcs,
+        )
+    };
+    line_of(status, line)?;
+    let (tails, heads, caps) = (tails.first(arcs), heads.first(arcs), caps.first(arcs));
+    Ok(MaxArrays { nodes, source, sink, tails, heads, caps })
+}
+
+/// Reads a minimum cost flow instance.
+///
+/// ```
+/// # use dimacs::reading::read_min;
+/// let road = read_min("p min 2 1\nn 1 3\nn 2 -3\na 1 2 0 5 2\n").unwrap();
+/// assert_eq!((road.costs, road.supplies), (vec![2], vec![3, -3]));
+/// ```
+pub fn read_min(text: impl AsRef<[u8]>) -> Result<MinArrays, Error> {
+    let text = text.as_ref();
+    let most = lines(text);
+    let (mut tails, mut heads) = (Room::new(most)?, Room::new(most)?);
+    let (mut lows, mut caps, mut costs) = (Room::new(most)?, Room::new(most)?, Room::new(most)?);
+    let (mut line, mut supplies) = (Room::new(LINE)?, Room::new(most)?);
+    let (mut nodes, mut arcs) = (0, 0);
+    loop {
+        let status = unsafe {
+            ffi::dimacs_read_min(
+                text.as_ptr(),
+                text.len(),
+                line.at(),
+                line.room(),
+                line.needed(),
+                &mut nodes,
+                tails.at(),
+                tails.room(),
+                heads.at(),
+                heads.room(),
+                lows.at(),
+                lows.room(),
+                caps.at(),
+                caps.room(),
+                costs.at(),
+                costs.room(),
+                &mut arcs,
+                supplies.at(),
+                supplies.room(),
+                supplies.needed(),
+            )
+        };
+        if supplies.fits() {
+            line_of(status, line)?;
+            break;
+        }
+        supplies.grow()?; // nodes have no line each
+    }
+    let (tails, heads, lows) = (tails.first(arcs), heads.first(arcs), lows.first(arcs));
+    let (caps, costs, supplies) = (caps.first(arcs), costs.first(arcs), supplies.take());
+    Ok(MinArrays { nodes, tails, heads, lows, caps, costs, supplies })
+}
+
+/// Reads a graph.
+///
+/// ```
+/// # use dimacs::reading::read_graph;
+/// assert_eq!(read_graph("p sp 2 1\na 1 2 7\n").unwrap().weights, [7]);
+/// ```
+pub fn read_graph(text: impl AsRef<[u8]>) -> Result<GraphArrays, Error> {
+    let text = text.as_ref();
+    let (mut line, most) = (Room::new(LINE)?, lines(text));
+    let (mut tails, mut heads, mut weights) = (Room::new(most)?, Room::new(most)?, Room::new(most)?);
+    let (mut nodes, mut arcs) = (0, 0);
+    let status = unsafe {
+        ffi::dimacs_read_graph(
+            text.as_ptr(),
+            text.len(),
+            line.at(),
+            line.room(),
+            line.needed(),
+            &mut nodes,
+            tails.at(),
+            tails.room(),
+            heads.at(),
+            heads.room(),
+            weights.at(),
+            weights.room(),
+            &mut arcs,
+        )
+    };
+    line_of(status, line)?;
+    Ok(GraphArrays { nodes, tails: tails.first(arcs), heads: heads.first(arcs), weights: weights.first(arcs) })
+}
+
+/// Reads queries.
+///
+/// ```
+/// # use dimacs::reading::{read_queries, Queries};
+/// assert_eq!(read_queries("p aux sp p2p 1\nq 1 2\n"), Ok(Queries::Pairs(vec![(1, 2)])));
+/// assert_eq!(read_queries("p aux sp ss 1\ns 1\n"), Ok(Queries::Sources(vec![1])));
+/// ```
+pub fn read_queries(text: impl AsRef<[u8]>) -> Result<Queries, Error> {
+    let text = text.as_ref();
+    let (mut line, most) = (Room::new(LINE)?, lines(text));
+    let (mut froms, mut tos) = (Room::new(most)?, Room::new(most)?);
+    let (mut pairs, mut count) = (0, 0);
+    let status = unsafe {
+        ffi::dimacs_read_queries(
+            text.as_ptr(),
+            text.len(),
+            line.at(),
+            line.room(),
+            line.needed(),
+            &mut pairs,
+            froms.at(),
+            froms.room(),
+            tos.at(),
+            tos.room(),
+            &mut count,
+        )
+    };
+    line_of(status, line)?;
+    let froms = froms.first(count);
+    if pairs == 0 {
+        return Ok(Queries::Sources(froms));
+    }
+    let mut found = Vec::new();
+    found.try_reserve_exact(count).map_err(|_| Error::OutOfMemory)?;
+    found.extend(froms.into_iter().zip(tos.first(count)));
+    Ok(Queries::Pairs(found))
+}
+
+/// Reads a solution over the arcs of an instance. The k-th entry with given ends belongs to the k-th arc with them; an arc
+/// without one carries 0. [`Error::Refused`] also for an entry that belongs to no arc, and for a value that doesn't fit in 64
+/// bits. [`Error::WrongLength`] and [`Error::PastLimit`] of the arcs.
+///
+/// ```
+/// # use dimacs::reading::{read_max, read_solution};
+/// let pipe = read_max("p max 2 2\nn 1 s\nn 2 t\na 1 2 7\na 1 2 5\n").unwrap();
+/// assert_eq!(read_solution("s 9\nf 1 2 7\nf 1 2 2\n", pipe.instance()).unwrap().flows, [7, 2]);
+/// assert_eq!(read_solution("s 9\nf 2 1 9\n", pipe.instance()).unwrap_err().to_string(), "x solution 2 0 UnknownArc");
+/// ```
+pub fn read_solution<'a>(text: impl AsRef<[u8]>, arcs: impl Into<Arcs<'a>>) -> Result<Solution, Error> {
+    let (text, Arcs { nodes, tails, heads }) = (text.as_ref(), arcs.into());
+    test("heads", heads.len(), tails.len())?;
+    let (mut line, mut flows, mut value) = (Room::new(LINE)?, Room::new(tails.len())?, 0);
+    let status = unsafe {
+        ffi::dimacs_read_solution(
+            nodes,
+            tails.as_ptr(),
+            tails.len(),
+            heads.as_ptr(),
+            heads.len(),
+            text.as_ptr(),
+            text.len(),
+            line.at(),
+            line.room(),
+            line.needed(),
+            &mut value,
+            flows.at(),
+            flows.room(),
+            flows.needed(),
+        )
+    };
+    line_of(status, line)?;
+    Ok(Solution { value, flows: flows.take() })
+}
+
+/// A call that reads a text into an array by node.
+type CallByNode<T> =
+    unsafe extern "C" fn(*const u8, usize, *mut u8, usize, *mut usize, *mut T, usize, *mut usize) -> u32;
+
+fn read_by_node<T: Copy>(call: CallByNode<T>, text: &[u8]) -> Result<Room<T>, Error> {
+    let (mut line, mut items) = (Room::new(LINE)?, Room::new(lines(text))?);
+    loop {
+        let status = unsafe {
+            call(
+                text.as_ptr(),
+                text.len(),
+                line.at(),
+                line.room(),
+                line.needed(),
+                items.at(),
+                items.room(),
+                items.needed(),
+            )
+        };
+        if items.fits() {
+            return line_of(status, line).map(|_| items);
+        }
+        items.grow()?;
+    }
+}
+
+/// Reads a cut or a set: by node, whether it is inside.
+///
+/// ```
+/// # use dimacs::reading::read_cut;
+/// assert_eq!(read_cut("p cut 3 1\nu 2\n"), Ok(vec![false, true, false]));
+/// ```
+pub fn read_cut(text: impl AsRef<[u8]>) -> Result<Vec<bool>, Error> {
+    Ok(read_by_node(ffi::dimacs_read_cut, text.as_ref())?.marks()?)
+}
+
+/// Reads potentials, by node. [`Error::Refused`] also for the first one that doesn't fit in 64 bits.
+///
+/// ```
+/// # use dimacs::reading::read_potentials;
+/// assert_eq!(read_potentials("p pot 3 1\ny 2 -7\n"), Ok(vec![0, -7, 0]));
+/// ```
+pub fn read_potentials(text: impl AsRef<[u8]>) -> Result<Vec<i64>, Error> {
+    Ok(read_by_node(ffi::dimacs_read_potentials, text.as_ref())?.take())
+}
+
+/// Makes a call that writes about so many lines, again if they are longer than the room.
+fn write(lines: usize, call: impl Fn(*mut u8, usize, *mut usize) -> u32) -> Result<String, Error> {
+    let mut text = Room::new(LINE + 32 * lines)?;
+    loop {
+        let status = call(text.at(), text.room(), text.needed());
+        if text.fits() {
+            return line_of(status, text);
+        }
+        text.grow()?;
+    }
+}
+
+/// The text of a maximum flow instance.
+///
+/// ```
+/// # use dimacs::{arrays::MaxInstance, reading::write_max};
+/// let pipe = MaxInstance { nodes: 2, source: 1, sink: 2, tails: &[1], heads: &[2], caps: &[7] };
+/// assert_eq!(write_max(&pipe).unwrap(), "p max 2 1\nn 1 s\nn 2 t\na 1 2 7\n");
+/// ```
+pub fn write_max(instance: &MaxInstance) -> Result<String, Error> {
+    let raw = instance.raw()?;
+    write(instance.tails.len(), |at, room, needed| unsafe { ffi::dimacs_write_max(&raw, at, room, needed) })
+}
+
+/// The text of a minimum cost flow instance.
+///
+/// ```
+/// # use dimacs::reading::{read_min, write_min};
+/// let text = "p min 2 1\nn 1 3\nn 2 -3\na 1 2 0 5 2\n";
+/// assert_eq!(write_min(&read_min(text).unwrap().instance()).unwrap(), text);
+/// ```
+pub fn write_min(instance: &MinInstance) -> Result<String, Error> {
+    let (raw, lines) = (instance.raw()?, instance.tails.len() + instance.supplies.len());
+    write(lines, |at, room, needed| unsafe { ffi::dimacs_write_min(&raw, at, room, needed) })
+}
+
+/// The text of a graph.
+///
+/// ```
+/// # use dimacs::{arrays::Graph, reading::write_graph};
+/// let street = Graph { nodes: 2, tails: &[1], heads: &[2], weights: &[7] };
+/// assert_eq!(write_graph(&street).unwrap(), "p sp 2 1\na 1 2 7\n");
+/// ```
+pub fn write_graph(graph: &Graph) -> Result<String, Error> {
+    let raw = graph.raw()?;
+    write(graph.tails.len(), |at, room, needed| unsafe { ffi::dimacs_write_graph(&raw, at, room, needed) })
+}
+
+/// The text of a solution that claims a value, with an entry for each arc of an instance, in their order.
+///
+/// ```
+/// # use dimacs::reading::{write_solution, Arcs};
+/// let arcs = Arcs { nodes: 3, tails: &[1, 2], heads: &[2, 3] };
+/// assert_eq!(write_solution(4, arcs, &[4, 4]).unwrap(), "s 4\nf 1 2 4\nf 2 3 4\n");
+/// ```
+pub fn write_solution<'a>(value: i64, arcs: impl Into<Arcs<'a>>, flows: &[i64]) -> Result<String, Error> {
+    let Arcs { nodes, tails, heads } = arcs.into();
+    test("heads", heads.len(), tails.len())?;
+    test("flows", flows.len(), tails.len())?;
+    write(flows.len(), |at, room, needed| unsafe {
+        ffi::dimacs_write_solution(
+            value,
+            nodes,
+            tails.as_ptr(),
+            tails.len(),
+            heads.as_ptr(),
+            heads.len(),
+            flows.as_ptr(),
+            flows.len(),
+            at,
+            room,
+            needed,
+        )
+    })
+}
+
+/// The text of a cut or a set, given by node.
+///
+/// ```
+/// # use dimacs::reading::write_cut;
+/// assert_eq!(write_cut(&[false, true]).unwrap(), "p cut 2 1\nu 2\n");
+/// ```
+pub fn write_cut(inside: &[bool]) -> Result<String, Error> {
+    // A bool is a byte that is 0 or 1.
+    write(inside.len() / 4, |at, room, needed| unsafe {
+        ffi::dimacs_write_cut(inside.as_ptr().cast(), inside.len(), at, room, needed)
+    })
+}
+
+/// The text of potentials, given by node.
+///
+/// ```
+/// # use dimacs::reading::write_potentials;
+/// assert_eq!(write_potentials(&[0, -7]).unwrap(), "p pot 2 1\ny 2 -7\n");
+/// ```
+pub fn write_potentials(potentials: &[i64]) -> Result<String, Error> {
+    write(potentials.len(), |at, room, needed| unsafe {
+        ffi::dimacs_write_potentials(potentials.as_ptr(), potentials.len(), at, room, needed)
+    })
+}
