@@ -6,8 +6,8 @@
 #
 #   recipes/check.sh [BINARY]
 #
-# BINARY is the built `dimacs`; without it the variable DIMACS, or else crates/dimacs/out/dimacs. The recipes in Python, and
-# those that judge in their own process, need the library too, in the folder BUILD.
+# BINARY is the built `dimacs`; without it the variable DIMACS, or else crates/dimacs/out/dimacs. The recipes in Python and
+# C++ need the library too, in the folder BUILD.
 #
 # Environment:
 #   PYTHON   the Python that has the packages; python3
@@ -122,19 +122,17 @@ is_there() {
 lacks() {
     if ! is_there "$2" "$3"; then
         echo "$2 $3"
-    elif [[ $1 == *.py || $1 == *_library.* ]] && [ ! -e "$DIMACS_LIBRARY" ]; then
+    elif [[ $1 != *.sh ]] && [ ! -e "$DIMACS_LIBRARY" ]; then
         echo "the library"
     fi
 }
 
 # Builds a recipe in C++. lemon_scaling is lemon_min with its other solver.
 build() {
-    local linked=()
-    ! is_in_process "$1" || linked=(-x none "$build/libdimacs.a")
     case $1 in
         lemon_scaling.cpp) sed 's/NetworkSimplex</CostScaling</' "$here/lemon_min.cpp" ;;
         *) cat "$here/$1" ;;
-    esac | "${CXX:-g++}" -O2 -std=c++17 -I"$lib/include" -I"$here" -o "$dir/${1%.cpp}" -x c++ - "${linked[@]}"
+    esac | "${CXX:-g++}" -O2 -std=c++17 -I"$lib/include" -I"$here" -o "$dir/${1%.cpp}" -x c++ - -x none "$build/libdimacs.a"
 }
 
 # The same with a program to run it: solve RECIPE TEXT..

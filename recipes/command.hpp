@@ -1,20 +1,22 @@
-// Runs dimacs for the recipes in C++. Copy this file with the one that you change.
+// What the recipes in C++ share: files, and how they run dimacs. Copy this file with the one that you change.
 #include <sys/wait.h>
 #include <unistd.h>
 
 #include <cstdio>
 #include <cstdlib>
+#include <fstream>
 #include <iostream>
+#include <iterator>
+#include <string>
 #include <vector>
 
 /// Runs dimacs, and returns its exit status. The variable DIMACS names it, if it isn't on the path.
-inline int run(std::vector<const char*> words, bool is_shown = true) {
+inline int run(std::vector<const char*> words) {
     const char* program = std::getenv("DIMACS") ? std::getenv("DIMACS") : "dimacs";
     words.insert(words.begin(), program);
     words.push_back(nullptr);
     const pid_t child = fork();
     if (child == 0) {
-        if (!is_shown) std::freopen("/dev/null", "w", stdout), std::freopen("/dev/null", "w", stderr);
         execvp(program, const_cast<char**>(words.data()));
         std::cerr << "can't run " << program << ". Put dimacs on the path, or name it by DIMACS" << std::endl;
         _exit(3);
@@ -24,7 +26,14 @@ inline int run(std::vector<const char*> words, bool is_shown = true) {
     return WIFEXITED(status) ? WEXITSTATUS(status) : 3;
 }
 
-/// 0 if a text has no fault. Else dimacs explains it, and a recipe ends with this status: it reads a text as it comes.
-inline int test(const char* kind, const char* path) {
-    return run({"show", kind, path}, false) == 0 ? 0 : run({"explain", "show", kind, path});
+/// Has dimacs explain the fault of a text, and returns its exit status.
+inline int explain(const char* kind, const char* path) { return run({"explain", "show", kind, path}); }
+
+/// The text of a file. The program ends if it can't be opened.
+inline std::string read(const char* path) {
+    std::ifstream file(path, std::ios::binary);
+    if (!file) std::cerr << "can't open " << path << '\n', std::exit(3);
+    return {std::istreambuf_iterator<char>(file), {}};
 }
+
+inline void write(const char* path, const std::string& text) { std::ofstream(path, std::ios::binary) << text; }
