@@ -70,14 +70,15 @@ def printed(command):
     return subprocess.run(command, capture_output=True, text=True, check=False).stdout
 
 
-def measure_in_turn(commands, rounds):
+def measure_in_turn(commands, rounds, run=measure):
+    """What the runs of each command took, as `run` measures one."""
     taken = {name: Rounds() for name in commands}
     begun = time.monotonic()
     for turn in range(MORE_ROUNDS * rounds):
         if turn >= rounds and time.monotonic() - begun > SHORT_ROUND * rounds:
             break
         for name in list(commands)[:: -1 if turn % 2 else 1]:
-            taken[name].runs.append(measure(commands[name]))
+            taken[name].runs.append(run(commands[name]))
     return taken
 
 

@@ -1,48 +1,71 @@
-"""what other programs take to read an instance, and dimacs to judge it with its claim and its certificate"""
+"""what dimacs and other programs take to read an instance into arrays or a graph, and dimacs to judge it
 
+The seconds of programs in Python are without those of its start. A program that takes over a minute is left out.
+"""
+
+import os
+import subprocess
 import sys
 
-from measure import HERE, PYTHON, head, measure_in_turn, printed, row
+from measure import HERE, PYTHON, head, measure_in_turn, printed, row, wants
+from measure import measure as run
 from texts import declared
 from works import baseline
 
-SIZES, ROUNDS, PROGRAMS = "20", 3, ["lemon", "igraph", "glpk", "boost"]
+SIZES, ROUNDS, PROGRAMS = "20", 3, ["reading", "lemon", "igraph", "glpk", "boost"]
+MOST = 60
 
-# the name of a peer, its package, its command, and the kinds that it reads
-PEERS = [
-    ("LEMON", "liblemon-dev", ["./lemon"], ["max", "min", "gr"]),
-    ("igraph", "libigraph-dev", ["./igraph"], ["max"]),
-    ("GLPK", "libglpk-dev", ["./glpk"], ["max", "min"]),
-    ("Boost", "libboost-graph-dev", ["./boost"], ["max"]),
-    ("networkx", "python3-networkx", [PYTHON, f"{HERE}/peers/with_networkx.py"], ["max", "min", "gr"]),
+# the name of a program, its package, its command, and the kinds that it reads
+FROM_PYTHON = [PYTHON, f"{HERE}/peers/reading.py"]
+READERS = [
+    ("dimacs, into vectors of C++", "", ["./reading", "vectors"], ["max", "min", "gr"]),
+    ("dimacs, into a graph of LEMON", "", ["./reading", "lemon"], ["max", "min", "gr"]),
+    ("dimacs, into a graph of Boost", "", ["./reading", "boost"], ["max", "gr"]),
+    ("dimacs, from Python", "", [*FROM_PYTHON, "dimacs"], ["max", "min", "gr"]),
+    ("LEMON", "liblemon-dev", ["./lemon", "read"], ["max", "min", "gr"]),
+    ("igraph", "libigraph-dev", ["./igraph", "read"], ["max"]),
+    ("GLPK", "libglpk-dev", ["./glpk", "read"], ["max", "min"]),
+    ("Boost", "libboost-graph-dev", ["./boost", "read"], ["max"]),
+    ("igraph, from Python", "python3-igraph", [*FROM_PYTHON, "igraph"], ["max"]),
+    ("pandas.read_csv", "python3-pandas", [*FROM_PYTHON, "pandas"], ["max", "min", "gr"]),
+    ("numpy.loadtxt", "python3-numpy", [*FROM_PYTHON, "numpy"], ["max", "min", "gr"]),
+    ("networkx", "python3-networkx", [PYTHON, f"{HERE}/peers/with_networkx.py", "read"], ["max", "min", "gr"]),
 ]
-JUDGING, READING = "dimacs judges", "dimacs reads"
+JUDGING, SHOWING = "dimacs judges", "dimacs reads alone (`show`)"
+
+
+def read(command):
+    """What a run took, without what it says to be no part of reading."""
+    taken = run(command, MOST, subprocess.PIPE)
+    words = taken.printed.split()
+    return taken._replace(cpu=float(words[2])) if len(words) == 3 and words[0] != "v" else taken
 
 
 def has_read(command, instance):
-    """Whether the peer is there and finds as many nodes and arcs as there are."""
-    try:
-        return printed(command).split() == list(map(str, declared(instance)))
-    except FileNotFoundError:
-        return False
+    """Whether a program is there and finds as many nodes and arcs as there are."""
+    return read(command).printed.split()[:2] == list(map(str, declared(instance)))
 
 
 def cells(judge, show, asked):
-    """The processor time of each program on the instance of these two works, and its quotient by that of judging."""
+    """The processor time of each program on the instance of these two works, its quotient by that of show, and its peak."""
     kind, instance = show.words[1], show.files[0]
-    commands = {name: [asked.binary, *it.words, *it.files] for name, it in ((JUDGING, judge), (READING, show))}
+    commands = {name: [asked.binary, *it.words, *it.files] for name, it in ((JUDGING, judge), (SHOWING, show))}
     for command in commands.values():
         if not printed(command).startswith(("v", "i")):
             sys.exit(f"no answer: {' '.join(command)}")
-    for name, _, command, kinds in PEERS:
-        command = [*command, "read", kind, instance]
-        if kind in kinds and has_read(command, instance):
+    for name, _, command, kinds in READERS:
+        command = [*command, kind, instance]
+        if kind in kinds and wants(f"{kind}, {name}") and has_read(command, instance):
             commands[name] = command
-    taken = measure_in_turn(commands, asked.rounds)
-    return {name: f"{runs.cpu():.2f} ({runs.ratio(taken[JUDGING])[0]:.1f})" for name, runs in taken.items()}
+    taken = measure_in_turn(commands, asked.rounds, read)
+    return {
+        name: (f"{runs.cpu():.3f} ({runs.ratio(taken[SHOWING])[0]:.1f})", f"{runs.peak_bytes() / 1e6:.0f}")
+        for name, runs in taken.items()
+    }
 
 
 def measure(asked):
+    os.environ.update(PYTHONPATH=asked.package, DIMACS_LIBRARY=f"{asked.library}/libdimacs.so")
     for megabytes in asked.sizes:
         works = {}
         for work in baseline.works(asked.binary, megabytes):
@@ -51,7 +74,8 @@ def measure(asked):
         for judge, kind in [("judge-max", "max"), ("judge-min", "min"), ("judge-paths", "gr")]:
             show = works[f"show {kind}"]
             columns[f"{kind}, {show.megabytes:.1f} MB, {show.arcs:,} arcs"] = cells(works[judge], show, asked)
-        head(f"{megabytes} MB", "Program", "Package", *columns)
-        packages = {JUDGING: "", READING: "", **{name: f"`{package}`" for name, package, _, _ in PEERS}}
+        head(f"{megabytes} MB", "Program", "Package", *(it for name in columns for it in (f"{name}, s", "Peak MB")))
+        packages = {JUDGING: "", SHOWING: "", **{name: package for name, package, _, _ in READERS}}
         for name, package in packages.items():
-            row(name, package, *(times.get(name, "") for times in columns.values()))
+            found = (it for times in columns.values() for it in times.get(name, ("", "")))
+            row(name, f"`{package}`" if package else "", *found)
