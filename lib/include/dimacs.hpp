@@ -361,6 +361,14 @@ struct Queries {
     std::optional<std::vector<std::uint32_t>> tos;
 };
 
+// The block of a source in labels: distances and predecessors, by node. With a radius the nodes without a label are
+// farther than that, and may be reached.
+struct Labels {
+    std::vector<std::int64_t> distances;
+    Predecessors predecessors;
+    std::optional<std::int64_t> radius;
+};
+
 // ---- What is answered: a no ----
 
 // The place of a fault: the text's name ("instance", "query", "solution", "distances", "certificate"), and its line and
@@ -1194,6 +1202,14 @@ std::string write(const Call &call, std::size_t lines) {
     return text.take();
 }
 
+// The same of a call that makes tests.
+template <class Call>
+Answer<std::string, Refused> write_tested(const Call &call, std::size_t lines) {
+    TextRoom text(line_room + 32 * lines);
+    if (call_for_texts(call, text) == DIMACS_REFUSED) return refused(text.text());
+    return text.take();
+}
+
 }  // namespace detail
 
 // Reads a maximum flow instance. Refused, as by each call that reads, for the text's fault.
@@ -1299,6 +1315,30 @@ inline Answer<Potentials, Refused> read_potentials(std::string_view text) {
     return detail::read_by_node<std::int64_t>(dimacs_read_potentials, text);
 }
 
+// Reads the block of a source from distances: one for each node, `unreached` for a node without a line. Refused also if
+// the source has no block, or if a distance is 2^63 - 1 or more.
+inline Answer<std::vector<std::int64_t>, Refused> read_distances(std::string_view text, std::uint32_t source) {
+    const auto call = [&](const std::uint8_t *at, std::size_t length, auto... rooms) {
+        return dimacs_read_distances(at, length, source, rooms...);
+    };
+    return detail::read_by_node<std::int64_t>(call, text);
+}
+
+// Reads the block of a source from labels. Refused as read_distances.
+inline Answer<Labels, Refused> read_labels(std::string_view text, std::uint32_t source) {
+    detail::TextRoom line;
+    detail::ReadRoom<std::int64_t> distances(detail::most_items(text, 8));
+    detail::ReadRoom<std::uint32_t> predecessors(distances.room());
+    std::int64_t radius = 0;
+    const auto call = [&](std::uint8_t *out, std::size_t room, std::size_t *needed, auto... by_node) {
+        return dimacs_read_labels(detail::bytes(text), text.size(), source, out, room, needed, &radius, by_node...);
+    };
+    if (detail::call_for_texts(call, line, distances, predecessors) == DIMACS_REFUSED) {
+        return detail::refused(line.text());
+    }
+    return Labels{distances.take(), predecessors.take(), radius == unreached ? std::nullopt : std::optional(radius)};
+}
+
 // The canonical text of a maximum flow instance, which read again is the same. Throws, as each call that writes,
 // WrongLength and PastLimit.
 inline std::string write_max(const MaxInstance &instance) {
@@ -1344,6 +1384,40 @@ inline std::string write_potentials(Numbers potentials) {
         return dimacs_write_potentials(potentials.data(), potentials.size(), room...);
     };
     return detail::write(call, potentials.size());
+}
+
+// Queries.
+inline std::string write_queries(const Queries &queries) {
+    const std::vector<std::uint32_t> none, &tos = queries.tos ? *queries.tos : none;
+    if (queries.tos && tos.size() != queries.froms.size()) {
+        throw WrongLength("tos", tos.size(), queries.froms.size(), "froms");
+    }
+    const auto call = [&](auto... room) {
+        return dimacs_write_queries(queries.tos ? 1 : 0, queries.froms.data(), queries.froms.size(), tos.data(),
+                                    tos.size(), room...);
+    };
+    return detail::write(call, queries.froms.size());
+}
+
+// Distances from a source, by node: one block, with a line for each other node that is reached. Refused if the distance
+// of the source isn't 0.
+inline Answer<std::string, Refused> write_distances(std::uint32_t source, Numbers distances) {
+    const auto call = [&](auto... room) {
+        return dimacs_write_distances(source, distances.data(), distances.size(), room...);
+    };
+    return detail::write_tested(call, distances.size());
+}
+
+// The same as labels, with predecessors that lead back to the source. Refused as judge_paths, up to PredUnknown.
+inline Answer<std::string, Refused> write_labels(std::uint32_t source, Numbers distances, Nodes predecessors) {
+    if (predecessors.size() != distances.size()) {
+        throw WrongLength("predecessors", predecessors.size(), distances.size(), "distances");
+    }
+    const auto call = [&](auto... room) {
+        return dimacs_write_labels(source, distances.data(), distances.size(), predecessors.data(), predecessors.size(),
+                                   room...);
+    };
+    return detail::write_tested(call, distances.size());
 }
 
 }  // namespace DIMACS_SPAN

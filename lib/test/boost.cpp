@@ -367,6 +367,8 @@ static void texts() {
     const std::string roads = "p sp 3 2\na 1 2 -7\na 3 2 7\n";
     check_that("a graph", ours::read_graph(roads, narrow, weight)->size() == 2);
     is("written", ours::write_graph(narrow, boost::make_iterator_range(edges(narrow)), weight), roads);
+    const std::vector<int> far{3, INT_MAX, 0};
+    is("distances", ours::write_distances(narrow, 2, far.data()).value(), "p distances 3 1\nt 3 1\nd 1 3\n");
     throws<std::invalid_argument>(
         "two edges in place of one", [&] { return ours::read_graph("p sp 2 2\na 1 2 7\na 1 2 8\n", narrow, weight); },
         "the graph doesn't keep several edges with the same ends");

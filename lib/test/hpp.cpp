@@ -320,6 +320,36 @@ static void reads_and_writes() {
     check_that("queries for all distances", all.froms == Ids({1}) && !all.tos);
 }
 
+/* Distances, labels and queries. */
+static void reads_and_writes_paths() {
+    using dimacs::read_distances, dimacs::read_labels, dimacs::write_distances, dimacs::write_labels;
+    const std::string far = "p distances 4 1\nt 1 1\nd 2 5\n", two = "p dist 99 2\nt 2 0\nt 1 1 7\nd 98 6 1\n";
+    const auto distances = read_distances(far, 1).value();
+    check_that("distances", distances == Amounts({0, 5, dimacs::unreached, dimacs::unreached}));
+    is("written", write_distances(1, distances).value(), far);
+    const auto labels = read_labels(dist, 1).value();
+    check_that("labels", labels.distances == distances && labels.predecessors == Ids({0, 1, 0, 0}) && !labels.radius);
+    is("written", write_labels(1, labels.distances, labels.predecessors).value(), dist);
+    const auto block = read_labels(two, 1).value();
+    check_that("the second block, of more nodes than lines", block.radius == 7 && block.distances.size() == 99 &&
+                                                                 block.distances[97] == 6 &&
+                                                                 block.predecessors[97] == 1);
+    is("no block", read_distances(far, 2).message(), "x node 2 BlockMissing");
+    is("a fault of labels", read_labels("p dist 1 1\nt 2 0\n", 2).message(), "x certificate 2 2 NodeRange");
+    is("a distance of 2^63 - 1", read_distances("p distances 2 1\nt 1 1\nd 2 9223372036854775807\n", 1).message(),
+       "x node 2 NumberRange");
+    is("the source's isn't 0", write_distances(2, distances).message(), "x node 2 NotShortest");
+    is("no way back", write_labels(1, distances, Ids{0, 2, 0, 0}).message(), "x node 2 PredUnknown");
+    throws_length("fewer predecessors", [&] { return write_labels(1, distances, Ids(1)); },
+                  "predecessors has 1 items, and there are 4 distances");
+    throws_limit("no source", [&] { return write_distances(5, distances); }, "x node 5 NodeRange");
+    is("queries for pairs", dimacs::write_queries(dimacs::read_queries(pairs).value()), pairs);
+    is("for all distances", dimacs::write_queries(dimacs::read_queries(source).value()), source);
+    throws_length("a query without an end", [] { return dimacs::write_queries({{1, 2}, Ids{3}}); },
+                  "tos has 1 items, and there are 2 froms");
+    throws_limit("node 0", [] { return dimacs::write_queries({{0}, std::nullopt}); }, "x node 0 NumberRange");
+}
+
 /* What isn't read, and by which line. */
 static void refuses_texts() {
     using dimacs::read_max, dimacs::read_min, dimacs::read_graph, dimacs::read_solution;
@@ -459,6 +489,7 @@ int main() {
     least_costs();
     distances();
     reads_and_writes();
+    reads_and_writes_paths();
     refuses_texts();
     takes_what_has_items();
     values();

@@ -319,8 +319,10 @@ static void texts() {
     const std::string roads = "p sp 3 2\na 3 2 7\na 1 2 -7\n";
     check_that("a graph", ours::read_graph(roads, graph, cost)->size() == 2);
     is("written", ours::write_graph(graph, cost), roads);
-    cost[graph.arcFromId(0)] = 5;
-    graph.addNode();
+    const Made<long long> found{{3, -1, 0}};
+    is("distances", ours::write_distances(graph, graph.nodeFromId(2), found).value(),
+       "p distances 3 1\nt 3 1\nd 1 3\n");
+    is("of another source", ours::write_distances(graph, graph.nodeFromId(0), found).message(), "x node 1 NotShortest");
     lemon::ConstMap<Arc, Wide> wide(Wide(1) << 64);
     throws<std::out_of_range>(
         "a number that texts don't hold", [&] { return ours::write_graph(graph, wide); }, "x arc 0 NumberRange");

@@ -197,6 +197,16 @@ std::vector<std::int64_t> flows_of(const Index<G> &index, const std::vector<std:
     return dimacs::detail::by_arc(index, read);
 }
 
+// The distances of a map, whose greatest number says that there is none.
+template <class G, class Distance>
+std::vector<std::int64_t> distances_of(const Index<G> &index, const Distance &distance) {
+    return dimacs::detail::by_node(index, [&](auto k) {
+        const auto found = value_at(distance, index.nodes()[k]);
+        if (found == most<std::decay_t<decltype(found)>>()) return std::optional(unreached);
+        return dimacs::detail::array_distance(found);
+    });
+}
+
 // The arcs of an instance of least cost in which all flows have one value: without supplies, and with arcs on which the
 // value returns, whose bounds leave no choice.
 struct FixedValue {
@@ -278,12 +288,7 @@ template <class G, class Weight, class Distance>
 dimacs::detail::CertifiedPathsOver<Index<G>> certify_paths(const G &graph, const typename Index<G>::Node &source_vertex,
                                                            const Weight &weight, const Distance &distance) {
     const Index<G> index(graph);
-    const auto read = [&](auto k) {
-        const auto found = detail::value_at(distance, index.nodes()[k]);
-        if (found == detail::most<std::decay_t<decltype(found)>>()) return std::optional(unreached);
-        return dimacs::detail::array_distance(found);
-    };
-    const auto distances = dimacs::detail::by_node(index, read), weights = index.by_arc(weight);
+    const auto distances = detail::distances_of(index, distance), weights = index.by_arc(weight);
     return dimacs::detail::certify_paths_over(index, index.number(source_vertex), weights, distances);
 }
 
@@ -388,6 +393,15 @@ std::string write_solution(const G &graph, const Edges &arcs, std::int64_t value
     const auto flows = detail::flows_of(index, index.by_arc(capacity), residual);
     return dimacs::detail::over(index,
                                 [&] { return dimacs::write_solution(value, dimacs::detail::arcs_of(index), flows); });
+}
+
+// The text of the distances from a vertex, in a map as that of certify_paths. Refused if that of the vertex isn't 0.
+template <class G, class Distance>
+Answer<std::string, Refused> write_distances(const G &graph, const typename Index<G>::Node &source_vertex,
+                                             const Distance &distance) {
+    const Index<G> index(graph);
+    const auto distances = detail::distances_of(index, distance);
+    return dimacs::detail::over(index, [&] { return dimacs::write_distances(index.number(source_vertex), distances); });
 }
 
 }  // namespace boost

@@ -91,6 +91,16 @@ class Index {
         return detail::by_node(*this, [&](auto k) { return detail::narrow(value_at(map, nodes_[k])); });
     }
 
+    // The distances that a search found.
+    template <class Search>
+    std::vector<std::int64_t> distances(const Search &search) const {
+        return detail::by_node(*this, [&](auto k) {
+            const auto &node = nodes_[k];
+            if (!search.reached(node)) return std::optional(unreached);
+            return detail::array_distance<std::decay_t<decltype(search.dist(node))>>(search.dist(node));
+        });
+    }
+
     // A byte for each node, from a map of truth values.
     template <class Values>
     std::vector<std::uint8_t> marks(const Values &map) const {
@@ -228,12 +238,7 @@ template <class G, class Length, class Search>
 detail::CertifiedPathsOver<Index<G>> certify_paths(const G &graph, const Length &length, typename G::Node source,
                                                    const Search &search) {
     const Index<G> index(graph);
-    const auto distances = detail::by_node(index, [&](auto k) {
-        const auto &node = index.nodes()[k];
-        if (!search.reached(node)) return std::optional(unreached);
-        return detail::array_distance<std::decay_t<decltype(search.dist(node))>>(search.dist(node));
-    });
-    const auto weights = index.by_arc(length);
+    const auto distances = index.distances(search), weights = index.by_arc(length);
     return detail::certify_paths_over(index, index.number(source), weights, distances);
 }
 
@@ -244,6 +249,10 @@ template <class G>
 struct Made {
     Made(G &graph, std::uint32_t count, Nodes tails, Nodes heads) {
         graph.clear();
+        graph.reserveNode(static_cast<int>(count));
+        graph.reserveArc(static_cast<int>(tails.size()));
+        nodes.reserve(count);
+        arcs.reserve(tails.size());
         for (std::uint32_t k = 0; k < count; k++) nodes.push_back(graph.addNode());
         for (std::size_t k = 0; k < tails.size(); k++) {
             arcs.push_back(graph.addArc(nodes[tails[k] - 1], nodes[heads[k] - 1]));
@@ -357,6 +366,15 @@ template <class G, class Potential>
 std::string write_potentials(const G &graph, const Potential &potential) {
     const Index<G> index(graph);
     return dimacs::write_potentials(index.turned(index.by_node(potential)));
+}
+
+// The text of the distances from a source that a search found, with reached(v) and dist(v) as in certify_paths. Refused
+// if that of the source isn't 0.
+template <class G, class Search>
+Answer<std::string, Refused> write_distances(const G &graph, typename G::Node source, const Search &search) {
+    const Index<G> index(graph);
+    const auto distances = index.distances(search);
+    return detail::over(index, [&] { return dimacs::write_distances(index.number(source), distances); });
 }
 
 }  // namespace lemon
