@@ -427,4 +427,63 @@ extern "C" {
         tos_room: usize,
         count: *mut usize,
     ) -> u32;
+
+    pub fn dimacs_write_queries(
+        pairs: u32,
+        froms: *const u32,
+        froms_length: usize,
+        tos: *const u32,
+        tos_length: usize,
+        out: *mut u8,
+        room: usize,
+        needed: *mut usize,
+    ) -> u32;
+
+    pub fn dimacs_read_distances(
+        text: *const u8,
+        length: usize,
+        source: u32,
+        out: *mut u8,
+        room: usize,
+        needed: *mut usize,
+        distances: *mut i64,
+        distances_room: usize,
+        distances_needed: *mut usize,
+    ) -> u32;
+
+    pub fn dimacs_write_distances(
+        source: u32,
+        distances: *const i64,
+        distances_length: usize,
+        out: *mut u8,
+        room: usize,
+        needed: *mut usize,
+    ) -> u32;
+
+    pub fn dimacs_read_labels(
+        text: *const u8,
+        length: usize,
+        source: u32,
+        out: *mut u8,
+        room: usize,
+        needed: *mut usize,
+        radius: *mut i64,
+        distances: *mut i64,
+        distances_room: usize,
+        distances_needed: *mut usize,
+        predecessors: *mut u32,
+        predecessors_room: usize,
+        predecessors_needed: *mut usize,
+    ) -> u32;
+
+    pub fn dimacs_write_labels(
+        source: u32,
+        distances: *const i64,
+        distances_length: usize,
+        predecessors: *const u32,
+        predecessors_length: usize,
+        out: *mut u8,
+        room: usize,
+        needed: *mut usize,
+    ) -> u32;
 }

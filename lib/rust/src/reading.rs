@@ -14,7 +14,7 @@
 //! # Ok::<(), arrays::Error>(())
 //! ```
 
-use crate::arrays::{line_of, test, Error, Graph, MaxInstance, MinInstance};
+use crate::arrays::{line_of, test, Error, Graph, MaxInstance, MinInstance, UNREACHED};
 use crate::ffi;
 use crate::rooms::{Room, LINE};
 
@@ -83,6 +83,17 @@ pub enum Queries {
     Sources(Vec<u32>),
     /// The distances from one node to another.
     Pairs(Vec<(u32, u32)>),
+}
+
+/// The block of a source in labels.
+#[derive(Clone, Debug, PartialEq, Eq)]
+pub struct Labels {
+    /// The distances, by node: [`UNREACHED`](crate::arrays::UNREACHED) for a node without a label.
+    pub distances: Vec<i64>,
+    /// The predecessors, by node: 0 at the source and for a node without a label.
+    pub predecessors: Vec<u32>,
+    /// If there is one, the nodes without a label are farther than that, and may be reached.
+    pub radius: Option<i64>,
 }
 
 impl MaxArrays {
@@ -338,25 +349,11 @@ pub fn read_solution<'a>(text: impl AsRef<[u8]>, arcs: impl Into<Arcs<'a>>) -> R
     Ok(Solution { value, flows: flows.take() })
 }
 
-/// A call that reads a text into an array by node.
-type CallByNode<T> =
-    unsafe extern "C" fn(*const u8, usize, *mut u8, usize, *mut usize, *mut T, usize, *mut usize) -> u32;
-
-fn read_by_node<T: Copy>(call: CallByNode<T>, text: &[u8]) -> Result<Room<T>, Error> {
+/// Makes a call that reads a text into an array by node, again if there are more nodes than lines.
+fn read_by_node<T: Copy>(text: &[u8], call: impl Fn(&mut Room<u8>, &mut Room<T>) -> u32) -> Result<Room<T>, Error> {
     let (mut line, mut items) = (Room::new(LINE)?, Room::new(lines(text))?);
     loop {
-        let status = unsafe {
-            call(
-                text.as_ptr(),
-                text.len(),
-                line.at(),
-                line.room(),
-                line.needed(),
-                items.at(),
-                items.room(),
-                items.needed(),
-            )
-        };
+        let status = call(&mut line, &mut items);
         if items.fits() {
             return line_of(status, line).map(|_| items);
         }
@@ -371,7 +368,20 @@ fn read_by_node<T: Copy>(call: CallByNode<T>, text: &[u8]) -> Result<Room<T>, Er
 /// assert_eq!(read_cut("p cut 3 1\nu 2\n"), Ok(vec![false, true, false]));
 /// ```
 pub fn read_cut(text: impl AsRef<[u8]>) -> Result<Vec<bool>, Error> {
-    Ok(read_by_node(ffi::dimacs_read_cut, text.as_ref())?.marks()?)
+    let text = text.as_ref();
+    let inside = read_by_node(text, |line, inside| unsafe {
+        ffi::dimacs_read_cut(
+            text.as_ptr(),
+            text.len(),
+            line.at(),
+            line.room(),
+            line.needed(),
+            inside.at(),
+            inside.room(),
+            inside.needed(),
+        )
+    })?;
+    Ok(inside.marks()?)
 }
 
 /// Reads potentials, by node. [`Error::Refused`] also for the first one that doesn't fit in 64 bits.
@@ -381,7 +391,87 @@ pub fn read_cut(text: impl AsRef<[u8]>) -> Result<Vec<bool>, Error> {
 /// assert_eq!(read_potentials("p pot 3 1\ny 2 -7\n"), Ok(vec![0, -7, 0]));
 /// ```
 pub fn read_potentials(text: impl AsRef<[u8]>) -> Result<Vec<i64>, Error> {
-    Ok(read_by_node(ffi::dimacs_read_potentials, text.as_ref())?.take())
+    let text = text.as_ref();
+    let potentials = read_by_node(text, |line, potentials| unsafe {
+        ffi::dimacs_read_potentials(
+            text.as_ptr(),
+            text.len(),
+            line.at(),
+            line.room(),
+            line.needed(),
+            potentials.at(),
+            potentials.room(),
+            potentials.needed(),
+        )
+    })?;
+    Ok(potentials.take())
+}
+
+/// Reads the block of a source from distances, by node: [`UNREACHED`](crate::arrays::UNREACHED) for a node without a line.
+/// [`Error::Refused`] also if the source has no block, or if a distance is 2^63 - 1 or more.
+///
+/// ```
+/// # use dimacs::{arrays::UNREACHED, reading::read_distances};
+/// let text = "p distances 3 1\nt 1 1\nd 2 7\n";
+/// assert_eq!(read_distances(text, 1), Ok(vec![0, 7, UNREACHED]));
+/// assert_eq!(read_distances(text, 2).unwrap_err().to_string(), "x node 2 BlockMissing");
+/// ```
+pub fn read_distances(text: impl AsRef<[u8]>, source: u32) -> Result<Vec<i64>, Error> {
+    let text = text.as_ref();
+    let distances = read_by_node(text, |line, distances| unsafe {
+        ffi::dimacs_read_distances(
+            text.as_ptr(),
+            text.len(),
+            source,
+            line.at(),
+            line.room(),
+            line.needed(),
+            distances.at(),
+            distances.room(),
+            distances.needed(),
+        )
+    })?;
+    Ok(distances.take())
+}
+
+/// Reads the block of a source from labels. [`Error::Refused`] as by [`read_distances`].
+///
+/// ```
+/// # use dimacs::reading::{read_labels, Labels};
+/// let text = "p dist 2 1\nt 1 1\nd 2 7 1\n";
+/// assert_eq!(read_labels(text, 1), Ok(Labels { distances: vec![0, 7], predecessors: vec![0, 1], radius: None }));
+/// ```
+pub fn read_labels(text: impl AsRef<[u8]>, source: u32) -> Result<Labels, Error> {
+    let text = text.as_ref();
+    let (mut line, mut distances, mut radius) = (Room::new(LINE)?, Room::new(lines(text))?, 0);
+    let mut predecessors = Room::new(lines(text))?;
+    loop {
+        let status = unsafe {
+            ffi::dimacs_read_labels(
+                text.as_ptr(),
+                text.len(),
+                source,
+                line.at(),
+                line.room(),
+                line.needed(),
+                &mut radius,
+                distances.at(),
+                distances.room(),
+                distances.needed(),
+                predecessors.at(),
+                predecessors.room(),
+                predecessors.needed(),
+            )
+        };
+        if distances.fits() && predecessors.fits() {
+            line_of(status, line)?;
+            break;
+        }
+        distances.grow()?;
+        predecessors.grow()?;
+    }
+    let radius = Some(radius).filter(|&it| it != UNREACHED);
+    Ok(Labels { distances: distances.take(), predecessors: predecessors.take(), radius })
 }
 
 /// Makes a call that writes about so many lines, again if they are longer than the room.
@@ -482,5 +572,67 @@ pub fn write_cut(inside: &[bool]) -> Result<String, Error> {
 pub fn write_potentials(potentials: &[i64]) -> Result<String, Error> {
     write(potentials.len(), |at, room, needed| unsafe {
         ffi::dimacs_write_potentials(potentials.as_ptr(), potentials.len(), at, room, needed)
+    })
+}
+
+/// The text of queries.
+///
+/// ```
+/// # use dimacs::reading::{write_queries, Queries};
+/// assert_eq!(write_queries(&Queries::Pairs(vec![(1, 2)])).unwrap(), "p aux sp p2p 1\nq 1 2\n");
+/// assert_eq!(write_queries(&Queries::Sources(vec![1])).unwrap(), "p aux sp ss 1\ns 1\n");
+/// ```
+pub fn write_queries(queries: &Queries) -> Result<String, Error> {
+    let (mut froms, mut tos) = (Vec::new(), Vec::new());
+    let froms = match queries {
+        Queries::Sources(sources) => sources,
+        Queries::Pairs(pairs) => {
+            froms.try_reserve_exact(pairs.len()).map_err(|_| Error::OutOfMemory)?;
+            tos.try_reserve_exact(pairs.len()).map_err(|_| Error::OutOfMemory)?;
+            froms.extend(pairs.iter().map(|it| it.0));
+            tos.extend(pairs.iter().map(|it| it.1));
+            &froms
+        }
+    };
+    let is_pairs = u32::from(matches!(queries, Queries::Pairs(_)));
+    write(froms.len(), |at, room, needed| unsafe {
+        ffi::dimacs_write_queries(is_pairs, froms.as_ptr(), froms.len(), tos.as_ptr(), tos.len(), at, room, needed)
+    })
+}
+
+/// The text of distances from a source, given by node: one block, with a line for each other node that is reached.
+/// [`Error::Refused`] if the distance of the source isn't 0.
+///
+/// ```
+/// # use dimacs::{arrays::UNREACHED, reading::write_distances};
+/// assert_eq!(write_distances(1, &[0, 7, UNREACHED]).unwrap(), "p distances 3 1\nt 1 1\nd 2 7\n");
+/// ```
+pub fn write_distances(source: u32, distances: &[i64]) -> Result<String, Error> {
+    write(distances.len(), |at, room, needed| unsafe {
+        ffi::dimacs_write_distances(source, distances.as_ptr(), distances.len(), at, room, needed)
+    })
+}
+
+/// The same as labels, with predecessors that lead back to the source. [`Error::Refused`] as by
+/// [`judge_paths`](crate::arrays::judge_paths), up to `PredUnknown`.
+///
+/// ```
+/// # use dimacs::reading::write_labels;
+/// assert_eq!(write_labels(1, &[0, 7], &[0, 1]).unwrap(), "p dist 2 1\nt 1 1\nd 2 7 1\n");
+/// assert_eq!(write_labels(1, &[0, 7], &[0, 2]).unwrap_err().to_string(), "x node 2 PredUnknown");
+/// ```
+pub fn write_labels(source: u32, distances: &[i64], predecessors: &[u32]) -> Result<String, Error> {
+    test("predecessors", predecessors.len(), distances.len())?;
+    write(distances.len(), |at, room, needed| unsafe {
+        ffi::dimacs_write_labels(
+            source,
+            distances.as_ptr(),
+            distances.len(),
+            predecessors.as_ptr(),
+            predecessors.len(),
+            at,
+            room,
+            needed,
+        )
     })
 }

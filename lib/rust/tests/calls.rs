@@ -125,6 +125,12 @@ fn what_is_read_is_written() {
     assert_eq!(reading::write_cut(&reading::read_cut(set).unwrap()).as_deref(), Ok(set));
     let potentials = "p pot 99 1\ny 98 -7\n";
     assert_eq!(reading::write_potentials(&reading::read_potentials(potentials).unwrap()).as_deref(), Ok(potentials));
+    let (far, labels) = ("p distances 99 1\nt 1 1\nd 98 7\n", "p dist 99 1\nt 1 1\nd 98 7 1\n");
+    let block = reading::read_labels(labels, 1).unwrap();
+    assert_eq!(reading::read_distances(far, 1).as_ref(), Ok(&block.distances));
+    assert_eq!(reading::write_distances(1, &block.distances).as_deref(), Ok(far));
+    assert_eq!(reading::write_labels(1, &block.distances, &block.predecessors).as_deref(), Ok(labels));
+    assert_eq!(reading::read_labels("p dist 2 2\nt 2 0\nt 1 0 7\n", 1).unwrap().radius, Some(7));
 }
 
 #[test]

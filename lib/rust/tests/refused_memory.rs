@@ -127,6 +127,7 @@ fn over_texts() {
 #[test]
 fn from_texts_to_vectors_and_back() {
     let pipe = "p max 2 1\nn 1 s\nn 2 t\na 1 2 7\n";
+    let pairs = reading::Queries::Pairs(vec![(1, 2)]);
     let counts = [
         refuse_each(|| reading::read_max(pipe)),
         refuse_each(|| reading::read_max("p max 2 1\n")),
@@ -136,12 +137,17 @@ fn from_texts_to_vectors_and_back() {
         refuse_each(|| reading::read_solution("s 7\nf 1 2 7\n", STREET)),
         refuse_each(|| reading::read_cut("p cut 99 1\nu 2\n")),
         refuse_each(|| reading::read_potentials("p pot 99 1\ny 2 7\n")),
+        refuse_each(|| reading::read_distances("p distances 99 1\nt 1 0\n", 1)),
+        refuse_each(|| reading::read_labels("p dist 99 1\nt 1 0 7\n", 1)),
         refuse_each(|| reading::write_max(&PIPES)),
         refuse_each(|| reading::write_min(&ROAD)),
         refuse_each(|| reading::write_graph(&STREET)),
         refuse_each(|| reading::write_solution(4, PIPES, &[4, 4])),
         refuse_each(|| reading::write_cut(&[true; 200])),
         refuse_each(|| reading::write_potentials(&[7, -7])),
+        refuse_each(|| reading::write_queries(&pairs)),
+        refuse_each(|| reading::write_distances(1, &[0, 7])),
+        refuse_each(|| reading::write_labels(1, &[0, 7], &[0, 1])),
     ];
     assert!(counts.iter().all(|&count| count > 0), "{counts:?}");
 }
