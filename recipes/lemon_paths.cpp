@@ -27,17 +27,13 @@ int main(int count, char** words) {
     for (const int source : sources)
         if (source > graph.nodeNum()) return std::cerr << "node " << source << " isn't in " << words[1] << '\n', 1;
 
-    std::ofstream distances(words[3]);
-    distances << "p distances " << graph.nodeNum() << ' ' << sources.size() << '\n';
+    std::string blocks;
     for (const int source : sources) {
         lemon::Dijkstra<Graph, Weights> dijkstra(graph, weight);
         dijkstra.run(graph.nodeFromId(source - 1));
-        std::vector<int> reached;
-        for (Graph::NodeIt node(graph); node != lemon::INVALID; ++node)
-            if (dijkstra.reached(node) && graph.id(node) != source - 1) reached.push_back(graph.id(node));
-        distances << "t " << source << ' ' << reached.size() << '\n';
-        for (const int id : reached) distances << "d " << id + 1 << ' ' << dijkstra.dist(graph.nodeFromId(id)) << '\n';
+        const std::string block = dimacs::lemon::write_distances(graph, graph.nodeFromId(source - 1), dijkstra).value();
+        blocks += block.substr(block.find('\n') + 1);  // without its first line
     }
-    distances.close();
+    write(words[3], "p distances " + std::to_string(graph.nodeNum()) + ' ' + std::to_string(sources.size()) + '\n' + blocks);
     return run({"certify-paths", words[1], words[3]});
 }
