@@ -51,15 +51,6 @@ def lines(file, letter):
         yield from (line.split()[1:] for line in text if line[0] == letter)
 
 
-def columns(file, codes):
-    """The numbers of the arc lines, in an array for each field."""
-    found = [array(code) for code in codes]
-    for fields in lines(file, "a"):
-        for column, field in zip(found, fields):
-            column.append(int(field))
-    return found
-
-
 def by_node(code, nodes, named, missing=0):
     """An array by node, of pairs of a node and its number."""
     made = array(code, [missing]) * nodes
@@ -68,46 +59,32 @@ def by_node(code, nodes, named, missing=0):
     return made
 
 
-def flow_of(file, tails, heads):
-    """The flow by arc. Entries come in the order of the arcs; an arc without one carries nothing."""
-    flow, arc = array("q", [0]) * len(tails), 0
-    for tail, end, amount in lines(file, "f"):
-        while tails[arc] != int(tail) or heads[arc] != int(end):
-            arc += 1
-        flow[arc] = int(amount)
-        arc += 1
-    return flow
-
-
 # ---- pairs of calls, by their names
 
 
-def max_pairs(dimacs, texts, file, solution, cut):
-    nodes, _ = declared(file)
-    ends = [int(fields[0]) for fields in lines(file, "n")]  # the source's is the lesser ID in what is generated
-    instance = nodes, *ends, *columns(file, "IIq")
-    flow = flow_of(solution, *instance[3:5])
-    inside = by_node("B", nodes, ((fields[0], 1) for fields in lines(cut, "u")))
+def max_pairs(dimacs, texts, *files):
+    instance = dimacs.read("max", texts[0])
+    flows, inside = dimacs.read("solution", texts[1], instance).flows, dimacs.read("cut", texts[2]).inside
     return {
-        "judge-max": (lambda: dimacs.judge_max(*texts), lambda: dimacs.judge_max_arrays(*instance, flow, inside)),
-        "certify-max": (lambda: dimacs.certify_max(*texts[:2]), lambda: dimacs.certify_max_arrays(*instance, flow)),
+        "judge-max": (lambda: dimacs.judge_max(*texts), lambda: dimacs.judge_max_arrays(*instance, flows, inside)),
+        "certify-max": (lambda: dimacs.certify_max(*texts[:2]), lambda: dimacs.certify_max_arrays(*instance, flows)),
     }
 
 
-def min_pairs(dimacs, texts, file, solution, potentials):
-    nodes, _ = declared(file)
-    instance = nodes, *columns(file, "IIqqq"), by_node("q", nodes, lines(file, "n"))
-    flow = flow_of(solution, *instance[1:3])
-    prices = by_node("q", nodes, lines(potentials, "y"))
+def min_pairs(dimacs, texts, *files):
+    instance = dimacs.read("min", texts[0])
+    flows = dimacs.read("solution", texts[1], instance).flows
+    prices = by_node("q", instance.nodes, lines(files[2], "y"))
     return {
-        "judge-min": (lambda: dimacs.judge_min(*texts), lambda: dimacs.judge_min_arrays(*instance, flow, prices)),
-        "certify-min": (lambda: dimacs.certify_min(*texts[:2]), lambda: dimacs.certify_min_arrays(*instance, flow)),
+        "judge-min": (lambda: dimacs.judge_min(*texts), lambda: dimacs.judge_min_arrays(*instance, flows, prices)),
+        "certify-min": (lambda: dimacs.certify_min(*texts[:2]), lambda: dimacs.certify_min_arrays(*instance, flows)),
     }
 
 
 def paths_pairs(dimacs, texts, file, _, labels):
     nodes, arcs = declared(file)
-    arrays = columns(file, "IIq")
+    _, *read = dimacs.read("gr", texts[0])
+    arrays = [array(code, bytes(it)) for code, it in zip("IIq", read)]  # which can be written to, as `plain` takes them
     source = int(next(lines(labels, "t"))[0])
     labelled = [*lines(labels, "d"), [source, 0, 0]]
     distances = by_node("q", nodes, (it[:2] for it in labelled), dimacs.UNREACHED)
