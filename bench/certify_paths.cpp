@@ -4,23 +4,20 @@
 //
 // LABELS has all distances from some sources. Reads both texts into arrays, has the distances of each source certified,
 // without their predecessors, and prints what the peers print that make them: how many there are, and their sum.
-#include "dimacs.h"
+#include "dimacs.hpp"
 
 #include <cstdio>
 #include <cstdlib>
 #include <cstring>
+#include <fstream>
+#include <string>
 #include <vector>
 
-using std::vector;
-
-static vector<char> read_text(const char *name) {
-    FILE *file = fopen(name, "rb");
+static std::string read_text(const char *name) {
+    std::ifstream file(name, std::ios::binary | std::ios::ate);
     if (!file) exit(3);
-    fseek(file, 0, SEEK_END);
-    vector<char> text(ftell(file) + 1); // with a byte of 0 at its end
-    rewind(file);
-    if (fread(text.data(), 1, text.size() - 1, file) != text.size() - 1) exit(3);
-    fclose(file);
+    std::string text(static_cast<size_t>(file.tellg()), '\0');
+    file.seekg(0).read(text.data(), static_cast<std::streamsize>(text.size()));
     return text;
 }
 
@@ -35,33 +32,18 @@ static int64_t number(const char *&at) {
 
 int main(int count, char **words) {
     if (count != 3) return 2;
-    uint32_t nodes = 0, source = 0;
-    vector<uint32_t> tails, heads;
-    vector<int64_t> weights, distances;
-    vector<char> graph = read_text(words[1]), labels = read_text(words[2]);
-    for (const char *at = graph.data(); *at; at += strcspn(at, "\n") + 1) {
-        if (*at == 'p') {
-            nodes = number(at);
-            size_t arcs = number(at);
-            tails.reserve(arcs), heads.reserve(arcs), weights.reserve(arcs);
-        } else if (*at == 'a') {
-            tails.push_back(number(at)), heads.push_back(number(at)), weights.push_back(number(at));
-        }
-    }
-    vector<uint32_t> found(nodes);
-    auto certify = [&] {
-        size_t arcs = tails.size(), needed, found_needed;
-        dimacs_graph it = {nodes, {tails.data(), arcs}, {heads.data(), arcs}, {weights.data(), arcs}};
-        uint8_t out[100];
-        if (source && dimacs_certify_paths_arrays(&it, source, distances.data(), nodes, out, sizeof out, &needed,
-                                                  found.data(), nodes, &found_needed))
-            exit(1);
+    const dimacs::GraphArrays graph = dimacs::read_graph(read_text(words[1])).value();
+    const std::string labels = read_text(words[2]);
+    uint32_t source = 0;
+    std::vector<int64_t> distances;
+    const auto certify = [&] {
+        if (source && !dimacs::certify_paths(graph, source, distances)) exit(1);
     };
     int64_t reached = 0, sum = 0;
-    for (const char *at = labels.data(); *at; at += strcspn(at, "\n") + 1) {
+    for (const char *at = labels.data(); *at; at += strcspn(at, "\n") + 1) {  // it has several blocks
         if (*at == 't') {
             certify();
-            distances.assign(nodes, DIMACS_UNREACHED);
+            distances.assign(graph.nodes, dimacs::unreached);
             distances[(source = number(at)) - 1] = 0;
             reached++;
         } else if (*at == 'd') {
