@@ -8,23 +8,25 @@
 #include <boost/graph/adjacency_list.hpp>
 #include <fstream>
 #include <iostream>
-#include <iterator>
 #include <lemon/smart_graph.h>
+#include <memory>
 #include <string>
+#include <string_view>
 
 using std::size_t;
 using std::string;
+using std::string_view;
 
 static void print(size_t nodes, size_t arcs) { std::cout << nodes << ' ' << arcs << '\n'; }
 
-static void into_vectors(const string &kind, const string &text) {
+static void into_vectors(const string &kind, string_view text) {
     const auto shown = [](const auto &answer) { print(answer.value().nodes, answer->tails.size()); };
     if (kind == "max") shown(dimacs::read_max(text));
     else if (kind == "min") shown(dimacs::read_min(text));
     else shown(dimacs::read_graph(text));
 }
 
-static void into_lemon(const string &kind, const string &text) {
+static void into_lemon(const string &kind, string_view text) {
     lemon::SmartDigraph graph;
     lemon::SmartDigraph::ArcMap<long long> low(graph), capacity(graph), number(graph);
     lemon::SmartDigraph::NodeMap<long long> supply(graph);
@@ -35,7 +37,7 @@ static void into_lemon(const string &kind, const string &text) {
     print(graph.nodeNum(), arcs.value().size());
 }
 
-static void into_boost(const string &kind, const string &text) {
+static void into_boost(const string &kind, string_view text) {
     using namespace boost;
     using Edge = adjacency_list_traits<vecS, vecS, directedS>::edge_descriptor;
     using Room = property<edge_capacity_t, long long, property<edge_reverse_t, Edge>>;
@@ -57,8 +59,10 @@ static void into_boost(const string &kind, const string &text) {
 int main(int count, char **words) {
     if (count != 4) return std::cerr << "reading vectors|lemon|boost max|min|gr FILE\n", 2;
     std::ifstream file(words[3], std::ios::binary | std::ios::ate);
-    string text(static_cast<size_t>(file.tellg()), '\0');
-    file.seekg(0).read(text.data(), static_cast<std::streamsize>(text.size()));
+    const std::streamsize size = file.tellg();
+    const std::unique_ptr<char[]> text(new char[static_cast<size_t>(size)]);
+    file.seekg(0).read(text.get(), size);
     const string form = words[1];
-    (form == "vectors" ? into_vectors : form == "lemon" ? into_lemon : into_boost)(words[2], text);
+    const auto read = form == "vectors" ? into_vectors : form == "lemon" ? into_lemon : into_boost;
+    read(words[2], {text.get(), static_cast<size_t>(size)});
 }

@@ -4,6 +4,7 @@
 #include <array>
 #include <functional>
 #include <sstream>
+#include <sys/resource.h>
 
 /* Whoever includes dimacs.hpp alone sees neither LEMON's part nor Boost's: their names are free in it. */
 namespace dimacs {
@@ -354,9 +355,13 @@ static void reads_and_writes_paths() {
 static void refuses_texts() {
     using dimacs::read_max, dimacs::read_min, dimacs::read_graph, dimacs::read_solution;
     const std::string most = "9223372036854775808";
+    rusage before, after;
+    getrusage(RUSAGE_SELF, &before);
     is("arcs that aren't there", read_max("p max 2 268435456\nn 1 s\nn 2 t\n").message(), "x instance 4 0 TooFew");
     is("of least cost", read_min("p min 2 268435456\n").message(), "x instance 2 0 TooFew");
     is("of a graph", read_graph("p sp 2 268435456\n").message(), "x instance 2 0 TooFew");
+    getrusage(RUSAGE_SELF, &after);
+    check_that("which take no memory", after.ru_maxrss - before.ru_maxrss < 1 << 14);  // in kilobytes
     is("a byte 0", read_graph(std::string("p sp 2 1\na 1 2 7\0\n", 18)).message(), "x instance 2 4 BadNumber");
     is("a long line", read_graph("p sp 2 1\na 1 2 " + std::string(1 << 20, '7')).message(),
        "x instance 2 0 LineTooLong");
