@@ -640,38 +640,17 @@ class TextRoom {
     std::string bytes_;
 };
 
-// Room for this many items.
+// Room for items. It isn't touched before a call fills it: a text may have far fewer than it has room for.
 template <class T>
 class Room {
   public:
-    explicit Room(std::size_t room) : items_(room) {}
-
-    T *at() noexcept { return items_.data(); }
-    std::size_t room() const noexcept { return items_.size(); }
-
-    std::vector<T> take() {
-        items_.resize(needed);
-        return std::move(items_);
-    }
-
-    std::size_t needed = 0;
-
-  private:
-    std::vector<T> items_;
-};
-
-// Room for what is read from a text, by arc or by node. It isn't touched before a call fills it: a text may have fewer
-// items.
-template <class T>
-class ReadRoom {
-  public:
-    explicit ReadRoom(std::size_t room) : items_(new T[room]), room_(room) {}
+    explicit Room(std::size_t room) : items_(new T[room]), room_(room) {}
 
     T *at() noexcept { return items_.get(); }
     std::size_t room() const noexcept { return room_; }
     bool fits() const noexcept { return needed <= room_; }
     void grow() {
-        if (!fits()) *this = ReadRoom(needed);
+        if (!fits()) *this = Room(needed);
     }
 
     std::vector<T> take(std::size_t count) {
@@ -1188,23 +1167,15 @@ inline std::size_t most_items(std::string_view text, std::size_t bytes) noexcept
 template <class T, class Call>
 Answer<std::vector<T>, Refused> read_by_node(const Call &function, std::string_view text) {
     TextRoom line;
-    ReadRoom<T> items(most_items(text, sizeof(T)));
+    Room<T> items(most_items(text, sizeof(T)));
     const auto call = [&](auto... rooms) { return function(bytes(text), text.size(), rooms...); };
     if (call_for_texts(call, line, items) == DIMACS_REFUSED) return refused(line.text());
     return items.take();
 }
 
-// Writes so many lines.
+// Writes about so many lines.
 template <class Call>
-std::string write(const Call &call, std::size_t lines) {
-    TextRoom text(line_room + 32 * lines);
-    call_for_texts(call, text);
-    return text.take();
-}
-
-// The same of a call that makes tests.
-template <class Call>
-Answer<std::string, Refused> write_tested(const Call &call, std::size_t lines) {
+Answer<std::string, Refused> write(const Call &call, std::size_t lines) {
     TextRoom text(line_room + 32 * lines);
     if (call_for_texts(call, text) == DIMACS_REFUSED) return refused(text.text());
     return text.take();
@@ -1216,8 +1187,8 @@ Answer<std::string, Refused> write_tested(const Call &call, std::size_t lines) {
 inline Answer<MaxArrays, Refused> read_max(std::string_view text) {
     const std::size_t most = detail::most_items(text, 8);
     detail::TextRoom line;
-    detail::ReadRoom<std::uint32_t> tails(most), heads(most);
-    detail::ReadRoom<std::int64_t> caps(most);
+    detail::Room<std::uint32_t> tails(most), heads(most);
+    detail::Room<std::int64_t> caps(most);
     MaxArrays it;
     std::size_t arcs = 0;
     const auto call = [&](auto... room) {
@@ -1235,8 +1206,8 @@ inline Answer<MaxArrays, Refused> read_max(std::string_view text) {
 inline Answer<MinArrays, Refused> read_min(std::string_view text) {
     const std::size_t most = detail::most_items(text, 12);
     detail::TextRoom line;
-    detail::ReadRoom<std::uint32_t> tails(most), heads(most);
-    detail::ReadRoom<std::int64_t> lows(most), caps(most), costs(most), supplies(most);
+    detail::Room<std::uint32_t> tails(most), heads(most);
+    detail::Room<std::int64_t> lows(most), caps(most), costs(most), supplies(most);
     MinArrays it;
     std::size_t arcs = 0;
     const auto call = [&](std::uint8_t *out, std::size_t room, std::size_t *needed, auto... by_node) {
@@ -1257,8 +1228,8 @@ inline Answer<MinArrays, Refused> read_min(std::string_view text) {
 inline Answer<GraphArrays, Refused> read_graph(std::string_view text) {
     const std::size_t most = detail::most_items(text, 8);
     detail::TextRoom line;
-    detail::ReadRoom<std::uint32_t> tails(most), heads(most);
-    detail::ReadRoom<std::int64_t> weights(most);
+    detail::Room<std::uint32_t> tails(most), heads(most);
+    detail::Room<std::int64_t> weights(most);
     GraphArrays it;
     std::size_t arcs = 0;
     const auto call = [&](auto... room) {
@@ -1276,7 +1247,7 @@ inline Answer<GraphArrays, Refused> read_graph(std::string_view text) {
 inline Answer<Queries, Refused> read_queries(std::string_view text) {
     const std::size_t most = detail::most_items(text, 4);
     detail::TextRoom line;
-    detail::ReadRoom<std::uint32_t> froms(most), tos(most);
+    detail::Room<std::uint32_t> froms(most), tos(most);
     std::uint32_t pairs = 0;
     std::size_t count = 0;
     const auto call = [&](auto... room) {
@@ -1327,8 +1298,8 @@ inline Answer<std::vector<std::int64_t>, Refused> read_distances(std::string_vie
 // Reads the block of a source from labels. Refused as read_distances.
 inline Answer<Labels, Refused> read_labels(std::string_view text, std::uint32_t source) {
     detail::TextRoom line;
-    detail::ReadRoom<std::int64_t> distances(detail::most_items(text, 8));
-    detail::ReadRoom<std::uint32_t> predecessors(distances.room());
+    detail::Room<std::int64_t> distances(detail::most_items(text, 8));
+    detail::Room<std::uint32_t> predecessors(distances.room());
     std::int64_t radius = 0;
     const auto call = [&](std::uint8_t *out, std::size_t room, std::size_t *needed, auto... by_node) {
         return dimacs_read_labels(detail::bytes(text), text.size(), source, out, room, needed, &radius, by_node...);
@@ -1343,20 +1314,22 @@ inline Answer<Labels, Refused> read_labels(std::string_view text, std::uint32_t 
 // WrongLength and PastLimit.
 inline std::string write_max(const MaxInstance &instance) {
     const dimacs_max arrays = detail::arrays(instance);
-    return detail::write([&](auto... room) { return dimacs_write_max(&arrays, room...); }, instance.tails.size());
+    const auto call = [&](auto... room) { return dimacs_write_max(&arrays, room...); };
+    return detail::write(call, instance.tails.size()).value();
 }
 
 // The same of a minimum cost flow instance.
 inline std::string write_min(const MinInstance &instance) {
     const dimacs_min arrays = detail::arrays(instance);
-    return detail::write([&](auto... room) { return dimacs_write_min(&arrays, room...); },
-                         instance.tails.size() + instance.nodes);
+    const auto call = [&](auto... room) { return dimacs_write_min(&arrays, room...); };
+    return detail::write(call, instance.tails.size() + instance.nodes).value();
 }
 
 // The same of a graph.
 inline std::string write_graph(const Graph &graph) {
     const dimacs_graph arrays = detail::arrays(graph);
-    return detail::write([&](auto... room) { return dimacs_write_graph(&arrays, room...); }, graph.tails.size());
+    const auto call = [&](auto... room) { return dimacs_write_graph(&arrays, room...); };
+    return detail::write(call, graph.tails.size()).value();
 }
 
 // A solution that claims a value, with an entry for each arc of an instance of any kind, in their order.
@@ -1369,13 +1342,13 @@ std::string write_solution(std::int64_t value, const Instance &instance, Numbers
         return dimacs_write_solution(value, instance.nodes, tails.data(), tails.size(), heads.data(), heads.size(),
                                      flows.data(), flows.size(), room...);
     };
-    return detail::write(call, flows.size());
+    return detail::write(call, flows.size()).value();
 }
 
 // The set of the nodes whose byte isn't 0, as a cut.
 inline std::string write_cut(Marks inside) {
-    return detail::write([&](auto... room) { return dimacs_write_cut(inside.data(), inside.size(), room...); },
-                         inside.size() / 4);
+    const auto call = [&](auto... room) { return dimacs_write_cut(inside.data(), inside.size(), room...); };
+    return detail::write(call, inside.size() / 4).value();
 }
 
 // Potentials, by node.
@@ -1383,7 +1356,7 @@ inline std::string write_potentials(Numbers potentials) {
     const auto call = [&](auto... room) {
         return dimacs_write_potentials(potentials.data(), potentials.size(), room...);
     };
-    return detail::write(call, potentials.size());
+    return detail::write(call, potentials.size()).value();
 }
 
 // Queries.
@@ -1396,7 +1369,7 @@ inline std::string write_queries(const Queries &queries) {
         return dimacs_write_queries(queries.tos ? 1 : 0, queries.froms.data(), queries.froms.size(), tos.data(),
                                     tos.size(), room...);
     };
-    return detail::write(call, queries.froms.size());
+    return detail::write(call, queries.froms.size()).value();
 }
 
 // Distances from a source, by node: one block, with a line for each other node that is reached. Refused if the distance
@@ -1405,7 +1378,7 @@ inline Answer<std::string, Refused> write_distances(std::uint32_t source, Number
     const auto call = [&](auto... room) {
         return dimacs_write_distances(source, distances.data(), distances.size(), room...);
     };
-    return detail::write_tested(call, distances.size());
+    return detail::write(call, distances.size());
 }
 
 // The same as labels, with predecessors that lead back to the source. Refused as judge_paths, up to PredUnknown.
@@ -1417,7 +1390,7 @@ inline Answer<std::string, Refused> write_labels(std::uint32_t source, Numbers d
         return dimacs_write_labels(source, distances.data(), distances.size(), predecessors.data(), predecessors.size(),
                                    room...);
     };
-    return detail::write_tested(call, distances.size());
+    return detail::write(call, distances.size());
 }
 
 }  // namespace DIMACS_SPAN
