@@ -32,7 +32,7 @@ static int64_t number(const char *&at) {
 
 int main(int count, char **words) {
     if (count != 3) return 2;
-    const dimacs::GraphArrays graph = dimacs::read_graph(read_text(words[1])).value();
+    const dimacs::GraphVectors graph = dimacs::read_graph(read_text(words[1])).value();
     const std::string labels = read_text(words[2]);
     uint32_t source = 0;
     std::vector<int64_t> distances;

@@ -124,7 +124,7 @@ struct Graph {
 
 // The same with arrays of their own, as they are read from texts. Calls take them as the instances above, which refer
 // to them.
-struct MaxArrays {
+struct MaxVectors {
     std::uint32_t nodes = 0, source = 0, sink = 0;
     std::vector<std::uint32_t> tails, heads;
     std::vector<std::int64_t> caps;
@@ -132,7 +132,7 @@ struct MaxArrays {
     operator MaxInstance() const noexcept { return {nodes, source, sink, tails, heads, caps}; }
 };
 
-struct MinArrays {
+struct MinVectors {
     std::uint32_t nodes = 0;
     std::vector<std::uint32_t> tails, heads;
     std::vector<std::int64_t> lows, caps, costs, supplies;
@@ -140,7 +140,7 @@ struct MinArrays {
     operator MinInstance() const noexcept { return {nodes, tails, heads, lows, caps, costs, supplies}; }
 };
 
-struct GraphArrays {
+struct GraphVectors {
     std::uint32_t nodes = 0;
     std::vector<std::uint32_t> tails, heads;
     std::vector<std::int64_t> weights;
@@ -1184,12 +1184,12 @@ Answer<std::string, Refused> write(const Call &call, std::size_t lines) {
 }  // namespace detail
 
 // Reads a maximum flow instance. Refused, as by each call that reads, for the text's fault.
-inline Answer<MaxArrays, Refused> read_max(std::string_view text) {
+inline Answer<MaxVectors, Refused> read_max(std::string_view text) {
     const std::size_t most = detail::most_items(text, 8);
     detail::TextRoom line;
     detail::Room<std::uint32_t> tails(most), heads(most);
     detail::Room<std::int64_t> caps(most);
-    MaxArrays it;
+    MaxVectors it;
     std::size_t arcs = 0;
     const auto call = [&](auto... room) {
         return dimacs_read_max(detail::bytes(text), text.size(), room..., &it.nodes, &it.source, &it.sink, tails.at(),
@@ -1203,12 +1203,12 @@ inline Answer<MaxArrays, Refused> read_max(std::string_view text) {
 }
 
 // Reads a minimum cost flow instance.
-inline Answer<MinArrays, Refused> read_min(std::string_view text) {
+inline Answer<MinVectors, Refused> read_min(std::string_view text) {
     const std::size_t most = detail::most_items(text, 12);
     detail::TextRoom line;
     detail::Room<std::uint32_t> tails(most), heads(most);
     detail::Room<std::int64_t> lows(most), caps(most), costs(most), supplies(most);
-    MinArrays it;
+    MinVectors it;
     std::size_t arcs = 0;
     const auto call = [&](std::uint8_t *out, std::size_t room, std::size_t *needed, auto... by_node) {
         return dimacs_read_min(detail::bytes(text), text.size(), out, room, needed, &it.nodes, tails.at(), most,
@@ -1225,12 +1225,12 @@ inline Answer<MinArrays, Refused> read_min(std::string_view text) {
 }
 
 // Reads a graph.
-inline Answer<GraphArrays, Refused> read_graph(std::string_view text) {
+inline Answer<GraphVectors, Refused> read_graph(std::string_view text) {
     const std::size_t most = detail::most_items(text, 8);
     detail::TextRoom line;
     detail::Room<std::uint32_t> tails(most), heads(most);
     detail::Room<std::int64_t> weights(most);
-    GraphArrays it;
+    GraphVectors it;
     std::size_t arcs = 0;
     const auto call = [&](auto... room) {
         return dimacs_read_graph(detail::bytes(text), text.size(), room..., &it.nodes, tails.at(), most, heads.at(),

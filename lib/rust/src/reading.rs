@@ -18,9 +18,9 @@ use crate::arrays::{line_of, test, Error, Graph, MaxInstance, MinInstance, UNREA
 use crate::ffi;
 use crate::rooms::{Room, LINE};
 
-/// A maximum flow instance that owns its arrays.
+/// A maximum flow instance in vectors.
 #[derive(Clone, Debug, PartialEq, Eq)]
-pub struct MaxArrays {
+pub struct MaxVectors {
     /// How many nodes there are.
     pub nodes: u32,
     /// Where flow comes from.
@@ -35,9 +35,9 @@ pub struct MaxArrays {
     pub caps: Vec<i64>,
 }
 
-/// A minimum cost flow instance that owns its arrays.
+/// A minimum cost flow instance in vectors.
 #[derive(Clone, Debug, PartialEq, Eq)]
-pub struct MinArrays {
+pub struct MinVectors {
     /// How many nodes there are.
     pub nodes: u32,
     /// By arc.
@@ -54,9 +54,9 @@ pub struct MinArrays {
     pub supplies: Vec<i64>,
 }
 
-/// A graph that owns its arrays.
+/// A graph in vectors.
 #[derive(Clone, Debug, PartialEq, Eq)]
-pub struct GraphArrays {
+pub struct GraphVectors {
     /// How many nodes there are.
     pub nodes: u32,
     /// By arc.
@@ -96,26 +96,26 @@ pub struct Labels {
     pub radius: Option<i64>,
 }
 
-impl MaxArrays {
+impl MaxVectors {
     /// The instance in slices of these vectors.
     pub fn instance(&self) -> MaxInstance<'_> {
-        let MaxArrays { nodes, source, sink, tails, heads, caps } = self;
+        let MaxVectors { nodes, source, sink, tails, heads, caps } = self;
         MaxInstance { nodes: *nodes, source: *source, sink: *sink, tails, heads, caps }
     }
 }
 
-impl MinArrays {
+impl MinVectors {
     /// The instance in slices of these vectors.
     pub fn instance(&self) -> MinInstance<'_> {
-        let MinArrays { nodes, tails, heads, lows, caps, costs, supplies } = self;
+        let MinVectors { nodes, tails, heads, lows, caps, costs, supplies } = self;
         MinInstance { nodes: *nodes, tails, heads, lows, caps, costs, supplies }
     }
 }
 
-impl GraphArrays {
+impl GraphVectors {
     /// The graph in slices of these vectors.
     pub fn graph(&self) -> Graph<'_> {
-        let GraphArrays { nodes, tails, heads, weights } = self;
+        let GraphVectors { nodes, tails, heads, weights } = self;
         Graph { nodes: *nodes, tails, heads, weights }
     }
 }
@@ -162,7 +162,7 @@ fn lines(text: &[u8]) -> usize {
 /// assert_eq!((pipe.nodes, pipe.source, pipe.sink, pipe.caps), (2, 1, 2, vec![7]));
 /// assert_eq!(read_max("p max 2 1\nn 1 s\nn 2 t\na 1 3 7\n").unwrap_err().to_string(), "x instance 4 3 NodeRange");
 /// ```
-pub fn read_max(text: impl AsRef<[u8]>) -> Result<MaxArrays, Error> {
+pub fn read_max(text: impl AsRef<[u8]>) -> Result<MaxVectors, Error> {
     let text = text.as_ref();
     let (mut line, most) = (Room::new(LINE)?, lines(text));
     let (mut tails, mut heads, mut caps) = (Room::new(most)?, Room::new(most)?, Room::new(most)?);
@@ -190,7 +190,7 @@ pub fn read_max(text: impl AsRef<[u8]>) -> Result<MaxArrays, Error> {
     };
     line_of(status, line)?;
     let (tails, heads, caps) = (tails.first(arcs), heads.first(arcs), caps.first(arcs));
-    Ok(MaxArrays { nodes, source, sink, tails, heads, caps })
+    Ok(MaxVectors { nodes, source, sink, tails, heads, caps })
 }
 
 /// Reads a minimum cost flow instance.
@@ -200,7 +200,7 @@ pub fn read_max(text: impl AsRef<[u8]>) -> Result<MaxArrays, Error> {
 /// let road = read_min("p min 2 1\nn 1 3\nn 2 -3\na 1 2 0 5 2\n").unwrap();
 /// assert_eq!((road.costs, road.supplies), (vec![2], vec![3, -3]));
 /// ```
-pub fn read_min(text: impl AsRef<[u8]>) -> Result<MinArrays, Error> {
+pub fn read_min(text: impl AsRef<[u8]>) -> Result<MinVectors, Error> {
     let text = text.as_ref();
     let most = lines(text);
     let (mut tails, mut heads) = (Room::new(most)?, Room::new(most)?);
@@ -240,7 +240,7 @@ pub fn read_min(text: impl AsRef<[u8]>) -> Result<MinArrays, Error> {
     }
     let (tails, heads, lows) = (tails.first(arcs), heads.first(arcs), lows.first(arcs));
     let (caps, costs, supplies) = (caps.first(arcs), costs.first(arcs), supplies.take());
-    Ok(MinArrays { nodes, tails, heads, lows, caps, costs, supplies })
+    Ok(MinVectors { nodes, tails, heads, lows, caps, costs, supplies })
 }
 
 /// Reads a graph.
@@ -249,7 +249,7 @@ pub fn read_min(text: impl AsRef<[u8]>) -> Result<MinArrays, Error> {
 /// # use dimacs::reading::read_graph;
 /// assert_eq!(read_graph("p sp 2 1\na 1 2 7\n").unwrap().weights, [7]);
 /// ```
-pub fn read_graph(text: impl AsRef<[u8]>) -> Result<GraphArrays, Error> {
+pub fn read_graph(text: impl AsRef<[u8]>) -> Result<GraphVectors, Error> {
     let text = text.as_ref();
     let (mut line, most) = (Room::new(LINE)?, lines(text));
     let (mut tails, mut heads, mut weights) = (Room::new(most)?, Room::new(most)?, Room::new(most)?);
@@ -272,7 +272,7 @@ pub fn read_graph(text: impl AsRef<[u8]>) -> Result<GraphArrays, Error> {
         )
     };
     line_of(status, line)?;
-    Ok(GraphArrays { nodes, tails: tails.first(arcs), heads: heads.first(arcs), weights: weights.first(arcs) })
+    Ok(GraphVectors { nodes, tails: tails.first(arcs), heads: heads.first(arcs), weights: weights.first(arcs) })
 }
 
 /// Reads queries.

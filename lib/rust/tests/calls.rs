@@ -136,7 +136,7 @@ fn what_is_read_is_written() {
 #[test]
 fn what_is_not_read_has_its_line() {
     let long = format!("p sp 2 1\na 1 2 {}\n", "7".repeat(1 << 20));
-    let said = |it: Result<_, arrays::Error>| it.map(|_: reading::GraphArrays| ()).unwrap_err().to_string();
+    let said = |it: Result<_, arrays::Error>| it.map(|_: reading::GraphVectors| ()).unwrap_err().to_string();
     assert_eq!(said(reading::read_graph("p sp 2 268435456\n")), "x instance 2 0 TooFew");
     assert_eq!(said(reading::read_graph("p sp 2 1\na 1 2 7\0\n")), "x instance 2 4 BadNumber");
     assert_eq!(said(reading::read_graph(long)), "x instance 2 0 LineTooLong");
