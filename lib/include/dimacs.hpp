@@ -1,8 +1,11 @@
 // dimacs.hpp: the calls of dimacs.h for C++17 and later: spans and string views in, values out.
 //
-// Each call returns an Answer: a yes, or one of the noes that its type lists.
+// Each call returns an Answer: a yes, or one of the noes that its type lists. A text is read, solved by any solver, and
+// its flow certified by
 //
-//     if (auto answer = dimacs::certify_max(instance, flows)) {
+//     const auto network = dimacs::read_max(text).value();
+//     const std::vector<std::int64_t> flows = your_solver(network);
+//     if (auto answer = dimacs::certify_max(network, flows)) {
 //         use(answer->inside);                                              // a yes: the cut that shows it
 //     } else if (auto *no = answer.get_if<dimacs::NotOptimal<dimacs::Flows>>()) {
 //         use(no->better);                                                  // a better flow

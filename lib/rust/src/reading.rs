@@ -149,9 +149,9 @@ impl<'a> From<Graph<'a>> for Arcs<'a> {
     }
 }
 
-/// The number of lines: at least as many as there are arcs.
-fn lines(text: &[u8]) -> usize {
-    text.iter().filter(|&&it| it == b'\n').count() + 1
+/// As many items as a text has at most, each of which takes so many bytes.
+fn most(text: &[u8], bytes: usize) -> usize {
+    (text.len() + 1) / bytes
 }
 
 /// Reads a maximum flow instance.
@@ -164,7 +164,7 @@ fn lines(text: &[u8]) -> usize {
 /// ```
 pub fn read_max(text: impl AsRef<[u8]>) -> Result<MaxVectors, Error> {
     let text = text.as_ref();
-    let (mut line, most) = (Room::new(LINE)?, lines(text));
+    let (mut line, most) = (Room::new(LINE)?, most(text, 8));
     let (mut tails, mut heads, mut caps) = (Room::new(most)?, Room::new(most)?, Room::new(most)?);
     let (mut nodes, mut source, mut sink, mut arcs) = (0, 0, 0, 0);
     // The pointers and lengths are those of slices that outlive the call, and what is written is borrowed alone. So it is
@@ -202,7 +202,7 @@ pub fn read_max(text: impl AsRef<[u8]>) -> Result<MaxVectors, Error> {
 /// ```
 pub fn read_min(text: impl AsRef<[u8]>) -> Result<MinVectors, Error> {
     let text = text.as_ref();
-    let most = lines(text);
+    let most = most(text, 12);
     let (mut tails, mut heads) = (Room::new(most)?, Room::new(most)?);
     let (mut lows, mut caps, mut costs) = (Room::new(most)?, Room::new(most)?, Room::new(most)?);
     let (mut line, mut supplies) = (Room::new(LINE)?, Room::new(most)?);
@@ -251,7 +251,7 @@ pub fn read_min(text: impl AsRef<[u8]>) -> Result<MinVectors, Error> {
 /// ```
 pub fn read_graph(text: impl AsRef<[u8]>) -> Result<GraphVectors, Error> {
     let text = text.as_ref();
-    let (mut line, most) = (Room::new(LINE)?, lines(text));
+    let (mut line, most) = (Room::new(LINE)?, most(text, 8));
     let (mut tails, mut heads, mut weights) = (Room::new(most)?, Room::new(most)?, Room::new(most)?);
     let (mut nodes, mut arcs) = (0, 0);
     let status = unsafe {
@@ -284,7 +284,7 @@ pub fn read_graph(text: impl AsRef<[u8]>) -> Result<GraphVectors, Error> {
 /// ```
 pub fn read_queries(text: impl AsRef<[u8]>) -> Result<Queries, Error> {
     let text = text.as_ref();
-    let (mut line, most) = (Room::new(LINE)?, lines(text));
+    let (mut line, most) = (Room::new(LINE)?, most(text, 4));
     let (mut froms, mut tos) = (Room::new(most)?, Room::new(most)?);
     let (mut pairs, mut count) = (0, 0);
     let status = unsafe {
@@ -349,9 +349,9 @@ pub fn read_solution<'a>(text: impl AsRef<[u8]>, arcs: impl Into<Arcs<'a>>) -> R
     Ok(Solution { value, flows: flows.take() })
 }
 
-/// Makes a call that reads a text into an array by node, again if there are more nodes than lines.
+/// Makes a call that reads a text into an array by node, again if there are more nodes than room.
 fn read_by_node<T: Copy>(text: &[u8], call: impl Fn(&mut Room<u8>, &mut Room<T>) -> u32) -> Result<Room<T>, Error> {
-    let (mut line, mut items) = (Room::new(LINE)?, Room::new(lines(text))?);
+    let (mut line, mut items) = (Room::new(LINE)?, Room::new(most(text, 8))?);
     loop {
         let status = call(&mut line, &mut items);
         if items.fits() {
@@ -443,8 +443,8 @@ pub fn read_distances(text: impl AsRef<[u8]>, source: u32) -> Result<Vec<i64>, E
 /// ```
 pub fn read_labels(text: impl AsRef<[u8]>, source: u32) -> Result<Labels, Error> {
     let text = text.as_ref();
-    let (mut line, mut distances, mut radius) = (Room::new(LINE)?, Room::new(lines(text))?, 0);
-    let mut predecessors = Room::new(lines(text))?;
+    let (mut line, mut distances, mut radius) = (Room::new(LINE)?, Room::new(most(text, 8))?, 0);
+    let mut predecessors = Room::new(most(text, 8))?;
     loop {
         let status = unsafe {
             ffi::dimacs_read_labels(
