@@ -327,8 +327,8 @@ using value_of = typename ::boost::property_traits<Values>::value_type;
 // Reads a maximum flow instance into a graph without vertices, and adds an edge back of capacity 0 for each arc, as
 // read_dimacs_max_flow does. A yes has the edges of the arcs, in the text's order. Refused for the fault of the text,
 // or for the first number that doesn't fit the values of the map, by `x arc 3 NumberRange`: its third arc. Then all is
-// as it was. Throws std::invalid_argument if the graph doesn't keep several edges with the same ends, and the text has
-// such arcs.
+// as it was; after std::bad_alloc the graph may have a part. Throws std::invalid_argument if the graph doesn't keep
+// several edges with the same ends, and the text has such arcs.
 template <class G, class Capacity, class Reverse>
 Answer<std::vector<typename Index<G>::Arc>, Refused> read_max(std::string_view text, G &graph, Capacity capacity,
                                                               Reverse reverse, typename Index<G>::Node &source_vertex,

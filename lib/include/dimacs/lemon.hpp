@@ -272,7 +272,7 @@ struct Made {
 // Reads a maximum flow instance into a graph and its map, in place of what they had, as readDimacsMax does. Nodes and
 // arcs have the order of their IDs, which begin with 0. A yes has the arcs. Refused for the fault of the text, or for
 // the first number that doesn't fit the values of the map, by `x arc 3 NumberRange`: its third arc. Then all is as it
-// was.
+// was; after std::bad_alloc the graph may have a part.
 template <class G, class Capacity>
 Answer<std::vector<typename G::Arc>, Refused> read_max(std::string_view text, G &graph, Capacity &capacity,
                                                        typename G::Node &source, typename G::Node &target) {
