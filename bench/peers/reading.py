@@ -23,7 +23,12 @@ def problem(file):
 def by_dimacs():
     import dimacs
 
-    return lambda kind, file: (lambda it: (it.nodes, len(it)))(dimacs.read(kind, pathlib.Path(file)))
+    def read(kind, file):
+        instance = dimacs.read(kind, pathlib.Path(file))
+        return instance.nodes, len(instance)
+
+    dimacs.read("gr", b"p sp 1 0\n")  # which loads the library, and numpy
+    return read
 
 
 def by_pandas():
