@@ -5,7 +5,7 @@
 //! [`Error::PastLimit`] if a number of the instance is past its limit, [`Error::OutOfMemory`], and
 //! [`Error::UnknownAnswer`]. Its documentation names the other variants that it returns.
 
-use crate::ffi::{self, Array, Graph as RawGraph, Max, Min, DONE, GAVE_UP, MISUSED, NO_MEMORY, REFUSED};
+use crate::ffi::{self, bytes, call, Array, Graph as RawGraph, Max, Min, DONE, GAVE_UP, MISUSED, NO_MEMORY, REFUSED};
 use crate::rooms::{room_for, Room, LINE};
 use crate::words::{is_feasible, is_infeasible, is_not_optimal, refused, unknown_status, value};
 
@@ -205,20 +205,7 @@ pub fn judge_max(instance: &MaxInstance, flows: &[i64], inside: &[bool]) -> Resu
     test("flows", flows.len(), instance.tails.len())?;
     test("inside", inside.len(), instance.nodes as usize)?;
     let (instance, mut line) = (instance.raw()?, Room::new(LINE)?);
-    // The pointers and lengths are those of slices that outlive the call, a bool is a byte that is 0 or 1, and what is
-    // written is borrowed alone. So it is in all calls here.
-    let status = unsafe {
-        ffi::dimacs_judge_max_arrays(
-            &instance,
-            flows.as_ptr(),
-            flows.len(),
-            inside.as_ptr().cast(),
-            inside.len(),
-            line.at(),
-            line.room(),
-            line.needed(),
-        )
-    };
+    let status = call!(ffi::dimacs_judge_max_arrays: &instance, [flows], [bytes(inside)], {line});
     Ok(value(&line_of(status, line)?)?)
 }
 
@@ -237,18 +224,7 @@ pub fn judge_min(instance: &MinInstance, flows: &[i64], potentials: &[i64]) -> R
     test("flows", flows.len(), instance.tails.len())?;
     test("potentials", potentials.len(), instance.nodes as usize)?;
     let (instance, mut line) = (instance.raw()?, Room::new(LINE)?);
-    let status = unsafe {
-        ffi::dimacs_judge_min_arrays(
-            &instance,
-            flows.as_ptr(),
-            flows.len(),
-            potentials.as_ptr(),
-            potentials.len(),
-            line.at(),
-            line.room(),
-            line.needed(),
-        )
-    };
+    let status = call!(ffi::dimacs_judge_min_arrays: &instance, [flows], [potentials], {line});
     Ok(value(&line_of(status, line)?)?)
 }
 
@@ -265,16 +241,7 @@ pub fn judge_min(instance: &MinInstance, flows: &[i64], potentials: &[i64]) -> R
 pub fn judge_infeasible(instance: &MinInstance, inside: &[bool]) -> Result<(), Error> {
     test("inside", inside.len(), instance.nodes as usize)?;
     let (instance, mut line) = (instance.raw()?, Room::new(LINE)?);
-    let status = unsafe {
-        ffi::dimacs_judge_infeasible_arrays(
-            &instance,
-            inside.as_ptr().cast(),
-            inside.len(),
-            line.at(),
-            line.room(),
-            line.needed(),
-        )
-    };
+    let status = call!(ffi::dimacs_judge_infeasible_arrays: &instance, [bytes(inside)], {line});
     line_of(status, line).map(drop)
 }
 
@@ -291,19 +258,7 @@ pub fn judge_paths(graph: &Graph, source: u32, distances: &[i64], predecessors: 
     test("distances", distances.len(), graph.nodes as usize)?;
     test("predecessors", predecessors.len(), graph.nodes as usize)?;
     let (graph, mut line) = (graph.raw()?, Room::new(LINE)?);
-    let status = unsafe {
-        ffi::dimacs_judge_paths_arrays(
-            &graph,
-            source,
-            distances.as_ptr(),
-            distances.len(),
-            predecessors.as_ptr(),
-            predecessors.len(),
-            line.at(),
-            line.room(),
-            line.needed(),
-        )
-    };
+    let status = call!(ffi::dimacs_judge_paths_arrays: &graph, source, [distances], [predecessors], {line});
     line_of(status, line).map(drop)
 }
 
@@ -322,22 +277,7 @@ pub fn certify_max(instance: &MaxInstance, flows: &[i64]) -> Result<CertifiedMax
     test("flows", flows.len(), instance.tails.len())?;
     let (mut line, mut inside) = (Room::new(LINE)?, Room::<u8>::new(room_for(instance.nodes))?);
     let (instance, mut better) = (instance.raw()?, Room::new(flows.len())?);
-    let status = unsafe {
-        ffi::dimacs_certify_max_arrays(
-            &instance,
-            flows.as_ptr(),
-            flows.len(),
-            line.at(),
-            line.room(),
-            line.needed(),
-            inside.at(),
-            inside.room(),
-            inside.needed(),
-            better.at(),
-            better.room(),
-            better.needed(),
-        )
-    };
+    let status = call!(ffi::dimacs_certify_max_arrays: &instance, [flows], {line}, {inside}, {better});
     let line = line_or_better(status, line, better)?;
     Ok(CertifiedMax { value: value(&line)?, inside: inside.marks()? })
 }
@@ -359,22 +299,7 @@ pub fn certify_min(instance: &MinInstance, flows: &[i64]) -> Result<CertifiedMin
     test("flows", flows.len(), instance.tails.len())?;
     let (mut line, mut potentials) = (Room::new(LINE)?, Room::new(room_for(instance.nodes))?);
     let (instance, mut better) = (instance.raw()?, Room::new(flows.len())?);
-    let status = unsafe {
-        ffi::dimacs_certify_min_arrays(
-            &instance,
-            flows.as_ptr(),
-            flows.len(),
-            line.at(),
-            line.room(),
-            line.needed(),
-            potentials.at(),
-            potentials.room(),
-            potentials.needed(),
-            better.at(),
-            better.room(),
-            better.needed(),
-        )
-    };
+    let status = call!(ffi::dimacs_certify_min_arrays: &instance, [flows], {line}, {potentials}, {better});
     let line = line_or_better(status, line, better)?;
     Ok(CertifiedMin { cost: value(&line)?, potentials: potentials.take() })
 }
@@ -394,20 +319,7 @@ pub fn certify_min(instance: &MinInstance, flows: &[i64]) -> Result<CertifiedMin
 pub fn certify_infeasible(instance: &MinInstance) -> Result<Vec<bool>, Error> {
     let (mut line, mut inside) = (Room::new(LINE)?, Room::<u8>::new(room_for(instance.nodes))?);
     let (mut flows, instance) = (Room::new(instance.tails.len())?, instance.raw()?);
-    let status = unsafe {
-        ffi::dimacs_certify_infeasible_arrays(
-            &instance,
-            line.at(),
-            line.room(),
-            line.needed(),
-            inside.at(),
-            inside.room(),
-            inside.needed(),
-            flows.at(),
-            flows.room(),
-            flows.needed(),
-        )
-    };
+    let status = call!(ffi::dimacs_certify_infeasible_arrays: &instance, {line}, {inside}, {flows});
     match line_of(status, line) {
         Ok(_) => Ok(inside.marks()?),
         Err(Error::Refused(it)) if is_feasible(&it) => Err(Error::Feasible(flows.take())),
@@ -429,20 +341,7 @@ pub fn certify_paths(graph: &Graph, source: u32, distances: &[i64]) -> Result<Ve
     test("distances", distances.len(), graph.nodes as usize)?;
     let (mut line, mut predecessors) = (Room::new(LINE)?, Room::new(room_for(graph.nodes))?);
     let graph = graph.raw()?;
-    let status = unsafe {
-        ffi::dimacs_certify_paths_arrays(
-            &graph,
-            source,
-            distances.as_ptr(),
-            distances.len(),
-            line.at(),
-            line.room(),
-            line.needed(),
-            predecessors.at(),
-            predecessors.room(),
-            predecessors.needed(),
-        )
-    };
+    let status = call!(ffi::dimacs_certify_paths_arrays: &graph, source, [distances], {line}, {predecessors});
     line_of(status, line)?;
     Ok(predecessors.take())
 }
@@ -458,21 +357,7 @@ pub fn certify_paths(graph: &Graph, source: u32, distances: &[i64]) -> Result<Ve
 pub fn solve_max(instance: &MaxInstance, limit: u64) -> Result<SolvedMax, Error> {
     let (mut line, mut flows) = (Room::new(LINE)?, Room::new(instance.tails.len())?);
     let (mut inside, instance) = (Room::<u8>::new(room_for(instance.nodes))?, instance.raw()?);
-    let status = unsafe {
-        ffi::dimacs_solve_max_arrays(
-            &instance,
-            limit,
-            line.at(),
-            line.room(),
-            line.needed(),
-            flows.at(),
-            flows.room(),
-            flows.needed(),
-            inside.at(),
-            inside.room(),
-            inside.needed(),
-        )
-    };
+    let status = call!(ffi::dimacs_solve_max_arrays: &instance, limit, {line}, {flows}, {inside});
     let line = line_of(status, line)?;
     Ok(SolvedMax { value: value(&line)?, flows: flows.take(), inside: inside.marks()? })
 }
@@ -495,24 +380,7 @@ pub fn solve_min(instance: &MinInstance, limit: u64) -> Result<SolvedMin, Error>
     let (mut potentials, mut inside) =
         (Room::new(room_for(instance.nodes))?, Room::<u8>::new(room_for(instance.nodes))?);
     let instance = instance.raw()?;
-    let status = unsafe {
-        ffi::dimacs_solve_min_arrays(
-            &instance,
-            limit,
-            line.at(),
-            line.room(),
-            line.needed(),
-            flows.at(),
-            flows.room(),
-            flows.needed(),
-            potentials.at(),
-            potentials.room(),
-            potentials.needed(),
-            inside.at(),
-            inside.room(),
-            inside.needed(),
-        )
-    };
+    let status = call!(ffi::dimacs_solve_min_arrays: &instance, limit, {line}, {flows}, {potentials}, {inside});
     let line = line_of(status, line)?;
     if is_infeasible(&line) {
         return Err(Error::Infeasible(inside.marks()?));
@@ -531,21 +399,7 @@ pub fn solve_min(instance: &MinInstance, limit: u64) -> Result<SolvedMin, Error>
 pub fn solve_paths(graph: &Graph, source: u32) -> Result<SolvedPaths, Error> {
     let (mut distances, mut predecessors) = (Room::new(room_for(graph.nodes))?, Room::new(room_for(graph.nodes))?);
     let (mut line, graph) = (Room::new(LINE)?, graph.raw()?);
-    let status = unsafe {
-        ffi::dimacs_solve_paths_arrays(
-            &graph,
-            source,
-            line.at(),
-            line.room(),
-            line.needed(),
-            distances.at(),
-            distances.room(),
-            distances.needed(),
-            predecessors.at(),
-            predecessors.room(),
-            predecessors.needed(),
-        )
-    };
+    let status = call!(ffi::dimacs_solve_paths_arrays: &graph, source, {line}, {distances}, {predecessors});
     line_of(status, line)?;
     Ok(SolvedPaths { distances: distances.take(), predecessors: predecessors.take() })
 }

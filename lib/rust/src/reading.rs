@@ -15,7 +15,7 @@
 //! ```
 
 use crate::arrays::{line_of, test, Error, Graph, MaxInstance, MinInstance, UNREACHED};
-use crate::ffi;
+use crate::ffi::{self, bytes, call};
 use crate::rooms::{Room, LINE};
 
 /// A maximum flow instance in vectors.
@@ -167,27 +167,8 @@ pub fn read_max(text: impl AsRef<[u8]>) -> Result<MaxVectors, Error> {
     let (mut line, most) = (Room::new(LINE)?, most(text, 8));
     let (mut tails, mut heads, mut caps) = (Room::new(most)?, Room::new(most)?, Room::new(most)?);
     let (mut nodes, mut source, mut sink, mut arcs) = (0, 0, 0, 0);
-    // The pointers and lengths are those of slices that outlive the call, and what is written is borrowed alone. So it is
-    // in all calls here.
-    let status = unsafe {
-        ffi::dimacs_read_max(
-            text.as_ptr(),
-            text.len(),
-            line.at(),
-            line.room(),
-            line.needed(),
-            &mut nodes,
-            &mut source,
-            &mut sink,
-            tails.at(),
-            tails.room(),
-            heads.at(),
-            heads.room(),
-            caps.at(),
-            caps.room(),
-            &mut arcs,
-        )
-    };
+    let status = call!(ffi::dimacs_read_max: [text], {line}, &mut nodes, &mut source, &mut sink,
+                       (tails), (heads), (caps), &mut arcs);
     line_of(status, line)?;
     let (tails, heads, caps) = (tails.first(arcs), heads.first(arcs), caps.first(arcs));
     Ok(MaxVectors { nodes, source, sink, tails, heads, caps })
@@ -208,30 +189,8 @@ pub fn read_min(text: impl AsRef<[u8]>) -> Result<MinVectors, Error> {
     let (mut line, mut supplies) = (Room::new(LINE)?, Room::new(most)?);
     let (mut nodes, mut arcs) = (0, 0);
     loop {
-        let status = unsafe {
-            ffi::dimacs_read_min(
-                text.as_ptr(),
-                text.len(),
-                line.at(),
-                line.room(),
-                line.needed(),
-                &mut nodes,
-                tails.at(),
-                tails.room(),
-                heads.at(),
-                heads.room(),
-                lows.at(),
-                lows.room(),
-                caps.at(),
-                caps.room(),
-                costs.at(),
-                costs.room(),
-                &mut arcs,
-                supplies.at(),
-                supplies.room(),
-                supplies.needed(),
-            )
-        };
+        let status = call!(ffi::dimacs_read_min: [text], {line}, &mut nodes,
+                           (tails), (heads), (lows), (caps), (costs), &mut arcs, {supplies});
         if supplies.fits() {
             line_of(status, line)?;
             break;
@@ -254,23 +213,7 @@ pub fn read_graph(text: impl AsRef<[u8]>) -> Result<GraphVectors, Error> {
     let (mut line, most) = (Room::new(LINE)?, most(text, 8));
     let (mut tails, mut heads, mut weights) = (Room::new(most)?, Room::new(most)?, Room::new(most)?);
     let (mut nodes, mut arcs) = (0, 0);
-    let status = unsafe {
-        ffi::dimacs_read_graph(
-            text.as_ptr(),
-            text.len(),
-            line.at(),
-            line.room(),
-            line.needed(),
-            &mut nodes,
-            tails.at(),
-            tails.room(),
-            heads.at(),
-            heads.room(),
-            weights.at(),
-            weights.room(),
-            &mut arcs,
-        )
-    };
+    let status = call!(ffi::dimacs_read_graph: [text], {line}, &mut nodes, (tails), (heads), (weights), &mut arcs);
     line_of(status, line)?;
     Ok(GraphVectors { nodes, tails: tails.first(arcs), heads: heads.first(arcs), weights: weights.first(arcs) })
 }
@@ -287,21 +230,7 @@ pub fn read_queries(text: impl AsRef<[u8]>) -> Result<Queries, Error> {
     let (mut line, most) = (Room::new(LINE)?, most(text, 4));
     let (mut froms, mut tos) = (Room::new(most)?, Room::new(most)?);
     let (mut pairs, mut count) = (0, 0);
-    let status = unsafe {
-        ffi::dimacs_read_queries(
-            text.as_ptr(),
-            text.len(),
-            line.at(),
-            line.room(),
-            line.needed(),
-            &mut pairs,
-            froms.at(),
-            froms.room(),
-            tos.at(),
-            tos.room(),
-            &mut count,
-        )
-    };
+    let status = call!(ffi::dimacs_read_queries: [text], {line}, &mut pairs, (froms), (tos), &mut count);
     line_of(status, line)?;
     let froms = froms.first(count);
     if pairs == 0 {
@@ -327,24 +256,7 @@ pub fn read_solution<'a>(text: impl AsRef<[u8]>, arcs: impl Into<Arcs<'a>>) -> R
     let (text, Arcs { nodes, tails, heads }) = (text.as_ref(), arcs.into());
     test("heads", heads.len(), tails.len())?;
     let (mut line, mut flows, mut value) = (Room::new(LINE)?, Room::new(tails.len())?, 0);
-    let status = unsafe {
-        ffi::dimacs_read_solution(
-            nodes,
-            tails.as_ptr(),
-            tails.len(),
-            heads.as_ptr(),
-            heads.len(),
-            text.as_ptr(),
-            text.len(),
-            line.at(),
-            line.room(),
-            line.needed(),
-            &mut value,
-            flows.at(),
-            flows.room(),
-            flows.needed(),
-        )
-    };
+    let status = call!(ffi::dimacs_read_solution: nodes, [tails], [heads], [text], {line}, &mut value, {flows});
     line_of(status, line)?;
     Ok(Solution { value, flows: flows.take() })
 }
@@ -369,19 +281,8 @@ fn read_by_node<T: Copy>(text: &[u8], call: impl Fn(&mut Room<u8>, &mut Room<T>)
 /// ```
 pub fn read_cut(text: impl AsRef<[u8]>) -> Result<Vec<bool>, Error> {
     let text = text.as_ref();
-    let inside = read_by_node(text, |line, inside| unsafe {
-        ffi::dimacs_read_cut(
-            text.as_ptr(),
-            text.len(),
-            line.at(),
-            line.room(),
-            line.needed(),
-            inside.at(),
-            inside.room(),
-            inside.needed(),
-        )
-    })?;
-    Ok(inside.marks()?)
+    let read = |line: &mut Room<u8>, items: &mut Room<u8>| call!(ffi::dimacs_read_cut: [text], {line}, {items});
+    Ok(read_by_node(text, read)?.marks()?)
 }
 
 /// Reads potentials, by node. [`Error::Refused`] also for the first one that doesn't fit in 64 bits.
@@ -392,19 +293,8 @@ pub fn read_cut(text: impl AsRef<[u8]>) -> Result<Vec<bool>, Error> {
 /// ```
 pub fn read_potentials(text: impl AsRef<[u8]>) -> Result<Vec<i64>, Error> {
     let text = text.as_ref();
-    let potentials = read_by_node(text, |line, potentials| unsafe {
-        ffi::dimacs_read_potentials(
-            text.as_ptr(),
-            text.len(),
-            line.at(),
-            line.room(),
-            line.needed(),
-            potentials.at(),
-            potentials.room(),
-            potentials.needed(),
-        )
-    })?;
-    Ok(potentials.take())
+    let read = |line: &mut Room<u8>, items: &mut Room<i64>| call!(ffi::dimacs_read_potentials: [text], {line}, {items});
+    Ok(read_by_node(text, read)?.take())
 }
 
 /// Reads the block of a source from distances, by node: [`UNREACHED`](crate::arrays::UNREACHED) for a node without a line.
@@ -418,20 +308,9 @@ pub fn read_potentials(text: impl AsRef<[u8]>) -> Result<Vec<i64>, Error> {
 /// ```
 pub fn read_distances(text: impl AsRef<[u8]>, source: u32) -> Result<Vec<i64>, Error> {
     let text = text.as_ref();
-    let distances = read_by_node(text, |line, distances| unsafe {
-        ffi::dimacs_read_distances(
-            text.as_ptr(),
-            text.len(),
-            source,
-            line.at(),
-            line.room(),
-            line.needed(),
-            distances.at(),
-            distances.room(),
-            distances.needed(),
-        )
-    })?;
-    Ok(distances.take())
+    let read =
+        |line: &mut Room<u8>, items: &mut Room<i64>| call!(ffi::dimacs_read_distances: [text], source, {line}, {items});
+    Ok(read_by_node(text, read)?.take())
 }
 
 /// Reads the block of a source from labels. [`Error::Refused`] as by [`read_distances`].
@@ -446,23 +325,7 @@ pub fn read_labels(text: impl AsRef<[u8]>, source: u32) -> Result<Labels, Error>
     let (mut line, mut distances, mut radius) = (Room::new(LINE)?, Room::new(most(text, 8))?, 0);
     let mut predecessors = Room::new(most(text, 8))?;
     loop {
-        let status = unsafe {
-            ffi::dimacs_read_labels(
-                text.as_ptr(),
-                text.len(),
-                source,
-                line.at(),
-                line.room(),
-                line.needed(),
-                &mut radius,
-                distances.at(),
-                distances.room(),
-                distances.needed(),
-                predecessors.at(),
-                predecessors.room(),
-                predecessors.needed(),
-            )
-        };
+        let status = call!(ffi::dimacs_read_labels: [text], source, {line}, &mut radius, {distances}, {predecessors});
         if distances.fits() && predecessors.fits() {
             line_of(status, line)?;
             break;
@@ -475,10 +338,10 @@ pub fn read_labels(text: impl AsRef<[u8]>, source: u32) -> Result<Labels, Error>
 }
 
 /// Makes a call that writes about so many lines, again if they are longer than the room.
-fn write(lines: usize, call: impl Fn(*mut u8, usize, *mut usize) -> u32) -> Result<String, Error> {
+fn write(lines: usize, call: impl Fn(&mut Room<u8>) -> u32) -> Result<String, Error> {
     let mut text = Room::new(LINE + 32 * lines)?;
     loop {
-        let status = call(text.at(), text.room(), text.needed());
+        let status = call(&mut text);
         if text.fits() {
             return line_of(status, text);
         }
@@ -495,7 +358,7 @@ fn write(lines: usize, call: impl Fn(*mut u8, usize, *mut usize) -> u32) -> Resu
 /// ```
 pub fn write_max(instance: &MaxInstance) -> Result<String, Error> {
     let raw = instance.raw()?;
-    write(instance.tails.len(), |at, room, needed| unsafe { ffi::dimacs_write_max(&raw, at, room, needed) })
+    write(instance.tails.len(), |text| call!(ffi::dimacs_write_max: &raw, {text}))
 }
 
 /// The text of a minimum cost flow instance.
@@ -507,7 +370,7 @@ pub fn write_max(instance: &MaxInstance) -> Result<String, Error> {
 /// ```
 pub fn write_min(instance: &MinInstance) -> Result<String, Error> {
     let (raw, lines) = (instance.raw()?, instance.tails.len() + instance.supplies.len());
-    write(lines, |at, room, needed| unsafe { ffi::dimacs_write_min(&raw, at, room, needed) })
+    write(lines, |text| call!(ffi::dimacs_write_min: &raw, {text}))
 }
 
 /// The text of a graph.
@@ -519,7 +382,7 @@ pub fn write_min(instance: &MinInstance) -> Result<String, Error> {
 /// ```
 pub fn write_graph(graph: &Graph) -> Result<String, Error> {
     let raw = graph.raw()?;
-    write(graph.tails.len(), |at, room, needed| unsafe { ffi::dimacs_write_graph(&raw, at, room, needed) })
+    write(graph.tails.len(), |text| call!(ffi::dimacs_write_graph: &raw, {text}))
 }
 
 /// The text of a solution that claims a value, with an entry for each arc of an instance, in their order.
@@ -533,21 +396,7 @@ pub fn write_solution<'a>(value: i64, arcs: impl Into<Arcs<'a>>, flows: &[i64]) 
     let Arcs { nodes, tails, heads } = arcs.into();
     test("heads", heads.len(), tails.len())?;
     test("flows", flows.len(), tails.len())?;
-    write(flows.len(), |at, room, needed| unsafe {
-        ffi::dimacs_write_solution(
-            value,
-            nodes,
-            tails.as_ptr(),
-            tails.len(),
-            heads.as_ptr(),
-            heads.len(),
-            flows.as_ptr(),
-            flows.len(),
-            at,
-            room,
-            needed,
-        )
-    })
+    write(flows.len(), |text| call!(ffi::dimacs_write_solution: value, nodes, [tails], [heads], [flows], {text}))
 }
 
 /// The text of a cut or a set, given by node.
@@ -557,10 +406,7 @@ pub fn write_solution<'a>(value: i64, arcs: impl Into<Arcs<'a>>, flows: &[i64]) 
 /// assert_eq!(write_cut(&[false, true]).unwrap(), "p cut 2 1\nu 2\n");
 /// ```
 pub fn write_cut(inside: &[bool]) -> Result<String, Error> {
-    // A bool is a byte that is 0 or 1.
-    write(inside.len() / 4, |at, room, needed| unsafe {
-        ffi::dimacs_write_cut(inside.as_ptr().cast(), inside.len(), at, room, needed)
-    })
+    write(inside.len() / 4, |text| call!(ffi::dimacs_write_cut: [bytes(inside)], {text}))
 }
 
 /// The text of potentials, given by node.
@@ -570,9 +416,7 @@ pub fn write_cut(inside: &[bool]) -> Result<String, Error> {
 /// assert_eq!(write_potentials(&[0, -7]).unwrap(), "p pot 2 1\ny 2 -7\n");
 /// ```
 pub fn write_potentials(potentials: &[i64]) -> Result<String, Error> {
-    write(potentials.len(), |at, room, needed| unsafe {
-        ffi::dimacs_write_potentials(potentials.as_ptr(), potentials.len(), at, room, needed)
-    })
+    write(potentials.len(), |text| call!(ffi::dimacs_write_potentials: [potentials], {text}))
 }
 
 /// The text of queries.
@@ -595,9 +439,7 @@ pub fn write_queries(queries: &Queries) -> Result<String, Error> {
         }
     };
     let is_pairs = u32::from(matches!(queries, Queries::Pairs(_)));
-    write(froms.len(), |at, room, needed| unsafe {
-        ffi::dimacs_write_queries(is_pairs, froms.as_ptr(), froms.len(), tos.as_ptr(), tos.len(), at, room, needed)
-    })
+    write(froms.len(), |text| call!(ffi::dimacs_write_queries: is_pairs, [froms], [tos], {text}))
 }
 
 /// The text of distances from a source, given by node: one block, with a line for each other node that is reached.
@@ -608,9 +450,7 @@ pub fn write_queries(queries: &Queries) -> Result<String, Error> {
 /// assert_eq!(write_distances(1, &[0, 7, UNREACHED]).unwrap(), "p distances 3 1\nt 1 1\nd 2 7\n");
 /// ```
 pub fn write_distances(source: u32, distances: &[i64]) -> Result<String, Error> {
-    write(distances.len(), |at, room, needed| unsafe {
-        ffi::dimacs_write_distances(source, distances.as_ptr(), distances.len(), at, room, needed)
-    })
+    write(distances.len(), |text| call!(ffi::dimacs_write_distances: source, [distances], {text}))
 }
 
 /// The same as labels, with predecessors that lead back to the source. [`Error::Refused`] as by
@@ -623,16 +463,5 @@ pub fn write_distances(source: u32, distances: &[i64]) -> Result<String, Error> 
 /// ```
 pub fn write_labels(source: u32, distances: &[i64], predecessors: &[u32]) -> Result<String, Error> {
     test("predecessors", predecessors.len(), distances.len())?;
-    write(distances.len(), |at, room, needed| unsafe {
-        ffi::dimacs_write_labels(
-            source,
-            distances.as_ptr(),
-            distances.len(),
-            predecessors.as_ptr(),
-            predecessors.len(),
-            at,
-            room,
-            needed,
-        )
-    })
+    write(distances.len(), |text| call!(ffi::dimacs_write_labels: source, [distances], [predecessors], {text}))
 }

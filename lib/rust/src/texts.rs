@@ -5,7 +5,7 @@
 //! [`Error::OutOfMemory`], and [`Error::UnknownAnswer`]. Its documentation names the other variants that it returns.
 
 use crate::error::NoAnswer;
-use crate::ffi::{self, DONE, GAVE_UP, MISUSED, NO_MEMORY, REFUSED};
+use crate::ffi::{self, call, DONE, GAVE_UP, MISUSED, NO_MEMORY, REFUSED};
 use crate::rooms::{Room, LINE};
 use crate::words::{is_feasible, is_infeasible, is_not_optimal, known, refused, unknown_status, value, words};
 
@@ -108,8 +108,7 @@ fn lines_of(status: u32, lines: Room<u8>) -> Result<String, Error> {
 pub(crate) fn version_text() -> Result<String, Error> {
     let mut text = Room::new(LINE)?;
     loop {
-        // What is written is borrowed alone.
-        let status = unsafe { ffi::dimacs_version_text(text.at(), text.room(), text.needed()) };
+        let status = call!(ffi::dimacs_version_text: {text});
         if grow([&mut text])? {
             return lines_of(status, text);
         }
@@ -128,22 +127,7 @@ fn judge(kind: u32, texts: [&[u8]; 3], room: usize) -> Result<String, Error> {
     let mut lines = Room::new(room)?;
     let [instance, claim, certificate] = texts;
     loop {
-        // The pointers and lengths are those of slices that outlive the call, and what is written is borrowed alone. So it
-        // is in all calls here.
-        let status = unsafe {
-            ffi::dimacs_judge(
-                kind,
-                instance.as_ptr(),
-                instance.len(),
-                claim.as_ptr(),
-                claim.len(),
-                certificate.as_ptr(),
-                certificate.len(),
-                lines.at(),
-                lines.room(),
-                lines.needed(),
-            )
-        };
+        let status = call!(ffi::dimacs_judge: kind, [instance], [claim], [certificate], {lines});
         if grow([&mut lines])? {
             return lines_of(status, lines);
         }
@@ -167,28 +151,11 @@ type CallOfTwo = unsafe extern "C" fn(
 
 /// A line, or what the status means, and the text that comes with it.
 fn call_of_two(
-    call: CallOfTwo,
-    kind: u32,
-    instance: &[u8],
-    claim: &[u8],
+    call: CallOfTwo, kind: u32, instance: &[u8], claim: &[u8],
 ) -> Result<(Result<String, Error>, String), Error> {
     let (mut line, mut shown) = (Room::new(LINE)?, Room::new(LINE + instance.len() + claim.len())?);
     loop {
-        let status = unsafe {
-            call(
-                kind,
-                instance.as_ptr(),
-                instance.len(),
-                claim.as_ptr(),
-                claim.len(),
-                line.at(),
-                line.room(),
-                line.needed(),
-                shown.at(),
-                shown.room(),
-                shown.needed(),
-            )
-        };
+        let status = call!(call: kind, [instance], [claim], {line}, {shown});
         if grow([&mut line, &mut shown])? {
             return Ok((lines_of(status, line), shown.text()?));
         }
@@ -220,25 +187,7 @@ fn solve(kind: u32, instance: &[u8], queries: &[u8], limit: u64) -> Result<(Stri
     let mut lines = Room::new(LINE + 4 * queries.len())?;
     let (mut solution, mut shown) = (Room::new(LINE + instance.len())?, Room::new(LINE + 2 * instance.len())?);
     loop {
-        let status = unsafe {
-            ffi::dimacs_solve(
-                kind,
-                instance.as_ptr(),
-                instance.len(),
-                queries.as_ptr(),
-                queries.len(),
-                limit,
-                lines.at(),
-                lines.room(),
-                lines.needed(),
-                solution.at(),
-                solution.room(),
-                solution.needed(),
-                shown.at(),
-                shown.room(),
-                shown.needed(),
-            )
-        };
+        let status = call!(ffi::dimacs_solve: kind, [instance], [queries], limit, {lines}, {solution}, {shown});
         if grow([&mut lines, &mut solution, &mut shown])? {
             return Ok((lines_of(status, lines)?, solution.text()?, shown.text()?));
         }
@@ -293,9 +242,7 @@ pub fn judge_max(instance: impl AsRef<[u8]>, solution: impl AsRef<[u8]>, cut: im
 /// assert_eq!(judge_min(road, "s 6\nf 1 2 3\n", "p pot 2 1\ny 1 2\n"), Ok(6));
 /// ```
 pub fn judge_min(
-    instance: impl AsRef<[u8]>,
-    solution: impl AsRef<[u8]>,
-    potentials: impl AsRef<[u8]>,
+    instance: impl AsRef<[u8]>, solution: impl AsRef<[u8]>, potentials: impl AsRef<[u8]>,
 ) -> Result<i128, Error> {
     Ok(value(&judge(MIN, [instance.as_ref(), solution.as_ref(), potentials.as_ref()], LINE)?)?)
 }
@@ -319,9 +266,7 @@ pub fn judge_infeasible(instance: impl AsRef<[u8]>, set: impl AsRef<[u8]>) -> Re
 /// assert_eq!(answers, Ok(Paths::Pairs(vec![Pair { source: 1, target: 2, distance: Distance::Is(7) }])));
 /// ```
 pub fn judge_paths(
-    graph: impl AsRef<[u8]>,
-    queries: impl AsRef<[u8]>,
-    labels: impl AsRef<[u8]>,
+    graph: impl AsRef<[u8]>, queries: impl AsRef<[u8]>, labels: impl AsRef<[u8]>,
 ) -> Result<Paths, Error> {
     let room = LINE + 4 * queries.as_ref().len();
     Ok(paths(&judge(PATHS, [graph.as_ref(), queries.as_ref(), labels.as_ref()], room)?)?)
@@ -460,8 +405,7 @@ pub fn convert(kind: Kind, text: impl AsRef<[u8]>) -> Result<String, Error> {
     let text = text.as_ref();
     let mut out = Room::new(LINE + text.len())?;
     loop {
-        let status =
-            unsafe { ffi::dimacs_convert(kind as u32, text.as_ptr(), text.len(), out.at(), out.room(), out.needed()) };
+        let status = call!(ffi::dimacs_convert: kind as u32, [text], {out});
         if grow([&mut out])? {
             return lines_of(status, out);
         }
@@ -478,8 +422,7 @@ pub fn show(kind: Kind, text: impl AsRef<[u8]>) -> Result<String, Error> {
     let text = text.as_ref();
     let mut out = Room::new(LINE)?;
     loop {
-        let status =
-            unsafe { ffi::dimacs_show(kind as u32, text.as_ptr(), text.len(), out.at(), out.room(), out.needed()) };
+        let status = call!(ffi::dimacs_show: kind as u32, [text], {out});
         if grow([&mut out])? {
             return lines_of(status, out);
         }
@@ -497,29 +440,12 @@ pub fn show(kind: Kind, text: impl AsRef<[u8]>) -> Result<String, Error> {
 /// assert!(lines.starts_with("x arc 1 AboveCap\npipe:4: a 1 2 7\n"));
 /// ```
 pub fn explain(
-    command: &str,
-    first: impl AsRef<[u8]>,
-    second: impl AsRef<[u8]>,
-    third: impl AsRef<[u8]>,
+    command: &str, first: impl AsRef<[u8]>, second: impl AsRef<[u8]>, third: impl AsRef<[u8]>,
 ) -> Result<String, Error> {
     let [first, second, third] = [first.as_ref(), second.as_ref(), third.as_ref()];
     let mut lines = Room::new(16 * LINE)?;
     loop {
-        let status = unsafe {
-            ffi::dimacs_explain(
-                command.as_ptr(),
-                command.len(),
-                first.as_ptr(),
-                first.len(),
-                second.as_ptr(),
-                second.len(),
-                third.as_ptr(),
-                third.len(),
-                lines.at(),
-                lines.room(),
-                lines.needed(),
-            )
-        };
+        let status = call!(ffi::dimacs_explain: [command], [first], [second], [third], {lines});
         if grow([&mut lines])? {
             return match status {
                 REFUSED | GAVE_UP => Ok(lines.text()?),
