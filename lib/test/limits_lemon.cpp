@@ -205,6 +205,45 @@ static void distances(Chance &chance, const Sides &sides) {
                exact::paths(sides.net, source, weights, far)}));
 }
 
+/* The text of a graph, as the formats have it. */
+static std::string text_of(const Net &net, const Wides &weights) {
+    std::string text = "p sp " + std::to_string(net.nodes.size()) + " " + std::to_string(net.arcs.size()) + "\n";
+    for (std::size_t k = 0; k < net.arcs.size(); k++) {
+        const auto &[tail, head, name] = net.arcs[k];
+        text +=
+            "a " + std::to_string(tail + 1) + " " + std::to_string(head + 1) + " " + exact::digits(weights[k]) + "\n";
+    }
+    return text;
+}
+
+/* A graph written, and read again into a map of the same type and into one of 8 bits. */
+template <class Number>
+static void texts(Chance &chance, const Sides &sides) {
+    const Range<Number> range;
+    const Wides weights = numbers(chance, sides.arcs.size(), range.least, range.most);
+    const std::string text = text_of(sides.net, weights), wide = exact::out_of_arcs(sides.net, weights);
+    std::string got, narrow;
+    try {
+        got = dimacs::lemon::write_graph(sides.graph, ByArc<Number>(sides, weights));
+    } catch (const std::out_of_range &it) {
+        got = it.what();
+    }
+    compare("write_graph", sizeof(Number), got, first({wide, text}));
+    if (!wide.empty()) return;
+
+    Graph graph;
+    Graph::ArcMap<Number> length(graph);
+    const auto arcs = dimacs::lemon::read_graph(text, graph, length);
+    Wides found;
+    for (const auto &arc : *arcs) found.push_back(length[arc]);
+    check_that("read_graph", found == weights && graph.nodeNum() == sides.graph.nodeNum());
+    for (std::size_t k = weights.size(); k > 0; k--) {
+        if (!Range<signed char>().has(weights[k - 1])) narrow = "x arc " + std::to_string(k) + " NumberRange";
+    }
+    Graph::ArcMap<signed char> bytes(graph);
+    compare("read_graph", sizeof(Number), dimacs::lemon::read_graph(text, graph, bytes).message(), narrow);
+}
+
 int main() {
     Chance chance(2);
     for (int number = 0; number < CASES; number++) {
@@ -213,6 +252,7 @@ int main() {
             maximum_flow<decltype(it)>(chance, sides);
             least_cost<decltype(it)>(chance, sides);
             distances<decltype(it)>(chance, sides);
+            texts<decltype(it)>(chance, sides);
         });
     }
     return count();
