@@ -1,25 +1,13 @@
-// The town of road.gr in vectors: distances are found by a loop over all arcs, certified, and then judged by the
-// predecessors that were handed out; and a wrong distance is refused.
+// The town of a text, such as road.gr, in vectors: distances are found by a loop over all arcs, certified, and then
+// judged by the predecessors that were handed out; and a wrong distance is refused.
 #include "dimacs.hpp"
 #include <algorithm>
+#include <fstream>
 #include <iostream>
+#include <iterator>
 #include <vector>
 
-struct Town {
-    std::uint32_t nodes;
-    std::vector<std::uint32_t> tails, heads;
-    std::vector<std::int64_t> weights;
-
-    void add_street(std::uint32_t one, std::uint32_t other, std::int64_t metres) {
-        tails.insert(tails.end(), {one, other});
-        heads.insert(heads.end(), {other, one});
-        weights.insert(weights.end(), {metres, metres});
-    }
-
-    dimacs::Graph graph() const { return {nodes, tails, heads, weights}; }
-};
-
-static std::vector<std::int64_t> distances_from(const Town &town, std::uint32_t source) {
+static std::vector<std::int64_t> distances_from(const dimacs::GraphVectors &town, std::uint32_t source) {
     std::vector<std::int64_t> distances(town.nodes, dimacs::unreached);
     distances[source - 1] = 0;
     for (std::uint32_t turn = 1; turn < town.nodes; turn++) {
@@ -31,20 +19,17 @@ static std::vector<std::int64_t> distances_from(const Town &town, std::uint32_t 
     return distances;
 }
 
-int main() {
-    Town town{6, {}, {}, {}};
-    town.add_street(1, 2, 300);
-    town.add_street(1, 3, 900);
-    town.add_street(2, 3, 400);
-    town.add_street(2, 4, 1100);
-    town.add_street(3, 4, 500);
-    town.add_street(4, 5, 200);
+int main(int count, char **words) {
+    if (count != 2) return 2;
+    std::ifstream file(words[1]);
+    const std::string text{std::istreambuf_iterator<char>(file), {}};
+    const dimacs::GraphVectors town = dimacs::read_graph(text).value();
     std::vector<std::int64_t> distances = distances_from(town, 1);
-    const auto predecessors = dimacs::certify_paths(town.graph(), 1, distances).value().predecessors;
+    const auto predecessors = dimacs::certify_paths(town, 1, distances).value().predecessors;
     for (std::uint32_t node = 5; node != 0; node = predecessors[node - 1]) {
         std::cout << "node " << node << " at " << distances[node - 1] << '\n';
     }
-    std::cout << std::boolalpha << dimacs::judge_paths(town.graph(), 1, distances, predecessors).has_value() << '\n';
+    std::cout << std::boolalpha << dimacs::judge_paths(town, 1, distances, predecessors).has_value() << '\n';
     distances[4] = 1300;
-    std::cout << dimacs::certify_paths(town.graph(), 1, distances).message() << '\n';
+    std::cout << dimacs::certify_paths(town, 1, distances).message() << '\n';
 }
