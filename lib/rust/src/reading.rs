@@ -88,7 +88,7 @@ pub enum Queries {
 /// The block of a source in labels.
 #[derive(Clone, Debug, PartialEq, Eq)]
 pub struct Labels {
-    /// The distances, by node: [`UNREACHED`](crate::arrays::UNREACHED) for a node without a label.
+    /// The distances, by node: [`UNREACHED`] for a node without a label.
     pub distances: Vec<i64>,
     /// The predecessors, by node: 0 at the source and for a node without a label.
     pub predecessors: Vec<u32>,
@@ -297,7 +297,7 @@ pub fn read_potentials(text: impl AsRef<[u8]>) -> Result<Vec<i64>, Error> {
     Ok(read_by_node(text, read)?.take())
 }
 
-/// Reads the block of a source from distances, by node: [`UNREACHED`](crate::arrays::UNREACHED) for a node without a line.
+/// Reads the block of a source from distances, by node: [`UNREACHED`] for a node without a line.
 /// [`Error::Refused`] also if the source has no block, or if a distance is 2^63 - 1 or more.
 ///
 /// ```
