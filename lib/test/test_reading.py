@@ -15,7 +15,7 @@ from array import array
 from unittest import mock
 
 import dimacs
-from dimacs import Cut, Graph, MaxInstance, MinInstance, Queries, Solution, instances
+from dimacs import Cut, Graph, MaxInstance, MinInstance, Potentials, Queries, Solution, instances
 from spoiled_texts import JUDGES, judged_texts
 
 try:
@@ -26,6 +26,8 @@ except ImportError:
 MAX = "c pipes\np max 4 3\nn 4 t\nn 1 s\na 1 2 9223372036854775807\n\na 2 4 +05\na 1 4 0\n"
 MIN = "p min 3 2\nn 3 -4\nn 1 4\na 1 2 0 9223372036854775807 -9223372036854775808\na 2 3 1 5 7\n"
 GRAPH = "p sp 3 2\na 1 2 -9223372036854775808\na 3 3 9223372036854775807\n"
+#: Why arrays are refused where the text alone has no fault.
+BEYOND_THE_TEXT = {"solution": ("UnknownArc", "ArcTwice", "NumberRange"), "pot": ("NumberRange",)}
 CASES = int(os.environ.get("CASES", 2000))
 LAST = 2**63 - 1
 
@@ -74,32 +76,44 @@ class Rows(unittest.TestCase):
             self.assertEqual((type(found), found), (Solution, Solution(value, flows, instance)))
             self.assertEqual(dimacs.read("solution", dimacs.write(found), instance), found)
         self.assertEqual(dimacs.write(found), b"s 0\nf 1 2 0\nf 2 3 0\nf 1 2 0\nf 1 3 -2\n")
-        refused = [
-            ("s 9\nf 1 2 3\nf 3 1 4\n", "x solution 3 0 UnknownArc"),
-            ("s 9\nf 1 3 3\nf 1 3 4\n", "x solution 3 0 ArcTwice"),
-            (f"s {LAST + 1}\n", "x solution 1 2 NumberRange"),
-            ("s 9\nf 4 4 1\nf 1 2 x\n", "x solution 3 4 BadNumber"),
-        ]
-        for text, line in refused:
-            with self.assertRaises(dimacs.Refused) as caught:
-                dimacs.read("solution", text, instance)
-            self.assertEqual(caught.exception.printed, line)
 
-    def test_cuts(self):
+    def test_by_node(self):
         rows = [
-            ("p cut 3 2\nu 3\nu 1\n", [1, 0, 1], b"p cut 3 2\nu 1\nu 3\n"),
-            ("p cut 1 0\n", [0], b"p cut 1 0\n"),
-            ("p cut 500 1\nu 500\n", [0] * 499 + [1], b"p cut 500 1\nu 500\n"),
+            ("cut", "p cut 3 2\nu 3\nu 1\n", Cut([1, 0, 1]), b"p cut 3 2\nu 1\nu 3\n", "Cut of 3 nodes, of which 2 are inside"),
+            ("cut", "p cut 1 0\n", Cut([0]), b"p cut 1 0\n", "Cut of 1 nodes, of which 0 are inside"),
+            ("cut", "p cut 500 1\nu 500\n", Cut([0] * 499 + [1]), b"p cut 500 1\nu 500\n", "Cut of 500 nodes, of which 1 are inside"),
+            ("pot", f"p pot 3 2\ny 3 -7\ny 1 {LAST}\n", Potentials([LAST, 0, -7]), f"p pot 3 2\ny 1 {LAST}\ny 3 -7\n".encode(), "Potentials of 3 nodes"),
+            ("pot", "p pot 500 1\ny 500 +05\n", Potentials([0] * 499 + [5]), b"p pot 500 1\ny 500 5\n", "Potentials of 500 nodes"),
         ]
-        for text, inside, canonical in rows:
-            found = dimacs.read("cut", text)
-            self.assertEqual((type(found), list(map(int, found.inside)), len(found)), (Cut, inside, len(inside)))
-            self.assertEqual((found, dimacs.write(found)), (Cut(inside), canonical))
-        self.assertEqual(repr(found), "Cut of 500 nodes, of which 1 are inside")
+        for kind, text, value, canonical, shown in rows:
+            with self.subTest(text):
+                found = dimacs.read(kind, text)
+                self.assertEqual((type(found), found, repr(found)), (type(value), value, shown))
+                self.assertEqual((dimacs.write(found), len(found)), (canonical, int(text.split()[2])))
         self.assertEqual(Cut([0, 7, 255]), Cut([False, True, True]) if numpy else Cut(b"\0\7\xff"))
         instance = MaxInstance(3, 1, 3, [1, 2], [2, 3], [5, 4])
         self.assertEqual(dimacs.judge_max_arrays(*instance, [4, 4], *Cut([1, 1, 0])).value, 4)
         self.assertEqual(dimacs.write(Cut(dimacs.certify_max_arrays(*instance, [4, 4]).inside)), b"p cut 3 2\nu 1\nu 2\n")
+
+    def test_refused_beyond_the_text(self):
+        """What only arrays refuse: no explanation of the text alone names it."""
+        instance = MaxInstance(3, 1, 3, [1, 2, 1, 1], [2, 3, 2, 3], [5, 4, 1, 2])
+        rows = [
+            ("solution", "s 9\nf 1 2 3\nf 3 1 4\n", "x solution 3 0 UnknownArc", instance),
+            ("solution", "s 9\nf 1 3 3\nf 1 3 4\n", "x solution 3 0 ArcTwice", instance),
+            ("solution", f"s {LAST + 1}\n", "x solution 1 2 NumberRange", instance),
+            ("pot", f"p pot 3 1\ny 2 {LAST + 1}\n", "x node 2 NumberRange"),
+            ("pot", f"p pot 3 2\ny 2 5\ny 1 {-LAST - 2}\n", "x node 1 NumberRange"),
+        ]
+        for kind, text, line, *of in rows:
+            with self.subTest(line), self.assertRaises(dimacs.Refused) as caught:
+                dimacs.read(kind, text, *of)
+            self.assertEqual(caught.exception.printed, line)
+            with self.assertRaisesRegex(ValueError, "doesn't keep what it was asked of"):
+                caught.exception.explain()
+        with self.assertRaises(dimacs.Refused) as caught:
+            dimacs.read("solution", "s 9\nf 4 4 1\nf 1 2 x\n", instance)
+        self.assertTrue(caught.exception.explain().startswith("x solution 3 4 BadNumber\n"))
 
     def test_queries(self):
         rows = [
@@ -129,11 +143,12 @@ class Rows(unittest.TestCase):
         instance = dimacs.read("gr", GRAPH)
         cases = [
             (ValueError, "'grr' is no kind", lambda: dimacs.read("grr", GRAPH)),
-            (TypeError, "takes an instance for a solution", lambda: dimacs.read("solution", "s 1\n")),
-            (TypeError, "takes an instance for a solution", lambda: dimacs.read("gr", GRAPH, instance)),
+            (TypeError, "'solution' comes with its instance, and not with None", lambda: dimacs.read("solution", "s 1\n")),
+            (TypeError, "'solution' comes with its instance, and not with 3", lambda: dimacs.read("solution", "s 1\n", 3)),
+            (TypeError, "'gr' comes alone, and not with Graph of", lambda: dimacs.read("gr", GRAPH, instance)),
             (TypeError, "read takes texts, not int", lambda: dimacs.read("gr", 3)),
             (ValueError, "read takes texts, and 'road.gr' ", lambda: dimacs.read("gr", "road.gr")),
-            (TypeError, "write takes an instance, a solution or a cut", lambda: dimacs.write(GRAPH)),
+            (TypeError, "write takes what read returns, but Queries, and not str", lambda: dimacs.write(GRAPH)),
             (ValueError, "tos has 1 items, and froms has 2", lambda: Queries([1, 2], [3])),
             (TypeError, "inside: None, an array is wanted", lambda: Cut(None)),
             (ValueError, "heads has 1 items, and there are 2 arcs", lambda: Graph(2, [1, 1], [2], [3, 4])),
@@ -178,7 +193,7 @@ class Values(unittest.TestCase):
 
     def test_without_numpy(self):
         with mock.patch.object(instances, "numpy", lambda: None), mock.patch.object(dimacs.reading, "numpy", lambda: None):
-            for kind, text in ("max", MAX), ("min", MIN), ("gr", GRAPH), ("cut", "p cut 3 1\nu 2\n"):
+            for kind, text in ("max", MAX), ("min", MIN), ("gr", GRAPH), ("cut", "p cut 3 1\nu 2\n"), ("pot", "p pot 9 1\ny 9 2\n"):
                 found = dimacs.read(kind, text)
                 self.assertIsInstance(list(found)[-1], array)
                 self.assertEqual(dimacs.write(found), dimacs.convert(kind, text.encode()))
@@ -217,8 +232,11 @@ class Laws(unittest.TestCase):
             self.assertEqual(dimacs.convert(kind, text), text)
             solution = Solution(rng.randint(-LAST - 1, LAST), [rng.randint(-LAST - 1, LAST) for _ in instance.tails], instance)
             self.assertEqual(dimacs.read("solution", dimacs.write(solution), instance), solution)
-            cut = Cut([rng.randrange(2) for _ in range(rng.choice([1, 2, 30]))])
+            nodes = range(rng.choice([1, 2, 30]))
+            cut = Cut([rng.randrange(2) for _ in nodes])
             self.assertEqual(dimacs.read("cut", dimacs.write(cut)), cut)
+            potentials = Potentials([rng.choice([0, rng.randint(-LAST - 1, LAST)]) for _ in nodes])
+            self.assertEqual(dimacs.read("pot", dimacs.write(potentials)), potentials)
 
     def test_spoiled_texts(self):
         """Each fault is named as the command names it."""
@@ -245,8 +263,8 @@ class Laws(unittest.TestCase):
         try:
             found = dimacs.read(kind, text, *([instance] if kind == "solution" else []))
         except dimacs.Refused as it:
-            if no is None and kind == "solution":
-                self.assertIn(it.reason, ("UnknownArc", "ArcTwice", "NumberRange"))
+            if no is None:
+                self.assertIn(it.reason, BEYOND_THE_TEXT[kind])
                 return None
             self.assertEqual(it.printed, no, text)
             return None

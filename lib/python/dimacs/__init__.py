@@ -56,7 +56,7 @@ from .graphs import (
     solve_networkx_min,
     solve_networkx_paths,
 )
-from .instances import Cut, Graph, MaxInstance, MinInstance, Queries, Solution
+from .instances import Cut, Graph, MaxInstance, MinInstance, Potentials, Queries, Solution
 from .pictures import draw
 from .reading import read, write
 from .spread import spread_max_arrays, spread_min_arrays
@@ -100,6 +100,7 @@ __all__ = [
     "NotOptimal",
     "Pair",
     "PastLimit",
+    "Potentials",
     "Queries",
     "Refused",
     "Solution",

@@ -1,4 +1,5 @@
-"""Instances, solutions, cuts and queries as arrays, which dimacs.read makes of texts, and classmethods of graphs, matrices and frames.
+"""Instances, claims, certificates and queries as arrays, which dimacs.read makes of texts, and classmethods of graphs, matrices
+and frames.
 
 An instance has the arguments of the calls over arrays as its fields, and unpacks into them; its length is the number of its
 arcs. Nodes are numbered from 1; names has what they are called where the instance comes from, node 1 first, or is None.
@@ -14,13 +15,13 @@ from collections.abc import Iterable, Sized
 from dataclasses import dataclass
 from typing import Any, ClassVar, Iterator, Sequence, TypeVar, Union
 
-from .buffers import IDS, MARKS, NUMBERS, Buffer, Items, number_of, only_array_of
-from .given import FLOWS, GRAPH, MAX, MIN, UNSCALED, Form, Given
+from .buffers import IDS, MARKS, NUMBERS, Buffer, Items, array_of, number_of, only_array_of
+from .given import FLOWS, GRAPH, INSIDE, MAX, MIN, POTENTIALS, UNSCALED, Array, Form, Given
 
 #: The nodes by their numbers, from 1.
 NodeNames = Union[Sequence[Any], None]
 
-_Made = TypeVar("_Made", bound="_Value")
+_Made = TypeVar("_Made", bound="Value")
 
 
 def numpy() -> Any:
@@ -47,8 +48,8 @@ def fixed(found: Any) -> Any:
     return found
 
 
-class _Value(Sized, Iterable[Any]):
-    """Fields in an order, into which the value unpacks."""
+class Value(Sized, Iterable[Any]):
+    """What a text spells: fields in an order, into which the value unpacks."""
 
     fields: ClassVar[tuple[str, ...]]
 
@@ -67,19 +68,30 @@ class _Value(Sized, Iterable[Any]):
         return iter([getattr(self, name) for name in self.fields])
 
     def __eq__(self, other: object) -> bool:
-        if not isinstance(other, _Value) or type(other) is not type(self):
+        if not isinstance(other, Value) or type(other) is not type(self):
             return NotImplemented
-        return all(_bytes(one) == _bytes(two) for one, two in zip(self, other))
+        return self._compared() == other._compared()
 
     def __hash__(self) -> int:
-        return hash(tuple(map(_bytes, self)))
+        return hash(self._compared())
+
+    def _compared(self) -> tuple[Any, ...]:
+        return tuple(map(_bytes, self))
+
+    def lines(self) -> int:
+        """About as many lines as its text has."""
+        return len(self)
+
+    def words(self) -> tuple[list[int], list[Buffer]]:
+        """The numbers and the arrays that the call takes that writes its text."""
+        raise NotImplementedError
 
 
 def _bytes(field: Any) -> Any:
     return field if field is None or isinstance(field, int) else bytes(memoryview(field).cast("B"))
 
 
-class Instance(_Value):
+class Instance(Value):
     """What MaxInstance, MinInstance and Graph have in common."""
 
     form: ClassVar[Form]
@@ -101,10 +113,6 @@ class Instance(_Value):
 
     def __len__(self) -> int:
         return len(self.tails)
-
-    def lines(self) -> int:
-        """About as many lines as its text has."""
-        return len(self)
 
     def __repr__(self) -> str:
         return f"{type(self).__name__} of {self.nodes} nodes and {len(self)} arcs"
@@ -286,7 +294,7 @@ class Graph(Instance):
 
 
 @dataclass(frozen=True, eq=False, repr=False)
-class Solution(_Value):
+class Solution(Value):
     """A claimed value or cost, and the amount that each arc of an instance carries.
 
     >>> value, flows = Solution(4, [4, 4], MaxInstance(3, 1, 3, [1, 2], [2, 3], [5, 4]))
@@ -307,16 +315,37 @@ class Solution(_Value):
     def __len__(self) -> int:
         return len(self.flows)
 
-    def lines(self) -> int:
-        return len(self)
-
     def __repr__(self) -> str:
         return f"Solution of the value {self.value} on {len(self)} arcs"
 
 
+def _array(kind: Array, numbers: Any) -> Any:
+    """A copy of an argument, as an array."""
+    return _copied(only_array_of(numbers, kind.items, kind.name), kind.items)
+
+
+class ByNode(Value):
+    """What Cut and Potentials have in common: one array, with an item for each node. Its length is the number of nodes."""
+
+    form: ClassVar[Array]
+
+    def __init_subclass__(cls) -> None:
+        cls.fields = (cls.form.name,)
+
+    def __post_init__(self) -> None:
+        self._set(_array(self.form, *self))
+
+    def __len__(self) -> int:
+        return len(getattr(self, self.form.name))
+
+    def words(self) -> tuple[list[int], list[Buffer]]:
+        (numbers,) = self
+        return [], [array_of(numbers, self.form.items, self.form.name)]
+
+
 @dataclass(frozen=True, eq=False, repr=False)
-class Cut(_Value):
-    """A cut or a set: whether each node is inside. Its length is the number of nodes.
+class Cut(ByNode):
+    """A cut or a set: whether each node is inside.
 
     >>> cut = Cut([True, True, False])
     >>> cut
@@ -326,14 +355,8 @@ class Cut(_Value):
     4
     """
 
-    fields = ("inside",)
+    form = INSIDE
     inside: Any
-
-    def __post_init__(self) -> None:
-        self._set(_copied(only_array_of(self.inside, MARKS, "inside"), MARKS))
-
-    def __len__(self) -> int:
-        return len(self.inside)
 
     def __repr__(self) -> str:
         return f"Cut of {len(self)} nodes, of which {self.lines()} are inside"
@@ -344,7 +367,27 @@ class Cut(_Value):
 
 
 @dataclass(frozen=True, eq=False, repr=False)
-class Queries(_Value):
+class Potentials(ByNode):
+    """A potential for each node.
+
+    >>> import dimacs
+    >>> least = MinInstance(2, [1], [2], [0], [5], [3], [4, -4])
+    >>> dimacs.judge_min_arrays(*least, [4], *Potentials([3, 0])).value
+    12
+    """
+
+    form = POTENTIALS
+    potentials: Any
+
+    def __repr__(self) -> str:
+        return f"Potentials of {len(self)} nodes"
+
+
+_QUERIES = Array("froms", IDS, "queries"), Array("tos", IDS, "queries")
+
+
+@dataclass(frozen=True, eq=False, repr=False)
+class Queries(Value):
     """What distances are asked for: from each node of froms to that of tos, or to all nodes if tos is None.
 
     >>> Queries([1, 1], [4, 5])
@@ -358,8 +401,8 @@ class Queries(_Value):
     tos: Any = None
 
     def __post_init__(self) -> None:
-        given = zip(self.fields, (self.froms,) if self.tos is None else (self.froms, self.tos))
-        self._set(*(_copied(only_array_of(it, IDS, name), IDS) for name, it in given))
+        given = zip(_QUERIES, (self.froms,) if self.tos is None else (self.froms, self.tos))
+        self._set(*(_array(kind, it) for kind, it in given))
         if self.tos is not None and len(self.tos) != len(self):
             raise ValueError(f"tos has {len(self.tos)} items, and froms has {len(self)}")
 

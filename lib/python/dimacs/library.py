@@ -99,11 +99,10 @@ def explain() -> Callable[..., int]:
     return _export("dimacs_explain", texts=4)
 
 
-def reader(name: str, *words: Any, numbers: int, same: int, others: int) -> Callable[..., int]:
-    """The call that reads a text into numbers, arrays of the same length, and others. A library of version 0.1.0 has no such
-    call."""
-    arrays = [*[_address, _size] * same, *[_address] * (same > 0), *[_address, _size, _address] * others]
-    return _export(f"dimacs_read_{name}", *words, texts=1, more=[*_room, *[_address] * numbers, *arrays], rooms=0)
+def reader(name: str, before: Sequence[Any], after: Sequence[Any], handed: Sequence[Any]) -> Callable[..., int]:
+    """The call that reads a text, by the types of what it takes before and after the text, and of what it hands out. A library
+    of version 0.1.0 has no such call."""
+    return _export(f"dimacs_read_{name}", *before, texts=1, more=[*after, *_room, *handed], rooms=0)
 
 
 def writer(name: str, *words: Any, arrays: int = 0) -> Callable[..., int]:

@@ -5,22 +5,31 @@ from __future__ import annotations
 import ctypes
 from array import array
 from contextlib import nullcontext
-from typing import Any, Callable, Literal, overload
+from typing import Any, Callable, Literal, Sequence, overload
 
 from . import library
 from .answers import Refused
 from .buffers import IDS, MARKS, NUMBERS, Buffer, Items, array_of
-from .given import FLOWS, GRAPH, MAX, MIN, Array, Given
-from .instances import Cut, Graph, Instance, MaxInstance, MinInstance, Queries, Solution, fixed, numpy
-from .texts import Text, bytes_from, show
+from .commands import run
+from .given import FLOWS, Given
+from .instances import ByNode, Cut, Graph, Instance, MaxInstance, MinInstance, Potentials, Queries, Solution
+from .instances import Value, fixed, numpy
+from .texts import Text, bytes_from
 
-#: Instances by the kinds of their texts, what calls of the library name them, and the bytes that an arc has at least.
-_INSTANCES: dict[str, type[Instance]] = {"max": MaxInstance, "min": MinInstance, "gr": Graph}
-_WORDS = {MAX: "max", MIN: "min", GRAPH: "graph"}
-_LEAST = {MAX: 8, MIN: 12, GRAPH: 8}
+#: What kinds of texts become, and what calls of the library name them.
+KINDS: dict[str, tuple[type[Value], str]] = {
+    "max": (MaxInstance, "max"),
+    "min": (MinInstance, "min"),
+    "gr": (Graph, "graph"),
+    "query": (Queries, "queries"),
+    "solution": (Solution, "solution"),
+    "cut": (Cut, "cut"),
+    "pot": (Potentials, "potentials"),
+}
+_CALLED = dict(KINDS.values())
 
-#: The kinds of texts that become arrays.
-KINDS = (*_INSTANCES, "query", "solution", "cut")
+#: The least bytes that an arc, a query or a node takes; a node may have no line.
+_ARC, _QUERY, _NODE = 8, 4, 8
 
 #: About as many bytes as a line has.
 _LINE = 32
@@ -31,11 +40,14 @@ class _Room:
 
     def __init__(self, items: Items, length: int) -> None:
         module = numpy()
-        self._items, self.length, self._is_numpy = items, length, module is not None
+        self.items, self.length, self._is_numpy = items, length, module is not None
         self._kept = module.empty(length, items.code) if module is not None else array(items.code, (0,)) * length
 
     def words(self) -> tuple[int, int]:
         return self._kept.ctypes.data if self._is_numpy else self._kept.buffer_info()[0], self.length
+
+    def with_room_for(self, count: int) -> _Room:
+        return self if count <= self.length else _Room(self.items, count)
 
     def filled(self, count: int) -> Any:
         """The first items, which nobody else can write to."""
@@ -43,99 +55,122 @@ class _Room:
             del self._kept[count:]
             return self._kept
         self._kept.resize(count, refcheck=False)
-        return fixed(self._kept.view(bool) if self._items is MARKS else self._kept)
+        return fixed(self._kept.view(bool) if self.items is MARKS else self._kept)
 
 
-def _call(function: Callable[..., int], words: list[Any], handed: list[Any]) -> None:
-    """Makes a call that reads. Raises Refused if the text has a fault."""
-    line, needed = ctypes.create_string_buffer(library.LINE), ctypes.c_size_t()
-    status = function(*words, line, library.LINE, ctypes.byref(needed), *handed)
-    output = line.raw[: needed.value]
-    library.raise_for(status, output, function, words)
-    if status == library.REFUSED:
-        raise library.refusal(output)
+class _Reading:
+    """A call that reads a text, and what it hands out: numbers, arrays of the same length, and others."""
+
+    def __init__(self, kind: type[Value], text: Buffer, *numbers: Any) -> None:
+        self._name, self._text, self._numbers = _CALLED[kind], text, numbers
+        self._same: list[_Room] = []
+        self._others: list[_Room] = []
+
+    def same(self, least: int, *items: Items) -> _Reading:
+        """Adds arrays of the same length, whose items take so many bytes of the text at least."""
+        self._same = [_Room(it, (self._text.length + 1) // least) for it in items]
+        return self
+
+    def others(self, length: int, *items: Items) -> _Reading:
+        """Adds arrays that may have another length than this."""
+        self._others = [_Room(it, length) for it in items]
+        return self
+
+    def made(self, before: Sequence[Any] = (), after: Sequence[Any] = ()) -> list[Any]:
+        """Makes the call, and again if there is more of an array than had room. Returns the arrays."""
+        while True:
+            count, counts = ctypes.c_size_t(), [ctypes.c_size_t() for _ in self._others]
+            handed: list[Any] = [*map(ctypes.byref, self._numbers), *(word for it in self._same for word in it.words())]
+            handed += [ctypes.byref(count)] if self._same else []
+            for it, needed in zip(self._others, counts):
+                handed += [*it.words(), ctypes.byref(needed)]
+            self._ask([*before], [*after], handed)
+            others = [it.with_room_for(needed.value) for it, needed in zip(self._others, counts)]
+            if others == self._others:
+                found = [it.filled(count.value) for it in self._same]
+                return found + [it.filled(needed.value) for it, needed in zip(others, counts)]
+            self._others = others
+
+    def _types(self) -> list[Any]:
+        address, size = ctypes.c_void_p, ctypes.c_size_t
+        same = [address, size] * len(self._same) + [address] * (len(self._same) > 0)
+        return [address] * len(self._numbers) + same + [address, size, address] * len(self._others)
+
+    def _ask(self, before: list[Any], after: list[Any], handed: list[Any]) -> None:
+        """Raises Refused if the text has a fault."""
+        function = library.reader(self._name, [*map(type, before)], [*map(type, after)], self._types())
+        words = [*before, *self._text.words(), *after]
+        line, needed = ctypes.create_string_buffer(library.LINE), ctypes.c_size_t()
+        status = function(*words, line, library.LINE, ctypes.byref(needed), *handed)
+        output = line.raw[: needed.value]
+        library.raise_for(status, output, function, words)
+        if status == library.REFUSED:
+            raise library.refusal(output)
 
 
 def _read_instance(kind: type[Instance], text: Buffer) -> Instance:
-    form = kind.form
-    by_arc = [it for it in form.arrays if it.each == "arcs"]
-    by_node = [it for it in form.arrays if it.each == "nodes"]
-    function = library.reader(_WORDS[form], numbers=len(form.numbers), same=len(by_arc), others=len(by_node))
-    most = (text.length + 1) // _LEAST[form]
-    rooms: dict[Array, _Room] = {it: _Room(it.items, most) for it in form.arrays}
-    while True:
-        numbers, arcs = [ctypes.c_uint32() for _ in form.numbers], ctypes.c_size_t()
-        lengths = [ctypes.c_size_t() for _ in by_node]
-        handed: list[Any] = [*map(ctypes.byref, numbers), *(word for it in by_arc for word in rooms[it].words())]
-        handed.append(ctypes.byref(arcs))
-        for it, length in zip(by_node, lengths):
-            handed += [*rooms[it].words(), ctypes.byref(length)]
-        _call(function, [*text.words()], handed)
-        short = [it for it, length in zip(by_node, lengths) if length.value > rooms[it].length]
-        if not short:
-            break
-        # Nodes have no line each: how many there are is known now.
-        rooms.update((it, _Room(it.items, numbers[0].value)) for it in short)
-    counts = {"arcs": arcs.value, "nodes": numbers[0].value}
-    arrays = (rooms[it].filled(counts[it.each]) for it in form.arrays)
+    form, numbers = kind.form, [ctypes.c_uint32() for _ in kind.form.numbers]
+    by_arc, by_node = ([it.items for it in form.arrays if it.each == each] for each in ("arcs", "nodes"))
+    arrays = _Reading(kind, text, *numbers).same(_ARC, *by_arc).others(text.length // _NODE, *by_node).made()
     return kind.made(*(it.value for it in numbers), *arrays, names=None)
 
 
 def _ends(instance: Instance) -> list[Any]:
     """The number of nodes and the ends of arcs, as calls take them."""
-    ends = (array_of(it, IDS, name) for name, it in (("tails", instance.tails), ("heads", instance.heads)))
-    return [instance.nodes, *(word for it in ends for word in it.words())]
+    words: list[Any] = [ctypes.c_uint32(instance.nodes)]
+    for name, it in ("tails", instance.tails), ("heads", instance.heads):
+        address, length = array_of(it, IDS, name).words()
+        words += [ctypes.c_void_p(address), ctypes.c_size_t(length)]
+    return words
 
 
 def _read_solution(text: Buffer, instance: Instance) -> Solution:
-    number, arrays = ctypes.c_uint32, [ctypes.c_void_p, ctypes.c_size_t]
-    function = library.reader("solution", number, *arrays * 2, numbers=1, same=0, others=1)
-    value, count, flows = ctypes.c_int64(), ctypes.c_size_t(), _Room(NUMBERS, len(instance))
-    _call(function, [*_ends(instance), *text.words()], [ctypes.byref(value), *flows.words(), ctypes.byref(count)])
-    return Solution.made(value.value, flows.filled(len(instance)), instance=instance)
-
-
-def _read_cut(text: Buffer) -> Cut:
-    function = library.reader("cut", numbers=0, same=0, others=1)
-    inside, count = _Room(MARKS, text.length), ctypes.c_size_t()
-    _call(function, [*text.words()], [*inside.words(), ctypes.byref(count)])
-    if count.value > inside.length:  # nodes have no line each
-        inside = _Room(MARKS, count.value)
-        _call(function, [*text.words()], [*inside.words(), ctypes.byref(count)])
-    return Cut.made(inside.filled(count.value))
+    value = ctypes.c_int64()
+    (flows,) = _Reading(Solution, text, value).others(len(instance), NUMBERS).made(before=_ends(instance))
+    return Solution.made(value.value, flows, instance=instance)
 
 
 def _read_queries(text: Buffer) -> Queries:
-    """A query takes 4 bytes at least."""
-    function = library.reader("queries", numbers=1, same=2, others=0)
-    pairs, count = ctypes.c_uint32(), ctypes.c_size_t()
-    froms, tos = (_Room(IDS, (text.length + 1) // 4) for _ in range(2))
-    _call(function, [*text.words()], [ctypes.byref(pairs), *froms.words(), *tos.words(), ctypes.byref(count)])
-    return Queries.made(froms.filled(count.value), tos.filled(count.value) if pairs.value else None)
+    pairs = ctypes.c_uint32()
+    froms, tos = _Reading(Queries, text, pairs).same(_QUERY, IDS, IDS).made()
+    return Queries.made(froms, tos if pairs.value else None)
 
 
-_OTHERS: dict[str, Callable[[Buffer], Any]] = {"query": _read_queries, "cut": _read_cut}
+def _read(kind: type[Value], text: Buffer, of: Any) -> Value:
+    if issubclass(kind, Instance):
+        return _read_instance(kind, text)
+    if issubclass(kind, ByNode):
+        return kind.made(*_Reading(kind, text).others(text.length // _NODE, kind.form.items).made())
+    if kind is Queries:
+        return _read_queries(text)
+    return _read_solution(text, of)
+
+
+#: What a text of a kind is of.
+_OF = {"solution": "its instance"}
 
 
 @overload
-def read(kind: Literal["max"], text: Text) -> MaxInstance: ...
+def read(kind: Literal["max"], text: Text, /) -> MaxInstance: ...
 @overload
-def read(kind: Literal["min"], text: Text) -> MinInstance: ...
+def read(kind: Literal["min"], text: Text, /) -> MinInstance: ...
 @overload
-def read(kind: Literal["gr"], text: Text) -> Graph: ...
+def read(kind: Literal["gr"], text: Text, /) -> Graph: ...
 @overload
-def read(kind: Literal["query"], text: Text) -> Queries: ...
+def read(kind: Literal["query"], text: Text, /) -> Queries: ...
 @overload
-def read(kind: Literal["cut"], text: Text) -> Cut: ...
+def read(kind: Literal["solution"], text: Text, instance: Instance, /) -> Solution: ...
 @overload
-def read(kind: Literal["solution"], text: Text, instance: Instance) -> Solution: ...
-def read(kind: str, text: Text, instance: Instance | None = None) -> Any:
-    r"""A text as arrays: of the kind "max" a MaxInstance, "min" a MinInstance, "gr" a Graph, "query" Queries, "cut" a Cut;
-    "solution" a Solution over an instance. Texts are those of convert and show, and a Path whose name ends with .gz is unpacked.
+def read(kind: Literal["cut"], text: Text, /) -> Cut: ...
+@overload
+def read(kind: Literal["pot"], text: Text, /) -> Potentials: ...
+def read(kind: str, text: Text, of: Any = None, /) -> Any:
+    r"""A text as arrays: of the kind "max" a MaxInstance, "min" a MinInstance, "gr" a Graph, "query" Queries, "cut" a Cut,
+    "pot" Potentials; "solution" a Solution over an instance. Texts are those of convert and show, and a Path whose name ends with .gz is unpacked.
 
     The k-th entry of a solution with given ends belongs to the k-th arc with them; an arc without one carries 0. Raises
-    Refused if the text has a fault, if an entry belongs to no arc (UnknownArc, ArcTwice), or if a value doesn't fit in 64
-    bits (NumberRange); ValueError if a file isn't wholly there.
+    Refused if the text has a fault, if an entry belongs to no arc (UnknownArc, ArcTwice), or if a value or a potential doesn't
+    fit in 64 bits (NumberRange); ValueError if a file isn't wholly there.
 
     >>> instance = read("max", "p max 3 2\nn 1 s\nn 3 t\na 1 2 5\na 2 3 4\n")
     >>> instance, len(instance)
@@ -144,36 +179,40 @@ def read(kind: str, text: Text, instance: Instance | None = None) -> Any:
     4
     """
     if kind not in KINDS:
-        raise ValueError(f"{kind!r} is no kind of text that becomes arrays: these are {', '.join(KINDS)}")
-    if (kind == "solution") != isinstance(instance, Instance):
-        raise TypeError(f"read takes an instance for a solution: here the kind is {kind!r}, the instance {instance!r}")
+        raise ValueError(f"{kind!r} is no kind of text: these are {', '.join(KINDS)}")
+    if kind not in _OF and of is not None:
+        raise TypeError(f"a text of the kind {kind!r} comes alone, and not with {of!r}")
+    if kind in _OF and (of is None or (kind == "solution") != isinstance(of, Instance)):
+        raise TypeError(f"a text of the kind {kind!r} comes with {_OF[kind]}, and not with {of!r}")
     with bytes_from(f"read {kind}", text) as (buffer,):
-        if instance is None:
-            return _OTHERS[kind](buffer) if kind in _OTHERS else _read_instance(_INSTANCES[kind], buffer)
         try:
-            return _read_solution(buffer, instance)
+            return _read(KINDS[kind][0], buffer, of)
         except Refused as it:
             no = it
-    show("solution", text)  # raises the same if the fault is in the text alone, and can explain it
+            if run("show", kind, [buffer])[0] == library.REFUSED:
+                raise  # the text alone explains it
     raise no
 
 
-def _writing(value: Instance | Solution | Cut) -> tuple[Callable[..., int], list[Any], Given | None]:
+def _writing(value: Value) -> tuple[Callable[..., int], list[Any], Given | None]:
     """The call that writes a value, what it takes, and the arguments that name arcs and nodes."""
-    if isinstance(value, Cut):
-        return library.writer("cut", arrays=1), [*array_of(value.inside, MARKS, "inside").words()], None
-    instance = value.instance if isinstance(value, Solution) else value
-    given = Given(instance.form, *instance)
-    words = given.words()
+    name = _CALLED[type(value)]
     if isinstance(value, Instance):
-        return library.writer(_WORDS[instance.form], ctypes.c_void_p), words, given
-    flows = array_of(value.flows, NUMBERS, FLOWS.name)
-    function = library.writer("solution", ctypes.c_int64, ctypes.c_uint32, arrays=3)
-    return function, [value.value, *_ends(instance), *flows.words()], given
+        given = Given(value.form, *value)
+        return library.writer(name, ctypes.c_void_p), given.words(), given
+    if isinstance(value, Solution):
+        given = Given(value.instance.form, *value.instance)
+        given.words()
+        flows = array_of(value.flows, NUMBERS, FLOWS.name)
+        words = [value.value, *_ends(value.instance), *flows.words()]
+        return library.writer(name, ctypes.c_int64, ctypes.c_uint32, arrays=3), words, given
+    numbers, arrays = value.words()
+    words = [*numbers, *(word for it in arrays for word in it.words())]
+    return library.writer(name, *[ctypes.c_uint32] * len(numbers), arrays=len(arrays)), words, None
 
 
-def write(value: Instance | Solution | Cut) -> bytes:
-    r"""The canonical text of an instance, a solution or a cut, which read again is the same. A solution has an entry for each
+def write(value: Value) -> bytes:
+    r"""The canonical text of what read returns, but of Queries, which read again is the same. A solution has an entry for each
     arc.
 
     Raises PastLimit if a number is past a limit of texts.
@@ -181,8 +220,8 @@ def write(value: Instance | Solution | Cut) -> bytes:
     >>> write(Graph(2, [1], [2], [5]))
     b'p sp 2 1\na 1 2 5\n'
     """
-    if not isinstance(value, (Instance, Solution, Cut)):
-        raise TypeError(f"write takes an instance, a solution or a cut, not {type(value).__name__}")
+    if not isinstance(value, Value) or isinstance(value, Queries):
+        raise TypeError(f"write takes what read returns, but Queries, and not {type(value).__name__}")
     function, words, given = _writing(value)
     with given.named() if given else nullcontext():
         _, (text,) = library.call_for_texts(function, *words, rooms=[library.LINE + _LINE * value.lines()])
