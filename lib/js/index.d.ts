@@ -38,6 +38,33 @@ export interface Graph {
     weights: Amounts;
 }
 
+/** The arcs of an instance, of which a solution is. */
+export type Arcs = Pick<MaxInstance, "nodes" | "tails" | "heads">;
+
+/** A claimed value or cost, and the amount that each arc of an instance carries. */
+export interface Solution {
+    value: number | bigint;
+    flows: Amounts;
+}
+
+/** A cut or a set. */
+export interface Cut {
+    inside: Marks;
+}
+
+export interface Potentials {
+    potentials: Amounts;
+}
+
+/** What distances are asked for: from each node of `froms` to that of `tos`, or to all nodes if that is null. */
+export interface Queries {
+    froms: Ids;
+    tos: Ids | null;
+}
+
+/** The same with numbers and typed arrays, as they are read. */
+export type Typed<T> = {readonly [Field in keyof T]: Extract<T[Field], number | bigint | null | ArrayBufferView>};
+
 /** The distance of a node that isn't reached, 2^63 - 1. Its predecessor is 0. */
 export const UNREACHED: bigint;
 
@@ -203,6 +230,31 @@ export function show<T extends Text>(kind: Kind, text: T): Made<T>;
 
 /** A text that is made: a string if what was given is one, else bytes. */
 export type Made<T extends Text> = T extends string ? string : Uint8Array;
+
+/**
+ * A text as arrays, which the calls over arrays take: `certifyMaxArrays(instance, solution.flows)`. The k-th entry of a
+ * solution with given ends belongs to the k-th arc with them; an arc without one carries 0. Throws Refused if the text has
+ * a fault, if an entry belongs to no arc (UnknownArc, ArcTwice), or if a value or a potential doesn't fit 64 bits
+ * (NumberRange).
+ */
+export function read(kind: "max", text: Text): Typed<MaxInstance>;
+export function read(kind: "min", text: Text): Typed<MinInstance>;
+export function read(kind: "gr", text: Text): Typed<Graph>;
+export function read(kind: "query", text: Text): Typed<Queries>;
+export function read(kind: "solution", text: Text, instance: Arcs): Typed<Solution> & {readonly value: bigint};
+export function read(kind: "cut", text: Text): Typed<Cut>;
+export function read(kind: "pot", text: Text): Typed<Potentials>;
+
+/**
+ * The canonical text of arrays, which read again gives the same. A solution has an entry for each arc. Throws PastLimit if
+ * a number is past a limit of texts.
+ */
+export function write(kind: "max", instance: MaxInstance): string;
+export function write(kind: "min", instance: MinInstance): string;
+export function write(kind: "gr", graph: Graph): string;
+export function write(kind: "solution", solution: Solution, instance: Arcs): string;
+export function write(kind: "cut", cut: Cut): string;
+export function write(kind: "pot", potentials: Potentials): string;
 
 /**
  * The calls over arrays. They throw what those over texts do; RangeError if a number doesn't fit, isn't whole or is a

@@ -18,6 +18,7 @@ export {
 } from "./answers.js";
 export * from "./texts.js";
 export * from "./arrays.js";
+export {read, write} from "./reading.js";
 
 /** The version of the module. */
 export const version = library.version;

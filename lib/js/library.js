@@ -32,11 +32,28 @@ export class Trapped extends Error {
     }
 }
 
-/** Room for items that a call hands out: so many of a typed array's kind. */
+/** Room for items that a call hands out: so many of a typed array's kind, or of each of these kinds. */
 export class Room {
-    constructor(items, length) {
-        this.items = items;
+    constructor(kinds, length) {
+        this.kinds = [kinds].flat();
         this.length = length;
+    }
+
+    /** A room that has place for so many items too. */
+    for(length) {
+        return new Room(this.kinds, Math.max(length, this.length));
+    }
+}
+
+/** A number that a call hands out, which is an item of a typed array's kind. */
+export class One {
+    constructor(kind) {
+        this.kind = kind;
+        this.length = 1;
+    }
+
+    for() {
+        return this;
     }
 }
 
@@ -90,6 +107,22 @@ class Held {
         return new items(this.exports.memory.buffer.slice(Number(at), Number(at) + bytes));
     }
 
+    /** The arguments for what is handed out, and after the call the number of its items, and these. */
+    handed(it) {
+        if (it instanceof One) {
+            const at = this.take(8);
+            return {words: [at], count: () => 1, items: () => [this.copied(it.kind, at, 1)[0]]};
+        }
+        const {kinds, length} = it, needed = this.take(8);
+        const places = kinds.map((kind) => this.take(length * kind.BYTES_PER_ELEMENT));
+        const count = () => Number(this.copied(BigUint64Array, needed, 1)[0]);
+        return {
+            words: [...places.flatMap((at) => [at, BigInt(length)]), needed],
+            count,
+            items: () => kinds.map((kind, i) => this.copied(kind, places[i], count())),
+        };
+    }
+
     free() {
         for (const it of this.addresses) this.exports.free(it);
         this.addresses = [];
@@ -129,7 +162,7 @@ export class Library {
     /**
      * Makes a call. Of its arguments a number is one of 32 bits, a BigInt one of 64, and a typed array its address and
      * length. It is made again with more room if something that it hands out doesn't fit. Returns its status, and what
-     * was handed out to each room.
+     * was handed out: numbers, and the arrays of each room.
      */
     call(name, given, rooms) {
         const held = new Held(this.#calls());
@@ -148,15 +181,13 @@ export class Library {
 
     #ask(held, name, words, rooms) {
         for (;;) {
-            const needed = held.take(8 * rooms.length);
-            const places = rooms.map(({items, length}) => held.take(length * items.BYTES_PER_ELEMENT));
-            const handed = rooms.flatMap((it, i) => [places[i], BigInt(it.length), needed + BigInt(8 * i)]);
-            const status = run(held.exports[name], [...words, ...handed]);
-            const lengths = Array.from(held.copied(BigUint64Array, needed, rooms.length), Number);
-            if (lengths.every((it, i) => it <= rooms[i].length)) {
-                return {status, handed: rooms.map(({items}, i) => held.copied(items, places[i], lengths[i]))};
+            const places = rooms.map((it) => held.handed(it));
+            const status = run(held.exports[name], [...words, ...places.flatMap((it) => it.words)]);
+            const counts = places.map((it) => it.count());
+            if (counts.every((it, i) => it <= rooms[i].length)) {
+                return {status, handed: places.flatMap((it) => it.items())};
             }
-            rooms = rooms.map(({items, length}, i) => new Room(items, Math.max(length, lengths[i])));
+            rooms = rooms.map((it, i) => it.for(counts[i]));
         }
     }
 }

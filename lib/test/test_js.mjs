@@ -127,6 +127,53 @@ const CASES = {
         throws(() => dimacs.show("graph", MAX), RangeError);
         throws(() => dimacs.show("max", 7), TypeError);
     },
+    "texts are read into arrays, and written": () => {
+        const typed = {tails: Uint32Array.from(IN_MAX.tails), heads: Uint32Array.from(IN_MAX.heads)};
+        const minimal = {...typed, lows: big(0, 0, 0, 0, 0), caps: big(4, 2, 2, 3, 5), costs: big(2, 2, 1, 3, 1)};
+        const graph = {tails: Uint32Array.of(1, 2, 3), heads: Uint32Array.of(2, 3, 2), weights: big(5, 4, 0)};
+        const far = `p pot 300 1\ny 300 ${-(2n ** 63n)}\n`, potentials = new BigInt64Array(300);
+        potentials[299] = -(2n ** 63n);
+        for (const [kind, text, value, ...over] of [
+            ["max", MAX, {nodes: 4, source: 1, sink: 4, ...typed, caps: big(4, 2, 2, 3, 5)}],
+            ["min", MIN, {nodes: 4, ...minimal, supplies: big(4, 0, 0, -4)}],
+            ["gr", GRAPH, {nodes: 4, ...graph}],
+            ["solution", FLOW, {value: 6n, flows: big(4, 2, 1, 3, 3)}, IN_MAX],
+            ["cut", CUT, {inside: Uint8Array.of(1, 0, 0, 0)}],
+            ["pot", POT, {potentials: big(4, 2, 1, 0)}],
+            ["pot", far, {potentials}],
+        ]) {
+            for (const it of [text, bytes(text)]) assert.deepEqual(dimacs.read(kind, it, ...over), value, kind);
+            assert.equal(dimacs.write(kind, value, ...over), text, kind);
+        }
+        assert.equal(dimacs.write("max", IN_MAX), MAX);
+        assert.equal(dimacs.write("cut", {inside: [true, false, 0, 0]}), CUT);
+        assert.deepEqual(dimacs.read("query", PAIRS), {froms: Uint32Array.of(1, 1), tos: Uint32Array.of(3, 4)});
+        const many = "p aux sp ss 9\n" + "s 1\n".repeat(9);
+        assert.deepEqual(dimacs.read("query", many), {froms: new Uint32Array(9).fill(1), tos: null});
+        const instance = dimacs.read("max", MAX), {flows} = dimacs.read("solution", FLOW, instance);
+        assert.deepEqual(dimacs.certifyMaxArrays(instance, flows).inside, dimacs.read("cut", CUT).inside);
+    },
+    "texts that aren't read, and arrays that aren't written": () => {
+        const unknown = throws(() => dimacs.read("solution", "s 4\nf 4 1 2\n", IN_MAX), dimacs.Refused, {line: 2});
+        assert.throws(() => unknown.explain(), /doesn't keep/);
+        throws(() => dimacs.read("pot", "p pot 1 1\ny 1 9223372036854775808\n"), dimacs.Refused, {node: 1});
+        const fault = thrown(() => dimacs.read("max", MAX.replace("4\n", "x\n")));
+        assert.equal(fault.explain(), thrown(() => dimacs.show("max", MAX.replace("4\n", "x\n"))).explain());
+        throws(() => dimacs.read("gr", "p sp 2 268435456\n"), dimacs.Refused, {reason: "TooFew"});
+        for (const [call, type, message] of [
+            [() => dimacs.read("graph", GRAPH), RangeError, /^graph is no kind of text .* max, min, gr, query, solution/],
+            [() => dimacs.read("solution", FLOW), TypeError, /^a solution comes with its instance, .* is solution$/],
+            [() => dimacs.read("max", MAX, IN_MAX), TypeError, /^a solution comes with its instance, .* is max$/],
+            [() => dimacs.read("max", 7), TypeError, /^a text is a string/],
+            [() => dimacs.write("max"), TypeError, /^a value is an object/],
+            [() => dimacs.write("max", {...IN_MAX, heads: [1]}), RangeError, /^heads has 1 items, and there are 5 arcs$/],
+            [() => dimacs.write("max", {...IN_MAX, heads: [2, 3, 3, 4, 9]}), dimacs.PastLimit, /^arc 5 NodeRange: it goes/],
+            [() => dimacs.write("solution", {value: 3, flows: [1]}, IN_MAX), RangeError, /^flows has 1 items/],
+            [() => dimacs.write("solution", {value: 2n ** 63n, flows: [1, 1, 1, 1, 1]}, IN_MAX), RangeError, /^value: /],
+        ]) {
+            assert.match(throws(call, type).message, message);
+        }
+    },
     "judges over arrays": () => {
         const flows = [4, 2, 1, 3, 3];
         assert.equal(dimacs.judgeMaxArrays(IN_MAX, flows, [true, false, false, false]).value, 6n);
