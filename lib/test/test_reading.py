@@ -7,6 +7,7 @@ import os
 import pathlib
 import pickle
 import random
+import re
 import sys
 import tempfile
 import time
@@ -15,7 +16,7 @@ from array import array
 from unittest import mock
 
 import dimacs
-from dimacs import Cut, Graph, MaxInstance, MinInstance, Potentials, Queries, Solution, instances
+from dimacs import UNREACHED, Cut, Distances, Graph, Labels, MaxInstance, MinInstance, Potentials, Queries, Solution, instances
 from spoiled_texts import JUDGES, judged_texts
 
 try:
@@ -27,7 +28,11 @@ MAX = "c pipes\np max 4 3\nn 4 t\nn 1 s\na 1 2 9223372036854775807\n\na 2 4 +05\
 MIN = "p min 3 2\nn 3 -4\nn 1 4\na 1 2 0 9223372036854775807 -9223372036854775808\na 2 3 1 5 7\n"
 GRAPH = "p sp 3 2\na 1 2 -9223372036854775808\na 3 3 9223372036854775807\n"
 #: Why arrays are refused where the text alone has no fault.
-BEYOND_THE_TEXT = {"solution": ("UnknownArc", "ArcTwice", "NumberRange"), "pot": ("NumberRange",)}
+BEYOND_THE_TEXT = {
+    "solution": ("UnknownArc", "ArcTwice", "NumberRange"),
+    "pot": ("NumberRange",),
+    **dict.fromkeys(("dist", "distances"), ("BlockMissing", "NumberRange")),
+}
 CASES = int(os.environ.get("CASES", 2000))
 LAST = 2**63 - 1
 
@@ -95,6 +100,32 @@ class Rows(unittest.TestCase):
         self.assertEqual(dimacs.judge_max_arrays(*instance, [4, 4], *Cut([1, 1, 0])).value, 4)
         self.assertEqual(dimacs.write(Cut(dimacs.certify_max_arrays(*instance, [4, 4]).inside)), b"p cut 3 2\nu 1\nu 2\n")
 
+    def test_blocks(self):
+        far = LAST - 1
+        rows = [
+            ("distances", f"p distances 4 2\nt 3 1\nd 1 {far}\nt 1 2\nd 3 7\nd 2 -{far}\n", 1, [0, -far, 7, UNREACHED], "Distances of 4 nodes from 1"),
+            ("distances", "p distances 500 1\nt 500 0\n", 500, [UNREACHED] * 499 + [0], "Distances of 500 nodes from 500"),
+            ("dist", "p dist 3 1\nt 2 1\nd 1 5 2\n", 2, [5, 0, UNREACHED], [2, 0, 0], "Labels of 3 nodes from 2"),
+            ("dist", "p dist 3 1\nt 1 2\nd 3 5 1\nd 2 5 3\n", 1, [0, 5, 5], [0, 3, 1], "Labels of 3 nodes from 1"),
+        ]
+        for kind, text, source, *fields, shown in rows:
+            with self.subTest(text):
+                found = dimacs.read(kind, text, source)
+                value = (Labels if kind == "dist" else Distances)(source, *fields)
+                self.assertEqual((type(found), found, repr(found)), (type(value), value, shown))
+                self.assertEqual((listed(found), len(found)), ([source, *fields], len(fields[0])))
+                if text.count("t ") == 1:
+                    self.assertEqual(dimacs.write(found), text.encode())
+        self.assertEqual(Distances(1, [0, float("inf")]), Distances(1, [0, UNREACHED]))
+
+    def test_a_radius(self):
+        found = dimacs.read("dist", "p dist 3 2\nt 1 1 6\nd 2 5 1\nt 2 0\n", 1)
+        self.assertEqual((listed(found), found.radius), ([1, [0, 5, UNREACHED], [0, 1, 0]], 6))
+        self.assertEqual(found, Labels(1, [0, 5, UNREACHED], [0, 1, 0], 6))
+        self.assertNotEqual(found, Labels(1, [0, 5, UNREACHED], [0, 1, 0]))
+        with self.assertRaisesRegex(ValueError, "labels with a radius, here 6, aren't written"):
+            dimacs.write(found)
+
     def test_refused_beyond_the_text(self):
         """What only arrays refuse: no explanation of the text alone names it."""
         instance = MaxInstance(3, 1, 3, [1, 2, 1, 1], [2, 3, 2, 3], [5, 4, 1, 2])
@@ -104,6 +135,10 @@ class Rows(unittest.TestCase):
             ("solution", f"s {LAST + 1}\n", "x solution 1 2 NumberRange", instance),
             ("pot", f"p pot 3 1\ny 2 {LAST + 1}\n", "x node 2 NumberRange"),
             ("pot", f"p pot 3 2\ny 2 5\ny 1 {-LAST - 2}\n", "x node 1 NumberRange"),
+            ("distances", "p distances 3 1\nt 1 0\n", "x node 3 BlockMissing", 3),
+            ("distances", f"p distances 3 1\nt 1 1\nd 2 {LAST}\n", "x node 2 NumberRange", 1),
+            ("dist", "p dist 3 1\nt 1 0\n", "x node 2 BlockMissing", 2),
+            ("dist", f"p dist 3 1\nt 1 0 {LAST}\n", "x node 1 NumberRange", 1),
         ]
         for kind, text, line, *of in rows:
             with self.subTest(line), self.assertRaises(dimacs.Refused) as caught:
@@ -126,7 +161,7 @@ class Rows(unittest.TestCase):
         for text, fields, shown in rows:
             found = dimacs.read("query", text)
             self.assertEqual((type(found), listed(found), len(found)), (Queries, fields, len(fields[0])))
-            self.assertEqual((found, repr(found)), (Queries(*fields), shown))
+            self.assertEqual((found, repr(found), dimacs.write(found)), (Queries(*fields), shown, text.encode()))
 
     def test_three_calls(self):
         instance = dimacs.read("max", "p max 3 2\nn 1 s\nn 3 t\na 1 2 5\na 2 3 4\n")
@@ -137,7 +172,11 @@ class Rows(unittest.TestCase):
         least = dimacs.read("min", "p min 2 2\nn 1 6\nn 2 -6\na 1 2 0 5 3\na 1 2 0 5 7\n")
         self.assertEqual(dimacs.certify_min_arrays(*least, dimacs.solve_min_arrays(*least).flows).value, 22)
         graph = dimacs.read("gr", "p sp 3 2\na 1 2 5\na 2 3 4\n")
-        self.assertEqual(list(dimacs.certify_paths_arrays(*graph, 1, [0, 5, 9]).predecessors), [0, 1, 2])
+        distances = dimacs.read("distances", "p distances 3 1\nt 1 2\nd 2 5\nd 3 9\n", 1)
+        before = dimacs.certify_paths_arrays(*graph, *distances).predecessors
+        labels = dimacs.read("dist", "p dist 3 1\nt 1 2\nd 2 5 1\nd 3 9 2\n", 1)
+        self.assertEqual(labels, Labels(*distances, before))
+        self.assertTrue(dimacs.judge_paths_arrays(*graph, *labels))
 
     def test_words(self):
         instance = dimacs.read("gr", GRAPH)
@@ -146,15 +185,22 @@ class Rows(unittest.TestCase):
             (TypeError, "'solution' comes with its instance, and not with None", lambda: dimacs.read("solution", "s 1\n")),
             (TypeError, "'solution' comes with its instance, and not with 3", lambda: dimacs.read("solution", "s 1\n", 3)),
             (TypeError, "'gr' comes alone, and not with Graph of", lambda: dimacs.read("gr", GRAPH, instance)),
+            (TypeError, "'dist' comes with the source of a block, and not with None", lambda: dimacs.read("dist", "")),
+            (ValueError, "source is 0.5, not a whole number", lambda: dimacs.read("distances", "", 0.5)),
             (TypeError, "read takes texts, not int", lambda: dimacs.read("gr", 3)),
             (ValueError, "read takes texts, and 'road.gr' ", lambda: dimacs.read("gr", "road.gr")),
-            (TypeError, "write takes what read returns, but Queries, and not str", lambda: dimacs.write(GRAPH)),
+            (TypeError, "write takes what read returns, not str", lambda: dimacs.write(GRAPH)),
             (ValueError, "tos has 1 items, and froms has 2", lambda: Queries([1, 2], [3])),
             (TypeError, "inside: None, an array is wanted", lambda: Cut(None)),
             (ValueError, "heads has 1 items, and there are 2 arcs", lambda: Graph(2, [1, 1], [2], [3, 4])),
             (ValueError, r"weights\[1\] is 0.5", lambda: Graph(2, [1, 1], [2, 2], [3, 0.5])),
             (ValueError, "flows has 1 items", lambda: Solution(3, [1], instance)),
             (dimacs.PastLimit, "arc 2 NodeRange", lambda: dimacs.write(Graph(2, [1, 1], [2, 3], [3, 4]))),
+            (ValueError, "predecessors has 1 items, and distances has 2", lambda: Labels(1, [0, 3], [0])),
+            (dimacs.PastLimit, "node 0 NumberRange", lambda: dimacs.write(Queries([1, 0]))),
+            (dimacs.PastLimit, "node 3 NodeRange", lambda: dimacs.write(Distances(3, [0, 1]))),
+            (dimacs.Refused, "node 1 NotShortest", lambda: dimacs.write(Distances(1, [3, 1]))),
+            (dimacs.Refused, "node 2 PredUnknown", lambda: dimacs.write(Labels(1, [0, 1, 2], [0, 3, 2]))),
             (dimacs.PastLimit, "arc 1 BoundOrder", lambda: dimacs.write(MaxInstance(2, 1, 2, [1], [2], [-3]))),
         ]
         for kind, message, call in cases:
@@ -198,6 +244,7 @@ class Values(unittest.TestCase):
                 self.assertIsInstance(list(found)[-1], array)
                 self.assertEqual(dimacs.write(found), dimacs.convert(kind, text.encode()))
             self.assertEqual(dimacs.read("query", "p aux sp ss 1\ns 3\n").froms.typecode, "I")
+            self.assertEqual(dimacs.read("dist", "p dist 2 1\nt 2 1\nd 1 5 2\n", 2), Labels(2, [5, 0], [2, 0]))
 
 
 def random_instance(rng):
@@ -222,6 +269,35 @@ def random_instance(rng):
     return kind, MinInstance(nodes, *ends, lows, caps, [number() for _ in range(count)], [number() for _ in range(nodes)])
 
 
+def random_labels(rng, nodes):
+    """Labels of some nodes, each after its predecessor, with distances near all limits."""
+    order = rng.sample(range(1, nodes + 1), rng.randint(1, nodes))
+    distances, before = [UNREACHED] * nodes, [0] * nodes
+    distances[order[0] - 1] = 0
+    for k, node in enumerate(order[1:], 1):
+        distances[node - 1] = rng.choice([-LAST - 1, -1, 0, LAST - 1, rng.randint(-LAST - 1, LAST - 1)])
+        before[node - 1] = rng.choice(order[:k])
+    return Labels(order[0], distances, before)
+
+
+def without_predecessors(labels):
+    """Labels as distances. Of spoiled lines the fields stay as they are."""
+    found = labels.replace(b"p dist ", b"p distances ", 1)
+    return re.sub(rb"^(d \S+ \S+|t \S+ \S+) \S+$", rb"\1", found, flags=re.MULTILINE)
+
+
+def block_of(canonical, source):
+    """The fields of the block of a source, by node."""
+    found, current = {}, None
+    for line in canonical.decode().splitlines()[1:]:
+        letter, *numbers = line.split()
+        if letter == "t":
+            current = int(numbers[0])
+        elif current == source:
+            found[int(numbers[0])] = [int(it) for it in numbers[1:]]
+    return found
+
+
 class Laws(unittest.TestCase):
     def test_read_after_write(self):
         rng = random.Random(1)
@@ -237,6 +313,12 @@ class Laws(unittest.TestCase):
             self.assertEqual(dimacs.read("cut", dimacs.write(cut)), cut)
             potentials = Potentials([rng.choice([0, rng.randint(-LAST - 1, LAST)]) for _ in nodes])
             self.assertEqual(dimacs.read("pot", dimacs.write(potentials)), potentials)
+            labels = random_labels(rng, len(nodes))
+            self.assertEqual(dimacs.read("dist", dimacs.write(labels), labels.source), labels)
+            distances = Distances(labels.source, labels.distances)
+            self.assertEqual(dimacs.read("distances", dimacs.write(distances), labels.source), distances)
+            queries = Queries(*([rng.choice([1, 2**27, rng.randint(1, 2**27)]) for _ in nodes] for _ in range(rng.choice([1, 2]))))
+            self.assertEqual(dimacs.read("query", dimacs.write(queries)), queries)
 
     def test_spoiled_texts(self):
         """Each fault is named as the command names it."""
@@ -244,16 +326,19 @@ class Laws(unittest.TestCase):
         for seed in range(CASES):
             command = list(JUDGES)[seed % len(JUDGES)]
             texts = dict(zip(JUDGES[command][1], (it.encode("latin-1") for it in judged_texts(command, seed))))
+            if "dist" in texts:
+                texts["distances"] = without_predecessors(texts["dist"])
             instance = None
             for kind, text in texts.items():
-                if kind in seen and (kind != "solution" or instance is not None):
-                    found = self.compare(kind, text, instance)
+                of = {"solution": [instance], "dist": [1 + seed % 3], "distances": [1 + seed % 3]}.get(kind, [])
+                if of != [None]:
+                    found = self.compare(kind, text, *of)
                     instance = found if kind in ("max", "min") else instance
                     seen[kind][found is None] += 1
         for kind, counts in seen.items():
             self.assertGreater(min(counts), CASES // 50, kind)
 
-    def compare(self, kind, text, instance):
+    def compare(self, kind, text, *of):
         """Reads a text as the command does, and returns the value if it has no fault."""
         wanted = no = None
         try:
@@ -261,7 +346,7 @@ class Laws(unittest.TestCase):
         except dimacs.Refused as it:
             no = it.printed
         try:
-            found = dimacs.read(kind, text, *([instance] if kind == "solution" else []))
+            found = dimacs.read(kind, text, *of)
         except dimacs.Refused as it:
             if no is None:
                 self.assertIn(it.reason, BEYOND_THE_TEXT[kind])
@@ -269,8 +354,11 @@ class Laws(unittest.TestCase):
             self.assertEqual(it.printed, no, text)
             return None
         self.assertIsNone(no, text)
-        if kind == "query":
-            self.assertEqual(len(found), int(wanted.split()[4]))
+        if kind in ("dist", "distances"):
+            fields = block_of(wanted, *of)
+            for k, column in enumerate(listed(found)[1:]):
+                least = [0, UNREACHED][k == 0]
+                self.assertEqual(column, [(fields.get(node, [least, 0])[k] if node != of[0] else 0) for node in range(1, len(found) + 1)], text)
         elif kind != "solution":
             self.assertEqual(dimacs.write(found), wanted)
         return found

@@ -56,7 +56,7 @@ from .graphs import (
     solve_networkx_min,
     solve_networkx_paths,
 )
-from .instances import Cut, Graph, MaxInstance, MinInstance, Potentials, Queries, Solution
+from .instances import Cut, Distances, Graph, Labels, MaxInstance, MinInstance, Potentials, Queries, Solution
 from .pictures import draw
 from .reading import read, write
 from .spread import spread_max_arrays, spread_min_arrays
@@ -90,11 +90,13 @@ __all__ = [
     "Beyond",
     "Certified",
     "Cut",
+    "Distances",
     "Drawing",
     "Feasible",
     "GaveUp",
     "Graph",
     "Infeasible",
+    "Labels",
     "MaxInstance",
     "MinInstance",
     "NotOptimal",

@@ -16,7 +16,7 @@ from dataclasses import dataclass
 from typing import Any, ClassVar, Iterator, Sequence, TypeVar, Union
 
 from .buffers import IDS, MARKS, NUMBERS, Buffer, Items, array_of, number_of, only_array_of
-from .given import FLOWS, GRAPH, INSIDE, MAX, MIN, POTENTIALS, UNSCALED, Array, Form, Given
+from .given import DISTANCES, FLOWS, GRAPH, INSIDE, MAX, MIN, POTENTIALS, PREDECESSORS, UNSCALED, Array, Form, Given
 
 #: The nodes by their numbers, from 1.
 NodeNames = Union[Sequence[Any], None]
@@ -383,6 +383,65 @@ class Potentials(ByNode):
         return f"Potentials of {len(self)} nodes"
 
 
+@dataclass(frozen=True, eq=False, repr=False)
+class Distances(Value):
+    """The distance of each node from a source, UNREACHED of a node that isn't reached. Its length is the number of nodes.
+
+    >>> far = Distances(1, [0, 5, float("inf")])
+    >>> far
+    Distances of 3 nodes from 1
+    >>> import dimacs
+    >>> dimacs.certify_paths_arrays(*Graph(3, [1, 3], [2, 2], [5, 4]), *far).predecessors.tolist()
+    [0, 1, 0]
+    """
+
+    fields: ClassVar[tuple[str, ...]] = ("source", "distances")
+    source: int
+    distances: Any
+
+    def __post_init__(self) -> None:
+        self._set(number_of(self.source, IDS, "source"), _array(DISTANCES, self.distances))
+
+    def __len__(self) -> int:
+        return len(self.distances)
+
+    def __repr__(self) -> str:
+        return f"{type(self).__name__} of {len(self)} nodes from {self.source}"
+
+    def words(self) -> tuple[list[int], list[Buffer]]:
+        return [self.source], [array_of(self.distances, NUMBERS, "distances")]
+
+
+@dataclass(frozen=True, eq=False, repr=False)
+class Labels(Distances):
+    """The same with the predecessor of each node, which is 0 at the source and where there is no label. If there is a radius,
+    nodes without a label are farther, and may be reached.
+
+    >>> import dimacs
+    >>> dimacs.judge_paths_arrays(*Graph(3, [1, 3], [2, 2], [5, 4]), *Labels(1, [0, 5, dimacs.UNREACHED], [0, 1, 0])).kind
+    'sp'
+    """
+
+    fields = ("source", "distances", "predecessors")
+    predecessors: Any
+    radius: int | None = None
+
+    def __post_init__(self) -> None:
+        super().__post_init__()
+        self._set(self.source, self.distances, _array(PREDECESSORS, self.predecessors))
+        if len(self.predecessors) != len(self):
+            raise ValueError(f"predecessors has {len(self.predecessors)} items, and distances has {len(self)}")
+
+    def _compared(self) -> tuple[Any, ...]:
+        return (*super()._compared(), self.radius)
+
+    def words(self) -> tuple[list[int], list[Buffer]]:
+        if self.radius is not None:
+            raise ValueError(f"labels with a radius, here {self.radius}, aren't written")
+        numbers, arrays = super().words()
+        return numbers, [*arrays, array_of(self.predecessors, IDS, "predecessors")]
+
+
 _QUERIES = Array("froms", IDS, "queries"), Array("tos", IDS, "queries")
 
 
@@ -411,3 +470,7 @@ class Queries(Value):
 
     def __repr__(self) -> str:
         return f"Queries for {len(self)} {'sources' if self.tos is None else 'pairs'}"
+
+    def words(self) -> tuple[list[int], list[Buffer]]:
+        tos = [] if self.tos is None else self.tos
+        return [int(self.tos is not None)], [array_of(it, IDS, kind.name) for kind, it in zip(_QUERIES, (self.froms, tos))]

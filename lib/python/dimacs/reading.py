@@ -8,11 +8,11 @@ from contextlib import nullcontext
 from typing import Any, Callable, Literal, Sequence, overload
 
 from . import library
-from .answers import Refused
-from .buffers import IDS, MARKS, NUMBERS, Buffer, Items, array_of
+from .answers import UNREACHED, Refused
+from .buffers import IDS, MARKS, NUMBERS, Buffer, Items, array_of, number_of
 from .commands import run
 from .given import FLOWS, Given
-from .instances import ByNode, Cut, Graph, Instance, MaxInstance, MinInstance, Potentials, Queries, Solution
+from .instances import ByNode, Cut, Distances, Graph, Instance, Labels, MaxInstance, MinInstance, Potentials, Queries, Solution
 from .instances import Value, fixed, numpy
 from .texts import Text, bytes_from
 
@@ -25,6 +25,8 @@ KINDS: dict[str, tuple[type[Value], str]] = {
     "solution": (Solution, "solution"),
     "cut": (Cut, "cut"),
     "pot": (Potentials, "potentials"),
+    "dist": (Labels, "labels"),
+    "distances": (Distances, "distances"),
 }
 _CALLED = dict(KINDS.values())
 
@@ -136,6 +138,16 @@ def _read_queries(text: Buffer) -> Queries:
     return Queries.made(froms, tos if pairs.value else None)
 
 
+def _read_block(kind: type[Value], text: Buffer, source: Any) -> Value:
+    """The block of a source. Only labels have a radius."""
+    source, radius = number_of(source, IDS, "source"), ctypes.c_int64()
+    found, after = _Reading(kind, text, *[radius] * (kind is Labels)), [ctypes.c_uint32(source)]
+    if kind is Distances:
+        return Distances.made(source, *found.others(text.length // _NODE, NUMBERS).made(after=after))
+    arrays = found.others(text.length // _NODE, NUMBERS, IDS).made(after=after)
+    return Labels.made(source, *arrays, radius=None if radius.value == UNREACHED else radius.value)
+
+
 def _read(kind: type[Value], text: Buffer, of: Any) -> Value:
     if issubclass(kind, Instance):
         return _read_instance(kind, text)
@@ -143,11 +155,11 @@ def _read(kind: type[Value], text: Buffer, of: Any) -> Value:
         return kind.made(*_Reading(kind, text).others(text.length // _NODE, kind.form.items).made())
     if kind is Queries:
         return _read_queries(text)
-    return _read_solution(text, of)
+    return _read_solution(text, of) if kind is Solution else _read_block(kind, text, of)
 
 
 #: What a text of a kind is of.
-_OF = {"solution": "its instance"}
+_OF = {"solution": "its instance", "dist": "the source of a block", "distances": "the source of a block"}
 
 
 @overload
@@ -164,19 +176,26 @@ def read(kind: Literal["solution"], text: Text, instance: Instance, /) -> Soluti
 def read(kind: Literal["cut"], text: Text, /) -> Cut: ...
 @overload
 def read(kind: Literal["pot"], text: Text, /) -> Potentials: ...
+@overload
+def read(kind: Literal["dist"], text: Text, source: int, /) -> Labels: ...
+@overload
+def read(kind: Literal["distances"], text: Text, source: int, /) -> Distances: ...
 def read(kind: str, text: Text, of: Any = None, /) -> Any:
     r"""A text as arrays: of the kind "max" a MaxInstance, "min" a MinInstance, "gr" a Graph, "query" Queries, "cut" a Cut,
-    "pot" Potentials; "solution" a Solution over an instance. Texts are those of convert and show, and a Path whose name ends with .gz is unpacked.
+    "pot" Potentials; "solution" a Solution over an instance; the block of a source of "distances" Distances, of "dist" Labels.
+    Texts are those of convert and show, and a Path whose name ends with .gz is unpacked.
 
     The k-th entry of a solution with given ends belongs to the k-th arc with them; an arc without one carries 0. Raises
-    Refused if the text has a fault, if an entry belongs to no arc (UnknownArc, ArcTwice), or if a value or a potential doesn't
-    fit in 64 bits (NumberRange); ValueError if a file isn't wholly there.
+    Refused if the text has a fault, if an entry belongs to no arc (UnknownArc, ArcTwice), if the source has no block
+    (BlockMissing), or if a number doesn't fit in 64 bits (NumberRange); ValueError if a file isn't wholly there.
 
     >>> instance = read("max", "p max 3 2\nn 1 s\nn 3 t\na 1 2 5\na 2 3 4\n")
     >>> instance, len(instance)
     (MaxInstance of 3 nodes and 2 arcs, 2)
     >>> read("solution", "s 4\nf 1 2 4\nf 2 3 4\n", instance).value
     4
+    >>> read("distances", "p distances 2 1\nt 1 1\nd 2 7\n", 1).distances.tolist()
+    [0, 7]
     """
     if kind not in KINDS:
         raise ValueError(f"{kind!r} is no kind of text: these are {', '.join(KINDS)}")
@@ -212,17 +231,19 @@ def _writing(value: Value) -> tuple[Callable[..., int], list[Any], Given | None]
 
 
 def write(value: Value) -> bytes:
-    r"""The canonical text of what read returns, but of Queries, which read again is the same. A solution has an entry for each
-    arc.
+    r"""The canonical text of what read returns, which read again is the same. A solution has an entry for each arc.
 
-    Raises PastLimit if a number is past a limit of texts.
+    Raises PastLimit if a number is past a limit of texts; Refused if the distance of the source isn't 0, or predecessors of
+    labels don't lead back to it; ValueError for labels with a radius.
 
     >>> write(Graph(2, [1], [2], [5]))
     b'p sp 2 1\na 1 2 5\n'
     """
-    if not isinstance(value, Value) or isinstance(value, Queries):
-        raise TypeError(f"write takes what read returns, but Queries, and not {type(value).__name__}")
+    if not isinstance(value, Value):
+        raise TypeError(f"write takes what read returns, not {type(value).__name__}")
     function, words, given = _writing(value)
     with given.named() if given else nullcontext():
-        _, (text,) = library.call_for_texts(function, *words, rooms=[library.LINE + _LINE * value.lines()])
+        status, (text,) = library.call_for_texts(function, *words, rooms=[library.LINE + _LINE * value.lines()])
+        if status == library.REFUSED:
+            raise library.refusal(text)
     return text
