@@ -62,6 +62,21 @@ export interface Queries {
     tos: Ids | null;
 }
 
+/** The distance of each node from a source, UNREACHED of a node that isn't reached. */
+export interface DistancesFrom {
+    source: number;
+    distances: Distances;
+}
+
+/**
+ * The same with the predecessor of each node, which is 0 at the source and where there is no label. If there is a radius,
+ * nodes without a label are farther, and may be reached: such labels aren't written.
+ */
+export interface Labels extends DistancesFrom {
+    predecessors: Ids;
+    radius?: bigint | null;
+}
+
 /** The same with numbers and typed arrays, as they are read. */
 export type Typed<T> = {readonly [Field in keyof T]: Extract<T[Field], number | bigint | null | ArrayBufferView>};
 
@@ -233,9 +248,9 @@ export type Made<T extends Text> = T extends string ? string : Uint8Array;
 
 /**
  * A text as arrays, which the calls over arrays take: `certifyMaxArrays(instance, solution.flows)`. The k-th entry of a
- * solution with given ends belongs to the k-th arc with them; an arc without one carries 0. Throws Refused if the text has
- * a fault, if an entry belongs to no arc (UnknownArc, ArcTwice), or if a value or a potential doesn't fit 64 bits
- * (NumberRange).
+ * solution with given ends belongs to the k-th arc with them; an arc without one carries 0. Of distances and labels the
+ * block of a source is read. Throws Refused if the text has a fault, if an entry belongs to no arc (UnknownArc, ArcTwice), if the source has no block (BlockMissing), or if a
+ * number doesn't fit 64 bits (NumberRange).
  */
 export function read(kind: "max", text: Text): Typed<MaxInstance>;
 export function read(kind: "min", text: Text): Typed<MinInstance>;
@@ -244,17 +259,23 @@ export function read(kind: "query", text: Text): Typed<Queries>;
 export function read(kind: "solution", text: Text, instance: Arcs): Typed<Solution> & {readonly value: bigint};
 export function read(kind: "cut", text: Text): Typed<Cut>;
 export function read(kind: "pot", text: Text): Typed<Potentials>;
+export function read(kind: "dist", text: Text, source: number): Typed<Required<Labels>>;
+export function read(kind: "distances", text: Text, source: number): Typed<DistancesFrom>;
 
 /**
  * The canonical text of arrays, which read again gives the same. A solution has an entry for each arc. Throws PastLimit if
- * a number is past a limit of texts.
+ * a number is past a limit of texts; Refused if the distance of the source isn't 0, or predecessors of labels don't lead
+ * back to it.
  */
 export function write(kind: "max", instance: MaxInstance): string;
 export function write(kind: "min", instance: MinInstance): string;
 export function write(kind: "gr", graph: Graph): string;
+export function write(kind: "query", queries: Queries): string;
 export function write(kind: "solution", solution: Solution, instance: Arcs): string;
 export function write(kind: "cut", cut: Cut): string;
 export function write(kind: "pot", potentials: Potentials): string;
+export function write(kind: "dist", labels: Labels): string;
+export function write(kind: "distances", distances: DistancesFrom): string;
 
 /**
  * The calls over arrays. They throw what those over texts do; RangeError if a number doesn't fit, isn't whole or is a

@@ -2,9 +2,9 @@
 import {linesOf, throwRefused, throwUndecided} from "./answers.js";
 import {bytesOf, inFormOf} from "./bytes.js";
 import {ARRAYS, FORMS, Given} from "./given.js";
-import {LINE, One, REFUSED, Room} from "./library.js";
+import {DONE, LINE, One, REFUSED, Room} from "./library.js";
 import {library} from "./loaded.js";
-import {IDS, NUMBERS} from "./numbers.js";
+import {IDS, NUMBERS, UNREACHED} from "./numbers.js";
 import {show} from "./texts.js";
 
 /** The call for each kind of text, and what it hands out: numbers, arrays of the same length, and others. */
@@ -16,7 +16,12 @@ const KINDS = {
     solution: {name: "solution", numbers: ["value"], same: [], others: ["flows"]},
     cut: {name: "cut", numbers: [], same: [], others: ["inside"]},
     pot: {name: "potentials", numbers: [], same: [], others: ["potentials"]},
+    dist: {name: "labels", numbers: ["radius"], same: [], others: ["distances", "predecessors"]},
+    distances: {name: "distances", numbers: [], same: [], others: ["distances"]},
 };
+
+/** What comes beside a text of these kinds. */
+const BESIDE = {solution: "its instance", dist: "the source of a block", distances: "the source of a block"};
 
 /** About as many bytes as an arc has, at least. */
 const LEAST = 8;
@@ -24,14 +29,14 @@ const LEAST = 8;
 /** About as many bytes as a line has, at most. */
 const MOST = 32;
 
-function kindOf(kind, instance) {
-    if (!Object.hasOwn(KINDS, kind)) {
-        throw new RangeError(`${kind} is no kind of text that becomes arrays: these are ${Object.keys(KINDS).join(", ")}`);
-    }
-    if ((kind === "solution") !== (instance !== undefined)) {
-        throw new TypeError(`a solution comes with its instance, and nothing else does: here the kind is ${kind}`);
-    }
-    return KINDS[kind];
+function formOf(kind) {
+    if (Object.hasOwn(KINDS, kind)) return KINDS[kind];
+    throw new RangeError(`${kind} is no kind of text: these are ${Object.keys(KINDS).join(", ")}`);
+}
+
+function testBeside(kind, beside) {
+    const comes = Object.hasOwn(BESIDE, kind) ? `with ${BESIDE[kind]}` : "alone";
+    if ((beside === undefined) !== (comes === "alone")) throw new TypeError(`a text of the kind ${kind} comes ${comes}`);
 }
 
 /** The arcs of an instance, of which a solution is: their number of nodes and their ends. */
@@ -43,48 +48,84 @@ class Arcs extends Given {
     }
 }
 
-const arrayOf = (name) => (ARRAYS[name]?.[0] ?? IDS).array;
+/** Numbers of 64 bits. */
+const WIDE = ["value", "radius"];
+
+/** The items of an array; those of queries are IDs. */
+const itemsOf = (name) => ARRAYS[name]?.[0] ?? IDS;
+const arrayOf = (name) => itemsOf(name).array;
 
 /** Room for what a text of so many bytes holds. What has more items gets more room. */
 function roomsFor({numbers, same, others}, bytes) {
-    const length = Math.ceil(bytes / LEAST), rooms = numbers.map((it) => new One(it === "value" ? BigInt64Array : Uint32Array));
+    const length = Math.ceil(bytes / LEAST), rooms = numbers.map((it) => new One(WIDE.includes(it) ? BigInt64Array : Uint32Array));
     if (same.length) rooms.push(new Room(same.map(arrayOf), length));
     return [new Room(Uint8Array, LINE), ...rooms, ...others.map((it) => new Room(arrayOf(it), length))];
 }
 
+/** What the call takes before and after the text, and what is said of a number past its limit. */
+function around(kind, beside) {
+    if (kind === "solution") {
+        const {words, say} = new Arcs(beside);
+        return {before: words, after: [], say};
+    }
+    return {before: [], after: beside === undefined ? [] : [IDS.one(beside, "source")]};
+}
+
+/** The value of what was handed out. */
+function madeOf(kind, found, beside) {
+    if (kind === "query") return {froms: found.froms, tos: found.pairs ? found.tos : null};
+    if (kind === "distances") return {source: beside, ...found};
+    if (kind !== "dist") return found;
+    const {radius, ...arrays} = found;
+    return {source: beside, ...arrays, radius: radius === UNREACHED ? null : radius};
+}
+
 /** A text as arrays. */
-export function read(kind, text, instance) {
-    const held = kindOf(kind, instance), arcs = instance === undefined ? null : new Arcs(instance), bytes = bytesOf(text);
-    const words = [...(arcs?.words ?? []), bytes];
-    const {status, handed: [line, ...found]} = library.call(`dimacs_read_${held.name}`, words, roomsFor(held, bytes.length));
-    throwUndecided(status, linesOf(line), {say: arcs?.say});
+export function read(kind, text, beside) {
+    const form = formOf(kind), {name, numbers, same, others} = form;
+    testBeside(kind, beside);
+    const {before, after, say} = around(kind, beside), bytes = bytesOf(text);
+    const words = [...before, bytes, ...after], rooms = roomsFor(form, bytes.length);
+    const {status, handed: [line, ...found]} = library.call(`dimacs_read_${name}`, words, rooms);
+    throwUndecided(status, linesOf(line), {say});
     if (status === REFUSED) show(kind, text); // throws the same if the fault is in the text alone, and can explain it
     throwRefused(status, linesOf(line));
-    const value = Object.fromEntries([...held.numbers, ...held.same, ...held.others].map((name, i) => [name, found[i]]));
-    return kind === "query" ? {froms: value.froms, tos: value.pairs ? value.tos : null} : value;
+    return madeOf(kind, Object.fromEntries([...numbers, ...same, ...others].map((it, i) => [it, found[i]])), beside);
+}
+
+/** What the call takes that writes what isn't about arcs: numbers, then arrays, all of one length. */
+function wordsOf(kind, value) {
+    const names = kind !== "query" ? KINDS[kind].others : (value.tos ?? null) === null ? ["froms"] : ["froms", "tos"];
+    const arrays = names.map((it) => itemsOf(it).all(value[it], it)), [{length}] = arrays;
+    arrays.forEach((it, i) => {
+        if (it.length !== length) throw new RangeError(`${names[i]} has ${it.length} items, and ${names[0]} has ${length}`);
+    });
+    if (kind === "query") return [arrays.length - 1, arrays[0], arrays[1] ?? new Uint32Array(0)];
+    return Object.hasOwn(BESIDE, kind) ? [IDS.one(value.source, "source"), ...arrays] : arrays;
 }
 
 /** What the call takes that writes a value, about how many lines it writes, and what is said of a number past its limit. */
 function given(kind, value, instance) {
-    if (Object(value) !== value) throw new TypeError("a value is an object of numbers and arrays, as read returns it");
-    const form = kind === "gr" ? "graph" : kind;
-    if (Object.hasOwn(FORMS, form)) {
-        const {words, counts: {arcs}, say} = new Given(form, value);
-        return {words, lines: arcs, say};
+    const form = kind === "gr" ? "graph" : kind, isOverArcs = kind === "solution" || Object.hasOwn(FORMS, form);
+    if (!isOverArcs) {
+        const words = wordsOf(kind, value), items = words.find(ArrayBuffer.isView);
+        return {words, lines: items.reduce((count, it) => count + (it ? 1 : 0), 0)};
     }
-    if (kind === "solution") {
-        const {words, counts: {arcs}, say} = new Arcs(instance).addArray("flows", value.flows);
-        return {words: [NUMBERS.one(value.value, "value"), ...words], lines: arcs, say};
-    }
-    if (kind === "query") throw new RangeError("queries aren't written");
-    const [name] = KINDS[kind].others, items = ARRAYS[name][0].all(value[name], name);
-    return {words: [items], lines: items.reduce((count, it) => count + (it ? 1 : 0), 0)};
+    const arcs = kind === "solution" ? new Arcs(instance).addArray("flows", value.flows) : new Given(form, value);
+    const claimed = kind === "solution" ? [NUMBERS.one(value.value, "value")] : [];
+    return {words: [...claimed, ...arcs.words], lines: arcs.counts.arcs, say: arcs.say};
 }
 
 /** The canonical text of what read returns, or of an object with the same fields. */
 export function write(kind, value, instance) {
-    const {name} = kindOf(kind, instance), {words, lines, say} = given(kind, value, instance);
-    const {status, handed: [text]} = library.call(`dimacs_write_${name}`, words, [new Room(Uint8Array, LINE + MOST * lines)]);
-    throwUndecided(status, linesOf(text.subarray(0, LINE)), {say});
+    const {name} = formOf(kind);
+    if (kind === "solution" || instance !== undefined) testBeside(kind, instance);
+    if (Object(value) !== value) throw new TypeError("a value is an object of numbers and arrays, as read returns it");
+    if ((value.radius ?? null) !== null) throw new RangeError(`labels with a radius, here ${value.radius}, aren't written`);
+    const {words, lines, say} = given(kind, value, instance), rooms = [new Room(Uint8Array, LINE + MOST * lines)];
+    const {status, handed: [text]} = library.call(`dimacs_write_${name}`, words, rooms);
+    const first = linesOf(text.subarray(0, status === DONE ? 0 : LINE));
+    throwUndecided(status, first, {say});
+    throwRefused(status, first);
     return inFormOf("", text);
 }

@@ -25,9 +25,12 @@ const IN_MIN = {nodes: 4, ...ENDS, ...NUMBERS};
 const IN_SHORT = {nodes: 2, tails: [1], heads: [2], lows: [0], caps: [3], costs: [1], supplies: [5, -5]};
 const IN_GRAPH = {nodes: 4, tails: [1, 2, 3], heads: [2, 3, 2], weights: [5, 4, 0]};
 const LARGE = 2n ** 62n;
+const NONE = dimacs.UNREACHED;
 
 const bytes = (text) => new TextEncoder().encode(text);
 const big = (...numbers) => BigInt64Array.from(numbers, BigInt);
+
+const LABELS = {distances: big(0, 5, 5), predecessors: Uint32Array.of(0, 3, 1)};
 
 /** What a call throws. */
 function thrown(call) {
@@ -141,15 +144,17 @@ const CASES = {
             ["cut", CUT, {inside: Uint8Array.of(1, 0, 0, 0)}],
             ["pot", POT, {potentials: big(4, 2, 1, 0)}],
             ["pot", far, {potentials}],
+            ["query", PAIRS, {froms: Uint32Array.of(1, 1), tos: Uint32Array.of(3, 4)}],
+            ["query", "p aux sp ss 9\n" + "s 1\n".repeat(9), {froms: new Uint32Array(9).fill(1), tos: null}],
+            ["distances", "p distances 4 1\nt 2 1\nd 3 4\n", {source: 2, distances: big(NONE, 0, 4, NONE)}, 2],
+            ["dist", "p dist 3 1\nt 1 2\nd 3 5 1\nd 2 5 3\n", {source: 1, ...LABELS, radius: null}, 1],
         ]) {
             for (const it of [text, bytes(text)]) assert.deepEqual(dimacs.read(kind, it, ...over), value, kind);
-            assert.equal(dimacs.write(kind, value, ...over), text, kind);
+            assert.equal(dimacs.write(kind, value, ...(kind === "solution" ? over : [])), text, kind);
         }
         assert.equal(dimacs.write("max", IN_MAX), MAX);
         assert.equal(dimacs.write("cut", {inside: [true, false, 0, 0]}), CUT);
-        assert.deepEqual(dimacs.read("query", PAIRS), {froms: Uint32Array.of(1, 1), tos: Uint32Array.of(3, 4)});
-        const many = "p aux sp ss 9\n" + "s 1\n".repeat(9);
-        assert.deepEqual(dimacs.read("query", many), {froms: new Uint32Array(9).fill(1), tos: null});
+        assert.deepEqual(dimacs.read("dist", NEAR, 1).radius, 7n);
         const instance = dimacs.read("max", MAX), {flows} = dimacs.read("solution", FLOW, instance);
         assert.deepEqual(dimacs.certifyMaxArrays(instance, flows).inside, dimacs.read("cut", CUT).inside);
     },
@@ -161,13 +166,21 @@ const CASES = {
         assert.equal(fault.explain(), thrown(() => dimacs.show("max", MAX.replace("4\n", "x\n"))).explain());
         throws(() => dimacs.read("gr", "p sp 2 268435456\n"), dimacs.Refused, {reason: "TooFew"});
         for (const [call, type, message] of [
-            [() => dimacs.read("graph", GRAPH), RangeError, /^graph is no kind of text .* max, min, gr, query, solution/],
-            [() => dimacs.read("solution", FLOW), TypeError, /^a solution comes with its instance, .* is solution$/],
-            [() => dimacs.read("max", MAX, IN_MAX), TypeError, /^a solution comes with its instance, .* is max$/],
+            [() => dimacs.read("graph", GRAPH), RangeError, /^graph is no kind of text: these are max, min, gr, query, solution/],
+            [() => dimacs.read("solution", FLOW), TypeError, /^a text of the kind solution comes with its instance$/],
+            [() => dimacs.read("dist", NEAR), TypeError, /^a text of the kind dist comes with the source of a block$/],
+            [() => dimacs.read("dist", NEAR, 2.5), RangeError, /^source: 2.5 isn't a whole number$/],
+            [() => dimacs.read("dist", NEAR, 2), dimacs.Refused, /^node 2 BlockMissing$/],
+            [() => dimacs.read("max", MAX, IN_MAX), TypeError, /^a text of the kind max comes alone$/],
             [() => dimacs.read("max", 7), TypeError, /^a text is a string/],
             [() => dimacs.write("max"), TypeError, /^a value is an object/],
             [() => dimacs.write("max", {...IN_MAX, heads: [1]}), RangeError, /^heads has 1 items, and there are 5 arcs$/],
             [() => dimacs.write("max", {...IN_MAX, heads: [2, 3, 3, 4, 9]}), dimacs.PastLimit, /^arc 5 NodeRange: it goes/],
+            [() => dimacs.write("max", IN_MAX, IN_MAX), TypeError, /^a text of the kind max comes alone$/],
+            [() => dimacs.write("query", {froms: [1], tos: [2, 3]}), RangeError, /^tos has 2 items, and froms has 1$/],
+            [() => dimacs.write("query", {froms: [0], tos: null}), dimacs.PastLimit, /^node 0 NumberRange/],
+            [() => dimacs.write("dist", dimacs.read("dist", NEAR, 1)), RangeError, /^labels with a radius, here 7, aren't/],
+            [() => dimacs.write("dist", {source: 2, ...LABELS}), dimacs.Refused, /^node 2 NotShortest$/],
             [() => dimacs.write("solution", {value: 3, flows: [1]}, IN_MAX), RangeError, /^flows has 1 items/],
             [() => dimacs.write("solution", {value: 2n ** 63n, flows: [1, 1, 1, 1, 1]}, IN_MAX), RangeError, /^value: /],
         ]) {
