@@ -179,7 +179,7 @@ class Rows(unittest.TestCase):
         self.assertTrue(dimacs.judge_paths_arrays(*graph, *labels))
 
     def test_words(self):
-        instance = dimacs.read("gr", GRAPH)
+        instance, past = dimacs.read("gr", GRAPH), Graph(2, [1, 1], [2, 3], [3, 4])
         cases = [
             (ValueError, "'grr' is no kind", lambda: dimacs.read("grr", GRAPH)),
             (TypeError, "'solution' comes with its instance, and not with None", lambda: dimacs.read("solution", "s 1\n")),
@@ -195,7 +195,9 @@ class Rows(unittest.TestCase):
             (ValueError, "heads has 1 items, and there are 2 arcs", lambda: Graph(2, [1, 1], [2], [3, 4])),
             (ValueError, r"weights\[1\] is 0.5", lambda: Graph(2, [1, 1], [2, 2], [3, 0.5])),
             (ValueError, "flows has 1 items", lambda: Solution(3, [1], instance)),
-            (dimacs.PastLimit, "arc 2 NodeRange", lambda: dimacs.write(Graph(2, [1, 1], [2, 3], [3, 4]))),
+            (dimacs.PastLimit, "arc 2 NodeRange: it goes from 1 to 3", lambda: dimacs.write(past)),
+            (dimacs.PastLimit, "arc 2 NodeRange: it goes from 1 to 3", lambda: dimacs.write(Solution(3, [0, 0], past))),
+            (dimacs.PastLimit, "arc 2 NodeRange", lambda: dimacs.read("solution", "s 0\n", past)),
             (ValueError, "predecessors has 1 items, and distances has 2", lambda: Labels(1, [0, 3], [0])),
             (dimacs.PastLimit, "node 0 NumberRange", lambda: dimacs.write(Queries([1, 0]))),
             (dimacs.PastLimit, "node 3 NodeRange", lambda: dimacs.write(Distances(3, [0, 1]))),

@@ -58,7 +58,7 @@ from .graphs import (
 )
 from .instances import Cut, Distances, Graph, Labels, MaxInstance, MinInstance, Potentials, Queries, Solution
 from .pictures import draw
-from .reading import read, write
+from .reading import read
 from .spread import spread_max_arrays, spread_min_arrays
 from .texts import (
     certify_infeasible,
@@ -77,6 +77,7 @@ from .texts import (
     spread_max,
     spread_min,
 )
+from .writing import write
 
 if TYPE_CHECKING:
     from . import backend, ortools, scipy

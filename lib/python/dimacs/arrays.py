@@ -32,17 +32,8 @@ from .given import DISTANCES, FLOWS, GRAPH, INSIDE, MAX, MIN, POTENTIALS, PREDEC
 
 
 def judge_max_arrays(
-    nodes: int,
-    source: int,
-    sink: int,
-    tails: Numbers,
-    heads: Numbers,
-    caps: Numbers,
-    flows: Numbers,
-    inside: Numbers,
-    *,
-    scale: Any = None,
-    base: int = 1,
+    nodes: int, source: int, sink: int, tails: Numbers, heads: Numbers, caps: Numbers, flows: Numbers, inside: Numbers,
+    *, scale: Any = None, base: int = 1,
 ) -> Verdict:
     """Judges that a flow is maximum, by the cut of the nodes inside. Raises Refused if a test fails.
 
@@ -56,18 +47,9 @@ def judge_max_arrays(
 
 
 def judge_min_arrays(
-    nodes: int,
-    tails: Numbers,
-    heads: Numbers,
-    lows: Numbers,
-    caps: Numbers,
-    costs: Numbers,
-    supplies: Numbers,
-    flows: Numbers,
-    potentials: Numbers,
-    *,
-    scale: Any = None,
-    base: int = 1,
+    nodes: int, tails: Numbers, heads: Numbers, lows: Numbers, caps: Numbers, costs: Numbers, supplies: Numbers,
+    flows: Numbers, potentials: Numbers,
+    *, scale: Any = None, base: int = 1,
 ) -> Verdict:
     """Judges that a flow costs least, by potentials. Raises Refused if a test fails.
 
@@ -82,17 +64,9 @@ def judge_min_arrays(
 
 
 def judge_infeasible_arrays(
-    nodes: int,
-    tails: Numbers,
-    heads: Numbers,
-    lows: Numbers,
-    caps: Numbers,
-    costs: Numbers,
-    supplies: Numbers,
+    nodes: int, tails: Numbers, heads: Numbers, lows: Numbers, caps: Numbers, costs: Numbers, supplies: Numbers,
     inside: Numbers,
-    *,
-    scale: Any = None,
-    base: int = 1,
+    *, scale: Any = None, base: int = 1,
 ) -> Verdict:
     """Judges that no flow is feasible, by the set of the nodes inside. Raises Refused if the set isn't violated.
 
@@ -104,16 +78,9 @@ def judge_infeasible_arrays(
 
 
 def judge_paths_arrays(
-    nodes: int,
-    tails: Numbers,
-    heads: Numbers,
-    weights: Numbers,
-    source: int,
-    distances: Numbers,
+    nodes: int, tails: Numbers, heads: Numbers, weights: Numbers, source: int, distances: Numbers,
     predecessors: Numbers,
-    *,
-    scale: Any = None,
-    base: int = 1,
+    *, scale: Any = None, base: int = 1,
 ) -> Verdict:
     """Judges that these are the distances from the source, by predecessors. Raises Refused if a test fails.
 
@@ -129,16 +96,8 @@ def judge_paths_arrays(
 
 
 def certify_max_arrays(
-    nodes: int,
-    source: int,
-    sink: int,
-    tails: Numbers,
-    heads: Numbers,
-    caps: Numbers,
-    flows: Numbers,
-    *,
-    scale: Any = None,
-    base: int = 1,
+    nodes: int, source: int, sink: int, tails: Numbers, heads: Numbers, caps: Numbers, flows: Numbers,
+    *, scale: Any = None, base: int = 1,
 ) -> Certified:
     """Decides whether a flow is maximum. Returns its value, and for each node whether it is inside a cut that shows it.
 
@@ -155,17 +114,9 @@ def certify_max_arrays(
 
 
 def certify_min_arrays(
-    nodes: int,
-    tails: Numbers,
-    heads: Numbers,
-    lows: Numbers,
-    caps: Numbers,
-    costs: Numbers,
-    supplies: Numbers,
+    nodes: int, tails: Numbers, heads: Numbers, lows: Numbers, caps: Numbers, costs: Numbers, supplies: Numbers,
     flows: Numbers,
-    *,
-    scale: Any = None,
-    base: int = 1,
+    *, scale: Any = None, base: int = 1,
 ) -> Certified:
     """Decides whether a flow costs least. Returns its cost, and potentials that show it.
 
@@ -183,16 +134,8 @@ def certify_min_arrays(
 
 
 def certify_infeasible_arrays(
-    nodes: int,
-    tails: Numbers,
-    heads: Numbers,
-    lows: Numbers,
-    caps: Numbers,
-    costs: Numbers,
-    supplies: Numbers,
-    *,
-    scale: Any = None,
-    base: int = 1,
+    nodes: int, tails: Numbers, heads: Numbers, lows: Numbers, caps: Numbers, costs: Numbers, supplies: Numbers,
+    *, scale: Any = None, base: int = 1,
 ) -> Certified:
     """Decides whether no flow is feasible. Returns for each node whether it is inside a set that shows it.
 
@@ -206,15 +149,8 @@ def certify_infeasible_arrays(
 
 
 def certify_paths_arrays(
-    nodes: int,
-    tails: Numbers,
-    heads: Numbers,
-    weights: Numbers,
-    source: int,
-    distances: Numbers,
-    *,
-    scale: Any = None,
-    base: int = 1,
+    nodes: int, tails: Numbers, heads: Numbers, weights: Numbers, source: int, distances: Numbers,
+    *, scale: Any = None, base: int = 1,
 ) -> Certified:
     """Decides whether these are the distances from the source. Returns predecessors that show it.
 
@@ -231,16 +167,8 @@ def certify_paths_arrays(
 
 
 def solve_max_arrays(
-    nodes: int,
-    source: int,
-    sink: int,
-    tails: Numbers,
-    heads: Numbers,
-    caps: Numbers,
-    limit: int = LIMIT,
-    *,
-    scale: Any = None,
-    base: int = 1,
+    nodes: int, source: int, sink: int, tails: Numbers, heads: Numbers, caps: Numbers, limit: int = LIMIT,
+    *, scale: Any = None, base: int = 1,
 ) -> Solved:
     """Makes a maximum flow. Returns its value, the amounts of the arcs, and for each node whether it is inside a cut.
 
@@ -255,17 +183,9 @@ def solve_max_arrays(
 
 
 def solve_min_arrays(
-    nodes: int,
-    tails: Numbers,
-    heads: Numbers,
-    lows: Numbers,
-    caps: Numbers,
-    costs: Numbers,
-    supplies: Numbers,
+    nodes: int, tails: Numbers, heads: Numbers, lows: Numbers, caps: Numbers, costs: Numbers, supplies: Numbers,
     limit: int = LIMIT,
-    *,
-    scale: Any = None,
-    base: int = 1,
+    *, scale: Any = None, base: int = 1,
 ) -> Solved:
     """Makes a flow of least cost. Returns its cost, the amounts of the arcs, and potentials that show it.
 

@@ -50,9 +50,11 @@ PREDECESSORS = Array("predecessors", IDS, "nodes")
 
 
 class Form:
-    """An instance in memory: its numbers, and then the address and the length of each array."""
+    """An instance in memory: its numbers, and then the address and the length of each array. Calls that read and write have
+    its name."""
 
-    def __init__(self, numbers: str, *arrays: Array) -> None:
+    def __init__(self, name: str, numbers: str, *arrays: Array) -> None:
+        self.name = name
         self.numbers = numbers.split()
         self.arrays = arrays
         fields: list[tuple[str, Any]] = [(name, ctypes.c_uint32) for name in self.numbers]
@@ -61,9 +63,9 @@ class Form:
         self.structure = type("Instance", (ctypes.Structure,), {"_fields_": fields})
 
 
-MAX = Form("nodes source sink", TAILS, HEADS, CAPS)
-MIN = Form("nodes", TAILS, HEADS, LOWS, CAPS, COSTS, SUPPLIES)
-GRAPH = Form("nodes", TAILS, HEADS, WEIGHTS)
+MAX = Form("max", "nodes source sink", TAILS, HEADS, CAPS)
+MIN = Form("min", "nodes", TAILS, HEADS, LOWS, CAPS, COSTS, SUPPLIES)
+GRAPH = Form("graph", "nodes", TAILS, HEADS, WEIGHTS)
 
 
 class Names:

@@ -49,8 +49,9 @@ def fixed(found: Any) -> Any:
 
 
 class Value(Sized, Iterable[Any]):
-    """What a text spells: fields in an order, into which the value unpacks."""
+    """What a text spells: fields in an order, into which the value unpacks. Calls that read and write have its name."""
 
+    name: ClassVar[str]
     fields: ClassVar[tuple[str, ...]]
 
     @classmethod
@@ -101,7 +102,7 @@ class Instance(Value):
     names: NodeNames
 
     def __init_subclass__(cls) -> None:
-        cls.fields = (*cls.form.numbers, *(it.name for it in cls.form.arrays))
+        cls.name, cls.fields = cls.form.name, (*cls.form.numbers, *(it.name for it in cls.form.arrays))
 
     def __post_init__(self) -> None:
         self._set(*Given(self.form, *self).instance(_copied))
@@ -302,6 +303,7 @@ class Solution(Value):
     [4, 4]
     """
 
+    name = "solution"
     fields = ("value", "flows")
     value: int
     flows: Any
@@ -355,6 +357,7 @@ class Cut(ByNode):
     4
     """
 
+    name = "cut"
     form = INSIDE
     inside: Any
 
@@ -376,6 +379,7 @@ class Potentials(ByNode):
     12
     """
 
+    name = "potentials"
     form = POTENTIALS
     potentials: Any
 
@@ -395,6 +399,7 @@ class Distances(Value):
     [0, 1, 0]
     """
 
+    name = "distances"
     fields: ClassVar[tuple[str, ...]] = ("source", "distances")
     source: int
     distances: Any
@@ -422,6 +427,7 @@ class Labels(Distances):
     'sp'
     """
 
+    name = "labels"
     fields = ("source", "distances", "predecessors")
     predecessors: Any
     radius: int | None = None
@@ -455,6 +461,7 @@ class Queries(Value):
     2
     """
 
+    name = "queries"
     fields = ("froms", "tos")
     froms: Any
     tos: Any = None

@@ -1,40 +1,35 @@
-"""Texts as arrays, and back."""
+"""Texts as arrays."""
 
 from __future__ import annotations
 
 import ctypes
 from array import array
-from contextlib import nullcontext
-from typing import Any, Callable, Literal, Sequence, overload
+from typing import Any, Literal, Sequence, overload
 
 from . import library
 from .answers import UNREACHED, Refused
-from .buffers import IDS, MARKS, NUMBERS, Buffer, Items, array_of, number_of
+from .buffers import IDS, MARKS, NUMBERS, Buffer, Items, number_of
 from .commands import run
-from .given import FLOWS, Given
 from .instances import ByNode, Cut, Distances, Graph, Instance, Labels, MaxInstance, MinInstance, Potentials, Queries, Solution
 from .instances import Value, fixed, numpy
 from .texts import Text, bytes_from
+from .writing import ends_of
 
-#: What kinds of texts become, and what calls of the library name them.
-KINDS: dict[str, tuple[type[Value], str]] = {
-    "max": (MaxInstance, "max"),
-    "min": (MinInstance, "min"),
-    "gr": (Graph, "graph"),
-    "query": (Queries, "queries"),
-    "solution": (Solution, "solution"),
-    "cut": (Cut, "cut"),
-    "pot": (Potentials, "potentials"),
-    "dist": (Labels, "labels"),
-    "distances": (Distances, "distances"),
+#: What texts become, by their kinds.
+KINDS: dict[str, type[Value]] = {
+    "max": MaxInstance,
+    "min": MinInstance,
+    "gr": Graph,
+    "query": Queries,
+    "solution": Solution,
+    "cut": Cut,
+    "pot": Potentials,
+    "dist": Labels,
+    "distances": Distances,
 }
-_CALLED = dict(KINDS.values())
 
 #: The least bytes that an arc, a query or a node takes; a node may have no line.
 _ARC, _QUERY, _NODE = 8, 4, 8
-
-#: About as many bytes as a line has.
-_LINE = 32
 
 
 class _Room:
@@ -64,7 +59,7 @@ class _Reading:
     """A call that reads a text, and what it hands out: numbers, arrays of the same length, and others."""
 
     def __init__(self, kind: type[Value], text: Buffer, *numbers: Any) -> None:
-        self._name, self._text, self._numbers = _CALLED[kind], text, numbers
+        self._name, self._text, self._numbers = kind.name, text, numbers
         self._same: list[_Room] = []
         self._others: list[_Room] = []
 
@@ -117,18 +112,9 @@ def _read_instance(kind: type[Instance], text: Buffer) -> Instance:
     return kind.made(*(it.value for it in numbers), *arrays, names=None)
 
 
-def _ends(instance: Instance) -> list[Any]:
-    """The number of nodes and the ends of arcs, as calls take them."""
-    words: list[Any] = [ctypes.c_uint32(instance.nodes)]
-    for name, it in ("tails", instance.tails), ("heads", instance.heads):
-        address, length = array_of(it, IDS, name).words()
-        words += [ctypes.c_void_p(address), ctypes.c_size_t(length)]
-    return words
-
-
 def _read_solution(text: Buffer, instance: Instance) -> Solution:
     value = ctypes.c_int64()
-    (flows,) = _Reading(Solution, text, value).others(len(instance), NUMBERS).made(before=_ends(instance))
+    (flows,) = _Reading(Solution, text, value).others(len(instance), NUMBERS).made(before=ends_of(instance))
     return Solution.made(value.value, flows, instance=instance)
 
 
@@ -205,45 +191,9 @@ def read(kind: str, text: Text, of: Any = None, /) -> Any:
         raise TypeError(f"a text of the kind {kind!r} comes with {_OF[kind]}, and not with {of!r}")
     with bytes_from(f"read {kind}", text) as (buffer,):
         try:
-            return _read(KINDS[kind][0], buffer, of)
+            return _read(KINDS[kind], buffer, of)
         except Refused as it:
             no = it
             if run("show", kind, [buffer])[0] == library.REFUSED:
                 raise  # the text alone explains it
     raise no
-
-
-def _writing(value: Value) -> tuple[Callable[..., int], list[Any], Given | None]:
-    """The call that writes a value, what it takes, and the arguments that name arcs and nodes."""
-    name = _CALLED[type(value)]
-    if isinstance(value, Instance):
-        given = Given(value.form, *value)
-        return library.writer(name, ctypes.c_void_p), given.words(), given
-    if isinstance(value, Solution):
-        given = Given(value.instance.form, *value.instance)
-        given.words()
-        flows = array_of(value.flows, NUMBERS, FLOWS.name)
-        words = [value.value, *_ends(value.instance), *flows.words()]
-        return library.writer(name, ctypes.c_int64, ctypes.c_uint32, arrays=3), words, given
-    numbers, arrays = value.words()
-    words = [*numbers, *(word for it in arrays for word in it.words())]
-    return library.writer(name, *[ctypes.c_uint32] * len(numbers), arrays=len(arrays)), words, None
-
-
-def write(value: Value) -> bytes:
-    r"""The canonical text of what read returns, which read again is the same. A solution has an entry for each arc.
-
-    Raises PastLimit if a number is past a limit of texts; Refused if the distance of the source isn't 0, or predecessors of
-    labels don't lead back to it; ValueError for labels with a radius.
-
-    >>> write(Graph(2, [1], [2], [5]))
-    b'p sp 2 1\na 1 2 5\n'
-    """
-    if not isinstance(value, Value):
-        raise TypeError(f"write takes what read returns, not {type(value).__name__}")
-    function, words, given = _writing(value)
-    with given.named() if given else nullcontext():
-        status, (text,) = library.call_for_texts(function, *words, rooms=[library.LINE + _LINE * value.lines()])
-        if status == library.REFUSED:
-            raise library.refusal(text)
-    return text

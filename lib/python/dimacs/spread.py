@@ -10,69 +10,46 @@ from typing import Any
 
 from . import texts
 from .answers import PastLimit, Refused
-from .given import MOST_NODES, Names
-from .buffers import IDS, NUMBERS, Items, Numbers, Room, list_of, number_of
+from .buffers import IDS, NUMBERS, Numbers, Room, list_of, number_of
+from .given import MAX, MIN, MOST_NODES, Given, Names
+from .instances import Instance, MaxInstance, MinInstance
+from .reading import read
+from .writing import text_of_instance
 
-_MAX_ARCS = ("tails", IDS), ("heads", IDS), ("caps", NUMBERS)
-_MIN_ARCS = ("tails", IDS), ("heads", IDS), ("lows", NUMBERS), ("caps", NUMBERS), ("costs", NUMBERS)
 _PAIRS = ("pair_tails", IDS), ("pair_heads", IDS), ("sums", NUMBERS)
 
 
-def _columns(base: int, named: tuple[tuple[str, Items], ...], *given: Any) -> list[list[int]]:
+def _claim(base: int, *pairs: Any) -> list[list[int]]:
     """The items of arrays of one length; nodes are numbered from 1."""
-    columns = [list_of(numbers, items, name) for (name, items), numbers in zip(named, given)]
-    if Names(base).base == 0:
-        columns = [[it + 1 for it in column] if items is IDS else column for (_, items), column in zip(named, columns)]
-    for (name, _), column in zip(named, columns):
+    columns = [list_of(numbers, items, name) for (name, items), numbers in zip(_PAIRS, pairs)]
+    for (name, items), column in zip(_PAIRS, columns):
         if len(column) != len(columns[0]):
-            raise ValueError(f"{name} has {len(column)} items, and {named[0][0]} has {len(columns[0])}")
+            raise ValueError(f"{name} has {len(column)} items, and pair_tails has {len(columns[0])}")
+        if items is IDS:
+            column[:] = [it + 1 - base for it in column]
     return columns
 
 
-def _lines(letter: str, columns: list[list[int]]) -> str:
-    return "".join(f"{letter} {' '.join(map(str, items))}\n" for items in zip(*columns))
-
-
-def _spread(call: Any, base: int, head: str, ends: list[int], arcs: list[list[int]], *pairs: Any) -> Any:
-    """Spreads the sums of pairs over arcs. A fault of the instance is raised as a limit of arrays, by the node or the arc of
-    its line; that of a pair has its two nodes."""
-    columns = _columns(base, _PAIRS, *pairs)
+def _spread(call: Any, kind: type[Instance], given: Given, *pairs: Any) -> Any:
+    """Spreads the sums of pairs over arcs. A fault of a pair has its two nodes."""
+    instance, base = kind.of(given, None), given.names.base
+    columns = _claim(base, *pairs)
+    claim = "s 0\n" + "".join(f"f {tail} {head} {it}\n" for tail, head, it in zip(*columns))
     try:
-        solution = call(head + _lines("a", arcs), "s 0\n" + _lines("f", columns))
+        solution = call(text_of_instance(given), claim.encode("ascii"))
     except Refused as it:
         if it.text is None and it.arc is not None:
             it.arc += base - 1
         if it.text == "solution" and it.line is not None:
             it.numbers = {name: column[it.line - 2] + base - 1 for name, column in zip(("tail", "head"), columns)}
-        if it.text == "instance" and it.line is not None:
-            raise _limit(it.reason, it.line - 2, ends, base) from None
         raise
-    # There is an entry for every arc.
-    return Room.of(NUMBERS, [int(line.rsplit(" ", 1)[1]) for line in solution.splitlines()[1:]]).in_form_of(pairs[-1])
-
-
-def _limit(reason: str, line: int, ends: list[int], base: int) -> PastLimit:
-    """The exception for a line after the first, from 0; or for the first, whose number of nodes is too great."""
-    if line < 0:
-        return PastLimit(reason, node=MOST_NODES + base)
-    reason = "NodeRange" if reason == "NumberRange" else reason  # of the end 0
-    if line < len(ends):
-        return PastLimit(reason, node=ends[line] + base - 1)
-    return PastLimit(reason, arc=line - len(ends) + base)
+    return Room.of(NUMBERS, read("solution", solution, instance).flows.tolist()).in_form_of(pairs[-1])
 
 
 def spread_max_arrays(
-    nodes: int,
-    source: int,
-    sink: int,
-    tails: Numbers,
-    heads: Numbers,
-    caps: Numbers,
-    pair_tails: Numbers,
-    pair_heads: Numbers,
-    sums: Numbers,
-    *,
-    base: int = 1,
+    nodes: int, source: int, sink: int, tails: Numbers, heads: Numbers, caps: Numbers, pair_tails: Numbers,
+    pair_heads: Numbers, sums: Numbers,
+    *, base: int = 1,
 ) -> Any:
     """Deals sums out to the arcs of a maximum flow instance: sums[k] is carried from pair_tails[k] to pair_heads[k].
 
@@ -84,31 +61,23 @@ def spread_max_arrays(
     >>> spread_max_arrays(2, 1, 2, [1, 1], [2, 2], [3, 5], [1], [2], [6])
     [3, 3]
     """
-    nodes, *ends = (number_of(it, IDS, name) for name, it in (("nodes", nodes), ("source", source), ("sink", sink)))
-    ends = [it + 1 - base for it in ends]
-    arcs = _columns(base, _MAX_ARCS, tails, heads, caps)
-    head = f"p max {nodes} {len(arcs[0])}\nn {ends[0]} s\nn {ends[1]} t\n"
-    return _spread(texts.spread_max, base, head, ends, arcs, pair_tails, pair_heads, sums)
+    given = Given(MAX, nodes, source, sink, tails, heads, caps, names=Names(base))
+    return _spread(texts.spread_max, MaxInstance, given, pair_tails, pair_heads, sums)
 
 
 def spread_min_arrays(
-    nodes: int,
-    tails: Numbers,
-    heads: Numbers,
-    lows: Numbers,
-    caps: Numbers,
-    costs: Numbers,
-    pair_tails: Numbers,
-    pair_heads: Numbers,
-    sums: Numbers,
-    *,
-    base: int = 1,
+    nodes: int, tails: Numbers, heads: Numbers, lows: Numbers, caps: Numbers, costs: Numbers, pair_tails: Numbers,
+    pair_heads: Numbers, sums: Numbers,
+    *, base: int = 1,
 ) -> Any:
     """The same for an instance of least cost: of all such flows within the bounds, one that costs least.
 
     >>> spread_min_arrays(2, [1, 1], [2, 2], [0, 0], [3, 5], [9, 1], [1], [2], [6])
     [1, 5]
     """
-    arcs = _columns(base, _MIN_ARCS, tails, heads, lows, caps, costs)
-    head = f"p min {number_of(nodes, IDS, 'nodes')} {len(arcs[0])}\n"
-    return _spread(texts.spread_min, base, head, [], arcs, pair_tails, pair_heads, sums)
+    count = number_of(nodes, IDS, "nodes")
+    if count > MOST_NODES:
+        raise PastLimit("NumberRange", node=MOST_NODES + base, numbers={"most": MOST_NODES})
+    supplies = memoryview(bytes(NUMBERS.width * count)).cast("q")
+    given = Given(MIN, count, tails, heads, lows, caps, costs, supplies, names=Names(base))
+    return _spread(texts.spread_min, MinInstance, given, pair_tails, pair_heads, sums)
