@@ -8,10 +8,10 @@ import threading
 from typing import Any, Iterator, Sequence
 
 from . import library
-from .answers import Explainable, Placed
-from .buffers import UNLIMITED, Room, bytes_of
-from .given import CAPS, COSTS, DISTANCES, FLOWS, HEADS, INSIDE, LOWS, MAX, MIN, POTENTIALS, PREDECESSORS, SUPPLIES, TAILS
-from .given import WEIGHTS, Array, Given, Names
+from .answers import Explainable, PastLimit, Placed
+from .buffers import UNLIMITED, Room, array_of, bytes_of
+from .given import DISTANCES, FLOWS, HEADS, INSIDE, MAX, MIN, POTENTIALS, PREDECESSORS, TAILS, Array, Given, Names
+from .writing import text_of, text_of_instance
 
 #: The names of a call's texts, which the lines quote: those that refusals have for them.
 _NAMES = {
@@ -99,31 +99,9 @@ class Asked:
 # ---- arrays
 
 
-def _instance(given: Given) -> Iterator[str]:
-    ends = given.column(TAILS), given.column(HEADS)
-    if given.form is MAX:
-        yield f"p max {given.number('nodes')} {len(ends[0])}"
-        yield f"n {given.number('source')} s"
-        yield f"n {given.number('sink')} t"
-        numbers = [given.column(CAPS)]
-    elif given.form is MIN:
-        yield f"p min {given.number('nodes')} {len(ends[0])}"
-        yield from (f"n {node} {it}" for node, it in enumerate(given.column(SUPPLIES), 1) if it)
-        numbers = [given.column(it) for it in (LOWS, CAPS, COSTS)]
-    else:
-        yield f"p sp {given.number('nodes')} {len(ends[0])}"
-        numbers = [given.column(WEIGHTS)]
-    yield from (f"a {' '.join(map(str, it))}" for it in zip(*ends, *numbers))
-
-
 def _solution(given: Given, flows: Sequence[int]) -> Iterator[str]:
     yield f"s {given.value_of(flows)}"
     yield from (f"f {tail} {head} {it}" for tail, head, it in zip(given.column(TAILS), given.column(HEADS), flows))
-
-
-def _by_node(kind: str, letter: str, values: Sequence[Any]) -> Iterator[str]:
-    found = [f"{letter} {node}{'' if letter == 'u' else f' {it}'}" for node, it in enumerate(values, 1) if it]
-    return iter([f"p {kind} {len(values)} {len(found)}", *found])
 
 
 def _labels(given: Given, kind: str, distances: Sequence[int], before: Sequence[int] | None) -> Iterator[str]:
@@ -151,6 +129,7 @@ def _after_predecessors(nodes: Sequence[int], before: Sequence[int]) -> list[int
     return order
 
 
+_CHANGED = "the arrays hold other numbers now, and these are refused: the answer isn't theirs"
 _RECORD = re.compile(r"^( *)(\w+):(\d+): (.*)$")
 _MARK = re.compile(r"^ +\^+$")
 
@@ -197,8 +176,12 @@ class AskedOfArrays(Asked):
     def _text(self, name: str) -> str:
         given, kind = self._given, self.kind
         if name == "instance":
-            lines = _instance(given)
-        elif name == "query":
+            return text_of_instance(given).decode("ascii")
+        if name == "certificate" and kind != "paths":
+            called, items = ("potentials", POTENTIALS) if kind == "min" else ("cut", INSIDE)
+            numbers = array_of(self._column(items), items.items, items.name)
+            return text_of(called, numbers.length, [], numbers).decode("ascii")
+        if name == "query":
             lines = iter(["p aux sp ss 1", f"s {given.number('source')}"])
         elif name == "solution":
             lines = _solution(given, self._column(FLOWS))
@@ -206,12 +189,8 @@ class AskedOfArrays(Asked):
             lines = _solution(given, self._more[name].items())
         elif name == "distances":
             lines = _labels(given, "distances", self._column(DISTANCES), None)
-        elif kind == "paths":
-            lines = _labels(given, "dist", self._column(DISTANCES), self._column(PREDECESSORS))
-        elif kind == "min":
-            lines = _by_node("pot", "y", self._column(POTENTIALS))
         else:
-            lines = _by_node("cut", "u", self._column(INSIDE))
+            lines = _labels(given, "dist", self._column(DISTANCES), self._column(PREDECESSORS))
         return "".join(f"{it}\n" for it in lines)
 
     def lines(self) -> list[str]:
@@ -226,11 +205,14 @@ class AskedOfArrays(Asked):
         names = _NAMES[self._call].split()
         if not self._call.startswith("judge"):
             names = [*names[: _READ.get(self._call, 2)], *(it for it in self._more if it == "better")]
-        texts = [self._text(it) for it in names]
+        try:
+            texts = [self._text(it) for it in names]
+        except PastLimit:
+            return [_CHANGED] if self.printed is None else [self.printed, self.said]
         written = ["certificate"] if self._call == "solve_paths" else []
         first, *more = _explanation(" ".join([self._call.replace("_", "-"), *names, *written]), texts)
         if self.printed is None and first.startswith("x "):
-            return ["the arrays hold other numbers now, and these are refused: the answer isn't theirs"]
+            return [_CHANGED]
         if self.printed is not None and not self._is_same(first):
             return [self.printed, self.said]
         retold = [it for line in more for it in self._retold(line, texts)]

@@ -77,7 +77,7 @@ class NumberedGraph:
         self._number = {node: number for number, node in enumerate(self.nodes, 1)}
         self._is_multigraph = graph.is_multigraph()
         keys = {"keys": True} if self._is_multigraph else {}
-        listed = list(graph.edges(data=True, **keys))
+        listed = list(iter(graph.edges(data=True, **keys)))  # a view would be gone through once more for its length
         self.edges = [tuple(words) for *words, _ in listed]
         self._data = [data for *_, data in listed]
         self._node_data = [graph.nodes[node] for node in self.nodes]
