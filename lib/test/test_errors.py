@@ -1,5 +1,6 @@
 """What exceptions say, whole: one row for each."""
 
+import collections
 import importlib.util
 import pathlib
 import pickle
@@ -28,6 +29,9 @@ MIN = 2, [1, 1], [2, 2], [1, 0], [5, 5], [3, 7], [6, -6]
 PATHS = 3, [1, 2], [2, 3], [5, 4]
 
 
+PLACELESS = {0: 4, 1: 4}, collections.OrderedDict({0: 4, 1: 4}), {4, 5}, frozenset((4, 5)), {4: 1, 5: 1}.keys()
+
+
 def changed(words, place, item):
     return (*words[:place], item, *words[place + 1 :])
 
@@ -37,67 +41,47 @@ class Errors(unittest.TestCase):
         for message, call, *words in rows:
             with self.subTest(message), self.assertRaises(kind) as caught:
                 call(*words)
-            self.assertEqual(str(caught.exception), message)
-            again = pickle.loads(pickle.dumps(caught.exception))
-            self.assertEqual((type(again), str(again), repr(again)), (kind, message, repr(caught.exception)))
+            it = caught.exception
+            self.assertEqual((type(it), str(it)), (kind, message))
+            again = pickle.loads(pickle.dumps(it))
+            self.assertEqual((type(again), str(again), repr(again)), (kind, message, repr(it)))
+            if message.startswith(("arc ", "node ")):
+                self.assertEqual((it.text, it.line, it.field), (None, None, None))
 
 
 class Arrays(Errors):
     def test_refused(self):
-        judge_max, judge_min = dimacs.judge_max_arrays, dimacs.judge_min_arrays
-        judge_paths, certify_paths = dimacs.judge_paths_arrays, dimacs.certify_paths_arrays
-        cut, prices = [True, True, False], [7, 0]
+        judge_max, judge_min, judge_paths = dimacs.judge_max_arrays, dimacs.judge_min_arrays, dimacs.judge_paths_arrays
+        certify_max, certify_min, certify_paths = dimacs.certify_max_arrays, dimacs.certify_min_arrays, dimacs.certify_paths_arrays
+        cut, prices, back = [True, True, False], [7, 0], (3, 2, 3, [1, 2, 2], [2, 3, 1], [5, 1, 1])
+        lead = "its predecessors don't lead back to the source"
         self.rows(
             dimacs.Refused,
             [
                 ("arc 2 AboveCap: it carries 5, its capacity is 4", judge_max, *MAX, [4, 5], cut),
                 ("arc 1 BelowLow: it carries -1, its lower bound is 0", judge_max, *MAX, [-1, 0], cut),
                 ("node 2 Balance: 3 leaves, 4 enters", judge_max, *MAX, [4, 3], cut),
+                ("node 2 Balance: 3 leaves, 4 enters", certify_max, *MAX, [4, 3]),
                 ("node 1 SourceOutside", judge_max, *MAX, [4, 4], [0, 0, 0]),
                 ("node 3 SinkInside", judge_max, *MAX, [4, 4], [1, 1, 1]),
-                (
-                    "arc 2 NotSaturated: it leaves the cut and carries 3, its capacity is 4",
-                    judge_max,
-                    *MAX,
-                    [3, 3],
-                    cut,
-                ),
-                (
-                    "arc 1 BackFlow: it enters the cut and carries 1",
-                    judge_max,
-                    *(3, 2, 3, [1, 2, 2], [2, 3, 1], [5, 1, 1], [1, 1, 1], [0, 1, 0]),
-                ),
+                ("arc 2 NotSaturated: it leaves the cut and carries 3, its capacity is 4", judge_max, *MAX, [3, 3], cut),
+                ("arc 1 BackFlow: it enters the cut and carries 1", judge_max, *back, [1, 1, 1], [0, 1, 0]),
                 ("arc 1 BelowLow: it carries 0, its lower bound is 1", judge_min, *MIN, [0, 6], prices),
                 ("node 1 Balance: 4 leaves, its supply is 6", judge_min, *MIN, [4, 0], prices),
-                (
-                    "arc 1 NotTight: its reduced cost is -4, and it carries 4 of 1 to 5",
-                    judge_min,
-                    *(*MIN, [4, 2], prices),
-                ),
+                ("node 1 Balance: 4 leaves, its supply is 6", certify_min, *MIN, [4, 0]),
+                ("arc 1 NotTight: its reduced cost is -4, and it carries 4 of 1 to 5", judge_min, *MIN, [4, 2], prices),
                 (
                     "certificate 0 0 NotViolated: the set supplies 6, and from 1 to 10 can leave it",
-                    dimacs.judge_infeasible_arrays,
-                    *(*MIN, [1, 0]),
+                    *(dimacs.judge_infeasible_arrays, *MIN, [1, 0]),
                 ),
                 ("node 1 NotShortest: the source is at 1", certify_paths, *PATHS, 1, [1, 5, 9]),
+                ("node 1 NotShortest: the source is at 1", judge_paths, *PATHS, 1, [1, 5, 9], [0, 1, 2]),
                 ("arc 2 NotShortest: 5 and its weight 4 are less than 10", certify_paths, *PATHS, 1, [0, 5, 10]),
                 ("arc 2 Escapes: its tail is at 5, its head isn't reached", certify_paths, *PATHS, 1, [0, 5, INF]),
+                ("arc 2 Escapes: its tail is at 5, its head isn't reached", judge_paths, *PATHS, 1, [0, 5, INF], [0, 1, 0]),
                 ("node 3 NoTightArc: no arc gives its distance 8", certify_paths, *PATHS, 1, [0, 5, 8]),
-                (
-                    "node 3 NoTightArc: no arc from 1 gives its distance 9",
-                    judge_paths,
-                    *(*PATHS, 1, [0, 5, 9], [0, 1, 1]),
-                ),
-                (
-                    "node 2 NodeRange: its predecessor is 4, and there are 3 nodes",
-                    judge_paths,
-                    *(*PATHS, 1, [0, 5, 9], [0, 4, 2]),
-                ),
-                (
-                    "node 2 PredUnknown: its predecessors don't lead back to the source",
-                    judge_paths,
-                    *(*PATHS, 1, [0, 5, 9], [0, 3, 2]),
-                ),
+                ("node 3 NoTightArc: no arc from 1 gives its distance 9", judge_paths, *PATHS, 1, [0, 5, 9], [0, 1, 1]),
+                (f"node 2 PredUnknown: {lead}", judge_paths, *PATHS, 1, [0, 5, 9], [0, 3, 2]),
                 ("arc 1 NegativeWeight: its weight is -1", dimacs.solve_paths_arrays, 2, [1], [2], [-1], 1),
             ],
         )
@@ -105,63 +89,60 @@ class Arrays(Errors):
     def test_cost_out_of_range(self):
         most = 4 * 10**18
         words = 2, [1], [2], [0], [most], [most], [most, -most], [most]
-        self.rows(
-            dimacs.Refused,
-            [(f"arc 1 CostRange: the cost up to it is {most * most}", dimacs.certify_min_arrays, *words)],
-        )
+        message = f"arc 1 CostRange: the cost up to it is {most * most}"
+        self.rows(dimacs.Refused, [(message, dimacs.certify_min_arrays, *words)])
 
     def test_not_optimal(self):
+        certify_max, certify_min = dimacs.certify_max_arrays, dimacs.certify_min_arrays
+        better = "its value is 1, and that of a better flow 3"
         self.rows(
             dimacs.NotOptimal,
             [
-                (
-                    "solution 0 0 NotMaximum: its value is 3, and that of a better flow 4",
-                    *(dimacs.certify_max_arrays, *MAX, [3, 3]),
-                ),
-                (
-                    "solution 0 0 NotLeast: it costs 26, and a better flow 22",
-                    *(dimacs.certify_min_arrays, *MIN, [4, 2]),
-                ),
-                (
-                    "solution 1 2 NotMaximum: its value is 1, and that of a better flow 3",
-                    *(dimacs.certify_max, TEXT, "s 1\nf 1 2 1\n"),
-                ),
+                ("solution 0 0 NotMaximum: its value is 3, and that of a better flow 4", certify_max, *MAX, [3, 3]),
+                ("solution 0 0 NotLeast: it costs 26, and a better flow 22", certify_min, *MIN, [4, 2]),
+                (f"solution 1 2 NotMaximum: {better}", dimacs.certify_max, TEXT, "s 1\nf 1 2 1\n"),
             ],
         )
         with self.assertRaises(dimacs.NotOptimal) as caught:
-            dimacs.certify_max_arrays(*MAX, [3, 3])
+            certify_max(*MAX, [3, 3])
         self.assertEqual((caught.exception.value, caught.exception.better_value), (3, 4))
         shown = "NotOptimal('NotMaximum', text='solution', line=0, field=0, numbers={'value': 3, 'better_value': 4}, better=[4, 4])"
         self.assertEqual(repr(caught.exception), shown)
 
     def test_numbers(self):
-        flows, certify = [0, 4], dimacs.certify_max_arrays
-        range_32 = "not a whole number of 0 to 4294967295"
+        flows, certify, judge, last = [0, 4], dimacs.certify_max_arrays, dimacs.judge_max_arrays, 2**63 - 1
+        range_32, range_64 = "not a whole number of 0 to 4294967295", "not a whole number of 64 bits"
         self.rows(
             ValueError,
             [
                 ("flows[1] is nan, not a whole number", certify, *MAX, [0, NAN]),
                 (f"flows[1] is 2.5, {NOT_WHOLE}", certify, *MAX, [0, 2.5]),
                 (f"flows[0] is 5/2, {NOT_WHOLE}", certify, *MAX, [Fraction(5, 2), 0]),
+                (f"flows[0] is 3.5, {NOT_WHOLE}", certify, *MAX, [Decimal("3.5"), 0]),
                 ("flows[0] is inf, not a whole number", certify, *MAX, [INF, 0]),
-                (
-                    "caps[0] is 9223372036854775808, not a whole number of 64 bits",
-                    certify,
-                    *changed(MAX, 5, [2**63, 0]),
-                    flows,
-                ),
+                (f"flows[1] is 1e+30, {range_64}", certify, *MAX, [0, 1e30]),
+                (f"flows[1] is {-last - 2}, {range_64}", certify, *MAX, [3.0, -last - 2]),
+                (f"caps[0] is {last + 1}, {range_64}", certify, *changed(MAX, 5, [2**63, 0]), flows),
                 (f"tails[1] is -1, {range_32}", certify, *changed(MAX, 3, [1, -1]), flows),
+                (f"tails[0] is 4294967297, {range_32}", certify, *changed(MAX, 3, [2**32 + 1, 1]), flows),
                 (f"nodes is -1, {range_32}", certify, *changed(MAX, 0, -1), flows),
+                (f"nodes is 4294967296, {range_32}", certify, *changed(MAX, 0, 2**32), flows),
                 ("source is 1.5, not a whole number", certify, *changed(MAX, 1, 1.5), flows),
-                ("inside[2] is 256, not a whole number of 0 to 255", dimacs.judge_max_arrays, *MAX, flows, [1, 0, 256]),
+                ("distances[1] is -inf, not a whole number", dimacs.certify_paths_arrays, *PATHS, 1, [0, -INF, 0]),
+                ("inside[2] is 256, not a whole number of 0 to 255", judge, *MAX, flows, [1, 0, 256]),
                 ("caps has 1 items, and there are 2 arcs", certify, *changed(MAX, 5, [1]), flows),
+                ("flows has 1 items, and there are 2 arcs", judge, *MAX, [1], [1, 1, 0]),
+                ("inside has 2 items, and there are 3 nodes", judge, *MAX, flows, [1, 0]),
+                ("supplies has 2 items, and there are 5 nodes", dimacs.certify_infeasible_arrays, *changed(MIN, 0, 5)),
+                ("distances has 0 items, and there are 3 nodes", dimacs.judge_paths_arrays, *PATHS, 1, [], [0, 1, 2]),
+                ("distances has 4 items, and there are 3 nodes", dimacs.certify_paths_arrays, *PATHS, 1, [0] * 4),
+                ("limit is -1, not a whole number of 0 to 18446744073709551615", dimacs.solve_max, TEXT, -1),
+                ("limit is -1, not a whole number of 0 to 18446744073709551615", dimacs.solve_max_arrays, *MAX, -1),
                 ("base is 2, and has to be 0 or 1", lambda: certify(*MAX, flows, base=2)),
-                (
-                    "flows[0] is 9223372036854775807, and has to be below 9223372036854775807",
-                    *(certify, *changed(MAX, 5, [INF, 4]), [2**63 - 1, 0]),
-                ),
+                (f"flows[0] is {last}, and has to be below {last}", certify, *changed(MAX, 5, [INF, 4]), [last, 0]),
             ],
         )
+        no_places = "whose items have no places as those of an array"
         self.rows(
             TypeError,
             [
@@ -170,7 +151,9 @@ class Arrays(Errors):
                 ("flows: None, an array of 2 is wanted", certify, *MAX, None),
                 ("flows[0] is '4', not a number", certify, *MAX, ["4", 0]),
                 ("source is '1', not a number", certify, *changed(MAX, 1, "1"), flows),
-                ("flows is a dict, whose items have no places as those of an array", certify, *MAX, {0: 4, 1: 4}),
+                ("caps is a text, b'5', and no array of numbers", certify, *changed(MAX, 5, b"54"[:1]), flows),
+                *((f"flows is a {type(it).__name__}, {no_places}", certify, *MAX, it) for it in PLACELESS),
+                (f"inside is a dict, {no_places}", judge, *MAX, flows, {3: False, 1: True, 2: False}),
             ],
         )
 
@@ -254,27 +237,23 @@ class Arrays(Errors):
             self.assertEqual(solve(numpy.longdouble(2.5), scale).value, Fraction(5, 2))
 
     def test_past_limit(self):
-        certify, flows, base = dimacs.certify_max_arrays, [4, 4], "nodes are numbered from 1, and there are 3"
+        certify, flows, range_3 = dimacs.certify_max_arrays, [4, 4], "nodes are numbered from 1, and there are 3"
+        from_0, bounds = "base=0 numbers them from 0", "BoundOrder: its lower bound is"
         self.rows(
             dimacs.PastLimit,
             [
-                (f"arc 2 NodeRange: it goes from 2 to 4; {base}", certify, *changed(MAX, 4, [2, 4]), flows),
-                (
-                    f"arc 1 NodeRange: it goes from 0 to 2; {base}; base=0 numbers them from 0",
-                    *(certify, *changed(MAX, 3, [0, 2]), flows),
-                ),
-                (f"node 4 NodeRange: {base}", certify, *changed(MAX, 2, 4), flows),
+                (f"arc 2 NodeRange: it goes from 2 to 4; {range_3}", certify, *changed(MAX, 4, [2, 4]), flows),
+                (f"arc 1 NodeRange: it goes from 0 to 2; {range_3}; {from_0}", certify, *changed(MAX, 3, [0, 2]), flows),
+                (f"node 0 NodeRange: {range_3}; {from_0}", certify, *changed(MAX, 1, 0), flows),
+                (f"node 4 NodeRange: {range_3}", certify, *changed(MAX, 2, 4), flows),
+                (f"node 4 NodeRange: {range_3}", dimacs.judge_paths_arrays, *PATHS, 4, [0, 5, 9], [0, 1, 2]),
                 ("node 1 NodeTwice: it is the source and the sink", certify, *changed(MAX, 2, 1), flows),
-                (
-                    f"arc 2 NodeRange: it goes from 2 to 4; {base}",
-                    *(dimacs.solve_max_arrays, 3, 1, 3, [1, 2], [2, 4], [5, INF]),
-                ),
-                ("arc 2 BoundOrder: its lower bound is 0, its capacity -1", certify, *changed(MAX, 5, [1, -1]), flows),
-                (
-                    "arc 1 BoundOrder: its lower bound is 6, its capacity 5",
-                    dimacs.solve_min_arrays,
-                    *changed(MIN, 3, [6, 0]),
-                ),
+                (f"arc 2 NodeRange: it goes from 2 to 4; {range_3}", dimacs.solve_max_arrays, *MAX[:4], [2, 4], [5, INF]),
+                (f"arc 2 {bounds} 0, its capacity -1", certify, *changed(MAX, 5, [1, -1]), flows),
+                (f"arc 1 {bounds} 6, its capacity 5", dimacs.solve_min_arrays, *changed(MIN, 3, [6, 0])),
+                (f"arc 1 {bounds} -3, its capacity 5", dimacs.certify_min_arrays, *changed(MIN, 3, [-3, 0]), flows),
+                (f"arc 2 {bounds} 6, its capacity 5", dimacs.certify_infeasible_arrays, *changed(MIN, 3, [0, 6])),
+                ("node 134217729 NumberRange: at most 134217728 nodes", certify, *changed(MAX, 0, 2**32 - 1), flows),
             ],
         )
 
@@ -298,6 +277,7 @@ class Arrays(Errors):
             dimacs.GaveUp,
             [
                 ("limit=0 flows that aren't maximum were found", dimacs.solve_max_arrays, *MAX, 0),
+                ("limit=1 flows that aren't maximum were found", dimacs.solve_max_arrays, *MAX, 1),
                 ("limit=0 flows that aren't maximum were found", dimacs.solve_max, TEXT, 0),
                 (f"{less} or a potential is out of range", dimacs.solve_min_arrays, *judged, 0),
                 (f"{less} is out of range", dimacs.solve_min, text, 0),
@@ -358,9 +338,7 @@ class Scales(Errors):
                 ("caps[1] is 1e+18, which has more than 64 bits in units of 1/100", certify, [1, 1e18], 100),
                 (
                     "caps[1] is 1e+30: with the least common denominator 1 it has more than 64 bits",
-                    certify,
-                    [1, 1e30],
-                    "exact",
+                    *(certify, [1, 1e30], "exact"),
                 ),
             ],
         )
@@ -440,25 +418,19 @@ class Graphs(Errors):
 
     def test_arguments(self):
         certify, name = dimacs.certify_networkx_max, "of edge ('Leeds', 'York')"
+        certify_min, certify_paths = dimacs.certify_networkx_min, dimacs.certify_networkx_paths
         ends = "Leeds", "York", {}
         undirected = "the graph is undirected: graph.to_directed() has an arc each way"
         self.rows(
             ValueError,
             [
                 (f"capacity {name} is 2.5, {NOT_WHOLE}", certify, self.graph(capacity=2.5), *ends),
-                (
-                    f"weight {name} is 2.5, {NOT_WHOLE}",
-                    dimacs.solve_networkx_paths,
-                    self.graph(weight=2.5),
-                    "Leeds",
-                ),
-                (
-                    f"flow {name} is -0.5, {NOT_WHOLE}",
-                    certify,
-                    self.graph(),
-                    *ends[:2],
-                    {"Leeds": {"York": -0.5}},
-                ),
+                (f"weight {name} is 2.5, {NOT_WHOLE}", dimacs.solve_networkx_paths, self.graph(weight=2.5), "Leeds"),
+                (f"flow {name} is -0.5, {NOT_WHOLE}", certify, self.graph(), *ends[:2], {"Leeds": {"York": -0.5}}),
+                (f"capacity {name} is {2**63}, not a whole number of 64 bits", certify, self.graph(capacity=2**63), *ends),
+                (f"weight {name} is 0.5, {NOT_WHOLE}", certify_min, self.graph(weight=0.5), {}),
+                (f"weight {name} is inf, not a whole number", certify_paths, self.graph(weight=INF), "Leeds", {"Leeds": 0}),
+                (f"distance of node 'York' is 0.5, {NOT_WHOLE}", certify_paths, self.graph(), "Leeds", {"York": 0.5}),
                 (undirected, certify, self.graph("Graph"), *ends),
                 ("'Hull' is no node of the graph", certify, self.graph(), "Hull", *ends[1:]),
                 (

@@ -22,8 +22,7 @@ GRAPH = "p sp 4 3\na 1 2 5\na 3 4 0\na 4 3 0\n"
 PAIRS = "p aux sp p2p 2\nq 1 2\nq 1 4\n"
 
 TAILS, HEADS, CAPS = [1, 1, 2, 2, 3], [2, 3, 3, 4, 4], [4, 2, 2, 3, 5]
-NETWORK = 4, 1, 4, TAILS, HEADS, CAPS
-SHIPPING = 4, TAILS, HEADS, [0] * 5, CAPS, [2, 2, 1, 3, 1], [4, 0, 0, -4]
+COSTS = [2, 2, 1, 3, 1]
 
 
 class Texts(unittest.TestCase):
@@ -48,15 +47,6 @@ class Texts(unittest.TestCase):
         self.assertEqual(dimacs.judge_infeasible(SURPLUS, no.exception.certificate).kind, "infeasible")
         self.assertEqual(str(no.exception), "no flow is feasible")
         self.assertIsInstance(no.exception, dimacs.Refused)
-
-    def test_limits(self):
-        for solve, text in (dimacs.solve_max, MAX), (dimacs.solve_min, MIN):
-            with self.assertRaises(dimacs.GaveUp):
-                solve(text, limit=0)
-            with self.assertRaises(ValueError):
-                solve(text, limit=-1)
-            with self.assertRaises(ValueError):
-                solve(text, limit=2**64)
 
     def test_distances_and_answers(self):
         none, pairs, labels = dimacs.solve_paths(GRAPH, PAIRS)
@@ -87,48 +77,6 @@ class Texts(unittest.TestCase):
 
 
 class Arrays(unittest.TestCase):
-    def test_a_maximum_flow(self):
-        value, flows, inside = dimacs.solve_max_arrays(*NETWORK)
-        self.assertEqual((value, inside), (6, [True, False, False, False]))
-        self.assertEqual(dimacs.judge_max_arrays(*NETWORK, flows, inside).value, 6)
-
-    def test_least_cost(self):
-        solved = dimacs.solve_min_arrays(*SHIPPING)
-        self.assertEqual((solved.value, solved.flows), (14, [2, 2, 2, 0, 4]))
-        self.assertEqual(dimacs.judge_min_arrays(*SHIPPING, solved.flows, solved.potentials).value, 14)
-
-    def test_no_flow(self):
-        instance = *SHIPPING[:-1], [6, 0, 0, -6 - 1]
-        with self.assertRaises(dimacs.Infeasible) as no:
-            dimacs.solve_min_arrays(*instance)
-        self.assertEqual(dimacs.judge_infeasible_arrays(*instance, no.exception.inside).kind, "infeasible")
-
-    def test_distances(self):
-        graph = 4, [1, 3, 4], [2, 4, 3], [5, 0, 0], 1
-        none, distances, predecessors = dimacs.solve_paths_arrays(*graph)
-        self.assertIsNone(none)
-        self.assertEqual(distances, [0, 5, dimacs.UNREACHED, dimacs.UNREACHED])
-        self.assertEqual(predecessors, [0, 1, 0, 0])
-        self.assertEqual(dimacs.judge_paths_arrays(*graph, distances, predecessors).value, 1)
-
-    def test_limits_and_what_no_array_holds(self):
-        with self.assertRaises(dimacs.GaveUp):
-            dimacs.solve_max_arrays(*NETWORK, limit=1)
-        with self.assertRaises(dimacs.GaveUp):
-            dimacs.solve_min_arrays(*SHIPPING, limit=0)
-        with self.assertRaises(OverflowError):
-            dimacs.solve_paths_arrays(3, [1, 2], [2, 3], [2**62, 2**62], 1)
-
-    def test_refusals_and_misuse(self):
-        with self.assertRaises(dimacs.Refused) as no:
-            dimacs.solve_paths_arrays(2, [1, 2], [2, 1], [0, -1], 1)
-        self.assertEqual((no.exception.arc, no.exception.reason), (2, "NegativeWeight"))
-        with self.assertRaises(dimacs.PastLimit) as past:
-            dimacs.solve_max_arrays(4, 1, 1, TAILS, HEADS, CAPS)
-        self.assertEqual(past.exception.reason, "NodeTwice")
-        with self.assertRaisesRegex(ValueError, "heads has 4 items"):
-            dimacs.solve_max_arrays(4, 1, 4, TAILS, HEADS[1:], CAPS)
-
     def test_forms(self):
         flows = dimacs.solve_max_arrays(4, 1, 4, TAILS, HEADS, array("q", CAPS)).flows
         self.assertIsInstance(flows, array)
@@ -148,7 +96,7 @@ class Arrays(unittest.TestCase):
 class Graphs(unittest.TestCase):
     def setUp(self):
         self.graph = networkx.DiGraph()
-        for tail, head, cap, cost in zip("aabbc", "bccdd", CAPS, SHIPPING[5]):
+        for tail, head, cap, cost in zip("aabbc", "bccdd", CAPS, COSTS):
             self.graph.add_edge(tail, head, capacity=cap, weight=cost)
 
     def test_a_maximum_flow(self):
