@@ -3,8 +3,9 @@
 from __future__ import annotations
 
 import reprlib
+from contextlib import contextmanager
 from dataclasses import dataclass
-from typing import Any, NamedTuple
+from typing import Any, Callable, Iterator, NamedTuple
 
 #: The distance of a node that isn't reached. Its predecessor is 0.
 UNREACHED = 2**63 - 1
@@ -355,6 +356,22 @@ class Feasible(Refused):
 
     def __str__(self) -> str:
         return "a flow is feasible"
+
+
+@contextmanager
+def reshaped(flows: Callable[[Any], Any], inside: Callable[[Any], Any]) -> Iterator[None]:
+    """Exceptions raised inside have flows and sets in another form."""
+    try:
+        yield
+    except NotOptimal as it:
+        it.better = flows(it.better)
+        raise
+    except Infeasible as it:
+        it.certificate = inside(it.certificate)
+        raise
+    except Feasible as it:
+        it.flow = flows(it.flow)
+        raise
 
 
 class Unbounded(ValueError):

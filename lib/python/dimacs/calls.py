@@ -37,8 +37,7 @@ def judge(function: Callable[..., int], given: Given) -> Verdict:
             raise Refused("NotViolated", text="certificate", line=0, field=0)
     value = given.value(found.value) if found.kind in ("max", "min") else found.value
     given.forget()
-    shown: Verdict = kept(Verdict(found.kind, value), asked)
-    return shown
+    return kept(Verdict(found.kind, value), asked)
 
 
 def certify(function: Callable[..., int], given: Given, came: Any, *handed: Array) -> Certified:
@@ -51,8 +50,7 @@ def certify(function: Callable[..., int], given: Given, came: Any, *handed: Arra
         if status == library.DONE:
             value = None if given.form is GRAPH else given.value(library.verdict(line).value)
             answer = Certified(value, given.shown(handed[0], rooms[0], came))
-            shown: Certified = kept(answer, _shown_by(given, asked.kind, **{handed[0].name: rooms[0]}))
-            return shown
+            return kept(answer, _shown_by(given, asked.kind, **{handed[0].name: rooms[0]}))
         no = library.refusal(line)
         if not no.is_about_value():
             raise no
@@ -74,8 +72,7 @@ def certify_infeasible(given: Given, came: Any) -> Certified:
             asked.add(better=flows)
             raise Feasible(given.shown(FLOWS, flows, came))
         answer = Certified(None, _found_set(given, inside, came))
-        shown: Certified = kept(answer, _shown_by(given, "infeasible", inside=inside))
-        return shown
+        return kept(answer, _shown_by(given, "infeasible", inside=inside))
 
 
 def solve_max(given: Given, came: Any) -> Solved:
@@ -85,8 +82,7 @@ def solve_max(given: Given, came: Any) -> Solved:
         _test_bounded_max(given)
         raise GaveUp("the capacities have a sum that is out of range")
     answer = Solved(given.value(found.value), given.shown(FLOWS, flows, came), given.shown(INSIDE, inside, came))
-    shown: Solved = kept(answer, _shown_by(given, "max", flows=flows, inside=inside))
-    return shown
+    return kept(answer, _shown_by(given, "max", flows=flows, inside=inside))
 
 
 def solve_min(given: Given, came: Any) -> Solved:
@@ -101,8 +97,7 @@ def solve_min(given: Given, came: Any) -> Solved:
             _test_bounded_min(given)
             raise GaveUp("the capacities and supplies have a sum that is out of range")
     answer = Solved(given.value(found.value), given.shown(FLOWS, flows, came), given.shown(POTENTIALS, prices, came))
-    shown: Solved = kept(answer, _shown_by(given, "min", flows=flows, potentials=prices))
-    return shown
+    return kept(answer, _shown_by(given, "min", flows=flows, potentials=prices))
 
 
 def _imbalance(given: Given) -> dict[str, Any]:
@@ -138,8 +133,7 @@ def _has_flow(given: Given, instance: list[Any]) -> bool:
 def solve_paths(given: Given, came: Any) -> Solved:
     _, (distances, before) = _solve(library.solve_paths_arrays, given, given.words(), DISTANCES, PREDECESSORS)
     answer = Solved(None, given.shown(DISTANCES, distances, came), given.shown(PREDECESSORS, before, came))
-    shown: Solved = kept(answer, _shown_by(given, "paths", distances=distances, predecessors=before))
-    return shown
+    return kept(answer, _shown_by(given, "paths", distances=distances, predecessors=before))
 
 
 def _solve(function: Callable[..., int], given: Given, words: list[Any], *handed: Array) -> tuple[Verdict, list[Room]]:

@@ -5,7 +5,7 @@ from __future__ import annotations
 
 import re
 import threading
-from typing import Any, Iterator, Sequence
+from typing import Any, Iterator, Sequence, TypeVar
 
 from . import library
 from .answers import Explainable, PastLimit, Placed
@@ -38,14 +38,17 @@ _KINDS |= dict.fromkeys(("max", "min", "gr"), "instance") | dict.fromkeys(("cut"
 _READ = {"certify_infeasible": 1}
 
 
-def kept(answer: Any, asked: Any) -> Any:
+_Answer = TypeVar("_Answer", bound=Explainable)
+
+
+def kept(answer: _Answer, asked: Any) -> _Answer:
     """An answer with what it was asked of."""
     object.__setattr__(answer, "_asked", asked)
     object.__setattr__(answer, "_kind", asked and asked.kind)
     return answer
 
 
-def like(answer: Any, old: Explainable) -> Any:
+def like(answer: _Answer, old: Explainable) -> _Answer:
     """An answer in another form."""
     return kept(answer, old._asked)
 

@@ -4,14 +4,13 @@ from __future__ import annotations
 
 import math
 from collections.abc import Mapping
-from contextlib import contextmanager
-from typing import Any, Iterator, NamedTuple
+from typing import Any, ContextManager, NamedTuple
 
 import pandas as pd
 from pandas.api.types import is_hashable
 
 from . import calls, library
-from .answers import Certified, Explainable, Feasible, Infeasible, NotOptimal, Solved
+from .answers import Certified, Explainable, Solved, reshaped
 from .buffers import LIMIT, LIMITS
 from .explained import like
 from .instances import Graph, MaxInstance, MinInstance
@@ -229,27 +228,15 @@ class Frame:
 
     def _answer(self, found: Certified | Solved, flows: Any, **columns: Any) -> FrameAnswer:
         edges = self.edges[self._named].assign(flow=self._by_edge(flows)) if flows is not None else None
-        answer: FrameAnswer = like(FrameAnswer(found.value, edges, self._by_node(**columns)), found)
-        return answer
+        return like(FrameAnswer(found.value, edges, self._by_node(**columns)), found)
 
     def _by_node(self, **columns: Any) -> pd.DataFrame:
         index = pd.Index(self.nodes, name="node", tupleize_cols=False)
         return pd.DataFrame({name: _column_of(it, index) for name, it in columns.items()}, index)
 
-    @contextmanager
-    def _shown(self) -> Iterator[None]:
+    def _shown(self) -> ContextManager[None]:
         """Exceptions raised inside have flows and sets as a frame has them."""
-        try:
-            yield
-        except NotOptimal as it:
-            it.better = self._by_edge(it.better)
-            raise
-        except Infeasible as it:
-            it.certificate = self._by_node(inside=it.certificate)
-            raise
-        except Feasible as it:
-            it.flow = self._by_edge(it.flow)
-            raise
+        return reshaped(self._by_edge, lambda inside: self._by_node(inside=inside))
 
     def solve_max(self, source: Any, sink: Any, limit: int = LIMIT) -> FrameAnswer:
         """A maximum flow, and which nodes are on the source's side of a cut that shows it. Raises as solve_max_arrays,

@@ -17,7 +17,7 @@ from contextlib import contextmanager
 from typing import Any, Iterator, Sequence
 
 from . import calls, library
-from .answers import Certified, Feasible, Infeasible, NotOptimal, Solved, Unbounded, Verdict
+from .answers import Certified, Solved, Unbounded, Verdict, reshaped
 from .buffers import LIMIT, LIMITS, is_bool, unlabelled
 from .explained import like
 from .given import DISTANCES, FLOWS, GRAPH, INSIDE, MAX, MIN, POTENTIALS, PREDECESSORS, Given, Names
@@ -169,16 +169,8 @@ class NumberedGraph:
     def shown(self) -> Iterator[None]:
         """Exceptions raised inside have flows and sets as networkx has them."""
         try:
-            yield
-        except NotOptimal as it:
-            it.better = self.flow_dict(it.better)
-            raise
-        except Infeasible as it:
-            it.certificate = self.nodes_inside(it.certificate)
-            raise
-        except Feasible as it:
-            it.flow = self.flow_dict(it.flow)
-            raise
+            with reshaped(self.flow_dict, self.nodes_inside):
+                yield
         except Unbounded as it:
             from networkx import NetworkXUnbounded
 
@@ -217,8 +209,7 @@ def judge_networkx_min(graph: Any, flow: Any, potentials: Any = None, *, scale: 
     """
     if potentials is None:
         certified = certify_networkx_min(graph, flow, scale=scale)
-        answer: Verdict = like(Verdict("min", certified.value), certified)
-        return answer
+        return like(Verdict("min", certified.value), certified)
     given = NumberedGraph(graph, scale)
     prices = given.by_node(potentials, 0, "potentials")
     return calls.judge(library.judge_min_arrays, given.min().add(FLOWS, given.flows(flow)).add(POTENTIALS, prices))
@@ -243,8 +234,7 @@ def certify_networkx_max(graph: Any, source: Any, sink: Any, flow: Any, *, scale
     with given.shown():
         claim = given.max(source, sink).add(FLOWS, given.flows(flow))
         found = calls.certify(library.certify_max_arrays, claim, [], INSIDE, FLOWS)
-    answer: Certified = like(Certified(found.value, given.nodes_inside(found.inside)), found)
-    return answer
+    return like(Certified(found.value, given.nodes_inside(found.inside)), found)
 
 
 def certify_networkx_min(graph: Any, flow: Any, *, scale: Any = None) -> Certified:
@@ -266,8 +256,7 @@ def certify_networkx_min(graph: Any, flow: Any, *, scale: Any = None) -> Certifi
     with given.shown():
         claim = given.min().add(FLOWS, given.flows(flow))
         found = calls.certify(library.certify_min_arrays, claim, [], POTENTIALS, FLOWS)
-    answer: Certified = like(Certified(found.value, given.by_name(found.potentials)), found)
-    return answer
+    return like(Certified(found.value, given.by_name(found.potentials)), found)
 
 
 def certify_networkx_infeasible(graph: Any, *, scale: Any = None) -> Certified:
@@ -287,8 +276,7 @@ def certify_networkx_infeasible(graph: Any, *, scale: Any = None) -> Certified:
     given = NumberedGraph(graph, scale)
     with given.shown():
         found = calls.certify_infeasible(given.min(), [])
-    answer: Certified = like(Certified(None, given.nodes_inside(found.inside)), found)
-    return answer
+    return like(Certified(None, given.nodes_inside(found.inside)), found)
 
 
 def certify_networkx_paths(graph: Any, source: Any, distances: Any, *, scale: Any = None) -> Certified:
@@ -306,8 +294,7 @@ def certify_networkx_paths(graph: Any, source: Any, distances: Any, *, scale: An
     given = NumberedGraph(graph, scale)
     claim = given.paths(source).add(DISTANCES, given.by_node(distances, math.inf, "distances"))
     found = calls.certify(library.certify_paths_arrays, claim, [], PREDECESSORS)
-    answer: Certified = like(Certified(None, given.predecessors(source, found.predecessors)), found)
-    return answer
+    return like(Certified(None, given.predecessors(source, found.predecessors)), found)
 
 
 def solve_networkx_max(graph: Any, source: Any, sink: Any, limit: int = LIMIT, *, scale: Any = None) -> Solved:
@@ -326,8 +313,7 @@ def solve_networkx_max(graph: Any, source: Any, sink: Any, limit: int = LIMIT, *
     with given.shown():
         found = calls.solve_max(given.max(source, sink).add_number("limit", limit, LIMITS), [])
     value, flows, inside = found
-    answer: Solved = like(Solved(value, given.flow_dict(flows), given.nodes_inside(inside)), found)
-    return answer
+    return like(Solved(value, given.flow_dict(flows), given.nodes_inside(inside)), found)
 
 
 def solve_networkx_min(graph: Any, limit: int = LIMIT, *, scale: Any = None) -> Solved:
@@ -348,8 +334,7 @@ def solve_networkx_min(graph: Any, limit: int = LIMIT, *, scale: Any = None) -> 
     with given.shown():
         found = calls.solve_min(given.min().add_number("limit", limit, LIMITS), [])
     cost, flows, potentials = found
-    answer: Solved = like(Solved(cost, given.flow_dict(flows), given.by_name(potentials)), found)
-    return answer
+    return like(Solved(cost, given.flow_dict(flows), given.by_name(potentials)), found)
 
 
 def solve_networkx_paths(graph: Any, source: Any, *, scale: Any = None) -> Solved:
@@ -364,5 +349,4 @@ def solve_networkx_paths(graph: Any, source: Any, *, scale: Any = None) -> Solve
     solved = calls.solve_paths(given.paths(source), [])
     found = given.predecessors(source, solved.predecessors)
     distances = {node: it for node, it in zip(given.nodes, solved.distances) if node in found}
-    answer: Solved = like(Solved(None, distances, found), solved)
-    return answer
+    return like(Solved(None, distances, found), solved)

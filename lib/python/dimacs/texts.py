@@ -54,8 +54,7 @@ def _judge(kind: str, *read: Text) -> Verdict:
         status, output, _ = run("judge", kind, texts)
         if status == library.REFUSED:
             raise library.refusal(output)
-    found: Verdict = kept(library.verdict(output), Asked(f"judge_{kind}", *read))
-    return found
+    return kept(library.verdict(output), Asked(f"judge_{kind}", *read))
 
 
 def judge_max(instance: Text, solution: Text, cut: Text) -> Verdict:
@@ -105,8 +104,7 @@ def _certify(kind: str, instance: Text, claim: Text) -> Certified:
             raise _refusal(library.refusal(line), instance, claim, shown)
     value = library.verdict(line).value if kind in ("max", "min") else None
     read = [it for it in (instance, claim) if it is not _NO_TEXT]
-    found: Certified = kept(Certified(value, _in_form_of(instance, shown)), Asked(f"certify_{kind}", *read, shown))
-    return found
+    return kept(Certified(value, _in_form_of(instance, shown)), Asked(f"certify_{kind}", *read, shown))
 
 
 def _refusal(no: Refused, instance: Text, claim: Text, shown: bytes) -> Refused:
@@ -213,12 +211,9 @@ def _solve(kind: str, instance: Text, queries: Text, limit: int) -> Solved:
     if found.kind == "infeasible":
         raise kept(Infeasible(shown), Asked(f"solve_{kind}", instance, b"", shown))
     if kind == "paths":
-        answer = kept(Solved(None, found.pairs, shown), Asked("solve_paths", instance, queries, certificate))
-    else:
-        answer = Solved(found.value, _in_form_of(instance, solution), shown)
-        kept(answer, Asked(f"solve_{kind}", instance, solution, certificate))
-    made: Solved = answer
-    return made
+        return kept(Solved(None, found.pairs, shown), Asked("solve_paths", instance, queries, certificate))
+    answer = Solved(found.value, _in_form_of(instance, solution), shown)
+    return kept(answer, Asked(f"solve_{kind}", instance, solution, certificate))
 
 
 def solve_max(instance: Text, limit: int = LIMIT) -> Solved:
