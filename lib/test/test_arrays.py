@@ -9,16 +9,7 @@ from unittest import mock
 
 import dimacs
 from dimacs import buffers, given, library
-
-try:
-    import numpy
-except ImportError:
-    numpy = None
-
-try:
-    import pandas
-except ImportError:
-    pandas = None
+from modules import numpy, pandas
 
 INF = float("inf")
 LAST = 2**63 - 1

@@ -16,11 +16,7 @@ import warnings
 
 import dimacs
 from dimacs.distances import NegativeCycle, distances_from
-
-try:
-    import networkx
-except ImportError:
-    networkx = None
+from modules import networkx
 
 
 def lacks():

@@ -10,16 +10,7 @@ from decimal import Decimal
 from fractions import Fraction
 
 import dimacs
-
-try:
-    import networkx
-except ImportError:
-    networkx = None
-
-try:
-    import numpy
-except ImportError:
-    numpy = None
+from modules import networkx, numpy
 
 INF, NAN = float("inf"), float("nan")
 NOT_WHOLE = "not a whole number: scale= takes multiples of a unit"

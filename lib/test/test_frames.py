@@ -6,11 +6,7 @@ import warnings
 from fractions import Fraction
 
 import dimacs
-
-try:
-    import pandas
-except ImportError:
-    pandas = None
+from modules import pandas
 
 
 @unittest.skipUnless(pandas, "no pandas")

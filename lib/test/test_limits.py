@@ -12,21 +12,11 @@ import unittest
 
 import dimacs
 from dimacs import ortools
+from modules import csgraph, networkx, numpy, sparse
 
-try:
-    import networkx
-except ImportError:
-    networkx = None
-else:
+if networkx:
     from dimacs import backend
-
-try:
-    import numpy
-    from scipy import sparse
-    from scipy.sparse import csgraph
-except ImportError:
-    numpy = csgraph = None
-else:
+if csgraph:
     from dimacs import scipy as ours
 
 TIMES = int(os.environ.get("DIMACS_CASES", "1"))
@@ -206,17 +196,25 @@ def meets(net, supplies):
 # ---- what calls answer
 
 
-class Limits(unittest.TestCase):
-    def cases(self, count, test):
-        """Runs so many cases, and fails with the number of those that fail."""
-        wrong = []
-        for number in range(count * TIMES):
-            try:
-                test(random.Random(number))
-            except AssertionError as it:
-                wrong.append(f"case {number}: {it}")
-        self.assertEqual(wrong[:5], [], f"{len(wrong)} of {count * TIMES} cases failed")
+def cases(count):
+    """Has a test run over so many cases, and fail with the numbers of those that fail."""
 
+    def run_all(test):
+        def run(self):
+            wrong = []
+            for number in range(count * TIMES):
+                try:
+                    test(self, random.Random(number))
+                except AssertionError as it:
+                    wrong.append(f"case {number}: {it}")
+            self.assertEqual(wrong[:5], [], f"{len(wrong)} of {count * TIMES} cases failed")
+
+        return run
+
+    return run_all
+
+
+class Limits(unittest.TestCase):
     def outcome(self, call, *words, gives_up=(dimacs.GaveUp,), past=(ValueError,)):
         """The kind of an answer, and what it shows."""
         try:
@@ -251,10 +249,8 @@ class Arrays(Limits):
     def words(self, chance, net):
         return net.nodes, *(form(chance, it) for it in net.split_ends()), form(chance, net.caps)
 
-    def test_maximum_flows(self):
-        self.cases(1500, self.maximum_flow)
-
-    def maximum_flow(self, chance):
+    @cases(1500)
+    def test_maximum_flows(self, chance):
         net = Net(chance)
         flows = claimed(chance, net)
         nodes, *arcs = self.words(chance, net)
@@ -271,10 +267,8 @@ class Arrays(Limits):
             return self.is_wanted(found, "past")
         self.is_certified_max(net, flows, found, list)
 
-    def test_least_costs(self):
-        self.cases(1500, self.least_cost)
-
-    def least_cost(self, chance):
+    @cases(1500)
+    def test_least_costs(self, chance):
         net = Net(chance, 0)
         costs = [chance.choice([-1, 1, 1, 1]) * amount(chance) for _ in net.caps]
         flows = [chance.choice([0, cap, chance.randint(0, cap)]) for cap in net.caps]
@@ -322,10 +316,8 @@ class Arrays(Limits):
             self.assertEqual(sent(net.nodes, net.ends, flows), supplies)
             self.is_certified_min(net, costs, flows, found)
 
-    def test_distances(self):
-        self.cases(2000, self.paths)
-
-    def paths(self, chance):
+    @cases(2000)
+    def test_distances(self, chance):
         net = Net(chance)
         true = distances(net.nodes, [it for it in net.arcs()], 1) if min(net.caps) >= 0 else [0] * net.nodes
         claim = [LAST if it is None else it for it in true]
@@ -366,10 +358,8 @@ class Graphs(Limits):
             found.setdefault(tail, {}).setdefault(head, {})[arc] = it
         return found
 
-    def test_maximum_flows(self):
-        self.cases(1500, self.maximum_flow)
-
-    def maximum_flow(self, chance):
+    @cases(1500)
+    def test_maximum_flows(self, chance):
         net = Net(chance)
         flows = claimed(chance, net)
         graph, flow = self.graph(chance, net), self.flow(net, flows)
@@ -382,10 +372,8 @@ class Graphs(Limits):
             net, flows, found, lambda it: [it[tail][head][arc] for arc, (tail, head) in enumerate(net.ends)]
         )
 
-    def test_distances(self):
-        self.cases(2000, self.paths)
-
-    def paths(self, chance):
+    @cases(2000)
+    def test_distances(self, chance):
         net = Net(chance)
         if min(net.caps) < 0:
             return
@@ -442,10 +430,8 @@ class Scipy(Limits):
             found[place] = found.get(place, 0) + it
         return found
 
-    def test_certified_flows(self):
-        self.cases(4000, self.certified)
-
-    def certified(self, chance):
+    @cases(4000)
+    def test_certified_flows(self, chance):
         net = Net(chance, 0)
         net.ends = list(dict.fromkeys(it for it in net.ends if it[0] != it[1]))
         if not net.ends:
@@ -473,10 +459,8 @@ class Scipy(Limits):
     def amounts(self, net, matrix):
         return [max(0, int(matrix[tail - 1, head - 1])) for tail, head in net.ends]
 
-    def test_solved_flows(self):
-        self.cases(2500, self.solved)
-
-    def solved(self, chance):
+    @cases(2500)
+    def test_solved_flows(self, chance):
         net = Net(chance, 0)
         net.ends = list(dict.fromkeys(it for it in net.ends if it[0] != it[1]))
         if not net.ends:
@@ -494,10 +478,8 @@ class Scipy(Limits):
             self.assertTrue(is_feasible(net, flows))
             self.assertEqual(sent(net.nodes, net.ends, flows)[0], maximum(net))
 
-    def test_assignments(self):
-        self.cases(1500, self.assignment)
-
-    def assignment(self, chance):
+    @cases(1500)
+    def test_assignments(self, chance):
         shape, maximize = (chance.randrange(1, 4), chance.randrange(1, 4)), chance.random() < 0.3
         costs = [[self.wide(chance) for _ in range(shape[1])] for _ in range(shape[0])]
         short, long = sorted(shape)
@@ -537,10 +519,8 @@ class Scipy(Limits):
         free = set(range(len(longer))) - {place[at] for place in assigned}
         self.assertTrue(max(longer) <= 0 and not any(longer[it] for it in free))
 
-    def test_distances(self):
-        self.cases(4000, self.paths)
-
-    def paths(self, chance):
+    @cases(4000)
+    def test_distances(self, chance):
         net = Net(chance, 0)
         sign = chance.choice([0, 0, 0.3])
         by_place = {ends: cap * (-1 if chance.random() < sign else 1) for ends, cap in zip(net.ends, net.caps)}
@@ -606,10 +586,8 @@ class Solver:
 
 
 class OrTools(Limits):
-    def test_maximum_flows(self):
-        self.cases(1000, self.maximum_flow)
-
-    def maximum_flow(self, chance):
+    @cases(1000)
+    def test_maximum_flows(self, chance):
         net = Net(chance)
         flows = claimed(chance, net)
         offset = chance.choice(OFFSETS)
@@ -643,10 +621,8 @@ class Backend(Limits):
     def called(self, *words):
         return self.outcome(*words, gives_up=(NotImplementedError,), past=(networkx.NetworkXException,))
 
-    def test_maximum_flows(self):
-        self.cases(1500, self.maximum_flow)
-
-    def maximum_flow(self, chance):
+    @cases(1500)
+    def test_maximum_flows(self, chance):
         net = Net(chance)
         graph = self.graph(chance, net, "capacity", 0.2)
         net.caps = [max(0, it) for it in net.caps]
@@ -669,10 +645,8 @@ class Backend(Limits):
         numbers = [it for *_, it in graph.edges(data=attribute)]
         return any(isinstance(it, float) for it in numbers) and total >= 2**53
 
-    def test_distances(self):
-        self.cases(2000, self.paths)
-
-    def paths(self, chance):
+    @cases(2000)
+    def test_distances(self, chance):
         net = Net(chance)
         net.caps = [it * chance.choice([1, 1, 1, -1]) for it in net.caps]
         graph = self.graph(chance, net, "weight")
@@ -696,10 +670,8 @@ class Backend(Limits):
 
 
 class Spread(Limits):
-    def test_sums(self):
-        self.cases(2000, self.dealt)
-
-    def dealt(self, chance):
+    @cases(2000)
+    def test_sums(self, chance):
         net = Net(chance, 0)
         ends = list(dict.fromkeys(net.ends))
         sums = [sum(cap for at, cap in zip(net.ends, net.caps) if at == it) for it in ends]

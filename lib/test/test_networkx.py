@@ -4,16 +4,8 @@ import random
 import unittest
 
 import dimacs
-
-try:
-    import networkx
-except ImportError:
-    networkx = None
-
-try:
-    import numpy
-except ImportError:
-    numpy = None
+from modules import networkx, numpy
+from test_arrays import improved
 
 
 def pipes():
@@ -57,16 +49,6 @@ def random_graph(kind, nodes, edges, seed):
         for node, units in ((tail, -amount), (head, amount)):
             graph.nodes[node]["demand"] = graph.nodes[node].get("demand", 0) + units
     return graph
-
-
-def improved(certify, *words):
-    """What is certified of a flow in the end, where each better one is asked of again."""
-    *graph, flow = words
-    while True:
-        try:
-            return certify(*graph, flow)
-        except dimacs.NotOptimal as it:
-            flow = it.better
 
 
 class Networkx(unittest.TestCase):

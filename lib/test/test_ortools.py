@@ -4,11 +4,7 @@ import unittest
 
 import dimacs
 from dimacs import ortools
-
-try:
-    import numpy
-except ImportError:
-    numpy = None
+from modules import numpy
 
 try:
     from ortools.graph.python import max_flow, min_cost_flow

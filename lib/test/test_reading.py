@@ -18,11 +18,7 @@ from unittest import mock
 import dimacs
 from dimacs import UNREACHED, Cut, Distances, Graph, Labels, MaxInstance, MinInstance, Potentials, Queries, Solution, instances
 from spoiled_texts import JUDGES, judged_texts
-
-try:
-    import numpy
-except ImportError:
-    numpy = None
+from modules import numpy
 
 MAX = "c pipes\np max 4 3\nn 4 t\nn 1 s\na 1 2 9223372036854775807\n\na 2 4 +05\na 1 4 0\n"
 MIN = "p min 3 2\nn 3 -4\nn 1 4\na 1 2 0 9223372036854775807 -9223372036854775808\na 2 3 1 5 7\n"

@@ -9,16 +9,7 @@ from fractions import Fraction
 
 import dimacs
 from dimacs.scales import Scale
-
-try:
-    import numpy
-except ImportError:
-    numpy = None
-
-try:
-    import networkx
-except ImportError:
-    networkx = None
+from modules import networkx, numpy
 
 INF = math.inf
 

@@ -6,14 +6,9 @@ import warnings
 from decimal import Decimal
 
 import dimacs
+from modules import csgraph, numpy, optimize, sparse
 
-try:
-    import numpy
-    from scipy import optimize, sparse
-    from scipy.sparse import csgraph
-except ImportError:
-    csgraph = None
-else:
+if csgraph:
     from dimacs import scipy as ours
 
 

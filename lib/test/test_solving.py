@@ -4,16 +4,7 @@ import unittest
 from array import array
 
 import dimacs
-
-try:
-    import numpy
-except ImportError:
-    numpy = None
-
-try:
-    import networkx
-except ImportError:
-    networkx = None
+from modules import networkx, numpy
 
 MAX = "p max 4 5\nn 1 s\nn 4 t\na 1 2 4\na 1 3 2\na 2 3 2\na 2 4 3\na 3 4 5\n"
 MIN = "p min 4 5\nn 1 4\nn 4 -4\na 1 2 0 4 2\na 1 3 0 2 2\na 2 3 0 2 1\na 2 4 0 3 3\na 3 4 0 5 1\n"
