@@ -1,8 +1,9 @@
 // Makes calls of dimacs.wasm for through.py: calls.mjs MODULE
 //
 // A line of JSON names a call and gives its arguments: a number of 32 bits (n) or 64 (q), the bytes of an array of so
-// wide items (b, w), a room with what is in it before (r, w), or an instance (s): its numbers and arrays. The line of JSON
-// that goes back has the status, and of each room the number of items that is needed and all of its bytes.
+// wide items (b, w), a room with what is in it before (r, w), which has a length and a number that is needed, or neither, or
+// an instance (s): its numbers and arrays. The line of JSON that goes back has the status, and of each room the number of
+// items that is needed and all of its bytes.
 import {readFileSync} from "node:fs";
 import {createInterface} from "node:readline";
 
@@ -40,9 +41,9 @@ function words(it, rooms) {
     if ("s" in it) return [instance(it.s)];
     const bytes = decoded(it.b ?? it.r), at = put(bytes), count = BigInt(bytes.length / it.w);
     if ("b" in it) return [at, count];
-    const needed = take(8);
+    const needed = it.has.endsWith("needed") ? take(8) : null;
     rooms.push({at, length: bytes.length, needed});
-    return [at, count, needed];
+    return [at, ...(it.has ? [count] : []), ...(needed === null ? [] : [needed])];
 }
 
 function answer({name, args}) {
@@ -50,7 +51,7 @@ function answer({name, args}) {
     const status = exports[name](...given) >>> 0;
     const memory = Buffer.from(exports.memory.buffer);
     const back = rooms.map(({at, length, needed}) => ({
-        needed: memory.readBigUInt64LE(Number(needed)).toString(),
+        needed: needed === null ? "0" : memory.readBigUInt64LE(Number(needed)).toString(),
         bytes: memory.subarray(Number(at), Number(at) + length).toString("base64"),
     }));
     held.forEach((it) => exports.free(it));

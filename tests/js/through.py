@@ -83,41 +83,54 @@ def instance(struct, at):
 
 
 class Room:
-    """What a call may write: the items of an array, and the number that is needed."""
+    """What a call may write: the items of an array, and the number that is needed, if that isn't another array's."""
 
-    def __init__(self, at, length, needed):
+    def __init__(self, at, length, needed=None):
         self.at, self.length, self.needed = at, length, needed
-        self.before = content(at, length), number_at(needed)
+        self.before = self.now()
 
     def now(self):
-        return content(self.at, self.length), number_at(self.needed)
+        return content(self.at, self.length), number_at(self.needed) if self.needed else 0
 
     def set(self, items, needed):
         ctypes.memmove(self.at, items, len(items))
-        ctypes.c_uint64.from_address(self.needed).value = needed
+        if self.needed:
+            ctypes.c_uint64.from_address(self.needed).value = needed
 
 
 def described(parameters, given):
     """The arguments of a call as calls.mjs takes them, and its rooms."""
     words, rooms, given = [], [], list(given)
-    parameters = list(parameters)
+    parameters = [re.sub(r"\w+$", "", it).strip() for it in parameters]
     while parameters:
-        kind = re.sub(r"\w+$", "", parameters.pop(0)).strip()
+        kind = parameters.pop(0)
         struct = re.match(r"const (dimacs_\w+) \*", kind)
         array = re.match(r"(const )?(u?int\d+_t) \*$", kind)
         if struct:
             words.append(instance(struct[1], address(given.pop(0))))
         elif array:
-            width, at, length = WIDTHS[array[2]], address(given.pop(0)), number(given.pop(0))
-            parameters.pop(0)
-            words.append({"b" if array[1] else "r": encoded(at, width * length), "w": width})
-            if not array[1]:
-                parameters.pop(0)
-                rooms.append(Room(at, width * length, address(given.pop(0))))
+            words.append(described_array(array, parameters, given, rooms))
         else:
             given_number = number(given.pop(0))
             words.append({"n": given_number} if kind == "uint32_t" else {"q": str(given_number)})
     return words, rooms
+
+
+def described_array(array, parameters, given, rooms):
+    """An array that is read, or a room. One number has no length, and of arrays with the same length the last has it."""
+    width, at = WIDTHS[array[2]], address(given.pop(0))
+    if parameters[0] != "size_t":
+        rooms.append(Room(at, width))
+        return {"r": encoded(at, width), "w": width, "has": ""}
+    parameters.pop(0)
+    length = width * number(given.pop(0))
+    if array[1]:
+        return {"b": encoded(at, length), "w": width}
+    has_needed = parameters and parameters[0] == "size_t *"
+    if has_needed:
+        parameters.pop(0)
+    rooms.append(Room(at, length, address(given.pop(0)) if has_needed else None))
+    return {"r": encoded(at, length), "w": width, "has": "length needed" if has_needed else "length"}
 
 
 class Function:
