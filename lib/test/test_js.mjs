@@ -3,6 +3,7 @@
 import assert from "node:assert/strict";
 import * as dimacs from "../js/index.js";
 import {Library, Texts} from "../js/library.js";
+import {countedAll, finished} from "./cases.mjs";
 
 // Networks whose answers were worked out by hand.
 const MAX = "p max 4 5\nn 1 s\nn 4 t\na 1 2 4\na 1 3 2\na 2 3 2\na 2 4 3\na 3 4 5\n";
@@ -408,15 +409,5 @@ const CASES = {
     },
 };
 
-let passed = 0, failed = 0;
-for (const [name, test] of Object.entries(CASES)) {
-    try {
-        test();
-        passed++;
-    } catch (why) {
-        failed++;
-        console.log(`FAILED: ${name}: ${why.stack}`);
-    }
-}
-console.log(`${passed} passed, ${failed} failed`);
-process.exitCode = failed ? 1 : 0;
+await countedAll(CASES);
+process.exitCode = finished();

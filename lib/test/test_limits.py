@@ -13,6 +13,7 @@ import unittest
 import dimacs
 from dimacs import ortools
 from modules import csgraph, networkx, numpy, sparse
+from test_ortools import MaxFlow
 
 if networkx:
     from dimacs import backend
@@ -49,6 +50,12 @@ class Net:
             (chance.randrange(self.nodes) + 1, chance.randrange(self.nodes) + 1) for _ in range(chance.randrange(1, 7))
         ]
         self.caps = [amount(chance, past) for _ in self.ends]
+
+    def simple(self):
+        """The same without loops and parallel arcs."""
+        self.ends = list(dict.fromkeys(it for it in self.ends if it[0] != it[1]))
+        self.caps = self.caps[: len(self.ends)]
+        return self
 
     def arcs(self):
         return [(*ends, cap) for ends, cap in zip(self.ends, self.caps)]
@@ -432,11 +439,9 @@ class Scipy(Limits):
 
     @cases(4000)
     def test_certified_flows(self, chance):
-        net = Net(chance, 0)
-        net.ends = list(dict.fromkeys(it for it in net.ends if it[0] != it[1]))
+        net = Net(chance, 0).simple()
         if not net.ends:
             return
-        net.caps = net.caps[: len(net.ends)]
         while chance.random() < 0.3:  # several capacities at a place, which may be more together than 64 bits have
             net.caps[chance.randrange(len(net.caps))] += amount(chance, 0)
         flows = claimed(chance, net)
@@ -461,11 +466,9 @@ class Scipy(Limits):
 
     @cases(2500)
     def test_solved_flows(self, chance):
-        net = Net(chance, 0)
-        net.ends = list(dict.fromkeys(it for it in net.ends if it[0] != it[1]))
+        net = Net(chance, 0).simple()
         if not net.ends:
             return
-        net.caps = net.caps[: len(net.ends)]
         net.caps[0] += chance.choice([0, 2**31, 2**63])
         graph, entries = self.matrix(chance, net, dict(zip(net.ends, net.caps)), ("csr",), False)
         found = self.outcome(ours.maximum_flow, graph, 0, net.nodes - 1)
@@ -557,32 +560,15 @@ class Scipy(Limits):
         self.is_wanted(found, "no" if fits([claim]) and claim != LAST else "past")
 
 
-class Solver:
-    """A SimpleMaxFlow of OR-Tools by its methods, which has solved."""
+class Solver(MaxFlow):
+    """It has nodes without arcs too."""
 
     def __init__(self, net, flows, value):
-        self.net, self.flows, self.value = net, flows, value
-
-    def num_arcs(self):
-        return len(self.flows)
+        super().__init__(flows, value, [(tail - 1, head - 1, cap) for tail, head, cap in net.arcs()])
+        self.nodes = net.nodes
 
     def num_nodes(self):
-        return self.net.nodes
-
-    def tail(self, arc):
-        return self.net.ends[arc][0] - 1
-
-    def head(self, arc):
-        return self.net.ends[arc][1] - 1
-
-    def capacity(self, arc):
-        return self.net.caps[arc]
-
-    def flow(self, arc):
-        return self.flows[arc]
-
-    def optimal_flow(self):
-        return self.value
+        return self.nodes
 
 
 class OrTools(Limits):

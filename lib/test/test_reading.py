@@ -29,7 +29,7 @@ BEYOND_THE_TEXT = {
     "pot": ("NumberRange",),
     **dict.fromkeys(("dist", "distances"), ("BlockMissing", "NumberRange")),
 }
-CASES = int(os.environ.get("CASES", 2000))
+CASES = int(os.environ.get("CASES", 1000))
 LAST = 2**63 - 1
 
 

@@ -2,6 +2,7 @@
 // and what failed.
 import assert from "node:assert/strict";
 import {readFileSync} from "node:fs";
+import {countedAll, finished} from "../../lib/test/cases.mjs";
 
 const module = new WebAssembly.Module(readFileSync(process.argv[2]));
 const fresh = () => new WebAssembly.Instance(module).exports;
@@ -144,15 +145,5 @@ const TESTS = {
     },
 };
 
-let passed = 0, failed = 0;
-for (const [name, test] of Object.entries(TESTS)) {
-    try {
-        test();
-        passed++;
-    } catch (why) {
-        failed++;
-        console.log(`FAILED: ${name}: ${why.stack}`);
-    }
-}
-console.log(`${passed} passed, ${failed} failed`);
-process.exitCode = failed ? 1 : 0;
+await countedAll(TESTS);
+process.exitCode = finished();

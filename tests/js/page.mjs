@@ -6,6 +6,7 @@ import {existsSync, readFileSync} from "node:fs";
 import {createServer} from "node:http";
 import {join, resolve} from "node:path";
 import {pathToFileURL} from "node:url";
+import {counted, countedAll, finished} from "../../lib/test/cases.mjs";
 import {until, withPage} from "./browser.mjs";
 
 const [, , file, kind, program] = process.argv;
@@ -414,7 +415,7 @@ async function served(run) {
 }
 
 /** Each request goes through from an empty page, and none from this one. */
-async function requests(person, counted) {
+async function requests(person) {
     await served(async (address, reached) => {
         await person.page.load(`${address}/plain`);
         for (const [name, request] of Object.entries(REQUESTS)) {
@@ -446,24 +447,11 @@ async function requests(person, counted) {
     });
 }
 
-let passed = 0, failed = 0;
-
-async function counted(name, test) {
-    try {
-        await test();
-        passed++;
-    } catch (why) {
-        failed++;
-        console.log(`FAILED: ${name}: ${why.stack}`);
-    }
-}
-
 await withPage(kind, program, async (page, folder) => {
     const person = Object.assign(new Person(page, folder), {downloads: kind === "chromium"});
     await page.size(1100, 900);
     await counted("the page opens from a file", () => person.open(pathToFileURL(resolve(file)).href));
-    for (const [name, test] of Object.entries(TESTS)) await counted(name, () => test(person));
-    await requests(person, counted);
+    await countedAll(TESTS, person);
+    await requests(person);
 });
-console.log(`${passed} passed, ${failed} failed`);
-process.exit(failed ? 1 : 0);
+process.exit(finished());

@@ -89,36 +89,43 @@ class Verdict(Explainable):
         return True
 
 
+class _Shown(Explainable):
+    """An answer with a certificate."""
+
+    certificate: Any
+
+    @property
+    def inside(self) -> Any:
+        """The certificate of calls about max and infeasible over arrays and graphs."""
+        return self._of(self.certificate, "max", "infeasible")
+
+    @property
+    def potentials(self) -> Any:
+        """That of calls about min."""
+        return self._of(self.certificate, "min")
+
+    @property
+    def predecessors(self) -> Any:
+        """That of calls about paths."""
+        return self._of(self.certificate, "paths")
+
+
 class _Certified(NamedTuple):
     value: Any
     certificate: Any
 
 
-class Certified(_Certified, Explainable):
+class Certified(_Certified, _Shown):
     """A yes, with a certificate by which the judge answers yes too.
 
     value is the value of the flow, or its cost; None if the claim has neither. The certificate is the text of a cut, of
     potentials, of a set or of labels. Over arrays it has an item for each node: true on the source's side of a cut, a
-    potential, or a predecessor. Over a graph it is a set of nodes, or a dict by node.
+    potential, or a predecessor. Over a graph it is a set of nodes, or a dict by node. inside, potentials and predecessors are
+    the certificate of a call that gives one.
 
     >>> import dimacs
     >>> value, inside = dimacs.certify_max_arrays(3, 1, 3, [1, 2], [2, 3], [5, 4], [4, 4])
     """
-
-    @property
-    def inside(self) -> Any:
-        """The certificate of certify_max_arrays, certify_infeasible_arrays and the two of the same names over graphs."""
-        return self._of(self.certificate, "max", "infeasible")
-
-    @property
-    def potentials(self) -> Any:
-        """That of certify_min_arrays and certify_networkx_min."""
-        return self._of(self.certificate, "min")
-
-    @property
-    def predecessors(self) -> Any:
-        """That of certify_paths_arrays and certify_networkx_paths."""
-        return self._of(self.certificate, "paths")
 
 
 class _Solved(NamedTuple):
@@ -127,12 +134,13 @@ class _Solved(NamedTuple):
     certificate: Any
 
 
-class Solved(_Solved, Explainable):
+class Solved(_Solved, _Shown):
     """An answer, which was judged before it was returned.
 
     value is the value of the flow, or its cost; None if there is neither. The solution is a text; over arrays the
     amount of each arc, or the distance of each node; over a graph a dict of those; for queries in texts the answers to
-    pairs. The certificate is as in Certified; for queries in texts it is the text of labels.
+    pairs. The certificate is as in Certified; for queries in texts it is the text of labels. flows and distances are the
+    solution of a call that gives them.
 
     >>> import dimacs
     >>> value, flows, inside = dimacs.solve_max_arrays(3, 1, 3, [1, 2], [2, 3], [5, 4])
@@ -140,28 +148,13 @@ class Solved(_Solved, Explainable):
 
     @property
     def flows(self) -> Any:
-        """The solution of solve_max_arrays, solve_min_arrays, solve_networkx_max and solve_networkx_min."""
+        """The solution of calls about max and min."""
         return self._of(self.solution, "max", "min")
 
     @property
     def distances(self) -> Any:
-        """That of solve_paths_arrays and solve_networkx_paths."""
+        """That of calls about paths."""
         return self._of(self.solution, "paths")
-
-    @property
-    def inside(self) -> Any:
-        """The certificate of solve_max_arrays and solve_networkx_max."""
-        return self._of(self.certificate, "max", "infeasible")
-
-    @property
-    def potentials(self) -> Any:
-        """That of solve_min_arrays and solve_networkx_min."""
-        return self._of(self.certificate, "min")
-
-    @property
-    def predecessors(self) -> Any:
-        """That of solve_paths_arrays and solve_networkx_paths."""
-        return self._of(self.certificate, "paths")
 
 
 #: What an exception says of the numbers that were compared, by its reason: the first line that has all of them.
