@@ -4,7 +4,7 @@ import os
 import shutil
 import subprocess
 
-from families import hard, least, most
+from families import least, most
 from families.instance import SEED
 
 # The families of instances, by kind, and what makes one of a size in MB: a function and its numbers, or gen's words.
@@ -48,12 +48,6 @@ FAMILIES = {
         "torus": {1: (least.torus, 80, 80, 1), 20: (least.torus, 340, 340, 1)},
     },
 }
-HARD = {
-    "acyclic": {1: (hard.acyclic, 5000, 40000), 20: (hard.acyclic, 100000, 800000)},
-    "shifted grid": {1: (hard.grid, 100, 100, 1000000), 20: (hard.grid, 450, 450, 1000000)},
-    "shifted random": {1: (hard.random_arcs, 5000, 40000, 100000), 20: (hard.random_arcs, 100000, 800000, 100000)},
-    "path": {1: (hard.path, 20000), 20: (hard.path, 400000)},
-}
 
 SOURCES = {1: 8, 20: 4}  # of a graph, by the size of the texts in MB
 UNITS = 5_000_000_000  # so many more from one end to another than can be moved
@@ -86,19 +80,12 @@ def declared_arcs(file):
     return declared(file)[1]
 
 
-def nothing_sent(part):
-    """The solution of a hard instance."""
-    with open(f"{part}/instance.solution", "w") as text:
-        text.write("s 0\n")
-
-
 def instance(kind, family, megabytes):
     """The file of an instance of a family."""
-    make, *numbers = (HARD.get(family) or FAMILIES[kind][family])[megabytes]
+    make, *numbers = FAMILIES[kind][family][megabytes]
     folder = f"{kind}-{family.replace(' ', '-')}-{megabytes}"
     if callable(make):
-        written = [lambda part: make(*numbers).write(f"{part}/instance.{kind}")]
-        generate(folder, *written, *[nothing_sent] * (family in HARD))
+        generate(folder, lambda part: make(*numbers).write(f"{part}/instance.{kind}"))
     else:
         generate(folder, ["gen", make, *numbers, SEED, "instance.gr" if kind == "gr" else "instance"])
     return f"{folder}/instance.{kind}"
