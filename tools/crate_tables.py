@@ -2,9 +2,8 @@
 """Writes the tables of crates in docs/ARCHITECTURE.md: tools/crate_tables.py [--check]
 
 crates.txt has the crates, lowest first, under the headings that its comments are. What a crate is for is the first
-sentence of its root. Its lines are counted as they stand: sources with their contracts, the definitions that contracts
-cite, and proofs. With --check nothing is written, and the status is 1 if the tables aren't those of the crates, or a test
-of `surface` uses another crate than a program in Rattle calls.
+sentence of its root. With --check nothing is written, and the status is 1 if the tables aren't those of the crates, or a
+test of `surface` uses another crate than a program in Rattle calls.
 """
 import glob
 import os
@@ -14,7 +13,6 @@ import sys
 TOP = os.path.dirname(os.path.dirname(os.path.abspath(__file__)))
 PAGE = f"{TOP}/docs/ARCHITECTURE.md"
 BEGIN, END = "<!-- written by tools/crate_tables.py -->\n", "<!-- end of the crates -->\n"
-PARTS = {"Source": "src/**/*.rt", "Definitions": "specs/**/*.antt", "Proofs": "proofs/**/*.antt"}
 
 
 def text_of(path):
@@ -43,12 +41,6 @@ def purpose(crate):
     return re.split(r"\.(?: |$)", words)[0]
 
 
-def sizes(crate):
-    """The lines of a crate's parts."""
-    for pattern in PARTS.values():
-        yield sum(text_of(it).count("\n") for it in glob.glob(f"{TOP}/crates/{crate}/{pattern}", recursive=True))
-
-
 def astray():
     """The crates that tests in `surface` use, but for the five that a program in Rattle calls."""
     files = sorted(glob.glob(f"{TOP}/crates/dimacs_tests/src/surface/*.rt"))
@@ -56,18 +48,10 @@ def astray():
     return set(used) - {f"dimacs_{it}" for it in ("lines", "records", "instance", "claims", "judge")}
 
 
-def row(cells):
-    """A row of a table."""
-    return "| " + " | ".join(cells) + " |\n"
-
-
 def table(heading, crates):
     """The heading and the table of some crates."""
-    counts = {it: list(sizes(it)) for it in crates}
-    rows = [row([f"`{it}`", purpose(it), *(f"{count:,}" for count in counts[it])]) for it in crates]
-    sums = row(["", "", *(f"{sum(column):,}" for column in zip(*counts.values()))])
-    titles = row(["Crate", "What it is", *PARTS])
-    return f"\n### {heading}\n\n{titles}|---|---|{'---:|' * len(PARTS)}\n{''.join(rows)}{sums}"
+    rows = "".join(f"| `{it}` | {purpose(it)} |\n" for it in crates)
+    return f"\n### {heading}\n\n| Crate | What it is |\n|---|---|\n{rows}"
 
 
 def main():
