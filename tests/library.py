@@ -217,18 +217,6 @@ def test_cargo(counts, build, place):
             counts.add(f"cargo {tool}", run("cargo", tool, *manifest, *words, env=environment), by_status)
 
 
-def test_exports(counts, build, place):
-    """The shared library exports the calls of the header, and nothing else."""
-    with open(f"{LIB}/include/dimacs.h", encoding="ascii") as it:
-        declared = set(re.findall(r"^uint32_t (\w+)\(", it.read(), re.M))
-    listed = run("nm", "-D", "--defined-only", f"{build}/libdimacs.so")
-    symbols = [line.split()[-2:] for line in listed.stdout.splitlines()]
-    exported = {name for kind, name in symbols if kind != "A"}  # names of versions are absolute
-    is_same = declared == exported and len(declared) > 0
-    message = "" if is_same else f"declared {sorted(declared)}, exported {sorted(exported)}"
-    counts.add("exports", subprocess.CompletedProcess([], 0 if is_same else 1, message, ""), by_status)
-
-
 def pythons():
     """Each Python that is there, once."""
     found = [shutil.which(it) for it in (os.environ.get("PYTHON", "python3"), "/usr/bin/python3")]
@@ -359,7 +347,6 @@ LAYERS = {
     "C": (test_c, 2670),
     "C++": (test_cpp, 460),
     "Rust": (test_cargo, 37),
-    "exports": (test_exports, 1),
     "Python": (test_python, 115),
     "wheel": (test_wheel, 1),
     "docs/LIBRARY.md": (test_page, 16),
