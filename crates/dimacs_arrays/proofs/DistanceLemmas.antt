@@ -7,7 +7,8 @@ use Rattle.std.proofs.lemmas.Option.{slice_get_within}
 use Rattle.dimacs_lines.specs.Limits.{IsNode}
 use Rattle.dimacs_decide.specs.Claims.{claimed_by_node, unless_greatest}
 use Rattle.dimacs_judging.specs.Tests.{Clear}
-use Rattle.dimacs_arrays.specs.Paths.{pred_by_node, pred_row}
+use Rattle.dimacs_decide.specs.Predecessors.{pred_by_node}
+use Rattle.dimacs_arrays.specs.Paths.{pred_row}
 use Rattle.dimacs_arrays.proofs.LabelLemmas.{zero_pred}
 
 there : (o : Option ℤ) → IsSome (unless_greatest o) → (d : ℤ) × (o ≡ Some d)

@@ -13,7 +13,8 @@ use Rattle.dimacs_judging.specs.Labels.{HasTightArc, IsReached, IsRelaxed, Label
 use Rattle.dimacs_judging.specs.PathsJudge.{PassesPaths}
 use Rattle.dimacs_judging.specs.QueryTests.{HasFullBlock}
 use Rattle.dimacs_decide.specs.Distances.{AreLabelsOf}
-use Rattle.dimacs_arrays.specs.Paths.{AreLabelsBy, ArePredecessors, pred_by_node}
+use Rattle.dimacs_decide.specs.Predecessors.{pred_by_node}
+use Rattle.dimacs_arrays.specs.Paths.{AreLabelsBy, ArePredecessors}
 use Rattle.dimacs_arrays.specs.inside.PredecessorsOf.{ArePredsOf}
 use Rattle.dimacs_decide.proofs.TightTailLemmas.{not_source, own_label}
 use Rattle.dimacs_arrays.proofs.CertifyPathsLemmas.{labels_by}

@@ -1,15 +1,15 @@
 -- Predecessors by node, from labels.
-use Rattle.std.proofs.Common.{◌≡◌, ◌≢◌, inl, inr, ℕ, suc, zero, ◌+◌, ◌-◌, ◌<◌, ◌≤◌, List, length, get_or, None, Some, refl, sym, ap, subst, ◌∙◌, arith}
+use Rattle.std.proofs.Common.{◌≡◌, ◌≢◌, inl, inr, ℕ, ◌+◌, ◌-◌, ◌<◌, List, length, get_or, None, Some, sym, ap, subst, ◌∙◌, arith}
 use Rattle.std.specs.Prelude.{slice_set}
 use Rattle.std.proofs.lemmas.Bool.{cases_order}
-use Rattle.std.proofs.lemmas.List.{get_or-set_other, get_or-set_same}
 use Rattle.std.proofs.lemmas.List.Elements.{All-from_get_or}
 use Rattle.dimacs_lines.specs.Limits.{IsNode}
 use Rattle.dimacs_claims.specs.inside.ById.{NodesAreDistinct}
 use Rattle.dimacs_claims.specs.declared.block.Label.{Label}
 use Rattle.dimacs_claims.specs.Labels.{distance_in, no_label}
 use Rattle.dimacs_claims.proofs.ByIdLemmas.{distance_in-at}
-use Rattle.dimacs_arrays.specs.Paths.{pred_by_node}
+use Rattle.dimacs_decide.specs.Predecessors.{pred_by_node}
+use Rattle.dimacs_decide.proofs.TightTailLemmas.{set_here, set_there}
 use Rattle.dimacs_arrays.specs.inside.PredecessorsOf.{ArePredsOf}
 
 abbrev pub at_place : List Label → ℕ → Label
@@ -19,14 +19,6 @@ at_place labels j = get_or labels j no_label
 pub record AreFilled (labels : List Label) (preds : List ℕ) (n : ℕ) : Type 0 where
   pub named : (j : ℕ) → j < n → pred_by_node preds (at_place labels j).id ≡ (at_place labels j).pred
   pub others : (v : ℕ) → ((j : ℕ) → j < n → (at_place labels j).id ≢ v) → pred_by_node preds v ≡ 0
-
-pub set_here : (preds : List ℕ) (u p : ℕ) → IsNode (length preds) u → pred_by_node (slice_set preds (u - 1) p) u ≡ p
-set_here preds zero p node = absurd (omega (arith, node.0))
-set_here preds (suc k) p node = let e : suc k - 1 ≡ k = omega arith in rw e (get_or-set_same preds k p 0 (omega (arith, node.1)))
-
-pub set_there : (preds : List ℕ) (u v p : ℕ) → 1 ≤ u → v ≢ u → pred_by_node (slice_set preds (u - 1) p) v ≡ pred_by_node preds v
-set_there preds u zero p some apart = refl
-set_there preds u (suc k) p some apart = get_or-set_other preds (u - 1) k p 0 (λ e. apart (omega (arith, e, some)))
 
 module _ (labels : List Label) (apart : NodesAreDistinct labels) (preds : List ℕ) where
   --   one more label

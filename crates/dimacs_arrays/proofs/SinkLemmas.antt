@@ -1,5 +1,5 @@
 -- Labels, if each predecessor is nearer than its node.
-use Rattle.std.proofs.Common.{◌≡◌, ◌≢◌, ◌⊎◌, inl, inr, ℕ, suc, zero, ◌+◌, ◌≤◌, ◌==◌, Bool, true, false, cond, [], ◌∷◌, Option, Some, None, IsSome, is_some, ℤ, pos, negsuc, ◌≤ℤ◌, ◌<ℤ◌, refl, sym, ap, subst, ◌∙◌, arith}
+use Rattle.std.proofs.Common.{◌≡◌, ◌≢◌, ◌⊎◌, inl, inr, ℕ, suc, zero, ◌+◌, ◌^◌, ◌≤◌, ◌==◌, Bool, true, false, cond, [], ◌∷◌, Option, Some, None, IsSome, is_some, ℤ, pos, negsuc, ◌+ℤ◌, ◌≤ℤ◌, ◌<ℤ◌, refl, sym, ap, subst, ◌∙◌, arith}
 use Rattle.std.proofs.lemmas.Bool.{cases_Bool, cases_eq, cases_order, ne_eqb}
 use Rattle.std.proofs.lemmas.Bool.Decides.{eqb_tells}
 use Rattle.std.proofs.lemmas.Int.{ints}
@@ -27,20 +27,24 @@ natural : (d : ℤ) → pos 0 ≤ℤ d → (k : ℕ) × (d ≡ pos k)
 natural (pos k) low = (k, refl)
 natural (negsuc k) low = absurd (omega (arith, ints))
 
+-- each distance is this far above the least one that is wide
+above : (d : ℤ) → IsWide d → (k : ℕ) × (d +ℤ pos (10 ^ 30) ≡ pos k)
+above d wide = natural (d +ℤ pos (10 ^ 30)) (omega (arith, ints, wide.0))
+
 some_value : (o : Option ℤ) → IsSome o → (d : ℤ) × (o ≡ Some d)
 some_value None some = absurd (let f : false ≡ true = some in cc)
 some_value (Some d) some = (d, refl)
 
--- the node has a distance that is less than d, and not negative
+-- the node has a distance that is less than d
 abbrev pub IsNearer : (ℕ → Option ℤ) → ℕ → ℤ → Type 0
-IsNearer claim p d = (e : ℤ) × (claim p ≡ Some e) × (pos 0 ≤ℤ e) × (e <ℤ d)
+IsNearer claim p d = (e : ℤ) × (claim p ≡ Some e) × (e <ℤ d)
 
 -- each node with a distance but the source has a nearer predecessor, and the others have none
 pub record AreNearer (nodes s : ℕ) (claim : ℕ → Option ℤ) (pred : ℕ → ℕ) : Type 0 where
   pub source : IsNode nodes s
   pub at : claim s ≡ Some (pos 0)
   pub inside : (v : ℕ) → IsSome (claim v) → IsNode nodes v
-  pub wide : (v : ℕ) (d : ℤ) → claim v ≡ Some d → pos 0 ≤ℤ d → IsWide d
+  pub wide : (v : ℕ) (d : ℤ) → claim v ≡ Some d → IsWide d
   pub nearer : (v : ℕ) (d : ℤ) → v ≢ s → claim v ≡ Some d → IsNearer claim (pred v) d
   pub others : (v : ℕ) → (¬ NeedsPredecessor s claim v) → pred v ≡ 0
 
@@ -58,8 +62,8 @@ module _ (nodes s : ℕ) (claim : ℕ → Option ℤ) (pred : ℕ → ℕ) (smal
     root_some = ap is_some rooted
 
     --     the label of a node whose predecessor is labelled
-    placed : (b : BlockValue) (labelled : ℕ → Bool) (u : ℕ) (d : ℤ) → IsLabelTree nodes s claim pred b labelled → AreLabelledBelow claim labelled root → labelled root ≡ false → claim u ≡ Some d → pos 0 ≤ℤ d → LeadsBack pred u root → labelled u ≡ false → labelled (pred u) ≡ true → Grown u d labelled
-    placed b labelled u d is below not_labelled named low leads new from = (with_label b l, after, grown nodes s claim pred b labelled u is new d after node from next named lawful adds here others, keeps, here, only)
+    placed : (b : BlockValue) (labelled : ℕ → Bool) (u : ℕ) (d : ℤ) → IsLabelTree nodes s claim pred b labelled → AreLabelledBelow claim labelled root → labelled root ≡ false → claim u ≡ Some d → LeadsBack pred u root → labelled u ≡ false → labelled (pred u) ≡ true → Grown u d labelled
+    placed b labelled u d is below not_labelled named leads new from = (with_label b l, after, grown nodes s claim pred b labelled u is new d after node from next named lawful adds here others, keeps, here, only)
       where
         l : Label
         l = record { dist = d; id = u; pred = pred u }
@@ -89,7 +93,7 @@ module _ (nodes s : ℕ) (claim : ℕ → Option ℤ) (pred : ℕ → ℕ) (smal
         near = subst (λ radius. IsWithinRadius radius d) (sym is.whole) tt
 
         lawful : IsBlock nodes (with_label b l)
-        lawful = block_push nodes b l is.lawful (record { id = node; dist = are.wide u d named low; pred = is.inside (pred u) from }) (few nodes s claim pred b labelled u is new small node) (ap is_some none) (pred_labelled nodes s claim pred b labelled u is new from) near
+        lawful = block_push nodes b l is.lawful (record { id = node; dist = are.wide u d named; pred = is.inside (pred u) from }) (few nodes s claim pred b labelled u is new small node) (ap is_some none) (pred_labelled nodes s claim pred b labelled u is new from) near
 
         keeps : Keeps labelled after
         keeps v h = elim (cases_eq v u) [ inl same ↦ ap after same ∙ here | inr apart ↦ others v apart ∙ h ]
@@ -105,8 +109,8 @@ module _ (nodes s : ℕ) (claim : ℕ → Option ℤ) (pred : ℕ → ℕ) (smal
     nearer_too labelled w c d e less (inr near) = inr (omega (arith, ints, near, less))
 
     --     the label of u, after those of the way back from its predecessor
-    with_parent : (b : BlockValue) (labelled : ℕ → Bool) (u : ℕ) (d e : ℤ) → AreLabelledBelow claim labelled root → labelled root ≡ false → claim u ≡ Some d → d ≤ℤ far → LeadsBack pred u root → pos 0 ≤ℤ e → e <ℤ d → Grown (pred u) e labelled → Grown u d labelled
-    with_parent b labelled u d e below not_labelled named close leads low less (b', after, tree, keeps, there, only) =
+    with_parent : (b : BlockValue) (labelled : ℕ → Bool) (u : ℕ) (d e : ℤ) → AreLabelledBelow claim labelled root → labelled root ≡ false → claim u ≡ Some d → d ≤ℤ far → LeadsBack pred u root → e <ℤ d → Grown (pred u) e labelled → Grown u d labelled
+    with_parent b labelled u d e below not_labelled named close leads less (b', after, tree, keeps, there, only) =
         let still : after root ≡ false = elim (cases_Bool (after root)) [
           | inr off ↦ off
           | inl on ↦ elim (only root far on rooted) [
@@ -118,7 +122,7 @@ module _ (nodes s : ℕ) (claim : ℕ → Option ℤ) (pred : ℕ → ℕ) (smal
         elim (cases_Bool (after u)) [
           | inl on ↦ (b', after, tree, keeps, on, λ w c h at. nearer_too labelled w c d e less (only w c h at))
           | inr off ↦
-              let (b'', last, whole, more, here, beyond) = placed b' after u d tree lower still named (omega (arith, ints, low, less)) leads off there in
+              let (b'', last, whole, more, here, beyond) = placed b' after u d tree lower still named leads off there in
               (b'', last, whole, λ v h. more v (keeps v h), here, λ w c h at. elim (beyond w c h at) [ inl was ↦ nearer_too labelled w c d e less (only w c was at) | inr near ↦ inr near ])
         ]
 
@@ -126,16 +130,16 @@ module _ (nodes s : ℕ) (claim : ℕ → Option ℤ) (pred : ℕ → ℕ) (smal
     not_the_source b labelled u is off e = let f : true ≡ false = sym (source_labelled nodes s claim pred b labelled is).0 ∙ (ap labelled (sym e) ∙ off) in absurd (cc)
 
     --     the labels of the way back from u, itself on the way from the root
-    climbed : (fuel : ℕ) (b : BlockValue) (labelled : ℕ → Bool) (u : ℕ) (d : ℤ) → IsLabelTree nodes s claim pred b labelled → AreLabelledBelow claim labelled root → labelled root ≡ false → claim u ≡ Some d → d ≤ℤ pos fuel → d ≤ℤ far → LeadsBack pred u root → Grown u d labelled
+    climbed : (fuel : ℕ) (b : BlockValue) (labelled : ℕ → Bool) (u : ℕ) (d : ℤ) → IsLabelTree nodes s claim pred b labelled → AreLabelledBelow claim labelled root → labelled root ≡ false → claim u ≡ Some d → (d +ℤ pos (10 ^ 30)) ≤ℤ pos fuel → d ≤ℤ far → LeadsBack pred u root → Grown u d labelled
     climbed zero b labelled u d is below not_labelled named most close leads = elim (cases_Bool (labelled u)) [
       | inl on ↦ (b, labelled, is, λ v h. h, on, λ w c h at. inl h)
-      | inr off ↦ (let (e, from, low, less) = are.nearer u d (not_the_source b labelled u is off) named in absurd (omega (arith, ints, most, low, less)))
+      | inr off ↦ (let (e, from, less) = are.nearer u d (not_the_source b labelled u is off) named in absurd (omega (arith, ints, most, (are.wide (pred u) e from).0, less)))
     ]
     climbed (suc k) b labelled u d is below not_labelled named most close leads = elim (cases_Bool (labelled u)) [
       | inl on ↦ (b, labelled, is, λ v h. h, on, λ w c h at. inl h)
       | inr off ↦
-          let (e, from, low, less) = are.nearer u d (not_the_source b labelled u is off) named in
-          with_parent b labelled u d e below not_labelled named close leads low less (climbed k b labelled (pred u) e is below not_labelled from (omega (arith, ints, most, less)) (omega (arith, ints, close, less)) (leads_more pred u root leads))
+          let (e, from, less) = are.nearer u d (not_the_source b labelled u is off) named in
+          with_parent b labelled u d e below not_labelled named close leads less (climbed k b labelled (pred u) e is below not_labelled from (omega (arith, ints, most, less)) (omega (arith, ints, close, less)) (leads_more pred u root leads))
     ]
 
   --   all nodes before n with a distance are labelled
@@ -167,8 +171,8 @@ module _ (nodes s : ℕ) (claim : ℕ → Option ℤ) (pred : ℕ → ℕ) (smal
       | inl some ↦
           let (d, named) = some_value (claim n) some in
           let apart : n ≢ s = λ e. (let f : true ≡ false = sym (source_labelled nodes s claim pred b labelled is).0 ∙ (ap labelled (sym e) ∙ off) in cc) in
-          let (e, from, low, less) = are.nearer n d apart named in
-          let (k, is_k) = natural d (omega (arith, ints, low, less)) in
+          let (e, from, less) = are.nearer n d apart named in
+          let (k, is_k) = above d (are.wide n d named) in
           let (b', after, tree, keeps, here, only) = climbed n d named k b labelled n d is below off named (omega (arith, ints, is_k)) (omega (arith, ints)) (zero, refl) in
           (b', after, tree, with_node n labelled after keeps below (λ some. here))
     ]
@@ -185,7 +189,7 @@ module _ (nodes s : ℕ) (claim : ℕ → Option ℤ) (pred : ℕ → ℕ) (smal
       | inr none ↦ (let free : ¬ NeedsPredecessor s claim v = λ due. (let f : true ≡ false = sym due.1 ∙ none in cc) in inr (free, are.others v free))
       | inl some ↦
           let (d, named) = some_value (claim v) some in
-          let (e, from, low, less) = are.nearer v d apart named in
+          let (e, from, less) = are.nearer v d apart named in
           inl ((apart, some), are.inside (pred v) (ap is_some from))
     ]
   ]

@@ -20,7 +20,8 @@ use Rattle.dimacs_arrays.specs.declared.graph.GraphArrays.{GraphArrays}
 use Rattle.dimacs_arrays.specs.declared.solve_paths.PathsSolved.{PathsSolved}
 use Rattle.dimacs_arrays.specs.Answers.{AnswersArrays, length_of}
 use Rattle.dimacs_arrays.specs.Limits.{count_rows, limit_row}
-use Rattle.dimacs_arrays.specs.Paths.{CertifiesByNode, JudgesByNode, SolvesByNode, pred_by_node}
+use Rattle.dimacs_decide.specs.Predecessors.{pred_by_node}
+use Rattle.dimacs_arrays.specs.Paths.{CertifiesByNode, JudgesByNode, SolvesByNode}
 
 -- the arc with this index
 abbrev pub weighted_arc : GraphArrays → ℕ → ArcView

@@ -1,5 +1,5 @@
 -- Distances and predecessors by node, and the labels that they spell.
-use Rattle.std.specs.Prelude.{ℕ, zero, suc, ◌≡◌, ◌≢◌, ◌-◌, ◌^◌, ◌⊎◌, List, [], ◌∷◌, All, Contains, get_or, length, Option, None, Result, Ok, Err, ℤ, pos}
+use Rattle.std.specs.Prelude.{ℕ, ◌≡◌, ◌≢◌, ◌-◌, ◌^◌, ◌⊎◌, List, [], ◌∷◌, All, Contains, length, Option, None, Result, Ok, Err, ℤ, pos}
 use Rattle.std.specs.Global.{Vec}
 use Rattle.std.specs.Result.{IsErrAnd}
 use Rattle.dimacs_lines.specs.Limits.{IsNode}
@@ -19,15 +19,10 @@ use Rattle.dimacs_judging.specs.declared.verdict.Verdict.{Verdict}
 use Rattle.dimacs_judging.specs.declared.verdict.Where.TheVariants.{Arc}
 use Rattle.dimacs_decide.specs.Claims.{claimed_by_node}
 use Rattle.dimacs_decide.specs.Distances.{AreDistancesFrom, claim_rows, source_row}
-use Rattle.dimacs_decide.specs.Predecessors.{IsNext, NeedsPredecessor, back_row}
+use Rattle.dimacs_decide.specs.Predecessors.{IsNext, NeedsPredecessor, back_row, pred_by_node}
 use Rattle.dimacs_solve.specs.Paths.{AreProduced, HasNoNegativeWeight, IsFirstNegative}
 use Rattle.dimacs_arrays.specs.declared.solve_paths.PathsSolved.{PathsSolved}
 use Rattle.dimacs_arrays.specs.declared.solve_paths.PathsSolved.TheVariants.{Distances, Wide}
-
--- the predecessor of node v is item v - 1; 0 past the end
-abbrev pub pred_by_node : List ℕ → ℕ → ℕ
-pred_by_node preds zero = 0
-pred_by_node preds (suc k) = get_or preds k 0
 
 -- the predecessor is a node if one is needed, otherwise 0
 abbrev pub IsPred : ℕ → ℕ → (ℕ → Option ℤ) → ℕ → ℕ → Type 0

@@ -4,7 +4,8 @@ ghost use Rattle.std.specs.Prelude.{◌≡◌, ◌∷◌, [], length, IfOk};
 ghost use Rattle.dimacs_lines.specs.Limits.{IsNode};
 ghost use Rattle.dimacs_instance.specs.QueryTexts.{Sources, asked};
 ghost use Rattle.dimacs_decide.specs.Claims.{claimed_by_node};
-ghost use Rattle.dimacs_arrays.specs.Paths.{CertifiesByNode, JudgesByNode, pred_by_node};
+ghost use Rattle.dimacs_decide.specs.Predecessors.{pred_by_node};
+ghost use Rattle.dimacs_arrays.specs.Paths.{CertifiesByNode, JudgesByNode};
 
 use crate::labels::labels_by_node;
 use crate::predecessors::predecessors_of;

@@ -4,13 +4,12 @@ ghost use Rattle.std.specs.Prelude.{◌≡◌, ◌≤◌, ◌↔◌, length, IfO
 ghost use Rattle.dimacs_lines.specs.Limits.{most_nodes, IsNode};
 ghost use Rattle.dimacs_judging.specs.Tests.{Settles, TestsRow};
 ghost use Rattle.dimacs_decide.specs.Claims.{claimed_by_node};
-ghost use Rattle.dimacs_arrays.specs.Paths.{AreInOrder, AreLabelsBy, IsPred, label_rows, pred_by_node, pred_row};
+ghost use Rattle.dimacs_decide.specs.Predecessors.{pred_by_node};
+ghost use Rattle.dimacs_arrays.specs.Paths.{AreInOrder, AreLabelsBy, IsPred, label_rows, pred_row};
 
-use crate::proposed::{ProposedByNode, distance_of, predecessor_of};
 use dimacs_claims::Labels;
-use dimacs_decide::{DistancesByNode, labelled_block, source_holds};
+use dimacs_decide::{DistanceClaim, DistancesByNode, labelled_block, predecessor_of, source_holds};
 use dimacs_judging::{JudgeError, Where};
-use dimacs_network::NodeTable;
 use dimacs_records::Reason;
 use std::alloc::Global;
 
@@ -33,15 +32,10 @@ pub(crate) fn labels_by_node(
     ensures labels { Settles (AreLabelsBy (length distances.now) source (claimed_by_node distances.now) (pred_by_node predecessors.now))
         (label_rows (length distances.now) source (claimed_by_node distances.now) (pred_by_node predecessors.now)) result }
 {
-    source_holds(source, &DistancesByNode { distances })?;
+    let claim = DistancesByNode { distances };
+    source_holds(source, &claim)?;
     predecessors_hold(source, distances, predecessors)?;
-    let labelled = NodeTable::new(alloc, false);
-    let proposed = ProposedByNode {
-        distances,
-        predecessors,
-        labelled,
-    };
-    let block = labelled_block(alloc, nodes, source, proposed)?;
+    let block = labelled_block(alloc, nodes, source, &claim, predecessors)?;
     let mut labels = Labels::new(alloc, nodes);
     labels.push(block)?;
     Ok(labels)
@@ -67,7 +61,7 @@ fn predecessors_hold(
 fn is_predecessor(source: u32, distances: &[i64], node: u32, predecessor: u32) -> bool
     ensures { IsTrue result ↔ IsPred (length distances.now) source (claimed_by_node distances.now) node predecessor }
 {
-    if node != source && distance_of(distances, node).is_some() {
+    if node != source && (DistancesByNode { distances }).of(node).is_some() {
         predecessor >= 1 && predecessor as usize <= distances.len()
     } else {
         predecessor == 0

@@ -28,7 +28,6 @@ mod min;
 mod over;
 mod paths_over;
 mod predecessors;
-mod proposed;
 mod solution;
 mod solve_max;
 mod solve_min;

@@ -27,6 +27,7 @@ use Rattle.dimacs_judging.proofs.LabelsPassing.{stays_near}
 use Rattle.dimacs_judging.proofs.Reasons.{one_relax}
 use Rattle.dimacs_decide.specs.Distances.{AreDistancesFrom, AreLabelsOf, DecidesDistances, IsTight, IsTightlyReached, claim_row, claim_rows, reach_row, source_row}
 use Rattle.dimacs_decide.specs.inside.DistanceBlocks.{DecidesBlock, IsBlockOf}
+use Rattle.dimacs_decide.specs.TightTails.{IsRelaxedBy}
 use Rattle.dimacs_decide.specs.inside.TightTrees.{IsTightTree, IsWholeTightTree, ReachesAll}
 
 -- ---- walks joined end to end
@@ -63,9 +64,6 @@ arc_holds g s a (Some c) (Some e) reason has t h (d, is, inr far) =
     omega (arith, ints, le, less, same_tail, same_head, weight_append t.walk (a ∷ []), t.weighs)
 
 -- ---- if no arc fails
-abbrev pub IsRelaxedBy : (ℕ → Option ℤ) → ArcView → Type 0
-IsRelaxedBy claim a = (d : ℤ) → claim a.tail ≡ Some d → (e : ℤ) × (claim a.head ≡ Some e) × (e ≤ℤ (d +ℤ a.cost))
-
 relaxed_at : (head : Option ℤ) (d w : ℤ) → ((reason : Reason) → ¬ RelaxFails None (Some d) head w reason) → (e : ℤ) × (head ≡ Some e) × (e ≤ℤ (d +ℤ w))
 relaxed_at None d w off = absurd (off Escapes (d, refl, inl (refl, refl, tt)))
 relaxed_at (Some e) d w off = (e, refl, by_lt_z (d +ℤ w) e (λ l. absurd (off NotShortest (d, refl, inr (refl, (e, refl, l))))) (λ le. le))

@@ -1,66 +1,81 @@
 -- Tails of tight arcs as predecessors.
-use Rattle.std.proofs.Common.{◌≡◌, ◌≢◌, inl, inr, ℕ, ◌<◌, ◌≤◌, false, length, get_or, List, [], ◌∷◌, ◌++◌, All, Contains, Option, Some, None, is_some, ℤ, ◌+ℤ◌, refl, sym, ap, subst, ◌∙◌, arith, lt-ltb}
-use Rattle.std.proofs.lemmas.Bool.{cases_eq, ne_eqb}
-use Rattle.std.proofs.lemmas.List.{append_assoc}
-use Rattle.std.proofs.lemmas.List.Elements.{All-cons, All-contains, All-from_get_or, All-get_or, All-nil}
-use Rattle.dimacs_lines.specs.Limits.{most_nodes, IsNode}
+use Rattle.std.proofs.Common.{◌≡◌, ◌≢◌, inl, inr, ℕ, zero, suc, ◌+◌, ◌-◌, ◌<◌, ◌≤◌, false, length, get_or, List, [], ◌∷◌, ◌++◌, All, Option, Some, None, is_some, ℤ, ◌+ℤ◌, refl, sym, ap, subst, ◌∙◌, arith}
+use Rattle.std.specs.Prelude.{slice_set}
+use Rattle.std.proofs.lemmas.Bool.{cases_eq, cases_order, ne_eqb}
+use Rattle.std.proofs.lemmas.List.{append_assoc, get_or-set_other, get_or-set_same}
+use Rattle.std.proofs.lemmas.List.Elements.{All-cons, All-from_get_or, All-get_or, All-nil, Contains-get_or}
+use Rattle.dimacs_lines.specs.Limits.{IsNode}
 use Rattle.dimacs_network.specs.declared.network.ArcView.{ArcView}
-use Rattle.dimacs_network.specs.Arcs.{JoinsNodes, NetworkValue}
+use Rattle.dimacs_network.specs.Arcs.{NetworkValue, arc_at, no_arc}
 use Rattle.dimacs_claims.specs.declared.block.Label.{Label}
 use Rattle.dimacs_claims.specs.Labels.{BlockValue, EachAfter, IsBlock, IsFresh, IsLabel, label, no_label}
 use Rattle.dimacs_claims.proofs.ByIdLemmas.{distance_in-at, fresh_apart}
 use Rattle.dimacs_records.specs.declared.reasons.Reason.{Reason}
 use Rattle.dimacs_judging.specs.Labels.{HasTightArc}
 use Rattle.dimacs_judging.specs.inside.Tests.{NamesReason}
-use Rattle.dimacs_decide.specs.Distances.{IsTight}
-use Rattle.dimacs_decide.specs.declared.tight_tails.TheConstants.{MARK}
-use Rattle.dimacs_decide.specs.inside.TightTails.{AreTightTails, HasTail, NotesTail, tail_in}
+use Rattle.dimacs_decide.specs.Predecessors.{pred_by_node}
+use Rattle.dimacs_decide.specs.TightTails.{AreTightTails, HasTail, IsPositiveTight, IsRelaxedBy}
 
--- ---- the arcs
 pub no_fault : (fails : Reason → Type 0) (outcome : Option Reason) → is_some outcome ≡ false → NamesReason fails outcome → (reason : Reason) → ¬ fails reason
 no_fault fails None none tells = tells
 no_fault fails (Some reason) none tells = absurd (cc)
 
+pub set_here : (preds : List ℕ) (u p : ℕ) → IsNode (length preds) u → pred_by_node (slice_set preds (u - 1) p) u ≡ p
+set_here preds zero p node = absurd (omega (arith, node.0))
+set_here preds (suc k) p node = let e : suc k - 1 ≡ k = omega arith in rw e (get_or-set_same preds k p 0 (omega (arith, node.1)))
+
+pub set_there : (preds : List ℕ) (u v p : ℕ) → 1 ≤ u → v ≢ u → pred_by_node (slice_set preds (u - 1) p) v ≡ pred_by_node preds v
+set_there preds u zero p some apart = refl
+set_there preds u (suc k) p some apart = get_or-set_other preds (u - 1) k p 0 (λ e. apart (omega (arith, e, some)))
+
+-- ---- the arcs so far
+pub record AreTightBelow (arcs : List ArcView) (claim : ℕ → Option ℤ) (tails : ℕ → ℕ) (n : ℕ) : Type 0 where
+  pub relaxed : (k : ℕ) → k < n → IsRelaxedBy claim (arc_at arcs k)
+  pub tight : AreTightTails arcs claim tails
+
+module _ (arcs : List ArcView) (claim : ℕ → Option ℤ) where
+  relaxed_more : (tails : ℕ → ℕ) (n : ℕ) → AreTightBelow arcs claim tails n → IsRelaxedBy claim (arc_at arcs n) → (k : ℕ) → k < n + 1 → IsRelaxedBy claim (arc_at arcs k)
+  relaxed_more tails n are here k less = elim (cases_order k n) [
+    | inl same ↦ subst (λ j. IsRelaxedBy claim (arc_at arcs j)) (sym same) here
+    | inr other ↦ elim other [
+      | inl before ↦ are.relaxed k before
+      | inr past ↦ absurd (omega (arith, past, less))
+    ]
+  ]
+
+  pub passes_more : (tails : ℕ → ℕ) (n : ℕ) → AreTightBelow arcs claim tails n → IsRelaxedBy claim (arc_at arcs n) → AreTightBelow arcs claim tails (n + 1)
+  passes_more tails n are here = record { relaxed = relaxed_more tails n are here; tight = are.tight }
+
+  pub tight_more : (preds : List ℕ) (n : ℕ) → n < length arcs → IsNode (length preds) (arc_at arcs n).head → AreTightBelow arcs claim (pred_by_node preds) n → IsRelaxedBy claim (arc_at arcs n) → ((d : ℤ) × IsPositiveTight claim (arc_at arcs n) d)
+      → AreTightBelow arcs claim (pred_by_node (slice_set preds ((arc_at arcs n).head - 1) (arc_at arcs n).tail)) (n + 1)
+  tight_more preds n inside node are here tight = record {
+    relaxed = relaxed_more (pred_by_node preds) n are here;
+    tight = λ v some. elim (cases_eq v a.head) [
+      | inl same ↦ subst (λ u. HasTail arcs claim u (pred_by_node after u)) (sym same) (a, Contains-get_or arcs n no_arc inside, sym (set_here preds a.head a.tail node), refl, tight)
+      | inr apart ↦
+          let kept = set_there preds a.head v a.tail node.0 apart in
+          subst (HasTail arcs claim v) (sym kept) (are.tight v (λ none. some (kept ∙ none)))
+    ];
+  }
+    where
+      a : ArcView
+      a = arc_at arcs n
+
+      after : List ℕ
+      after = slice_set preds (a.head - 1) a.tail
+
+  pub all_below : (tails : ℕ → ℕ) (n : ℕ) → length arcs ≤ n → AreTightBelow arcs claim tails n → All (IsRelaxedBy claim) arcs
+  all_below tails n over are = All-from_get_or (IsRelaxedBy claim) arcs no_arc (λ k inside. are.relaxed k (omega (arith, inside, over)))
+
 -- ---- the tails
-pub no_tails : (arcs : List ArcView) (claim : ℕ → Option ℤ) (tails : ℕ → ℕ) → ((v : ℕ) → tails v ≡ 0) → AreTightTails arcs claim tails
-no_tails arcs claim tails none v some = absurd (some (none v))
-
-pub tail_noted : (claim : ℕ → Option ℤ) (a : ArcView) (before after : ℕ → ℕ) → IsTight claim a → after a.head ≡ a.tail → ((v : ℕ) → v ≢ a.head → after v ≡ before v) → NotesTail claim a before after
-tail_noted claim a before after tight here others v = elim (cases_eq v a.head) [
-  | inl same ↦ inr (ap after same ∙ here, same, tight)
-  | inr apart ↦ inl (others v apart)
-]
-
-pub tails_more : (arcs : List ArcView) (claim : ℕ → Option ℤ) (a : ArcView) (before after : ℕ → ℕ) → Contains arcs a → NotesTail claim a before after → AreTightTails arcs claim before → AreTightTails arcs claim after
-tails_more arcs claim a before after has notes are v some = elim (notes v) [
-  | inl kept ↦ (let (b, within, tail, head, tight) = are v (λ none. some (kept ∙ none)) in (b, within, tail ∙ sym kept, head, tight))
-  | inr new ↦ (a, has, sym new.0, sym new.1, new.2)
-]
-
--- no tail is as great as the mark
-pub never_marked : (nodes : ℕ) (arcs : List ArcView) (claim : ℕ → Option ℤ) (tails : ℕ → ℕ) → All (JoinsNodes nodes) arcs → nodes ≤ most_nodes → AreTightTails arcs claim tails → (v : ℕ) → tails v < MARK
-never_marked nodes arcs claim tails joined small are v = elim (cases_eq (tails v) 0) [
-  | inl none ↦ omega (arith, none)
-  | inr some ↦
-      let (a, has, tail, head, tight) = are v some in
-      let ends : JoinsNodes nodes a = All-contains (JoinsNodes nodes) arcs a joined has in
-      omega (arith, ends.0.1, small, tail)
-]
-
--- without marks the tails themselves are the predecessors
-pub unmarked : (arcs : List ArcView) (claim : ℕ → Option ℤ) (tails : ℕ → ℕ) → ((v : ℕ) → tails v < MARK) → AreTightTails arcs claim tails → AreTightTails arcs claim (λ v. tail_in (tails v))
-unmarked arcs claim tails below are v some =
-    let same : tail_in (tails v) ≡ tails v = rw (lt-ltb (tails v) MARK (below v)) refl in
-    subst (HasTail arcs claim v) (sym same) (are v (λ none. some (same ∙ none)))
-
 -- only a node with a claim has a tail
 pub tails_claimed : (arcs : List ArcView) (claim : ℕ → Option ℤ) (tails : ℕ → ℕ) → AreTightTails arcs claim tails → (v : ℕ) → claim v ≡ None → tails v ≡ 0
 tails_claimed arcs claim tails are v none = elim (cases_eq (tails v) 0) [
-  | inl zero ↦ zero
+  | inl nothing ↦ nothing
   | inr some ↦
-      let (a, has, tail, head, tight) = are v some in
-      let (d, from, to) = tight in
-      let f : None ≡ Some (d +ℤ a.cost) = sym none ∙ (ap claim (sym head) ∙ to) in
+      let (a, has, tail, head, up) = are v some in
+      let (d, tight) = up in
+      let f : None ≡ Some (d +ℤ a.cost) = sym none ∙ (ap claim (sym head) ∙ tight.head) in
       absurd (cc)
 ]
 
@@ -85,12 +100,12 @@ module _ (g : NetworkValue) (claim : ℕ → Option ℤ) (tails : ℕ → ℕ) (
       let own : IsLabel g.nodes l = All-get_or (IsLabel g.nodes) b.labels k no_label inside lawful.within in
       let named : claim l.id ≡ Some l.dist = sym (agrees l.id own.id) ∙ own_label g.nodes b lawful k inside in
       let from : l.pred ≡ tails l.id = All-get_or (λ (m : Label). m.pred ≡ tails m.id) b.labels k no_label inside preds in
-      let (a, has, tail, head, tight) = are l.id (λ none. omega (arith, own.pred.0, from, none)) in
-      let (d, at, to) = tight in
-      let both : Some (d +ℤ a.cost) ≡ Some l.dist = sym to ∙ (ap claim head ∙ named) in
+      let (a, has, tail, head, up) = are l.id (λ none. omega (arith, own.pred.0, from, none)) in
+      let (d, tight) = up in
+      let both : Some (d +ℤ a.cost) ≡ Some l.dist = sym tight.head ∙ (ap claim head ∙ named) in
       let adds : d +ℤ a.cost ≡ l.dist = cc in
       let start : a.tail ≡ l.pred = tail ∙ sym from in
-      (d, agrees l.pred own.pred ∙ (ap claim (sym start) ∙ at), record { arc = a; present = has; from = start; to = head; adds = adds })
+      (d, agrees l.pred own.pred ∙ (ap claim (sym start) ∙ tight.tail), record { arc = a; present = has; from = start; to = head; adds = adds })
 
   pub all_tight : All (HasTightArc g.arcs b) b.labels
   all_tight = All-from_get_or (HasTightArc g.arcs b) b.labels no_label tight_at

@@ -1,10 +1,15 @@
 -- Predecessors of nodes, and where they lead.
-use Rattle.std.specs.Prelude.{ℕ, zero, suc, ◌≡◌, ◌≢◌, ◌<◌, List, Option, None, IsSome, ℤ}
+use Rattle.std.specs.Prelude.{ℕ, zero, suc, ◌≡◌, ◌≢◌, ◌<◌, List, get_or, Option, None, IsSome, ℤ}
 use Rattle.dimacs_records.specs.declared.reasons.Reason.TheVariants.{PredUnknown}
 use Rattle.dimacs_claims.specs.declared.block.Label.{Label}
 use Rattle.dimacs_claims.specs.Labels.{distance_in}
 use Rattle.dimacs_judging.specs.Rows.{node_row}
 use Rattle.dimacs_judging.specs.Tests.{Row}
+
+-- the predecessor of node v is item v - 1; 0 past the end
+abbrev pub pred_by_node : List ℕ → ℕ → ℕ
+pred_by_node preds zero = 0
+pred_by_node preds (suc k) = get_or preds k 0
 
 -- the node that this many steps lead to, each from a node to its predecessor
 abbrev pub back : (ℕ → ℕ) → ℕ → ℕ → ℕ

@@ -1,73 +1,46 @@
-//! Labels from claimed distances and proposed predecessors, each after the label of its predecessor.
+//! Labels from claimed distances and predecessors by node, each after the label of its predecessor.
 
-ghost use Rattle.std.specs.Prelude.{◌≡◌, ◌≢◌, ◌≤◌, ◌↔◌, ℕ, ℤ, Bool, All, Option, None, Some, false, true, length, pos};
-ghost use Rattle.std.specs.Prelude.{IfErr, IfOk, IfSome, IsSome, IsTrue, OnOk};
+ghost use Rattle.std.specs.Prelude.{◌≡◌, ◌≤◌, ◌↔◌, ℕ, All, None, Some, false, true, length, pos, IfErr, IfOk, IsSome, IsTrue, OnOk};
 ghost use Rattle.dimacs_lines.specs.Limits.{most_nodes, IsNode};
-ghost use Rattle.dimacs_records.specs.Ranges.{IsWide};
 ghost use Rattle.dimacs_claims.specs.declared.block.Label.{Label};
 ghost use Rattle.dimacs_claims.specs.Labels.{EachAfter, IsBlock, label};
 ghost use Rattle.dimacs_judging.specs.Tests.{FirstOfRow, Refuses};
-ghost use Rattle.dimacs_decide.specs.Predecessors.{IsNext, back_row};
+ghost use Rattle.dimacs_network.specs.Tables.{value_of};
+ghost use Rattle.dimacs_decide.specs.Predecessors.{IsNext, back_row, pred_by_node};
 ghost use Rattle.dimacs_decide.specs.inside.LabelTrees.{AreLabelledBelow, AreOff, EndsPath, IsLabelTree, IsPathBack, IsProposed, Keeps, Leads, Places};
 
+use crate::claim::DistanceClaim;
+use crate::predecessors::predecessor_of;
 use dimacs_claims::{Block, Label};
 use dimacs_judging::{JudgeError, Where};
 use dimacs_lines::Memory;
+use dimacs_network::NodeTable;
 use dimacs_records::Reason;
 use std::alloc::Global;
 
-/// A distance and a predecessor for each node, in any form, and marks of the nodes that have a label.
-pub trait Proposal: Drop {
-    ghost claimed: { Self → ℕ → Option ℤ };
-
-    ghost pred: { Self → ℕ → ℕ };
-
-    ghost labelled: { Self → ℕ → Bool };
-
-    /// The distance of a node, if it has one.
-    fn distance(&self, id: u32) -> Option<i128>
-        ensures claimed { result ≡ claimed self.now id }
-        ensures wide { IfSome result IsWide };
-
-    /// The predecessor of a node; 0 if it has none.
-    fn predecessor(&self, id: u32) -> u32
-        ensures { result ≡ pred self.now id };
-
-    fn is_labelled(&self, id: u32) -> bool
-        ensures { result ≡ labelled self.now id };
-
-    /// Marks a node.
-    fn set_labelled(&mut self, id: u32) -> Result<(), Memory>
-        requires { IsSome (claimed self.old id) }
-        ensures claimed { claimed self.new ≡ claimed self.old }
-        ensures pred { pred self.new ≡ pred self.old }
-        ensures marked { OnOk result (labelled self.new id ≡ true) }
-        ensures others { OnOk result ((other : ℕ) → other ≢ id → labelled self.new other ≡ labelled self.old other) };
-}
-
 /// The labels of all nodes with a distance, ordered by ID, but each after that of its predecessor. Refuses the first
 /// node that doesn't lead back to the source. Takes time in proportion to the nodes.
-pub fn labelled_block<P: Proposal>(
+pub fn labelled_block<C: DistanceClaim>(
     alloc: Global,
     nodes: u32,
     source: u32,
-    proposal: P,
+    claim: &C,
+    predecessors: &[u32],
 ) -> Result<Block, JudgeError>
     requires node_limit { nodes ≤ most_nodes }
     requires source { IsNode nodes source }
-    requires distance { P.claimed proposal source ≡ Some (pos 0) }
-    requires within { (v : ℕ) → IsSome (P.claimed proposal v) → IsNode nodes v }
-    requires preds { (v : ℕ) → P.claimed proposal v ≡ None → P.pred proposal v ≡ 0 }
-    requires unlabelled { (v : ℕ) → P.labelled proposal v ≡ false }
+    requires distance { C.claimed claim.now source ≡ Some (pos 0) }
+    requires within { (v : ℕ) → IsSome (C.claimed claim.now v) → IsNode nodes v }
+    requires preds { (v : ℕ) → C.claimed claim.now v ≡ None → pred_by_node predecessors.now v ≡ 0 }
     ensures lawful { IfOk result (IsBlock nodes) }
     ensures source { IfOk result (λ block. block.source ≡ source) }
     ensures whole { IfOk result (λ block. block.radius ≡ None) }
-    ensures agrees { IfOk result (λ block. (v : ℕ) → label block v ≡ P.claimed proposal v) }
-    ensures preds { IfOk result (λ block. All (λ (l : Label). l.pred ≡ P.pred proposal l.id) block.labels) }
-    ensures order { IfOk result (λ block. EachAfter (IsNext source (P.claimed proposal) (P.pred proposal)) block.labels) }
-    ensures first { IfErr result (Refuses (FirstOfRow (back_row nodes source (P.claimed proposal) (P.pred proposal)))) }
+    ensures agrees { IfOk result (λ block. (v : ℕ) → label block v ≡ C.claimed claim.now v) }
+    ensures preds { IfOk result (λ block. All (λ (l : Label). l.pred ≡ pred_by_node predecessors.now l.id) block.labels) }
+    ensures order { IfOk result (λ block. EachAfter (IsNext source (C.claimed claim.now) (pred_by_node predecessors.now)) block.labels) }
+    ensures first { IfErr result (Refuses (FirstOfRow (back_row nodes source (C.claimed claim.now) (pred_by_node predecessors.now)))) }
 {
-    let mut tree = LabelTree::new(alloc, nodes, source, proposal)?;
+    let mut tree = LabelTree::new(alloc, nodes, source, claim, predecessors)?;
     for v in 1..nodes + 1 {
         if !tree.label_from(nodes, v)? {
             return Err(JudgeError::Refused(Where::Node(v), Reason::PredUnknown));
@@ -78,30 +51,40 @@ pub fn labelled_block<P: Proposal>(
 
 /// A block in which each label comes after that of its predecessor. Its source counts as labelled.
 #[derive(Drop)]
-struct LabelTree<P: Proposal> {
+struct LabelTree<'a, C: DistanceClaim> {
+    claim: &'a C,
+    predecessors: &'a [u32],
     block: Block,
-    proposal: P,
+    labelled: NodeTable<bool>,
     /// The path back from a node, as far as it has no labels.
     path: Vec<u32>,
 }
 
-impl<P: Proposal> LabelTree<P> {
-    /// The block without labels. No node is labelled yet.
-    fn new(alloc: Global, nodes: u32, source: u32, proposal: P) -> Result<LabelTree<P>, Memory>
+impl<'a, C: DistanceClaim> LabelTree<'a, C> {
+    /// The block without labels.
+    fn new(
+        alloc: Global,
+        nodes: u32,
+        source: u32,
+        claim: &'a C,
+        predecessors: &'a [u32],
+    ) -> Result<LabelTree<'a, C>, Memory>
         requires source { IsNode nodes source }
-        requires distance { P.claimed proposal source ≡ Some (pos 0) }
-        requires unlabelled { (v : ℕ) → P.labelled proposal v ≡ false }
-        ensures claimed { IfOk result (λ tree. P.claimed tree.proposal ≡ P.claimed proposal) }
-        ensures pred { IfOk result (λ tree. P.pred tree.proposal ≡ P.pred proposal) }
-        ensures tree { IfOk result (λ tree. IsLabelTree nodes source (P.claimed proposal) (P.pred proposal) tree.block (P.labelled tree.proposal)) }
+        requires distance { C.claimed claim.now source ≡ Some (pos 0) }
+        ensures claim { IfOk result (λ tree. tree.claim.now ≡ claim.now) }
+        ensures predecessors { IfOk result (λ tree. tree.predecessors.now ≡ predecessors.now) }
+        ensures tree { IfOk result (λ tree. IsLabelTree nodes source (C.claimed claim.now) (pred_by_node predecessors.now)
+            tree.block (value_of tree.labelled)) }
     {
-        let mut proposal = proposal;
-        proposal.set_labelled(source)?;
+        let mut labelled = NodeTable::new(alloc, false);
+        labelled.set(source, true)?;
         let block = Block::new(alloc, source);
         let path = Vec::new(alloc);
         Ok(LabelTree {
+            claim,
+            predecessors,
             block,
-            proposal,
+            labelled,
             path,
         })
     }
@@ -110,21 +93,21 @@ impl<P: Proposal> LabelTree<P> {
     /// if the node has no distance.
     #[inline(always)]
     fn label_from(&mut self, nodes: u32, from: u32) -> Result<bool, Memory>
-        requires proposed { IsProposed nodes (P.claimed self.old.proposal) (P.pred self.old.proposal) }
-        requires tree { IsLabelTree nodes self.old.block.source (P.claimed self.old.proposal) (P.pred self.old.proposal)
-            self.old.block (P.labelled self.old.proposal) }
-        requires earlier { AreLabelledBelow (P.claimed self.old.proposal) (P.labelled self.old.proposal) from }
-        ensures claimed { P.claimed self.new.proposal ≡ P.claimed self.old.proposal }
-        ensures pred { P.pred self.new.proposal ≡ P.pred self.old.proposal }
-        ensures tree { OnOk result (IsLabelTree nodes self.old.block.source (P.claimed self.old.proposal) (P.pred self.old.proposal)
-            self.new.block (P.labelled self.new.proposal)) }
-        ensures keeps { OnOk result (Keeps (P.labelled self.old.proposal) (P.labelled self.new.proposal)) }
-        ensures labelled { IfOk result (Leads (P.pred self.old.proposal) self.old.block.source (P.claimed self.old.proposal)
-            (P.labelled self.new.proposal) from) }
+        requires proposed { IsProposed nodes (C.claimed self.old.claim.now) (pred_by_node self.old.predecessors.now) }
+        requires tree { IsLabelTree nodes self.old.block.source (C.claimed self.old.claim.now) (pred_by_node self.old.predecessors.now)
+            self.old.block (value_of self.old.labelled) }
+        requires earlier { AreLabelledBelow (C.claimed self.old.claim.now) (value_of self.old.labelled) from }
+        ensures claim { self.new.claim.now ≡ self.old.claim.now }
+        ensures predecessors { self.new.predecessors.now ≡ self.old.predecessors.now }
+        ensures tree { OnOk result (IsLabelTree nodes self.old.block.source (C.claimed self.old.claim.now) (pred_by_node self.old.predecessors.now)
+            self.new.block (value_of self.new.labelled)) }
+        ensures keeps { OnOk result (Keeps (value_of self.old.labelled) (value_of self.new.labelled)) }
+        ensures labelled { IfOk result (Leads (pred_by_node self.old.predecessors.now) self.old.block.source (C.claimed self.old.claim.now)
+            (value_of self.new.labelled) from) }
     {
         let end = self.climb(nodes, from)?;
-        if !self.proposal.is_labelled(end) {
-            return Ok(self.proposal.distance(from).is_none());
+        if !self.labelled.get(end) {
+            return Ok(self.claim.of(from).is_none());
         }
         while let Some(node) = self.path.pop() {
             self.place(nodes, node)?;
@@ -137,55 +120,55 @@ impl<P: Proposal> LabelTree<P> {
     #[inline(always)]
     fn climb(&mut self, nodes: u32, from: u32) -> Result<u32, Memory>
         ensures block { self.new.block ≡ self.old.block }
-        ensures proposal { self.new.proposal ≡ self.old.proposal }
-        ensures path { IfOk result (IsPathBack (P.claimed self.old.proposal) (P.pred self.old.proposal) from self.new.path.items) }
-        ensures off { OnOk result (AreOff (P.labelled self.old.proposal) self.new.path.items) }
-        ensures ends { IfOk result (EndsPath nodes (P.claimed self.old.proposal) (P.labelled self.old.proposal) (length self.new.path.items)) }
+        ensures claim { self.new.claim.now ≡ self.old.claim.now }
+        ensures predecessors { self.new.predecessors.now ≡ self.old.predecessors.now }
+        ensures labelled { self.new.labelled ≡ self.old.labelled }
+        ensures path { IfOk result (IsPathBack (C.claimed self.old.claim.now) (pred_by_node self.old.predecessors.now) from self.new.path.items) }
+        ensures off { OnOk result (AreOff (value_of self.old.labelled) self.new.path.items) }
+        ensures ends { IfOk result (EndsPath nodes (C.claimed self.old.claim.now) (value_of self.old.labelled) (length self.new.path.items)) }
     {
         self.path.clear();
         let mut at = from;
         while self.goes_on(nodes, at) {
             self.path.push(at)?;
-            at = self.proposal.predecessor(at);
+            at = predecessor_of(self.predecessors, at);
         }
         Ok(at)
     }
 
     #[inline(always)]
     fn goes_on(&self, nodes: u32, at: u32) -> bool
-        ensures { IsTrue result ↔ (IsSome (P.claimed self.now.proposal at) × (P.labelled self.now.proposal at ≡ false)
+        ensures { IsTrue result ↔ (IsSome (C.claimed self.now.claim.now at) × (value_of self.now.labelled at ≡ false)
             × (length self.now.path.items ≤ nodes)) }
     {
-        self.proposal.distance(at).is_some()
-            && !self.proposal.is_labelled(at)
-            && self.path.len() <= nodes as usize
+        self.claim.of(at).is_some() && !self.labelled.get(at) && self.path.len() <= nodes as usize
     }
 
     /// Adds the label of a node with a distance, if it has none yet. Its predecessor has to be labelled.
     #[inline(always)]
     fn place(&mut self, nodes: u32, node: u32) -> Result<(), Memory>
-        requires proposed { IsProposed nodes (P.claimed self.old.proposal) (P.pred self.old.proposal) }
-        requires tree { IsLabelTree nodes self.old.block.source (P.claimed self.old.proposal) (P.pred self.old.proposal)
-            self.old.block (P.labelled self.old.proposal) }
-        requires distance { IsSome (P.claimed self.old.proposal node) }
+        requires proposed { IsProposed nodes (C.claimed self.old.claim.now) (pred_by_node self.old.predecessors.now) }
+        requires tree { IsLabelTree nodes self.old.block.source (C.claimed self.old.claim.now) (pred_by_node self.old.predecessors.now)
+            self.old.block (value_of self.old.labelled) }
+        requires distance { IsSome (C.claimed self.old.claim.now node) }
         requires next { (l : Label) → l.id ≡ node
-            → IsNext self.old.block.source (P.claimed self.old.proposal) (P.pred self.old.proposal) self.old.block.labels l }
-        requires labelled { P.labelled self.old.proposal (P.pred self.old.proposal node) ≡ true }
-        ensures claimed { P.claimed self.new.proposal ≡ P.claimed self.old.proposal }
-        ensures pred { P.pred self.new.proposal ≡ P.pred self.old.proposal }
-        ensures tree { OnOk result (IsLabelTree nodes self.old.block.source (P.claimed self.old.proposal) (P.pred self.old.proposal)
-            self.new.block (P.labelled self.new.proposal)) }
-        ensures placed { OnOk result (Places (P.labelled self.old.proposal) (P.labelled self.new.proposal) node) }
+            → IsNext self.old.block.source (C.claimed self.old.claim.now) (pred_by_node self.old.predecessors.now) self.old.block.labels l }
+        requires labelled { value_of self.old.labelled (pred_by_node self.old.predecessors.now node) ≡ true }
+        ensures claim { self.new.claim.now ≡ self.old.claim.now }
+        ensures predecessors { self.new.predecessors.now ≡ self.old.predecessors.now }
+        ensures tree { OnOk result (IsLabelTree nodes self.old.block.source (C.claimed self.old.claim.now) (pred_by_node self.old.predecessors.now)
+            self.new.block (value_of self.new.labelled)) }
+        ensures placed { OnOk result (Places (value_of self.old.labelled) (value_of self.new.labelled) node) }
         ensures path { self.new.path ≡ self.old.path }
     {
-        if self.proposal.is_labelled(node) {
+        if self.labelled.get(node) {
             return Ok(());
         }
-        let Some(dist) = self.proposal.distance(node) else {
+        let Some(dist) = self.claim.of(node) else {
             return Ok(());
         };
-        let pred = self.proposal.predecessor(node);
-        self.proposal.set_labelled(node)?;
+        let pred = predecessor_of(self.predecessors, node);
+        self.labelled.set(node, true)?;
         self.block.add(Label {
             dist,
             id: node,

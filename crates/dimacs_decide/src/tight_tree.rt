@@ -162,7 +162,7 @@ impl TightTree {
 
 /// The claim of the head of an arc, if the arc is tight.
 #[inline(always)]
-pub(crate) fn tight_dist<C: DistanceClaim>(claim: &C, arc: ArcView) -> Option<i128>
+fn tight_dist<C: DistanceClaim>(claim: &C, arc: ArcView) -> Option<i128>
     ensures tight { MatchOption result (¬ IsTight (C.claimed claim.now) arc)
         (λ dist. IsTight (C.claimed claim.now) arc × (C.claimed claim.now arc.head ≡ Some dist)) }
     ensures wide { IfSome result IsWide }

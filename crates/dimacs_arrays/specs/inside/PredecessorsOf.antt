@@ -2,7 +2,7 @@
 use Rattle.std.specs.Prelude.{ℕ, ◌≡◌, List, All, length, None}
 use Rattle.dimacs_claims.specs.declared.block.Label.{Label}
 use Rattle.dimacs_claims.specs.Labels.{distance_in}
-use Rattle.dimacs_arrays.specs.Paths.{pred_by_node}
+use Rattle.dimacs_decide.specs.Predecessors.{pred_by_node}
 
 -- the predecessor of each labelled node; 0 for the others
 pub record ArePredsOf (nodes : ℕ) (labels : List Label) (preds : List ℕ) : Type 0 where

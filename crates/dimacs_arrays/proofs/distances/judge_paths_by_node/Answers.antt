@@ -1,6 +1,6 @@
 use Rattle.std.proofs.Common.{inl}
 use Rattle.dimacs_decide.specs.Claims.{claimed_by_node}
-use Rattle.dimacs_arrays.specs.Paths.{pred_by_node}
+use Rattle.dimacs_decide.specs.Predecessors.{pred_by_node}
 use Rattle.dimacs_arrays.proofs.LabelLemmas.{unlabelled}
 use Rattle.dimacs_arrays.proofs.TightPredecessorLemmas.{tight_judged}
 use Rattle.dimacs_arrays.proofs.distances.judge_paths_by_node.Goals as goal

@@ -1,7 +1,8 @@
 use Rattle.std.proofs.Common.{length}
 use Rattle.dimacs_judging.specs.Tests.{ClearBelow}
 use Rattle.dimacs_decide.specs.Claims.{claimed_by_node}
-use Rattle.dimacs_arrays.specs.Paths.{pred_by_node, pred_row}
+use Rattle.dimacs_decide.specs.Predecessors.{pred_by_node}
+use Rattle.dimacs_arrays.specs.Paths.{pred_row}
 use Rattle.dimacs_arrays.proofs.labels.predecessors_hold.Given as goal
 
 abbrev pub invariant-loop-v : goal.invariant-loop-v

@@ -2,6 +2,8 @@ use Rattle.std.proofs.Common.{◌∙◌, IsSome, inl, inr, refl, sym, ap, subst,
 use Rattle.std.proofs.lemmas.Bool.{cases_order}
 use Rattle.dimacs_records.specs.declared.reasons.Reason.TheVariants.{PredUnknown}
 use Rattle.dimacs_judging.proofs.RowLemmas.{node_first}
+use Rattle.dimacs_network.specs.Tables.{value_of}
+use Rattle.dimacs_decide.specs.Predecessors.{pred_by_node}
 use Rattle.dimacs_decide.specs.inside.LabelTrees.{IsLabelTree}
 use Rattle.dimacs_decide.proofs.LabelTreeLemmas.{all_agree}
 use Rattle.dimacs_decide.proofs.PathBackLemmas.{labelled_so}
@@ -15,8 +17,8 @@ label_from-requires-clause-proposed g c =
 pub label_from-requires-clause-tree : goal.label_from-requires-clause-tree
 label_from-requires-clause-tree g c =
     let so_far = c.loop-v.invariant in
-    let proposal = c.args.proposal in
-    rw (so_far.same_claim, so_far.same_pred) (subst (λ s. IsLabelTree c.args.nodes s (g.P.Proposal.claimed proposal) (g.P.Proposal.pred proposal) c.loop-v.tree.block (g.P.Proposal.labelled c.loop-v.tree.proposal)) (sym so_far.tree.source) so_far.tree)
+    let claim = g.C.DistanceClaim.claimed c.args.claim.now in
+    rw (so_far.same_claim, so_far.same_pred) (subst (λ s. IsLabelTree c.args.nodes s claim (pred_by_node c.args.predecessors.now) c.loop-v.tree.block (value_of c.loop-v.tree.labelled)) (sym so_far.tree.source) so_far.tree)
 
 pub label_from-requires-clause-earlier : goal.label_from-requires-clause-earlier
 label_from-requires-clause-earlier g c =
@@ -33,13 +35,13 @@ returns-then-not-branch-clause-first g c =
 pub loop-v-preserved : goal.loop-v-preserved
 loop-v-preserved g c =
     let so_far = c.loop-v.invariant in
-    let claim = g.P.Proposal.claimed c.args.proposal in
+    let claim = g.C.DistanceClaim.claimed c.args.claim.now in
     let v = c.loop-v.v in
-    let after = g.P.Proposal.labelled c.label_from.new.self.proposal in
+    let after = value_of c.label_from.new.self.labelled in
     let labelled = rw (c.if-not-branch.false, so_far.same_claim) at c.in_ok-label_from.ensures.labelled in
     record {
-      same_claim = c.label_from.ensures.claimed ∙ so_far.same_claim;
-      same_pred = c.label_from.ensures.pred ∙ so_far.same_pred;
+      same_claim = c.label_from.ensures.claim ∙ so_far.same_claim;
+      same_pred = c.label_from.ensures.predecessors ∙ so_far.same_pred;
       tree = rw (so_far.same_claim, so_far.same_pred, so_far.tree.source) at c.in_ok-label_from.ensures.tree;
       labelled = λ u less some. elim (cases_order u v) [
         | inl same ↦ ap after same ∙ labelled_so claim after v labelled (subst (λ w. IsSome (claim w)) same some)
@@ -53,6 +55,6 @@ loop-v-preserved g c =
 pub returns-clause-agrees : goal.returns-clause-agrees
 returns-clause-agrees g c =
     let so_far = c.loop-v.invariant in
-    let claim = g.P.Proposal.claimed c.args.proposal in
-    all_agree c.args.nodes c.args.source claim (g.P.Proposal.pred c.args.proposal) c.loop-v.tree.block (g.P.Proposal.labelled c.loop-v.tree.proposal) so_far.tree
+    let claim = g.C.DistanceClaim.claimed c.args.claim.now in
+    all_agree c.args.nodes c.args.source claim (pred_by_node c.args.predecessors.now) c.loop-v.tree.block (value_of c.loop-v.tree.labelled) so_far.tree
     (λ v some. so_far.labelled v (omega (arith, (c.requires.within v some).1, c.loop-v-test.false)) some)

@@ -1,15 +1,16 @@
 use Rattle.std.proofs.Common.{◌≡◌}
+use Rattle.dimacs_network.specs.Tables.{value_of}
+use Rattle.dimacs_decide.specs.Predecessors.{pred_by_node}
 use Rattle.dimacs_decide.specs.inside.LabelTrees.{AreLabelledBelow, IsLabelTree}
 use Rattle.dimacs_decide.proofs.label_tree.labelled_block.Given as goal
 
 -- the nodes before v are labelled if they have a distance
 abbrev pub invariant-loop-v : goal.invariant-loop-v
 invariant-loop-v g l =
-    let claim = g.P.Proposal.claimed l.fn.proposal in
-    let pred = g.P.Proposal.pred l.fn.proposal in
+    let claim = g.C.DistanceClaim.claimed l.claim in
     record {
-      same_claim : g.P.Proposal.claimed l.tree.proposal ≡ claim;
-      same_pred : g.P.Proposal.pred l.tree.proposal ≡ pred;
-      tree : IsLabelTree l.nodes l.source claim pred l.tree.block (g.P.Proposal.labelled l.tree.proposal);
-      labelled : AreLabelledBelow claim (g.P.Proposal.labelled l.tree.proposal) l.v;
+      same_claim : l.tree.claim.now ≡ l.claim;
+      same_pred : l.tree.predecessors.now ≡ l.predecessors;
+      tree : IsLabelTree l.nodes l.source claim (pred_by_node l.predecessors) l.tree.block (value_of l.tree.labelled);
+      labelled : AreLabelledBelow claim (value_of l.tree.labelled) l.v;
     }

@@ -1,51 +1,46 @@
 use Rattle.std.proofs.Common.{◌≡◌, ◌∙◌, ◌∷◌, [], true, false, length, arith, ap, sym, subst}
 use Rattle.std.proofs.lemmas.List.{length-append}
-use Rattle.dimacs_decide.specs.Predecessors.{LeadsBack}
+use Rattle.dimacs_network.specs.Tables.{value_of}
+use Rattle.dimacs_decide.specs.Predecessors.{LeadsBack, pred_by_node}
 use Rattle.dimacs_decide.specs.inside.LabelTrees.{IsLabelTree}
 use Rattle.dimacs_decide.proofs.LabelTreeLemmas.{next_label, placed_keeps, source_labelled}
 use Rattle.dimacs_decide.proofs.PathBackLemmas.{comes_first, never_back, none_within, outcome, path_leads, root_apart, root_not_labelled, root_some, start_off, still_not_labelled, taken}
 use Rattle.dimacs_decide.proofs.label_tree.LabelTree.label_from.Goals as goal
 
-pub returns-then-not-is_labelled-clause-labelled : goal.returns-then-not-is_labelled-clause-labelled
-returns-then-not-is_labelled-clause-labelled g c =
-    let old = c.args.self.now.proposal in
-    let claim = g.P.Proposal.claimed old in
-    let pred = g.P.Proposal.pred old in
-    let labelled = g.P.Proposal.labelled old in
-    let b = c.args.self.now.block in
-    let same = c.climb.ensures.proposal in
+pub returns-then-not-get-clause-labelled : goal.returns-then-not-get-clause-labelled
+returns-then-not-get-clause-labelled g c =
+    let old = c.args.self.now in
+    let claim = g.C.DistanceClaim.claimed old.claim.now in
+    let pred = pred_by_node old.predecessors.now in
+    let labelled = value_of old.labelled in
+    let b = old.block in
     let source = source_labelled c.args.nodes b.source claim pred b labelled c.requires.tree in
-    let not_labelled : labelled c.in_ok-end.end ≡ false = subst (λ p. g.P.Proposal.labelled p c.in_ok-end.end ≡ false) same (sym c.if-not-is_labelled.ensures) in
+    let not_labelled : labelled c.in_ok-end.end ≡ false = rw c.climb.ensures.labelled at (sym c.if-not-get.ensures.value) in
     let within = c.requires.proposed.within in
     let off = never_back claim pred c.args.nodes b.source labelled c.args.from c.climb.new.self.path.items c.in_ok-end.end c.in_ok-end.ensures.path c.in_ok-end.ensures.off source.0 source.1
     within (none_within c.args.nodes claim pred within c.requires.proposed.preds) not_labelled c.in_ok-end.ensures.ends in
-    rw same (outcome claim pred b.source labelled c.args.from off c.distance.result (sym (subst (λ p. c.distance.result ≡ g.P.Proposal.claimed p c.args.from) same c.distance.ensures.claimed)) c.is_none.result c.is_none.ensures)
+    let distance : claim c.args.from ≡ c.of.result = sym (rw c.climb.ensures.claim at c.of.ensures.claimed) in
+    rw c.climb.ensures.labelled (outcome claim pred b.source labelled c.args.from off c.of.result distance c.is_none.result c.is_none.ensures)
 
-pub returns-then-not-is_labelled-clause-claimed : goal.returns-then-not-is_labelled-clause-claimed
-returns-then-not-is_labelled-clause-claimed g c = ap g.P.Proposal.claimed c.climb.ensures.proposal
+pub returns-then-not-get-clause-tree : goal.returns-then-not-get-clause-tree
+returns-then-not-get-clause-tree g c = rw (c.climb.ensures.labelled, c.climb.ensures.block) c.requires.tree
 
-pub returns-then-not-is_labelled-clause-pred : goal.returns-then-not-is_labelled-clause-pred
-returns-then-not-is_labelled-clause-pred g c = ap g.P.Proposal.pred c.climb.ensures.proposal
-
-pub returns-then-not-is_labelled-clause-tree : goal.returns-then-not-is_labelled-clause-tree
-returns-then-not-is_labelled-clause-tree g c = rw (c.climb.ensures.proposal, c.climb.ensures.block) c.requires.tree
-
-pub returns-then-not-is_labelled-clause-keeps : goal.returns-then-not-is_labelled-clause-keeps
-returns-then-not-is_labelled-clause-keeps g c = rw c.climb.ensures.proposal (λ v h. h)
+pub returns-then-not-get-clause-keeps : goal.returns-then-not-get-clause-keeps
+returns-then-not-get-clause-keeps g c = rw c.climb.ensures.labelled (λ v h. h)
 
 pub loop-node-init : goal.loop-node-init
 loop-node-init g c =
-    let old = c.args.self.now.proposal in
-    let claim = g.P.Proposal.claimed old in
-    let pred = g.P.Proposal.pred old in
-    let labelled = g.P.Proposal.labelled old in
+    let old = c.args.self.now in
+    let claim = g.C.DistanceClaim.claimed old.claim.now in
+    let pred = pred_by_node old.predecessors.now in
+    let labelled = value_of old.labelled in
     let path = c.climb.new.self.path.items in
     let end = c.in_ok-end.end in
-    let same = c.climb.ensures.proposal in
-    let on : labelled end ≡ true = subst (λ p. g.P.Proposal.labelled p end ≡ true) same (sym c.if-not-is_labelled.ensures) in
+    let same = c.climb.ensures.labelled in
+    let on : labelled end ≡ true = rw same at (sym c.if-not-get.ensures.value) in
     record {
-      same_claim = ap g.P.Proposal.claimed same;
-      same_pred = ap g.P.Proposal.pred same;
+      same_claim = c.climb.ensures.claim;
+      same_pred = c.climb.ensures.predecessors;
       tree = rw (same, c.climb.ensures.block) c.requires.tree;
       keeps = rw same (λ v h. h);
       path = (end, c.in_ok-end.ensures.path, rw same on);
@@ -61,24 +56,24 @@ place-requires-clause-proposed g c =
 pub place-requires-clause-tree : goal.place-requires-clause-tree
 place-requires-clause-tree g c =
     let so_far = c.loop-node.invariant in
-    let old = c.args.self.now.proposal in
-    rw (so_far.same_claim, so_far.same_pred) (subst (λ s. IsLabelTree c.args.nodes s (g.P.Proposal.claimed old) (g.P.Proposal.pred old) c.loop-node.self.block (g.P.Proposal.labelled c.loop-node.self.proposal)) (sym so_far.tree.source) so_far.tree)
+    let old = c.args.self.now in
+    rw (so_far.same_claim, so_far.same_pred) (subst (λ s. IsLabelTree c.args.nodes s (g.C.DistanceClaim.claimed old.claim.now) (pred_by_node old.predecessors.now) c.loop-node.self.block (value_of c.loop-node.self.labelled)) (sym so_far.tree.source) so_far.tree)
 
 pub place-requires-clause-distance : goal.place-requires-clause-distance
 place-requires-clause-distance g c =
     let so_far = c.loop-node.invariant in
-    let old = c.args.self.now.proposal in
-    let claim = g.P.Proposal.claimed old in
-    let pred = g.P.Proposal.pred old in
-    rw so_far.same_claim (taken claim pred (g.P.Proposal.labelled c.loop-node.self.proposal) c.args.from c.loop-node.self.path.items c.pop.new.self.items c.in-Some.node c.in-Some.ensures.items so_far.path so_far.once so_far.not_labelled).1
+    let old = c.args.self.now in
+    let claim = g.C.DistanceClaim.claimed old.claim.now in
+    let pred = pred_by_node old.predecessors.now in
+    rw so_far.same_claim (taken claim pred (value_of c.loop-node.self.labelled) c.args.from c.loop-node.self.path.items c.pop.new.self.items c.in-Some.node c.in-Some.ensures.items so_far.path so_far.once so_far.not_labelled).1
 
 pub place-requires-clause-next : goal.place-requires-clause-next
 place-requires-clause-next g c =
     let nodes = c.args.nodes in
-    let proposal = c.args.self.now.proposal in
-    let claim = g.P.Proposal.claimed proposal in
-    let pred = g.P.Proposal.pred proposal in
-    let labelled = g.P.Proposal.labelled c.loop-node.self.proposal in
+    let first = c.args.self.now in
+    let claim = g.C.DistanceClaim.claimed first.claim.now in
+    let pred = pred_by_node first.predecessors.now in
+    let labelled = value_of c.loop-node.self.labelled in
     let b = c.loop-node.self.block in
     let so_far = c.loop-node.invariant in
     let old = c.loop-node.self.path.items in
@@ -93,8 +88,8 @@ place-requires-clause-next g c =
 pub place-requires-clause-labelled : goal.place-requires-clause-labelled
 place-requires-clause-labelled g c =
     let so_far = c.loop-node.invariant in
-    let old = c.args.self.now.proposal in
-    rw so_far.same_pred (taken (g.P.Proposal.claimed old) (g.P.Proposal.pred old) (g.P.Proposal.labelled c.loop-node.self.proposal) c.args.from c.loop-node.self.path.items c.pop.new.self.items c.in-Some.node c.in-Some.ensures.items so_far.path so_far.once so_far.not_labelled).2
+    let old = c.args.self.now in
+    rw so_far.same_pred (taken (g.C.DistanceClaim.claimed old.claim.now) (pred_by_node old.predecessors.now) (value_of c.loop-node.self.labelled) c.args.from c.loop-node.self.path.items c.pop.new.self.items c.in-Some.node c.in-Some.ensures.items so_far.path so_far.once so_far.not_labelled).2
 
 pub loop-node-smaller : goal.loop-node-smaller
 loop-node-smaller g c =
@@ -102,11 +97,11 @@ loop-node-smaller g c =
 
 pub loop-node-preserved : goal.loop-node-preserved
 loop-node-preserved g c =
-    let proposal = c.args.self.now.proposal in
-    let claim = g.P.Proposal.claimed proposal in
-    let pred = g.P.Proposal.pred proposal in
-    let labelled = g.P.Proposal.labelled c.loop-node.self.proposal in
-    let after = g.P.Proposal.labelled c.place.new.self.proposal in
+    let first = c.args.self.now in
+    let claim = g.C.DistanceClaim.claimed first.claim.now in
+    let pred = pred_by_node first.predecessors.now in
+    let labelled = value_of c.loop-node.self.labelled in
+    let after = value_of c.place.new.self.labelled in
     let so_far = c.loop-node.invariant in
     let old = c.loop-node.self.path.items in
     let front = c.pop.new.self.items in
@@ -114,8 +109,8 @@ loop-node-preserved g c =
     let placed = c.in_ok-place.ensures.placed in
     let goes = taken claim pred labelled c.args.from old front node c.in-Some.ensures.items so_far.path so_far.once so_far.not_labelled in
     record {
-      same_claim = c.place.ensures.claimed ∙ so_far.same_claim;
-      same_pred = c.place.ensures.pred ∙ so_far.same_pred;
+      same_claim = c.place.ensures.claim ∙ so_far.same_claim;
+      same_pred = c.place.ensures.predecessors ∙ so_far.same_pred;
       tree = rw (so_far.same_claim, so_far.same_pred, so_far.tree.source) at c.in_ok-place.ensures.tree;
       keeps = λ v h. placed_keeps labelled after node placed v (so_far.keeps v h);
       path = rw c.place.ensures.path (node, goes.0, placed.0);

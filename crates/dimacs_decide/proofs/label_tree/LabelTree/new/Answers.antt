@@ -1,14 +1,12 @@
-use Rattle.std.proofs.Common.{◌∙◌, ap, is_some}
+use Rattle.std.proofs.Common.{◌∙◌}
+use Rattle.dimacs_network.specs.Tables.{value_of}
+use Rattle.dimacs_decide.specs.Predecessors.{pred_by_node}
 use Rattle.dimacs_decide.proofs.LabelTreeLemmas.{begun}
 use Rattle.dimacs_decide.proofs.label_tree.LabelTree.new.Goals as goal
 
-pub set_labelled-requires : goal.set_labelled-requires
-set_labelled-requires g c = ap is_some c.requires.distance
-
 pub returns-clause-tree : goal.returns-clause-tree
 returns-clause-tree g c =
-    let proposal = c.args.proposal in
-    let set = c.in_ok-set_labelled.ensures in
+    let set = c.in_ok-set.ensures in
     let lawful = rw c.new-block.ensures.empty at (c.new-block.ensures.lawful c.args.nodes c.requires.source) in
-    rw c.new-block.ensures.empty (begun c.args.nodes (g.P.Proposal.claimed proposal) (g.P.Proposal.pred proposal) c.args.source (g.P.Proposal.labelled c.set_labelled.new.self) c.requires.source c.requires.distance lawful
-    set.marked (λ v apart. set.others v apart ∙ c.requires.unlabelled v))
+    rw c.new-block.ensures.empty (begun c.args.nodes (g.C.DistanceClaim.claimed c.args.claim.now) (pred_by_node c.args.predecessors.now) c.args.source (value_of c.set.new.self) c.requires.source c.requires.distance lawful
+    set.set (λ v apart. set.others v apart ∙ c.new-labelled.ensures.values v))
