@@ -22,7 +22,7 @@ use Rattle.dimacs_decide.specs.FeasibilityDecision.{imbalance_at, total_excess}
 use Rattle.dimacs_decide.specs.inside.Augmentation.{IsSent, IsStuck}
 use Rattle.dimacs_decide.specs.declared.imbalance.ImbalanceSigns.{ImbalanceSigns}
 use Rattle.dimacs_decide.specs.declared.imbalance.ImbalanceSigns.TheVariants.{Even, Excess, Deficit}
-use Rattle.dimacs_decide.specs.inside.Imbalances.{AreImbalances, Stands}
+use Rattle.dimacs_decide.specs.inside.Imbalances.{AreImbalances, AreSigns}
 use Rattle.dimacs_decide.proofs.SumLemmas.{across_of, sum_nodes-less, sum_nodes-split}
 
 -- ---- positive parts
@@ -200,14 +200,14 @@ all_more nodes id set is =
     }
 
 -- ---- the excesses of the nodes below this one, summed up
-pub record StandsLow (nodes id : ℕ) (imbalance : ℕ → ℤ) (standing : ImbalanceSigns) : Type 0 where
+pub record AreSignsBelow (nodes id : ℕ) (imbalance : ℕ → ℤ) (signs : ImbalanceSigns) : Type 0 where
   pub low : (v : ℕ) → 1 ≤ v → v < id → imbalance v ≤ℤ pos 0
-  pub stands : Stands nodes id imbalance standing
+  pub are : AreSigns nodes id imbalance signs
 
-pub stands_none : (nodes : ℕ) (imbalance : ℕ → ℤ) → StandsLow nodes 1 imbalance Even
-stands_none nodes imbalance = record {
+pub signs_none : (nodes : ℕ) (imbalance : ℕ → ℤ) → AreSignsBelow nodes 1 imbalance Even
+signs_none nodes imbalance = record {
   low = λ v some less. absurd (omega (arith, some, less));
-  stands = λ v some less. absurd (omega (arith, some, less));
+  are = λ v some less. absurd (omega (arith, some, less));
 }
 
 one_more_node : (P : ℕ → Type 0) (id : ℕ) → ((v : ℕ) → 1 ≤ v → v < id → P v) → P id → (v : ℕ) → 1 ≤ v → v < id + 1 → P v
@@ -216,18 +216,18 @@ one_more_node P id before here v some less = elim (cases_order v id) [
   | inr apart ↦ elim apart [ inl low ↦ before v some low | inr high ↦ absurd (omega (arith, high, less)) ]
 ]
 
-still_stands : (nodes id : ℕ) (imbalance : ℕ → ℤ) (standing : ImbalanceSigns) → Stands nodes id imbalance standing → imbalance id ≡ pos 0 → Stands nodes (id + 1) imbalance standing
-still_stands nodes id imbalance Even is none = one_more_node (λ v. imbalance v ≡ pos 0) id is none
-still_stands nodes id imbalance Deficit is none = (one_more_node (λ v. imbalance v ≤ℤ pos 0) id is.0 (omega (arith, ints, none)), is.1)
-still_stands nodes id imbalance Excess is none = is
+still_signs : (nodes id : ℕ) (imbalance : ℕ → ℤ) (signs : ImbalanceSigns) → AreSigns nodes id imbalance signs → imbalance id ≡ pos 0 → AreSigns nodes (id + 1) imbalance signs
+still_signs nodes id imbalance Even is none = one_more_node (λ v. imbalance v ≡ pos 0) id is none
+still_signs nodes id imbalance Deficit is none = (one_more_node (λ v. imbalance v ≤ℤ pos 0) id is.0 (omega (arith, ints, none)), is.1)
+still_signs nodes id imbalance Excess is none = is
 
-pub stands_even : (nodes id : ℕ) (imbalance : ℕ → ℤ) (standing : ImbalanceSigns) → StandsLow nodes id imbalance standing → imbalance id ≡ pos 0 → StandsLow nodes (id + 1) imbalance standing
-stands_even nodes id imbalance standing is none = record {
+pub signs_even : (nodes id : ℕ) (imbalance : ℕ → ℤ) (signs : ImbalanceSigns) → AreSignsBelow nodes id imbalance signs → imbalance id ≡ pos 0 → AreSignsBelow nodes (id + 1) imbalance signs
+signs_even nodes id imbalance signs is none = record {
   low = one_more_node (λ v. imbalance v ≤ℤ pos 0) id is.low (omega (arith, ints, none));
-  stands = still_stands nodes id imbalance standing is.stands none;
+  are = still_signs nodes id imbalance signs is.are none;
 }
 
-pub stands_short : (nodes id : ℕ) (imbalance : ℕ → ℤ) (standing : ImbalanceSigns) → StandsLow nodes id imbalance standing → IsNode nodes id → imbalance id <ℤ pos 0 → StandsLow nodes (id + 1) imbalance Deficit
-stands_short nodes id imbalance standing is node less =
+pub signs_deficit : (nodes id : ℕ) (imbalance : ℕ → ℤ) (signs : ImbalanceSigns) → AreSignsBelow nodes id imbalance signs → IsNode nodes id → imbalance id <ℤ pos 0 → AreSignsBelow nodes (id + 1) imbalance Deficit
+signs_deficit nodes id imbalance signs is node less =
     let low : (v : ℕ) → 1 ≤ v → v < id + 1 → imbalance v ≤ℤ pos 0 = one_more_node (λ v. imbalance v ≤ℤ pos 0) id is.low (omega (arith, ints, less)) in
-    record { low = low; stands = (low, (id, node, less)) }
+    record { low = low; are = (low, (id, node, less)) }

@@ -9,7 +9,7 @@ ghost use Rattle.dimacs_decide.specs.FeasibilityDecision.{DecidesFeasible};
 ghost use Rattle.dimacs_decide.specs.Incidence.{IsIncidenceOf};
 ghost use Rattle.dimacs_decide.specs.inside.Imbalances.{AreImbalances, IsNodeTest};
 
-use crate::imbalance::{ImbalanceSigns, assess, imbalances};
+use crate::imbalance::{ImbalanceSigns, imbalance_signs, imbalances};
 use crate::incidence::Incidence;
 use crate::search::Search;
 use crate::send::{Augmentation, send};
@@ -42,7 +42,7 @@ pub fn decide_feasible<N: Network>(
     requires { KeepsBounds instance.now.arcs flow.now }
     ensures { IfOk result (DecidesFeasible instance.now flow.now) }
 {
-    match first_look(alloc, instance, flow)? {
+    match test_nodes(alloc, instance, flow)? {
         NodeTest::Decided(decision) => Ok(decision),
         NodeTest::Excess(imbalance) => {
             let incidence = Incidence::new(alloc, instance.network())?;
@@ -62,7 +62,7 @@ pub fn decide_feasible_over<N: Network>(
     requires incidence { IsIncidenceOf instance.now.arcs incidence.now }
     ensures { IfOk result (DecidesFeasible instance.now flow.now) }
 {
-    match first_look(alloc, instance, flow)? {
+    match test_nodes(alloc, instance, flow)? {
         NodeTest::Decided(decision) => Ok(decision),
         NodeTest::Excess(imbalance) => decide_with_excess(
             alloc, instance, incidence, flow, imbalance,
@@ -80,7 +80,7 @@ enum NodeTest {
 }
 
 /// Decides the question if no node has excess.
-fn first_look<N: Network>(
+fn test_nodes<N: Network>(
     alloc: Global,
     instance: &MinInstance<N>,
     flow: &Flow,
@@ -90,7 +90,7 @@ fn first_look<N: Network>(
 {
     let imbalance = imbalances(alloc, instance, flow)?;
     let nodes = instance.network().nodes();
-    match assess(nodes, &imbalance) {
+    match imbalance_signs(nodes, &imbalance) {
         ImbalanceSigns::Even => Ok(NodeTest::Decided(FeasibilityDecision::Balanced)),
         ImbalanceSigns::Deficit => Ok(NodeTest::Decided(FeasibilityDecision::Infeasible(every_node(
             alloc, nodes,

@@ -5,7 +5,7 @@ ghost use Rattle.dimacs_lines.specs.Limits.{most_nodes};
 ghost use Rattle.dimacs_judging.specs.inside.Ranges.{IsOfSize};
 ghost use Rattle.dimacs_network.specs.Tables.{value_of};
 ghost use Rattle.dimacs_decide.specs.Bounds.{KeepsBounds};
-ghost use Rattle.dimacs_decide.specs.inside.Imbalances.{AreImbalances, Stands};
+ghost use Rattle.dimacs_decide.specs.inside.Imbalances.{AreImbalances, AreSigns};
 
 use dimacs_instance::MinInstance;
 use dimacs_judging::{Balances, Flow};
@@ -53,19 +53,19 @@ pub(crate) enum ImbalanceSigns {
     Excess,
 }
 
-pub(crate) fn assess(nodes: u32, imbalance: &NodeTable<i128>) -> ImbalanceSigns
+pub(crate) fn imbalance_signs(nodes: u32, imbalance: &NodeTable<i128>) -> ImbalanceSigns
     requires { nodes ≤ most_nodes }
-    ensures { Stands nodes (nodes + 1) (value_of imbalance.now) result }
+    ensures { AreSigns nodes (nodes + 1) (value_of imbalance.now) result }
 {
-    let mut standing = ImbalanceSigns::Even;
+    let mut signs = ImbalanceSigns::Even;
     for id in 1..nodes + 1 {
         let amount = imbalance.get(id);
         if amount > 0 {
             return ImbalanceSigns::Excess;
         }
         if amount < 0 {
-            standing = ImbalanceSigns::Deficit;
+            signs = ImbalanceSigns::Deficit;
         }
     }
-    standing
+    signs
 }

@@ -13,10 +13,10 @@ abbrev pub AreImbalances : MinValue → List ℤ → (ℕ → ℤ) → Type 0
 AreImbalances i x imbalance = (v : ℕ) → IsNode i.nodes v → imbalance v ≡ imbalance_at i x v
 
 -- no node below this one has excess: none has a deficit, or some do; or some node has excess
-abbrev pub Stands : ℕ → ℕ → (ℕ → ℤ) → ImbalanceSigns → Type 0
-Stands nodes id imbalance Even = (v : ℕ) → 1 ≤ v → v < id → imbalance v ≡ pos 0
-Stands nodes id imbalance Deficit = ((v : ℕ) → 1 ≤ v → v < id → imbalance v ≤ℤ pos 0) × ((v : ℕ) × IsNode nodes v × (imbalance v <ℤ pos 0))
-Stands nodes id imbalance Excess = (v : ℕ) × IsNode nodes v × (pos 0 <ℤ imbalance v)
+abbrev pub AreSigns : ℕ → ℕ → (ℕ → ℤ) → ImbalanceSigns → Type 0
+AreSigns nodes id imbalance Even = (v : ℕ) → 1 ≤ v → v < id → imbalance v ≡ pos 0
+AreSigns nodes id imbalance Deficit = ((v : ℕ) → 1 ≤ v → v < id → imbalance v ≤ℤ pos 0) × ((v : ℕ) × IsNode nodes v × (imbalance v <ℤ pos 0))
+AreSigns nodes id imbalance Excess = (v : ℕ) × IsNode nodes v × (pos 0 <ℤ imbalance v)
 
 -- the result of a look at the nodes: a decision; or all imbalances, if some node has excess
 abbrev pub IsNodeTest : MinValue → List ℤ → NodeTest → Type 0

@@ -1,12 +1,12 @@
 use Rattle.std.proofs.Common.{◌≡◌, pos, ◌<ℤ◌, arith}
 use Rattle.std.proofs.lemmas.Int.{ints}
 use Rattle.dimacs_network.specs.Tables.{value_of}
-use Rattle.dimacs_decide.proofs.FeasibleLemmas.{stands_even, stands_none, stands_short}
-use Rattle.dimacs_decide.proofs.imbalance.assess.Goals.{then-amount-lt0, else-amount-lt0}
-use Rattle.dimacs_decide.proofs.imbalance.assess.Goals as goal
+use Rattle.dimacs_decide.proofs.FeasibleLemmas.{signs_even, signs_none, signs_deficit}
+use Rattle.dimacs_decide.proofs.imbalance.imbalance_signs.Goals.{then-amount-lt0, else-amount-lt0}
+use Rattle.dimacs_decide.proofs.imbalance.imbalance_signs.Goals as goal
 
 pub loop-id-init : goal.loop-id-init
-loop-id-init c = stands_none c.args.nodes (value_of c.args.imbalance.now)
+loop-id-init c = signs_none c.args.nodes (value_of c.args.imbalance.now)
 
 pub loop-id-preserved : goal.loop-id-preserved
 loop-id-preserved c =
@@ -19,9 +19,9 @@ loop-id-preserved c =
       | then-amount-lt0 w ↦
           let yes_is = w.if-amount-lt0.true in
           let less : imbalance id <ℤ pos 0 = omega (arith, ints, is, yes_is) in
-          rw w.standing-is (stands_short nodes id imbalance c.loop-id.standing c.loop-id.invariant (omega arith, omega arith) less)
+          rw w.signs-is (signs_deficit nodes id imbalance c.loop-id.signs c.loop-id.invariant (omega arith, omega arith) less)
       | else-amount-lt0 w ↦
           let none = w.if-amount-lt0.false in
           let even : imbalance id ≡ pos 0 = omega (arith, ints, is, no, none) in
-          rw w.standing-is (stands_even nodes id imbalance c.loop-id.standing c.loop-id.invariant even)
+          rw w.signs-is (signs_even nodes id imbalance c.loop-id.signs c.loop-id.invariant even)
     ]
