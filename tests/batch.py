@@ -559,6 +559,12 @@ def safe_files(place):
     for _ in range(2):
         assert place.run("list", "-o", "link")[0] == 0 and os.path.islink(place.path("link"))
     assert len(place.table("real/table")) == 1 and os.listdir(place.path("real")) == ["table"]
+    for text in ('{\n  "jobs": 2\n}\n', "{jobs: 2}"):
+        place.write("settings", text)
+        for words in ("list", "--join real/table"):
+            status, _, err = place.run(*words.split(), "-o", "settings")
+            assert status == 2 and err.endswith("settings: not a table of dimacs-batch\n"), (words, err)
+            assert place.read("settings") == text, words
     os.chmod(place.path("real/table"), 0o640)
     place.run("list", "-o", "link")
     assert os.stat(place.path("real/table")).st_mode & 0o777 == 0o640
@@ -738,6 +744,24 @@ def formats(place):
     assert place.run("list", "-o", "table", "--format", "latex")[0] == 2
     assert place.run("--join", "table", "--format", "latex", "-o", "table.tex")[0] == 1
     assert place.read("table.tex").splitlines()[0] == lines[0]
+
+
+def line_ends(place):
+    """A name with the end of a line in it is a name in each format."""
+    names = [f"a{end}b.max" for end in ("\n", "\r", "\r\n")]
+    for name in names:
+        place.write(f"in/{name}", "0 0 v max 1\n")
+        place.write(f"in/{name[:-4]}.solution", "s 1\n")
+    for form in ("csv", "jsonl"):
+        for taken_over in (0, 3):
+            _, _, err = place.run("in", "-o", f"table.{form}", "--format", form)
+            assert err == counted(3, 0, 0, 0, 0, 0, 0, taken_over=taken_over), (form, err)
+        _, _, err = place.run("--join", f"table.{form}", "-o", "joined")
+        assert column(place.table("joined"), "instance") == [f"in/{it}" for it in sorted(names)] and err == counted(3, 0, 0, 0, 0, 0, 0), (form, err)
+        for read in ("markdown", "latex"):
+            out = subprocess.run([sys.executable, BATCH, "--join", place.path(f"table.{form}"), "--format", read],
+                                 capture_output=True, check=True).stdout
+            assert b"\r" not in out and out.count(b"a b.max") == 2 and out.count(b"a  b.max") == 1, out
 
 
 def report(place, binary):
@@ -1352,7 +1376,7 @@ def same_command(place):
 TESTS = [
     order_and_columns, commands, folders, layouts, gaps, links, unanswered, evidence, made_anew,
     changed_while_judged, taken_up, killed, beside, late, odd, other_files, same_command, misused, safe_files,
-    other_outputs, new_is_a_link, closed_streams, full, shards, formats, on_terminal, in_log, reasons, refusals,
+    other_outputs, new_is_a_link, closed_streams, full, shards, formats, line_ends, on_terminal, in_log, reasons, refusals,
     report_in_time, cut_off, signalled, one_name, on_slurm,
 ]
 WITH_BINARY = [

@@ -31,10 +31,15 @@ class Csv:
 
     def __init__(self, out):
         self.writer = csv.DictWriter(out, COLUMNS, lineterminator="\n")
-        self.row = self.writer.writerow
+        self.quoting = csv.DictWriter(out, COLUMNS, lineterminator="\n", quoting=csv.QUOTE_ALL)
 
     def head(self):
         self.writer.writeheader()
+
+    def row(self, row):
+        # A carriage return alone in a field isn't quoted by each version of Python.
+        has_return = any("\r" in it for it in row.values())
+        (self.quoting if has_return else self.writer).writerow(row)
 
     def end(self):
         pass
@@ -86,7 +91,7 @@ class Markdown(ToRead):
     """A table of Markdown."""
 
     def escaped(self, text):
-        return re.sub(r"([\\`*_{}\[\]<>|~])", r"\\\1", text).replace("\n", " ")
+        return re.sub(r"([\\`*_{}\[\]<>|~])", r"\\\1", text).translate({10: " ", 13: " "})
 
     def line(self, cells):
         return f"| {' | '.join(cells)} |\n"
@@ -102,10 +107,10 @@ class Markdown(ToRead):
 class Latex(ToRead):
     """A `tabular` of LaTeX."""
 
-    SPECIAL = {"\\": r"\textbackslash{}", "~": r"\textasciitilde{}", "^": r"\textasciicircum{}", "\n": " "}
+    SPECIAL = {"\\": r"\textbackslash{}", "~": r"\textasciitilde{}", "^": r"\textasciicircum{}", "\n": " ", "\r": " "}
 
     def escaped(self, text):
-        text = re.sub(r"[\\~^\n]|([{}$&#_%])", lambda it: self.SPECIAL.get(it[0]) or f"\\{it[1]}", text)
+        text = re.sub(r"[\\~^\n\r]|([{}$&#_%])", lambda it: self.SPECIAL.get(it[0]) or f"\\{it[1]}", text)
         return re.sub(r"[<>|]", r"$\g<0>$", text)
 
     def line(self, cells):

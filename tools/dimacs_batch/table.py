@@ -13,6 +13,7 @@ from dimacs_batch import ANY_NAMES, fail
 from dimacs_batch.rows import COLUMNS
 
 SHA256 = 64  # digits
+ROW = '{"number": "'  # how a row begins, as a JSON object
 
 csv.field_size_limit(1 << 24)
 
@@ -53,12 +54,14 @@ def rows_of_csv(lines, file):
 
 
 def rows_of_json(lines, file):
-    """The rows of a text with a JSON object on each line, but for one that is torn."""
+    """The rows of a text with a JSON object on each line, but for a last one that is torn."""
     for line in lines:
         try:
             row = json.loads(line)
         except ValueError:
-            continue
+            row = None
+            if not line.endswith("\n") and ROW.startswith(line[: len(ROW)]):
+                return
         if not isinstance(row, dict) or list(row) != COLUMNS:
             fail(f"{file}: not a table of dimacs-batch")
         yield row
