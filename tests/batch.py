@@ -1142,7 +1142,7 @@ def infeasible(place, binary):
         place.write(f"set/instances/{name}", "")
         shutil.copy(os.path.join(TOP, "examples", name), place.path("set/instances"))
     claim = "s infeasible\n"
-    for name, text in (("shortage", "c none\n s  infeasible\r\n"), ("detroit", claim), ("freight", claim)):
+    for name, text in (("shortage", "cost none\n\n s  infeasible\r\n"), ("detroit", claim), ("freight", claim)):
         place.write(f"set/answers/net/{name}.sol", text)
     shutil.copy(os.path.join(TOP, "examples/detroit.cut"), place.path("set/answers/net"))
     shutil.copy(os.path.join(TOP, "examples/freight.solution"), place.path("set/answers/freight-right.sol"))
@@ -1162,6 +1162,10 @@ def infeasible(place, binary):
     assert place.run("--recheck", "--referee", "table", "kept", program=binary)[0] == 1
     place.write("list", "set/instances/shortage.min\tset/answers/net/shortage.sol\n")
     assert column(place.run("list", program=binary)[1], "verdict") == ["v infeasible"]
+    for text, wanted in (("s infeasible\nf 1 2 3\n", "x solution 1 2 BadNumber"),
+                         ("s 5\nf 1 2 3\ns infeasible\n", "x solution 3 2 BadNumber")):
+        place.write("set/answers/net/shortage.sol", text)
+        assert column(place.run("list", program=binary)[1], "verdict") == [wanted], text
 
 
 def other_referee(place, binary):

@@ -84,9 +84,10 @@ def joined(folder, name):
 
 
 def claims_infeasible(file):
-    """Whether a solution says that no flow is feasible: `s infeasible`."""
+    """Whether a solution says that no flow is feasible, and nothing else: `s infeasible`."""
     try:
-        return bool(re.search(rb"^[ \t]*s[ \t]+infeasible[ \t\r]*$", head_of(file), re.MULTILINE))
+        records = [it.split() for it in head_of(file).split(b"\n")]
+        return [it for it in records if it and it[0][:1] != b"c"] == [[b"s", b"infeasible"]]
     except OSError:
         return False
 
