@@ -41,7 +41,7 @@ BATCH = os.path.join(TOP, "tools/dimacs-batch")
 BUILT = os.path.join(TOP, "crates/dimacs/out/dimacs")
 sys.path.append(os.path.join(TOP, "tools"))
 
-from dimacs_batch import progress, runs
+from dimacs_batch import keep, progress, runs
 
 # The file after the word, or after the kind, has the seconds, the status and the line. Each run is noted in `ran`.
 STAND_IN = """#!/bin/sh
@@ -174,6 +174,11 @@ class Place:
 
 def rows(text):
     return list(csv.DictReader(io.StringIO(text, newline="")))
+
+
+def names_kept(place):
+    """What a run kept."""
+    return sorted(it for it in os.listdir(place.path("kept")) if it != keep.MARK)
 
 
 def base_names(files):
@@ -334,6 +339,14 @@ def kept_inside(place, binary):
     for taken_over in (0, 1):
         status, _, err = place.run("set", "-o", "table", "--keep", "set/kept", program=binary)
         assert status == 0 and err == counted(1, 0, 0, 0, 0, 0, 0, taken_over=taken_over), err
+    before = state_of(place.path("set"))
+    for words in ("set/pipes.max set/kept --keep set", "list --keep set"):
+        place.write("list", "set/pipes.max\n")
+        status, _, err = place.run(*words.split(), "--show", program=binary)
+        assert status == 2 and "--keep" in err and state_of(place.path("set")) == before, (words, err)
+    place.write("set/cuts/pipes.cut", "p cut 5 1\nu 1\n")
+    status, _, err = place.run("set", "--keep", "set/cuts", program=binary)
+    assert status == 2 and err == "dimacs-batch: --keep set/cuts: has files that weren't kept; name a new folder\n", err
     os.mkdir(place.path("set/answers"))
     for words in ("set --keep set/.", "set --keep set/answers", "set/pipes.max set --keep set"):
         status, _, err = place.run(*words.split(), program=binary)
@@ -1036,7 +1049,7 @@ def compressed(place, binary):
     with open(place.path("in/pipes.max.gz"), "rb") as it:
         assert table[1]["instance_sha256"] == hashlib.sha256(it.read()).hexdigest(), table[1]
     kept = ["freight.dear.better.solution", "pipes.cut", "road.3.dist", "road.4.dist", "trucks.cut", "trucks.odd.cut"]
-    assert sorted(os.listdir(place.path("kept"))) == kept, os.listdir(place.path("kept"))
+    assert names_kept(place) == kept, names_kept(place)
     assert "p cut 5" in place.read("kept/pipes.cut"), place.read("kept/pipes.cut")
     assert place.run("in", "-o", "table", "--keep", "kept", program=binary)[2].endswith("6 taken over, 0 made anew\n")
     assert place.run("--recheck", "--referee", "table", "kept", program=binary)[0] == 0
@@ -1080,7 +1093,7 @@ def full_while_kept(place, binary):
     shutil.copy(os.path.join(TOP, "examples/pipes.max"), place.path("a.max"))
     for number in range(40):
         shutil.copy(os.path.join(TOP, "examples/pipes.solution"), place.path(f"a-{number:02}.sol"))
-    os.mkdir(place.path("kept"))
+    place.write(f"kept/{keep.MARK}", "")
     os.symlink("/dev/full", place.path("kept/.a.03.part"))
     status, _, err = place.run(".", "-o", "table", "--keep", "kept", "-j", "1", program=binary)
     assert status == 2 and err == "dimacs-batch: kept/.a.03.part: No space left on device\n", err
@@ -1111,7 +1124,7 @@ def kept_of_refused(place, binary):
                        ("freight.solution", []), ("pipes.solution", ["pipes.cut"])):
         shutil.copy(os.path.join(TOP, "examples", name), place.path("pipes.solution"))
         place.run(*words, program=binary)
-        assert os.listdir(place.path("kept")) == kept, (name, os.listdir(place.path("kept")))
+        assert names_kept(place) == kept, (name, names_kept(place))
         assert column(place.table(), "gap") == ["2" if "careless" in name else ""], place.table()
     place.write("list", "pipes.max pipes.solution\n")
     before = state_of(place.folder)
@@ -1128,7 +1141,7 @@ def odd_names(place, binary):
     words = ["in", "-o", "table", "--keep", "kept"]
     status, _, err = place.run(*words, program=binary)
     assert status == 1 and err == counted(1, 1, 0, 0, 0, 0, 0), (err, place.table())
-    assert column(place.table(), "gap") == ["2", ""] and len(os.listdir(place.path("kept"))) == 2, place.table()
+    assert column(place.table(), "gap") == ["2", ""] and len(names_kept(place)) == 2, place.table()
     assert place.run(*words, program=binary)[2] == counted(1, 1, 0, 0, 0, 0, 0, taken_over=2)
     status, _, err = place.run("--recheck", "--referee", "table", "kept", program=binary)
     assert status == 0, err
@@ -1208,7 +1221,7 @@ def kept(place, binary):
     assert place.run(*words, program=binary)[0] == 3
     wanted = "bridges.cut canning.pot detroit.cut freight.dear.better.solution freight.pot"
     wanted += " pipes.careless.better.solution pipes.cut pipes.lemon.cut road.dist romania.dist shortage.cut trucks.cut"
-    assert sorted(os.listdir(place.path("kept"))) == wanted.split(), os.listdir(place.path("kept"))
+    assert names_kept(place) == wanted.split(), names_kept(place)
     table = place.table()
     for row in table:
         text = place.read(f"kept/{row['kept']}").encode() if row["kept"] else b""

@@ -1,7 +1,7 @@
 """What is kept of a run: its certificate, or the flow that shows that a claim is wrong."""
 import os
 
-from dimacs_batch import evidence
+from dimacs_batch import evidence, fail
 from dimacs_batch.files import WRITTEN, unpack
 from dimacs_batch.runs import NO, YES, reason_of
 
@@ -10,6 +10,8 @@ CERTIFICATE = {"max": ".cut", "min": ".pot", "infeasible": ".cut", "paths": ".di
 BETTER = ".better.solution"
 REFUTATION = {"NotMaximum": BETTER, "NotLeast": BETTER, "Feasible": ".feasible.solution"}
 ENDINGS = {*CERTIFICATE.values(), *REFUTATION.values()}
+
+MARK = ".dimacs-batch"  # the first file in a folder of what is kept, so that no file of others is replaced there
 
 
 def ending_of(row):
@@ -33,6 +35,11 @@ class Keep:
     def __init__(self, folder):
         self.folder = folder
         os.makedirs(folder, exist_ok=True)
+        mark = os.path.join(folder, MARK)
+        if os.listdir(folder) and not os.path.exists(mark):
+            fail(f"--keep {folder}: has files that weren't kept; name a new folder")
+        with open(mark, "a", encoding="ascii"):
+            pass
 
     def made_by(self, words, name):
         """The file that a certifier is to write, while it isn't known what it will have; None if the words name one."""
