@@ -37,6 +37,9 @@ function faultOf(reason, text) {
 /** The heading of an answer, whether it is a yes or a no, and whether a claim may hold without the certificate given. */
 export function headed({what, command, status, line, judged}) {
     const isSolved = what === "solve";
+    if (status === 0 && /^(v sp \w+ 0)?$/.test(line)) {
+        return {heading: isSolved ? "Nothing was asked" : "Nothing was claimed", state: "open"};
+    }
     if (status === 0) return {heading: isSolved ? "Solved." : "Yes.", state: "yes"};
     if (status !== 1) {
         return {heading: "Undecided: the solver reached its limit, or the cost is out of range", state: "open"};

@@ -17,6 +17,9 @@ const NO_SUM = "no SHA-256, which a browser computes for pages from a file, http
 const slots = Object.fromEntries(SLOTS.map((slot) => [slot, {source: "", name: "", isHeld: true, came: 0}]));
 let worker, waiting, running = false, pending = Promise.resolve();
 
+/** Ends a run that waits for its texts. */
+let halt;
+
 /** The answer that is shown, and how often texts or the claim have changed. */
 let answered = null, changes = 0;
 
@@ -46,11 +49,12 @@ function ask(what, words) {
     });
 }
 
-/** Ends a run: the worker can't be asked while it computes. The texts are held again before the next run. */
+/** Ends a run: the worker can't be asked while it computes. The texts are held again, those that were just read at once. */
 async function stop() {
     worker.terminate();
     for (const it of Object.values(slots)) it.isHeld = it.source === "";
     const message = answered ? "It was stopped before it was explained." : "Stopped: undecided.";
+    halt(new Error(message));
     for (const {bad} of waiting.values()) bad(new Error(message));
     await startWorker();
 }
@@ -81,7 +85,7 @@ async function hold({source, name, slot, came, at}) {
             about("certificate", "The last instance's certificate was removed.");
         }
     } catch (why) {
-        if (by !== worker) return;  // stopped: it is held before the next run
+        if (by !== worker) return hold({source, name, slot, came, at});
         if (slot && slots[slot].source === source) {
             slots[slot] = {...slots[slot], source: "", isHeld: true};
             $(slot).value = "";
@@ -326,7 +330,7 @@ async function run(what, isAlone = false) {
     ready();
     const watching = watch(), before = changes;
     try {
-        await flush();
+        await Promise.race([flush(), new Promise((_, bad) => (halt = bad))]);
         const kind = $("kind").value, claim = $("kind").selectedOptions[0].textContent;
         answer({...(await ask("run", {what, kind, isAlone})), claim});
         if (changes !== before) changed();

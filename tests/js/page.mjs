@@ -255,6 +255,39 @@ const TESTS = {
         await person.write("instance", `${DEAR}c typed\n`);
         assert.equal((await person.ask("Check")).line, "x instance 0 0 Feasible");
     },
+    "what claims or asks nothing": async (person) => {
+        await person.write("instance", GRAPH);
+        await person.choose("paths");
+        for (const [claim, certificate, line] of [
+            ["p distances 2 0\n", "", "v sp distances 0"],
+            ["p aux sp ss 0\n", "p dist 2 0\n", "v sp ss 0"],
+            ["p aux sp p2p 0\n", "p dist 2 0\n", ""],
+        ]) {
+            await person.write("claim", claim);
+            await person.write("certificate", certificate);
+            const answer = await person.ask("Check");
+            assert.deepEqual([answer.verdict, answer.line], ["Nothing was claimed", line]);
+            assert.equal(await person.page.evaluate(`${element("answer")}.className`), "open");
+        }
+        assert.equal((await person.ask("Solve")).verdict, "Nothing was asked");
+    },
+    "a run that is stopped while a text is read": async (person) => {
+        await person.write("instance", MAX);
+        await person.write("claim", "s 4\nf 1 2 4\n");
+        const long = `[new File([${quoted(MAX)}, ...Array(20).fill(("c " + "x".repeat(997) + "\\n").repeat(1e4))], "long.max")]`;
+        await person.page.evaluate(`void (async () => {
+            const dataTransfer = new DataTransfer();
+            dataTransfer.items.add(${long}[0]);
+            ${element("instance")}.dispatchEvent(new DragEvent("drop", {dataTransfer, bubbles: true, cancelable: true}));
+            ${button("Check")}.click();
+            setTimeout(() => ${button("Stop")}.click(), 50);
+        })()`);
+        await until(person.page, `!document.getElementById("answer").hidden && ${settled}`);
+        assert.equal((await person.answer()).verdict, "Stopped: undecided.");
+        await until(person.page, `${text("about-instance")}.startsWith("long.max: an instance of maximum flow")`);
+        assert.equal((await person.ask("Check")).line, "v max 4");
+        assert.match((await person.judged())[1], /^instance: long\.max, 200000030 bytes/);
+    },
     "a certificate of the last instance goes": async (person) => {
         await person.example("queries and labels");
         await person.drop(`[new File([${quoted(MAX)}], "one.max")]`, "instance");
