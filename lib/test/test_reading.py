@@ -195,6 +195,7 @@ class Rows(unittest.TestCase):
             (dimacs.PastLimit, "arc 2 NodeRange: it goes from 1 to 3", lambda: dimacs.write(Solution(3, [0, 0], past))),
             (dimacs.PastLimit, "arc 2 NodeRange", lambda: dimacs.read("solution", "s 0\n", past)),
             (ValueError, "predecessors has 1 items, and distances has 2", lambda: Labels(1, [0, 3], [0])),
+            (ValueError, "radius is 0.5, not a whole number", lambda: Labels(1, [0], [0], 0.5)),
             (dimacs.PastLimit, "node 0 NumberRange", lambda: dimacs.write(Queries([1, 0]))),
             (dimacs.PastLimit, "node 3 NodeRange", lambda: dimacs.write(Distances(3, [0, 1]))),
             (dimacs.Refused, "node 1 NotShortest", lambda: dimacs.write(Distances(1, [3, 1]))),

@@ -434,7 +434,8 @@ class Labels(Distances):
 
     def __post_init__(self) -> None:
         super().__post_init__()
-        self._set(self.source, self.distances, _array(PREDECESSORS, self.predecessors))
+        radius = None if self.radius is None else number_of(self.radius, NUMBERS, "radius")
+        self._set(self.source, self.distances, _array(PREDECESSORS, self.predecessors), radius=radius)
         if len(self.predecessors) != len(self):
             raise ValueError(f"predecessors has {len(self.predecessors)} items, and distances has {len(self)}")
 
