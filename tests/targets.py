@@ -112,7 +112,7 @@ def test_wasm(tests):
     module, library = f"{tests.build}/wasm/dimacs.wasm", f"{tests.build}/libdimacs.so"
     instances = ["--instances", "50000" if tests.is_all else "2000", "--runs", "1", "--program", f"{tests.build}/dimacs"]
     python = {**python_environment(tests.build), "CASES": "500"}
-    for name, *words in (("agree", *instances), ("test_texts",), ("test_arrays",), ("test_solving",), ("test_reading",)):
+    for name, *words in (("agree", *instances), ("test_texts",), ("test_arrays",), ("test_reading",)):
         words = [sys.executable, f"{JS}/through.py", module, library, f"{TEST}/{name}.py", *words]
         tests.counted(f"{name}.py through node", run(*words, env=python))
     tests.counted("heap.mjs", run("node", f"{JS}/heap.mjs", module))

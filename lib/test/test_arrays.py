@@ -352,6 +352,20 @@ class Forms(unittest.TestCase):
         ]:
             self.judged(numbers, ids, marks)
 
+    def test_forms_of_what_is_solved(self):
+        flows = dimacs.solve_max_arrays(*MAX[:-1], array.array("q", MAX[-1])).flows
+        self.assertIsInstance(flows, array.array)
+
+    @unittest.skipUnless(numpy, "numpy isn't there")
+    def test_numpy_that_is_solved(self):
+        ids = [numpy.array(it, numpy.uint32) for it in ENDS]
+        value, flows, inside = dimacs.solve_max_arrays(4, 1, 4, *ids, numpy.array(MAX[-1]))
+        self.assertEqual((value, flows.dtype, inside.dtype), (6, numpy.int64, bool))
+        self.assertEqual(dimacs.judge_max_arrays(4, 1, 4, *ids, numpy.array(MAX[-1]), flows, inside).value, 6)
+        weights = numpy.array([5, 1, 0, 2, 3])
+        _, distances, before = dimacs.solve_paths_arrays(4, *ids, weights, 1)
+        self.assertEqual((distances.tolist(), before.dtype), ([0, 5, 1, 4], numpy.uint32))
+
     @unittest.skipUnless(numpy, "numpy isn't there")
     def test_numpy_comes_back(self):
         inside = dimacs.certify_max_arrays(*MAX, numpy.array(FLOW)).inside

@@ -318,6 +318,58 @@ class Distances(Networkx):
             self.assertEqual((it.arc, it.node, it.reason), wanted)
 
 
+class Solves(Networkx):
+    def setUp(self):
+        super().setUp()
+        self.graph = networkx.DiGraph()
+        for tail, head, cap, cost in zip("aabbc", "bccdd", [4, 2, 2, 3, 5], [2, 2, 1, 3, 1]):
+            self.graph.add_edge(tail, head, capacity=cap, weight=cost)
+
+    def test_a_maximum_flow(self):
+        value, flow, side = dimacs.solve_networkx_max(self.graph, "a", "d")
+        self.assertEqual(value, networkx.maximum_flow_value(self.graph, "a", "d"))
+        self.assertEqual(dimacs.judge_networkx_max(self.graph, "a", "d", flow, side).value, value)
+
+    def test_least_cost(self):
+        networkx.set_node_attributes(self.graph, {"a": -4, "d": 4}, "demand")
+        cost, flow, potentials = dimacs.solve_networkx_min(self.graph)
+        self.assertEqual(cost, networkx.min_cost_flow_cost(self.graph))
+        self.assertEqual(dimacs.judge_networkx_min(self.graph, flow, potentials).value, cost)
+
+    def test_no_flow(self):
+        networkx.set_node_attributes(self.graph, {"a": -7, "d": 7}, "demand")
+        with self.assertRaises(dimacs.Infeasible) as no:
+            dimacs.solve_networkx_min(self.graph)
+        self.assertEqual(no.exception.inside, {"a"})
+
+    def test_distances(self):
+        self.graph.add_node("e")
+        none, distances, before = dimacs.solve_networkx_paths(self.graph, "a")
+        self.assertIsNone(none)
+        self.assertEqual(distances, networkx.single_source_dijkstra_path_length(self.graph, "a"))
+        self.assertEqual(dimacs.certify_networkx_paths(self.graph, "a", distances).predecessors, before)
+
+    def test_an_edge_without_end(self):
+        self.graph.add_edge("a", "d")
+        with self.assertRaises(networkx.NetworkXUnbounded):
+            dimacs.solve_networkx_max(self.graph, "a", "d")
+        del self.graph.edges["a", "b"]["capacity"]
+        self.graph.remove_edge("a", "d")
+        self.assertEqual(dimacs.solve_networkx_max(self.graph, "a", "d").value, 7)
+
+    def test_names(self):
+        self.graph.edges["b", "c"]["weight"] = -1
+        with self.assertRaises(dimacs.Refused) as no:
+            dimacs.solve_networkx_paths(self.graph, "a")
+        self.assertEqual(no.exception.arc, ("b", "c"))
+
+    def test_several_edges_between_nodes(self):
+        graph = networkx.MultiDiGraph()
+        graph.add_edge("a", "b", key="x", capacity=1)
+        graph.add_edge("a", "b", key="y", capacity=2)
+        self.assertEqual(dimacs.solve_networkx_max(graph, "a", "b").flows, {"a": {"b": {"x": 1, "y": 2}}, "b": {}})
+
+
 class Misuse(Networkx):
     def test_what_does_not_belong_to_the_graph(self):
         graph = pipes()

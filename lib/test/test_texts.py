@@ -218,6 +218,57 @@ class Spreads(unittest.TestCase):
             dimacs.spread_max_arrays(2, 1, 2, *arcs, [1], [2, 1], [6])
 
 
+class Solves(unittest.TestCase):
+    def test_a_maximum_flow(self):
+        value, solution, cut = dimacs.solve_max(MAX)
+        self.assertEqual((value, cut), (6, "p cut 4 1\nu 1\n"))
+        self.assertEqual(dimacs.judge_max(MAX, solution, cut).value, 6)
+
+    def test_bytes_give_bytes(self):
+        solved = dimacs.solve_max(MAX.encode())
+        self.assertIsInstance(solved.solution, bytes)
+        self.assertIsInstance(solved.certificate, bytes)
+
+    def test_least_cost(self):
+        cost, solution, potentials = dimacs.solve_min(MIN)
+        self.assertEqual(dimacs.judge_min(MIN, solution, potentials).value, cost)
+        self.assertEqual(cost, 14)
+
+    def test_no_flow(self):
+        with self.assertRaises(dimacs.Infeasible) as no:
+            dimacs.solve_min(SURPLUS)
+        self.assertEqual(dimacs.judge_infeasible(SURPLUS, no.exception.certificate).kind, "infeasible")
+        self.assertEqual(str(no.exception), "no flow is feasible")
+        self.assertIsInstance(no.exception, dimacs.Refused)
+
+    def test_distances_and_answers(self):
+        none, pairs, labels = dimacs.solve_paths(GRAPH, PAIRS)
+        self.assertIsNone(none)
+        self.assertEqual(pairs, ((1, 2, 5), (1, 4, None)))
+        self.assertEqual(dimacs.judge_paths(GRAPH, PAIRS, labels).pairs, pairs)
+
+    def test_longer_answers_than_texts(self):
+        nodes = 200
+        arcs = "".join(f"a {node} {node + 1} 1000000000000\n" for node in range(1, nodes))
+        graph = f"p sp {nodes} {nodes - 1}\n{arcs}"
+        queries = f"p aux sp ss {nodes}\n" + "".join(f"s {node}\n" for node in range(1, nodes + 1))
+        labels = dimacs.solve_paths(graph, queries).certificate
+        self.assertGreater(len(labels), 3 * len(graph))
+        self.assertEqual(dimacs.judge_paths(graph, queries, labels).value, nodes)
+
+    def test_refusals(self):
+        for call, message in (
+            (lambda: dimacs.solve_max(MIN), "instance 1 2 BadWord"),
+            (lambda: dimacs.solve_paths(GRAPH, ""), "query 1 0 ProblemMissing"),
+            (lambda: dimacs.solve_paths(GRAPH, "p aux sp ss 1\ns 5\n"), "node 5 QueryNode"),
+            (lambda: dimacs.solve_paths("p sp 2 1\na 1 2 -1\n", PAIRS), "node 4 QueryNode"),
+            (lambda: dimacs.solve_paths("p sp 4 1\na 1 2 -1\n", PAIRS), "arc 1 NegativeWeight"),
+        ):
+            with self.assertRaises(dimacs.Refused) as no:
+                call()
+            self.assertEqual(str(no.exception), message)
+
+
 class Texts(unittest.TestCase):
     def test_forms(self):
         for kind, text, shown in [
