@@ -128,9 +128,7 @@ def _extras() -> list[str]:
     table = re.search(r"^\[project.optional-dependencies\]\n((?:.+\n)+)", _project(), re.M)[1]
     needs = re.findall(r'^(\w+) = \["(.+)"\]$', table, re.M)
     return [
-        line
-        for name, need in needs
-        for line in (f"Provides-Extra: {name}", f'Requires-Dist: {need}; extra == "{name}"')
+        line for name, need in needs for line in (f"Provides-Extra: {name}", f'Requires-Dist: {need}; extra == "{name}"')
     ]
 
 
@@ -157,11 +155,7 @@ def entry_points() -> str:
 
 def _description(library: bytes, version: str) -> dict[str, bytes]:
     """The files that describe a package, by their names in the folder for them."""
-    files = {
-        "METADATA": metadata(version),
-        "WHEEL": WHEEL.format(tag=tag_of(library)),
-        "entry_points.txt": entry_points(),
-    }
+    files = {"METADATA": metadata(version), "WHEEL": WHEEL.format(tag=tag_of(library)), "entry_points.txt": entry_points()}
     return {name: content.encode() for name, content in files.items()}
 
 

@@ -268,9 +268,7 @@ class Forms(unittest.TestCase):
     @unittest.skipUnless(numpy, "numpy isn't there")
     def test_numpy_at_any_address(self):
         def of(code, offset):
-            return lambda items: numpy.frombuffer(
-                bytes(offset) + array.array(code, items).tobytes(), code, offset=offset
-            )
+            return lambda items: numpy.frombuffer(bytes(offset) + array.array(code, items).tobytes(), code, offset=offset)
 
         self.aligned(of)
 

@@ -245,10 +245,7 @@ class Costs(Backend):
     def test_what_networkx_finds(self):
         chance = random.Random(2)
         for _ in rounds(400):
-            draws = {
-                "capacity": lambda: chance.choice([0, 1, 2, 5, 9, math.inf]),
-                "weight": lambda: chance.randrange(-2, 9),
-            }
+            draws = {"capacity": lambda: chance.choice([0, 1, 2, 5, 9, math.inf]), "weight": lambda: chance.randrange(-2, 9)}
             graph = drawn(chance.choice([networkx.DiGraph, networkx.MultiDiGraph]), chance, 14, **draws)
             bring(chance, graph)
             both = self.compared(networkx.network_simplex, graph)
@@ -281,10 +278,7 @@ class Costs(Backend):
     def test_least_cost_among_maximum_flows(self):
         chance = random.Random(3)
         for _ in rounds(200):
-            draws = {
-                "capacity": lambda: chance.choice([0, 1, 2, 5, 9, math.inf]),
-                "weight": lambda: chance.randrange(9),
-            }
+            draws = {"capacity": lambda: chance.choice([0, 1, 2, 5, 9, math.inf]), "weight": lambda: chance.randrange(9)}
             graph = drawn(chance.choice([networkx.DiGraph, networkx.Graph]), chance, 20, **draws)
             both = self.compared(networkx.max_flow_min_cost, graph, 0, chance.choice(list(graph)))
             if both:
@@ -459,8 +453,7 @@ class Paths(Backend):
             self.assertEqual(both[1][0], both[0][0])
         pairs = dict(networkx.all_pairs_dijkstra(graph, cutoff, weight, backend="dimacs"))
         self.assertEqual(
-            {node: it[0] for node, it in pairs.items()},
-            dict(networkx.all_pairs_dijkstra_path_length(graph, cutoff, weight)),
+            {node: it[0] for node, it in pairs.items()}, dict(networkx.all_pairs_dijkstra_path_length(graph, cutoff, weight))
         )
         paths = dict(networkx.all_pairs_dijkstra_path(graph, cutoff, weight, backend="dimacs"))
         self.assertEqual({node: it[1] for node, it in pairs.items()}, paths)
@@ -477,10 +470,7 @@ class Paths(Backend):
         found = {True: 0, False: 0}
         for _ in rounds(300):
             graph = drawn(
-                chance.choice([networkx.DiGraph, networkx.MultiDiGraph]),
-                chance,
-                16,
-                weight=lambda: chance.randrange(-2, 9),
+                chance.choice([networkx.DiGraph, networkx.MultiDiGraph]), chance, 16, weight=lambda: chance.randrange(-2, 9)
             )
             theirs = networkx.negative_edge_cycle(graph.copy())
             self.assertEqual(networkx.negative_edge_cycle(graph, backend="dimacs"), theirs)
@@ -550,7 +540,6 @@ class Paths(Backend):
         with self.assertRaises(NotImplementedError):
             networkx.dijkstra_path_length(graph, 0, 2, backend="dimacs")
 
-
     def test_no_target(self):
         """None is no target, also where networkx has no default for it."""
         chance = random.Random(10)
@@ -576,14 +565,20 @@ class Paths(Backend):
             for name in "all_pairs_dijkstra", "all_pairs_dijkstra_path", "all_pairs_dijkstra_path_length":
                 self.refused(name, it)
                 with all_run():
-                    self.assertEqual(dict(getattr(networkx, name)(it)), dict(getattr(networkx, name)(it, backend="networkx")))
+                    self.assertEqual(
+                        dict(getattr(networkx, name)(it)), dict(getattr(networkx, name)(it, backend="networkx"))
+                    )
             for method in "dijkstra", "bellman-ford":
                 self.refused("shortest_path", it, weight="weight", method=method)
                 self.refused("shortest_path_length", it, weight="weight", method=method)
 
     def test_what_networkx_makes_of_distances(self):
         chance = random.Random(11)
-        draws = [lambda: chance.randrange(1, 9), lambda: chance.choice([0.5, 1, 2.25]), lambda: float(chance.randrange(1, 9))]
+        draws = [
+            lambda: chance.randrange(1, 9),
+            lambda: chance.choice([0.5, 1, 2.25]),
+            lambda: float(chance.randrange(1, 9)),
+        ]
         for _ in rounds(15):
             graph = networkx.connected_watts_strogatz_graph(8, 4, 0.4, seed=chance)
             draw = chance.choice(draws)

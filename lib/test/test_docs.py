@@ -86,10 +86,7 @@ class Docs(unittest.TestCase):
             "--cache-dir=/dev/null",
         ]
         ran = subprocess.run(
-            [*words, str(PACKAGE), *map(str, sorted(EXAMPLES.glob("*.py")))],
-            capture_output=True,
-            text=True,
-            check=False,
+            [*words, str(PACKAGE), *map(str, sorted(EXAMPLES.glob("*.py")))], capture_output=True, text=True, check=False
         )
         self.assertTrue(re.match(r"Success: no issues found in \d+ source files", ran.stdout), ran.stdout + ran.stderr)
 

@@ -79,9 +79,7 @@ class Frames(unittest.TestCase):
 
     def test_distances(self):
         found = self.network().solve_paths("mill").nodes
-        self.assertEqual(
-            found["distance"].to_dict(), {"spring": float("inf"), "mill": 0, "farm": float("inf"), "town": 3}
-        )
+        self.assertEqual(found["distance"].to_dict(), {"spring": float("inf"), "mill": 0, "farm": float("inf"), "town": 3})
         self.assertEqual(found["predecessor"].to_dict(), {"spring": None, "mill": None, "farm": None, "town": "mill"})
         again = self.network().certify_paths("mill", found["distance"]).nodes
         self.assertEqual(again["predecessor"].to_dict(), found["predecessor"].to_dict())

@@ -445,9 +445,7 @@ class Scipy(Limits):
         while chance.random() < 0.3:  # several capacities at a place, which may be more together than 64 bits have
             net.caps[chance.randrange(len(net.caps))] += amount(chance, 0)
         flows = claimed(chance, net)
-        flow = self.summed(
-            (pair, it) for ends, it in zip(net.ends, flows) for pair, it in ((ends, it), (ends[::-1], -it))
-        )
+        flow = self.summed((pair, it) for ends, it in zip(net.ends, flows) for pair, it in ((ends, it), (ends[::-1], -it)))
         graph, _ = self.matrix(chance, net, {ends: cap for ends, cap in zip(net.ends, net.caps)}, ("csr",), False)
         shown, _ = self.matrix(chance, net, flow)
         found = self.outcome(ours.certify_maximum_flow, graph, 0, net.nodes - 1, shown)
@@ -457,9 +455,7 @@ class Scipy(Limits):
         pairs = [ends for ends in dict.fromkeys((*net.ends, *flow)) if flow.get(ends, 0) > 0 or ends in net.ends]
         caps = dict(zip(net.ends, net.caps))
         net.ends, net.caps = pairs, [caps.get(ends, 0) for ends in pairs]
-        self.is_certified_max(
-            net, [max(0, flow.get(ends, 0)) for ends in pairs], found, lambda it: self.amounts(net, it)
-        )
+        self.is_certified_max(net, [max(0, flow.get(ends, 0)) for ends in pairs], found, lambda it: self.amounts(net, it))
 
     def amounts(self, net, matrix):
         return [max(0, int(matrix[tail - 1, head - 1])) for tail, head in net.ends]
@@ -646,7 +642,6 @@ class Backend(Limits):
         self.is_wanted(found, "yes", *(("gave up",) if is_wide else ()))
         if found[0] == "yes":
             self.assertEqual(found[1], {node: it for node, it in enumerate(true, 1) if it is not None})
-
 
     def test_cutoffs(self):
         """A node that isn't reached is within no cutoff; numpy compares one in floats by the nearest float."""

@@ -91,9 +91,7 @@ class Packaging(unittest.TestCase):
             name = next(name for name in it.namelist() if name.endswith("/METADATA"))
             found = email.message_from_bytes(it.read(name))
             self.assertIn("dimacs/py.typed", it.namelist())
-        self.assertEqual(
-            (found["Name"], found["Version"]), ("dimacs", self.backend.version_of(self.library.read_bytes()))
-        )
+        self.assertEqual((found["Name"], found["Version"]), ("dimacs", self.backend.version_of(self.library.read_bytes())))
         self.assertIn("Typing :: Typed", found.get_all("Classifier"))
         self.assertIn('scipy>=1.8; extra == "scipy"', found.get_all("Requires-Dist"))
         self.assertEqual(found.get_payload(), (FOLDER / "README.md").read_text(encoding="utf-8"))

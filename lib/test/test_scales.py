@@ -131,16 +131,12 @@ class Flows(unittest.TestCase):
             found = dimacs.solve_max_arrays(nodes, 0, nodes - 1, *split, form(caps), scale=factor, base=0)
             self.assertEqual(found.value, best(nodes, 0, nodes - 1, ends, exact))
             self.assertTrue(all(0 <= it <= cap for it, cap in zip(found.flows, exact)))
-            again = dimacs.certify_max_arrays(
-                nodes, 0, nodes - 1, *split, caps, list(found.flows), scale=factor, base=0
-            )
+            again = dimacs.certify_max_arrays(nodes, 0, nodes - 1, *split, caps, list(found.flows), scale=factor, base=0)
             self.assertEqual((again.value, again.inside), (found.value, list(found.inside)))
             if any(found.flows):
                 with self.assertRaises(dimacs.Refused) as no:
                     dimacs.certify_max_arrays(nodes, 0, nodes - 1, *split, caps, [0] * len(ends), scale=factor, base=0)
-                self.assertEqual(
-                    (no.exception.value, no.exception.better_value > 0), (0, True)
-                ) if found.value else None
+                self.assertEqual((no.exception.value, no.exception.better_value > 0), (0, True)) if found.value else None
 
     def test_costs(self):
         words = [0, 0], [1, 1], [0, 0], [2.5, 9], [0.03, 0.07], [4.5, -4.5]

@@ -179,10 +179,7 @@ _SAID = {
     "NotLeast": ["it costs {value}, and a better flow {better_value}"],
     "NotMaximum": ["its value is {value}, and that of a better flow {better_value}"],
     "NotSaturated": ["it leaves the cut and carries {flow}, its capacity is {capacity}"],
-    "NotShortest": [
-        "{tail} and its weight {weight} are less than {head}",
-        "the source is at {distance}",
-    ],
+    "NotShortest": ["{tail} and its weight {weight} are less than {head}", "the source is at {distance}"],
     "NotTight": ["its reduced cost is {reduced_cost}, and it carries {flow} of {low} to {capacity}"],
     "NotViolated": ["the set supplies {supply}, and from {least} to {most} can leave it"],
     "NumberRange": ["at most {most} nodes"],

@@ -317,9 +317,7 @@ def gone_through(numbers: Any, name: Name) -> list[Any]:
     """The items of an object one by one: those of numpy keep their type."""
     test_mask(numbers, name)
     if isinstance(numbers, (Mapping, Set)):
-        raise TypeError(
-            f"{_array(name)} is a {type(numbers).__name__}, whose items have no places as those of an array"
-        )
+        raise TypeError(f"{_array(name)} is a {type(numbers).__name__}, whose items have no places as those of an array")
     is_plain = is_numpy(numbers) and numbers.dtype.char in "?bBhHiIlLqQd"  # whose items are those of Python
     if not hasattr(numbers, "__iter__") and not hasattr(numbers, "__getitem__"):
         raise TypeError(f"{_array(name)} is {numbers!r}, not an array")
@@ -443,9 +441,7 @@ class Room:
     def items(self) -> array.array[int]:
         """All items."""
         if self._needed.value != len(self._kept):
-            raise RuntimeError(
-                f"the library handed out {self._needed.value} items, and there is room for {len(self._kept)}"
-            )
+            raise RuntimeError(f"the library handed out {self._needed.value} items, and there is room for {len(self._kept)}")
         return self._kept
 
     def in_form_of(self, came: Any) -> Any:

@@ -124,9 +124,7 @@ def _solve_bounded(
 
 def _has_flow(given: Given, instance: list[Any]) -> bool:
     """Whether a flow is feasible."""
-    status, _ = library.call_with_rooms(
-        library.certify_infeasible_arrays, instance, [given.room(INSIDE), given.room(FLOWS)]
-    )
+    status, _ = library.call_with_rooms(library.certify_infeasible_arrays, instance, [given.room(INSIDE), given.room(FLOWS)])
     return status == library.REFUSED
 
 

@@ -48,12 +48,7 @@ def distances_from(
 
 
 def _with_negative(
-    nodes: int,
-    tails: Sequence[int],
-    heads: Sequence[int],
-    weights: Sequence[int],
-    source: int,
-    potentials: Sequence[int],
+    nodes: int, tails: Sequence[int], heads: Sequence[int], weights: Sequence[int], source: int, potentials: Sequence[int]
 ) -> Distances:
     """Weights are changed by potentials, so that none is negative: all walks between two nodes are longer by the same."""
     ends = zip(weights, tails, heads)

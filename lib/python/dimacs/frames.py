@@ -140,9 +140,7 @@ class Frame:
     {'mine': None, 'port': 'mine'}
     """
 
-    def __init__(
-        self, edges: pd.DataFrame, tail: Any, head: Any, columns: dict[str, Any], supply: Any, scale: Any
-    ) -> None:
+    def __init__(self, edges: pd.DataFrame, tail: Any, head: Any, columns: dict[str, Any], supply: Any, scale: Any) -> None:
         if not isinstance(edges, pd.DataFrame):
             raise TypeError(f"edges is a {type(edges).__name__}, and has to be a DataFrame")
         edges = edges.copy()  # the caller's may change in place

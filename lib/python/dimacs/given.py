@@ -227,9 +227,7 @@ class Given:
         """The places of the arcs whose capacity is inf."""
         if self._limitless is None:
             caps = self._buffers.get(CAPS.name)
-            may_be = caps is not None and _UNLIMITED_BYTES in ctypes.string_at(
-                caps.address, caps.length * CAPACITIES.width
-            )
+            may_be = caps is not None and _UNLIMITED_BYTES in ctypes.string_at(caps.address, caps.length * CAPACITIES.width)
             self._limitless = infinite(self._raw[CAPS]) if may_be else []
         return self._limitless
 
@@ -239,9 +237,7 @@ class Given:
         flows = self.column(FLOWS)
         for place in limitless:
             if flows[place] >= UNLIMITED:
-                raise ValueError(
-                    f"{self.names.item('flows', place)} is {flows[place]}, and has to be below {UNLIMITED}"
-                )
+                raise ValueError(f"{self.names.item('flows', place)} is {flows[place]}, and has to be below {UNLIMITED}")
 
     def bound_limitless(self) -> None:
         """Gives arcs without a limit more than a best flow needs to carry anywhere: without cycles that cost nothing or less
@@ -251,9 +247,7 @@ class Given:
         caps = array("q", self.column(CAPS))
         bound = 1 + sum(it for it in caps if it > 0) - UNLIMITED * len(limitless)
         if self.form is MIN:
-            bound += sum(it for it in self.column(SUPPLIES) if it > 0) + 2 * sum(
-                it for it in self.column(LOWS) if it > 0
-            )
+            bound += sum(it for it in self.column(SUPPLIES) if it > 0) + 2 * sum(it for it in self.column(LOWS) if it > 0)
         for place in limitless:
             caps[place] = min(bound, UNLIMITED)
         self._buffers[CAPS.name] = Buffer(caps, *caps.buffer_info())

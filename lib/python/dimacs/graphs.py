@@ -68,9 +68,7 @@ class NumberedGraph:
 
     def __init__(self, graph: Any, scale: Any) -> None:
         if not hasattr(graph, "is_directed"):
-            raise TypeError(
-                f"the graph is a {type(graph).__name__}, and has to be a DiGraph or MultiDiGraph of networkx"
-            )
+            raise TypeError(f"the graph is a {type(graph).__name__}, and has to be a DiGraph or MultiDiGraph of networkx")
         if not graph.is_directed():
             raise ValueError("the graph is undirected: graph.to_directed() has an arc each way")
         self.nodes = list(graph)
@@ -126,9 +124,7 @@ class NumberedGraph:
         except TypeError:
             raise TypeError(f"side is {side!r}, and has to be a set of nodes: the first of the two of minimum_cut") from None
         if not all(is_bool(it) for it in marks.values()):
-            raise TypeError(
-                f"side is a {type(side).__name__} that doesn't map nodes to bools, and has to be a set of nodes"
-            )
+            raise TypeError(f"side is a {type(side).__name__} that doesn't map nodes to bools, and has to be a set of nodes")
         # True is 1 to a dict: if nodes are numbers, a bool for each node would name the nodes 0 and 1.
         if any(is_bool(it) and not is_bool(self.nodes[self.number(it) - 1]) for it in marks):
             raise TypeError(f"side is a {type(side).__name__} of bools, and has to be a set of nodes")

@@ -98,9 +98,7 @@ def minimum_cut(
     return found.shown_value(), (side, set(found.arcs.nodes) - side)
 
 
-def minimum_cut_value(
-    flowG: Any, _s: Any, _t: Any, capacity: Any = "capacity", flow_func: Any = None, **kwargs: Any
-) -> Any:
+def minimum_cut_value(flowG: Any, _s: Any, _t: Any, capacity: Any = "capacity", flow_func: Any = None, **kwargs: Any) -> Any:
     """The capacity of a minimum cut."""
     return maximum_flow_value(flowG, _s, _t, capacity, flow_func, **kwargs)
 

@@ -70,11 +70,7 @@ class Drawing:
 
 
 def draw(
-    judge: Judge,
-    texts: Sequence[Text],
-    only: Iterable[int] = (),
-    source: Optional[int] = None,
-    has_own_layers: bool = False,
+    judge: Judge, texts: Sequence[Text], only: Iterable[int] = (), source: Optional[int] = None, has_own_layers: bool = False
 ) -> Drawing:
     """Draws an instance with a claim about it, or alone. Of a graph distances from one source are drawn."""
     found = kinds.kinds_of(texts)

@@ -161,9 +161,7 @@ def _spread(column: List[_Place], wanted: List[float]) -> None:
 # ---- places and curves
 
 
-def _measured(
-    sketch: Sketch, columns: List[List[_Place]], nodes: Dict[int, _Place], chains: List[List[_Place]]
-) -> Layout:
+def _measured(sketch: Sketch, columns: List[List[_Place]], nodes: Dict[int, _Place], chains: List[List[_Place]]) -> Layout:
     spans = _spans(columns)
     everything = [it for column in columns for it in column]
     top = min((it.y - it.box.height / 2 for it in everything), default=0.0)

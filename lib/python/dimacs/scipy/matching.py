@@ -185,9 +185,7 @@ def _claimed(edges: _Edges, row_ind: Any, col_ind: Any) -> Any:
     number = {place: arc for arc, place in enumerate(zip(edges.rows.tolist(), edges.columns.tolist()))}
     for place in zip(rows.tolist(), columns.tolist()):
         if place not in number:
-            raise ValueError(
-                f"{place[::-1] if edges.is_turned else place} is no place of the matrix with a finite cost"
-            )
+            raise ValueError(f"{place[::-1] if edges.is_turned else place} is no place of the matrix with a finite cost")
         flows[number[place]] += 1
         flows[len(edges.costs) + place[1]] += 1
     return flows

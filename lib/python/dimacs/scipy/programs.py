@@ -169,9 +169,7 @@ def _signs(rows: int, entries: list[list[tuple[int, Any]]]) -> list[int]:
                     signs[other] = way * signs[row]
                     waiting.append(other)
                 elif signs[other] != way * signs[row]:
-                    raise ValueError(
-                        f"this is no network: no signs of constraints give x[{column}] entries of 1 and -1"
-                    )
+                    raise ValueError(f"this is no network: no signs of constraints give x[{column}] entries of 1 and -1")
     return signs
 
 
