@@ -16,67 +16,20 @@ import importlib
 from typing import TYPE_CHECKING, Any
 
 from . import library as _library
-from .answers import (
-    UNREACHED,
-    Beyond,
-    Certified,
-    Feasible,
-    GaveUp,
-    Infeasible,
-    NotOptimal,
-    Pair,
-    PastLimit,
-    Refused,
-    Solved,
-    Unbounded,
-    Verdict,
-)
-from .arrays import (
-    certify_infeasible_arrays,
-    certify_max_arrays,
-    certify_min_arrays,
-    certify_paths_arrays,
-    judge_infeasible_arrays,
-    judge_max_arrays,
-    judge_min_arrays,
-    judge_paths_arrays,
-    solve_max_arrays,
-    solve_min_arrays,
-    solve_paths_arrays,
-)
+from .answers import UNREACHED, Beyond, Certified, Feasible, GaveUp, Infeasible, NotOptimal, Pair, PastLimit, Refused
+from .answers import Solved, Unbounded, Verdict
+from .arrays import certify_infeasible_arrays, certify_max_arrays, certify_min_arrays, certify_paths_arrays
+from .arrays import judge_infeasible_arrays, judge_max_arrays, judge_min_arrays, judge_paths_arrays, solve_max_arrays
+from .arrays import solve_min_arrays, solve_paths_arrays
 from .drawing import Drawing
-from .graphs import (
-    certify_networkx_infeasible,
-    certify_networkx_max,
-    certify_networkx_min,
-    certify_networkx_paths,
-    judge_networkx_max,
-    judge_networkx_min,
-    solve_networkx_max,
-    solve_networkx_min,
-    solve_networkx_paths,
-)
+from .graphs import certify_networkx_infeasible, certify_networkx_max, certify_networkx_min, certify_networkx_paths
+from .graphs import judge_networkx_max, judge_networkx_min, solve_networkx_max, solve_networkx_min, solve_networkx_paths
 from .instances import Cut, Distances, Graph, Labels, MaxInstance, MinInstance, Potentials, Queries, Solution
 from .pictures import draw
 from .reading import read
 from .spread import spread_max_arrays, spread_min_arrays
-from .texts import (
-    certify_infeasible,
-    certify_max,
-    certify_min,
-    certify_paths,
-    convert,
-    judge_infeasible,
-    judge_max,
-    judge_min,
-    judge_paths,
-    show,
-    solve_max,
-    solve_min,
-    solve_paths,
-    spread_max,
-    spread_min,
-)
+from .texts import certify_infeasible, certify_max, certify_min, certify_paths, convert, judge_infeasible, judge_max
+from .texts import judge_min, judge_paths, show, solve_max, solve_min, solve_paths, spread_max, spread_min
 from .writing import write
 
 if TYPE_CHECKING:
@@ -87,71 +40,17 @@ __version__: str = _library.version
 proved: bool = _library.proved
 
 __all__ = [
-    "UNREACHED",
-    "Beyond",
-    "Certified",
-    "Cut",
-    "Distances",
-    "Drawing",
-    "Feasible",
-    "GaveUp",
-    "Graph",
-    "Infeasible",
-    "Labels",
-    "MaxInstance",
-    "MinInstance",
-    "NotOptimal",
-    "Pair",
-    "PastLimit",
-    "Potentials",
-    "Queries",
-    "Refused",
-    "Solution",
-    "Solved",
-    "Unbounded",
-    "Verdict",
-    "certify_infeasible",
-    "certify_infeasible_arrays",
-    "certify_max",
-    "certify_max_arrays",
-    "certify_min",
-    "certify_min_arrays",
-    "certify_networkx_infeasible",
-    "certify_networkx_max",
-    "certify_networkx_min",
-    "certify_networkx_paths",
-    "certify_paths",
-    "certify_paths_arrays",
-    "convert",
-    "draw",
-    "from_frame",
-    "judge_infeasible",
-    "judge_infeasible_arrays",
-    "judge_max",
-    "judge_max_arrays",
-    "judge_min",
-    "judge_min_arrays",
-    "judge_networkx_max",
-    "judge_networkx_min",
-    "judge_paths",
-    "judge_paths_arrays",
-    "proved",
-    "read",
-    "show",
-    "solve_max",
-    "solve_max_arrays",
-    "solve_min",
-    "solve_min_arrays",
-    "solve_networkx_max",
-    "solve_networkx_min",
-    "solve_networkx_paths",
-    "solve_paths",
-    "solve_paths_arrays",
-    "spread_max",
-    "spread_max_arrays",
-    "spread_min",
-    "spread_min_arrays",
-    "write",
+    "UNREACHED", "Beyond", "Certified", "Cut", "Distances", "Drawing", "Feasible", "GaveUp", "Graph", "Infeasible",
+    "Labels", "MaxInstance", "MinInstance", "NotOptimal", "Pair", "PastLimit", "Potentials", "Queries", "Refused",
+    "Solution", "Solved", "Unbounded", "Verdict",
+    "certify_infeasible", "certify_max", "certify_min", "certify_paths", "convert", "draw", "from_frame",
+    "judge_infeasible", "judge_max", "judge_min", "judge_paths", "proved", "read", "show", "solve_max", "solve_min",
+    "solve_paths", "spread_max", "spread_min", "write",
+    "certify_infeasible_arrays", "certify_max_arrays", "certify_min_arrays", "certify_paths_arrays",
+    "judge_infeasible_arrays", "judge_max_arrays", "judge_min_arrays", "judge_paths_arrays", "solve_max_arrays",
+    "solve_min_arrays", "solve_paths_arrays", "spread_max_arrays", "spread_min_arrays",
+    "certify_networkx_infeasible", "certify_networkx_max", "certify_networkx_min", "certify_networkx_paths",
+    "judge_networkx_max", "judge_networkx_min", "solve_networkx_max", "solve_networkx_min", "solve_networkx_paths",
 ]
 
 
