@@ -4,17 +4,8 @@ import {library} from "./loaded.js";
 
 export {OutOfMemory, Trapped} from "./library.js";
 export {
-    Beyond,
-    Certified,
-    Feasible,
-    GaveUp,
-    Infeasible,
-    NotOptimal,
-    PastLimit,
-    Refused,
-    Solved,
-    UNREACHED,
-    Verdict,
+    Beyond, Certified, Feasible, GaveUp, Infeasible, NotOptimal,
+    PastLimit, Refused, Solved, UNREACHED, Verdict,
 } from "./answers.js";
 export * from "./texts.js";
 export * from "./arrays.js";

@@ -204,15 +204,9 @@ class Placed(Exception):
     _PLACES = ("text", "line", "field", "arc", "node", "numbers")
 
     def __init__(
-        self,
-        reason: str,
-        *,
-        text: str | None = None,
-        line: int | None = None,
-        field: int | None = None,
-        arc: Any = None,
-        node: Any = None,
-        numbers: dict[str, Any] | None = None,
+        self, reason: str,
+        *, text: str | None = None, line: int | None = None, field: int | None = None, arc: Any = None,
+        node: Any = None, numbers: dict[str, Any] | None = None,
     ) -> None:
         super().__init__(reason)
         self.reason = reason

@@ -24,11 +24,7 @@ class Distances(NamedTuple):
 
 
 def distances_from(
-    nodes: int,
-    tails: Sequence[int],
-    heads: Sequence[int],
-    weights: Sequence[int],
-    source: int,
+    nodes: int, tails: Sequence[int], heads: Sequence[int], weights: Sequence[int], source: int,
     potentials: Sequence[int] | None = None,
 ) -> Distances:
     """Makes the distances from a source; they were judged with these weights before they are handed out.

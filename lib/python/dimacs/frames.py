@@ -297,15 +297,8 @@ class Frame:
 
 
 def from_frame(
-    edges: pd.DataFrame,
-    tail: Any,
-    head: Any,
-    *,
-    capacity: Any = None,
-    cost: Any = None,
-    low: Any = None,
-    supply: Any = None,
-    scale: Any = None,
+    edges: pd.DataFrame, tail: Any, head: Any,
+    *, capacity: Any = None, cost: Any = None, low: Any = None, supply: Any = None, scale: Any = None,
 ) -> Frame:
     """The network of a DataFrame as it is now, each row of which is an edge between the nodes that two columns name.
 

@@ -41,13 +41,8 @@ def _text(name: str, text: Any) -> drawing.Text:
 
 
 def draw(
-    instance: Text,
-    claim: Union[Text, Solved, None] = None,
-    certificate: Union[Text, Certified, None] = None,
-    *,
-    only: Iterable[int] = (),
-    source: int | None = None,
-    layers: bool = False,
+    instance: Text, claim: Union[Text, Solved, None] = None, certificate: Union[Text, Certified, None] = None,
+    *, only: Iterable[int] = (), source: int | None = None, layers: bool = False,
 ) -> Drawing:
     r"""Draws an instance, with a claim about it and its certificate, as the command dimacs-draw does; a notebook shows it.
 

@@ -124,10 +124,7 @@ def _mark(
 
 
 def _mark_block(
-    network: Network,
-    blocks: List[reading.Block],
-    canonical: Dict[str, bytes],
-    source: Optional[int],
+    network: Network, blocks: List[reading.Block], canonical: Dict[str, bytes], source: Optional[int],
     refusal: Optional[marks.Refusal],
 ) -> Optional[marks.Refusal]:
     """Marks the block of a source, or the first in which a test fails, or the first. The refusal, if it is of this one."""

@@ -8,31 +8,15 @@ one of a matrix that is given has more than 64 bits, and GaveUp if one of the an
 """
 
 from .flows import MaximumFlowResult, certify_maximum_flow, maximum_flow
-from .matching import (
-    Assignment,
-    CertifiedAssignment,
-    certify_assignment,
-    linear_sum_assignment,
-    maximum_bipartite_matching,
-    min_weight_full_bipartite_matching,
-)
+from .matching import Assignment, CertifiedAssignment, certify_assignment, linear_sum_assignment
+from .matching import maximum_bipartite_matching, min_weight_full_bipartite_matching
 from .paths import NO_PREDECESSOR, certify_shortest_path, shortest_path
 from .programs import CertifiedProgram, certify_linprog
 
 __all__ = [
-    "NO_PREDECESSOR",
-    "Assignment",
-    "CertifiedAssignment",
-    "CertifiedProgram",
-    "MaximumFlowResult",
-    "certify_assignment",
-    "certify_linprog",
-    "certify_maximum_flow",
-    "certify_shortest_path",
-    "linear_sum_assignment",
-    "maximum_bipartite_matching",
-    "maximum_flow",
-    "min_weight_full_bipartite_matching",
+    "NO_PREDECESSOR", "Assignment", "CertifiedAssignment", "CertifiedProgram", "MaximumFlowResult",
+    "certify_assignment", "certify_linprog", "certify_maximum_flow", "certify_shortest_path",
+    "linear_sum_assignment", "maximum_bipartite_matching", "maximum_flow", "min_weight_full_bipartite_matching",
     "shortest_path",
 ]
 

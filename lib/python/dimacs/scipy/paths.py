@@ -116,13 +116,8 @@ def _as_floats(distances: Any, source: int) -> Any:
 
 
 def shortest_path(
-    csgraph: Any,
-    method: str = "auto",
-    directed: bool = True,
-    return_predecessors: bool = False,
-    unweighted: bool = False,
-    overwrite: bool = False,
-    indices: Any = None,
+    csgraph: Any, method: str = "auto", directed: bool = True, return_predecessors: bool = False,
+    unweighted: bool = False, overwrite: bool = False, indices: Any = None,
 ) -> Any:
     """Distances between vertices, as scipy.sparse.csgraph.shortest_path returns them, judged by predecessors.
 
@@ -176,13 +171,8 @@ class _TableNames(Names):
 
 
 def certify_shortest_path(
-    csgraph: Any,
-    dist: Any,
-    predecessors: Any = None,
-    *,
-    directed: bool = True,
-    unweighted: bool = False,
-    indices: Any = None,
+    csgraph: Any, dist: Any, predecessors: Any = None,
+    *, directed: bool = True, unweighted: bool = False, indices: Any = None,
 ) -> NDArray[np.int32]:
     """Decides whether these are the distances that shortest_path returns, with its predecessors if they are given.
 

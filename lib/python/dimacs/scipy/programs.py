@@ -200,15 +200,8 @@ def _bound(number: Any, place: int) -> Any:
 
 
 def certify_linprog(
-    result: Any,
-    c: Any,
-    A_ub: Any = None,
-    b_ub: Any = None,
-    A_eq: Any = None,
-    b_eq: Any = None,
-    bounds: Any = None,
-    *,
-    tolerance: float = 1e-6,
+    result: Any, c: Any, A_ub: Any = None, b_ub: Any = None, A_eq: Any = None, b_eq: Any = None, bounds: Any = None,
+    *, tolerance: float = 1e-6,
 ) -> CertifiedProgram:
     """Decides whether a result of scipy.optimize.linprog is optimal, of a program of a network, whose numbers are whole.
 
