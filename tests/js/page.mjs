@@ -288,6 +288,17 @@ const TESTS = {
         assert.equal((await person.ask("Check")).line, "v max 4");
         assert.match((await person.judged())[1], /^instance: long\.max, 200000030 bytes/);
     },
+    "texts that a browser would put back": async (person) => {
+        await person.write("instance", MAX);
+        await person.write("claim", "s 4\nf 1 2 4\n");
+        await person.choose("infeasible");
+        await person.page.load("about:blank");
+        await person.page.evaluate("void history.back()");
+        await until(person.page, "document.documentElement.dataset.ready");
+        await person.read();
+        const shown = `[${element("instance")}.value, ${element("claim")}.value, ${element("kind")}.value]`;
+        assert.deepEqual(await person.page.evaluate(shown), ["", "", "max"]);
+    },
     "a certificate of the last instance goes": async (person) => {
         await person.example("queries and labels");
         await person.drop(`[new File([${quoted(MAX)}], "one.max")]`, "instance");
