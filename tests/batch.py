@@ -1019,6 +1019,12 @@ def cut_off(place):
             out, err = process.communicate()
             assert process.returncode == (3 if wanted else 0), (form, wanted, err)
             assert form == "jsonl" or out.endswith(f"\n{wanted}\n") == bool(wanted), (form, out)
+    other = lines[5].replace(place.table()[5]["list"], "0" * 16)
+    for more, wanted in ((lines[3:5], "Rows that stand there again: 2."),
+                         ([other], "Rows that stand there again: 1. The rows are of 2 lists.")):
+        place.write("cut", head + "".join([*lines, *more]))
+        status, _, err = place.run("--report", "cut")
+        assert status == 3 and err.endswith(f"dimacs-batch: cut: {wanted}\n"), err
 
 
 def compressed(place, binary):

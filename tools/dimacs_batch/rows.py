@@ -40,26 +40,31 @@ def gaps(numbers, count):
 
 
 class Missing:
-    """What rows of a list a table lacks."""
+    """What rows of a list a table lacks, or has again."""
 
     def __init__(self, rows=()):
-        self.numbers, self.of = [], 0
+        self.numbers, self.of, self.lists = [], 0, set()
         for row in rows:
             self.add(row)
 
     def add(self, row):
         self.numbers.append(int(row["number"]))
         self.of = max(self.of, int(row["of"]))
+        self.lists.add(row["list"])
 
     def __str__(self):
-        """A sentence, which names some; nothing if none is missing."""
+        """Sentences, which name some rows; none if each is there once."""
+        if not self.numbers:
+            return "There is no row."
         found = list(gaps(sorted(self.numbers), self.of))
         spans = [f"{first}" if first == last else f"{first} to {last}" for first, last in found]
         count = sum(last - first + 1 for first, last in found)
         named = ", ".join(spans[:MOST_SPANS]) + (" and others" if len(spans) > MOST_SPANS else "")
-        if not self.of:
-            return "There is no row."
-        return f"{count} of {self.of} rows are missing: {named}." if spans else ""
+        again = len(self.numbers) - len(set(self.numbers))
+        said = [f"{count} of {self.of} rows are missing: {named}."] if spans else []
+        said += [f"Rows that stand there again: {again}."] if again else []
+        said += [f"The rows are of {len(self.lists)} lists."] if len(self.lists) > 1 else []
+        return " ".join(said)
 
 
 def name_of(task):
