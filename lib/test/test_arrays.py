@@ -9,7 +9,7 @@ from unittest import mock
 
 import dimacs
 from dimacs import buffers, given, library
-from modules import numpy, pandas
+from shared import numpy, pandas, raised
 
 INF = float("inf")
 LAST = 2**63 - 1
@@ -73,9 +73,7 @@ class Certifies(unittest.TestCase):
         self.assertEqual(dimacs.judge_infeasible_arrays(*NARROW, found.inside), dimacs.Verdict("infeasible"))
 
     def test_feasible(self):
-        with self.assertRaises(dimacs.Feasible) as caught:
-            dimacs.certify_infeasible_arrays(*MIN)
-        it = caught.exception
+        it = raised(dimacs.Feasible, dimacs.certify_infeasible_arrays, *MIN)
         self.assertEqual((it.text, it.line, it.field, it.reason), ("instance", 0, 0, "Feasible"))
         self.assertEqual((it.arc, it.node), (None, None))
         self.assertEqual(improved(dimacs.certify_min_arrays, *MIN, it.flow).value, 14)
@@ -94,27 +92,23 @@ class Certifies(unittest.TestCase):
             (dimacs.certify_max_arrays, MAX, SLOW, "NotMaximum", 6),
             (dimacs.certify_min_arrays, MIN, DEAR, "NotLeast", 14),
         ]:
-            with self.assertRaises(dimacs.NotOptimal) as caught:
-                certify(*instance, claim)
-            it = caught.exception
+            it = raised(dimacs.NotOptimal, certify, *instance, claim)
             self.assertEqual((it.text, it.line, it.field, it.reason), ("solution", 0, 0, reason))
             self.assertEqual((it.arc, it.node), (None, None))
             self.assertEqual(improved(certify, *instance, it.better).value, best)
 
     def test_forms(self):
         as_array = array.array("q", SLOW)
-        with self.assertRaises(dimacs.NotOptimal) as caught:
-            dimacs.certify_max_arrays(*MAX, as_array)
-        self.assertIsInstance(caught.exception.better, array.array)
-        self.assertEqual(len(caught.exception.better), 5)
+        it = raised(dimacs.NotOptimal, dimacs.certify_max_arrays, *MAX, as_array)
+        self.assertIsInstance(it.better, array.array)
+        self.assertEqual(len(it.better), 5)
         inside = dimacs.certify_max_arrays(*MAX, array.array("q", FLOW)).inside
         self.assertEqual(inside, array.array("B", CUT))
 
     def test_potentials_past_64_bits(self):
         ends = [1, 2, 3], [2, 3, 4]
         words = (4, *ends, [0] * 3, [2] * 3, [LAST] * 3, [1, 0, 0, -1])
-        with self.assertRaises(OverflowError):
-            dimacs.certify_min_arrays(*words, [1] * 3)
+        self.assertRaises(OverflowError, dimacs.certify_min_arrays, *words, [1] * 3)
 
     def test_potentials_at_both_ends_of_64_bits(self):
         words = (3, [1, 2], [2, 3], [0] * 2, [2] * 2, [LAST] * 2, [1, 0, -1], [1] * 2)
@@ -130,9 +124,7 @@ class Certifies(unittest.TestCase):
             (dimacs.judge_max_arrays, (0, *MAX[1:], SLOW, [])),
             (dimacs.certify_infeasible_arrays, MIN),
         ]:
-            with self.assertRaises((dimacs.Refused, dimacs.PastLimit)) as caught:
-                call(*words)
-            it = caught.exception
+            it = raised((dimacs.Refused, dimacs.PastLimit), call, *words)
             again = pickle.loads(pickle.dumps(it))
             kept = vars(it) | {"_asked": None} if isinstance(it, dimacs.Refused) else vars(it)
             self.assertEqual((type(again), str(again), vars(again)), (type(it), str(it), kept))
@@ -293,8 +285,7 @@ class Forms(unittest.TestCase):
 
         self.judged(listed, listed, listed)
         self.judged(of("q"), of("I"), of("B"))
-        with self.assertRaises(ValueError):
-            self.judged(of("q"), of("I"), lambda items: Labelled([2**8] * len(items)))
+        self.assertRaises(ValueError, self.judged, of("q"), of("I"), lambda items: Labelled([2**8] * len(items)))
 
     @unittest.skipUnless(pandas, "pandas isn't there")
     def test_pandas(self):
@@ -370,19 +361,17 @@ class Forms(unittest.TestCase):
         self.assertEqual((inside.dtype, inside.tolist()), (numpy.dtype(bool), CUT))
         potentials = dimacs.certify_min_arrays(*MIN, numpy.array(LEAST)).potentials
         self.assertEqual(dimacs.judge_min_arrays(*MIN, LEAST, potentials).value, 14)
-        with self.assertRaises(dimacs.NotOptimal) as caught:
-            dimacs.certify_min_arrays(*MIN, numpy.array(DEAR, "int32"))
-        self.assertEqual(improved(dimacs.certify_min_arrays, *MIN, caught.exception.better).value, 14)
-        self.assertEqual(caught.exception.better.dtype, numpy.dtype("int64"))
+        it = raised(dimacs.NotOptimal, dimacs.certify_min_arrays, *MIN, numpy.array(DEAR, "int32"))
+        self.assertEqual(improved(dimacs.certify_min_arrays, *MIN, it.better).value, 14)
+        self.assertEqual(it.better.dtype, numpy.dtype("int64"))
         distances = numpy.array([0, 5, numpy.inf, numpy.inf])
         predecessors = dimacs.certify_paths_arrays(*GRAPH, 1, distances).predecessors
         self.assertEqual((predecessors.dtype, predecessors.tolist()), (numpy.dtype("uint32"), PREDECESSORS))
         self.assertEqual(dimacs.judge_paths_arrays(*GRAPH, 1, distances, predecessors), dimacs.Verdict("sp", 1))
         inside = dimacs.certify_infeasible_arrays(NARROW[0], *map(numpy.array, NARROW[1:])).inside
         self.assertEqual(inside.dtype, numpy.dtype(bool))
-        with self.assertRaises(dimacs.Feasible) as caught:
-            dimacs.certify_infeasible_arrays(MIN[0], *map(numpy.array, MIN[1:]))
-        self.assertEqual(caught.exception.flow.dtype, numpy.dtype("int64"))
+        it = raised(dimacs.Feasible, dimacs.certify_infeasible_arrays, MIN[0], *map(numpy.array, MIN[1:]))
+        self.assertEqual(it.flow.dtype, numpy.dtype("int64"))
         nothing = numpy.zeros(0, "int64")
         self.assertEqual(dimacs.certify_min_arrays(0, *[nothing] * 6, nothing).potentials.tolist(), [])
 
@@ -402,8 +391,7 @@ class Forms(unittest.TestCase):
         for tails in (numpy.array([2**32 + 1, 1, 2, 2, 3]), numpy.array([-1, 1, 2, 2, 3], "int8")):
             with self.subTest(tails.dtype), self.assertRaises(ValueError):
                 dimacs.judge_max_arrays(4, 1, 4, tails, *MAX[4:], FLOW, CUT)
-        with self.assertRaises(TypeError):
-            dimacs.judge_max_arrays(*MAX, numpy.array(FLOW, "complex128"), CUT)
+        self.assertRaises(TypeError, dimacs.judge_max_arrays, *MAX, numpy.array(FLOW, "complex128"), CUT)
 
     @unittest.skipUnless(numpy, "numpy isn't there")
     def test_numpy_with_masks(self):
@@ -413,8 +401,7 @@ class Forms(unittest.TestCase):
                 with self.subTest(kind), self.assertRaises(TypeError):
                     dimacs.judge_max_arrays(*MAX, flows, CUT)
         tails = numpy.ma.array([1, 1, 2, 2, 2**32 + 3], mask=[0, 0, 0, 0, 1])
-        with self.assertRaises(TypeError):
-            dimacs.judge_max_arrays(4, 1, 4, tails, *MAX[4:], FLOW, CUT)
+        self.assertRaises(TypeError, dimacs.judge_max_arrays, 4, 1, 4, tails, *MAX[4:], FLOW, CUT)
 
     @unittest.skipUnless(numpy, "numpy isn't there")
     def test_numpy_with_its_own_ends(self):
@@ -425,8 +412,7 @@ class Forms(unittest.TestCase):
             max = min
 
         tails = numpy.array([1, 1, 2, 2, 2**32 + 3]).view(Narrow)
-        with self.assertRaises(ValueError):
-            dimacs.judge_max_arrays(4, 1, 4, tails, *MAX[4:], FLOW, CUT)
+        self.assertRaises(ValueError, dimacs.judge_max_arrays, 4, 1, 4, tails, *MAX[4:], FLOW, CUT)
         self.judged(lambda items: numpy.array(items, "int32").view(Narrow), list, list)
 
     def test_infinite_distances(self):

@@ -16,7 +16,7 @@ import warnings
 
 import dimacs
 from dimacs.distances import NegativeCycle, distances_from
-from modules import networkx
+from shared import networkx, raised
 
 
 def lacks():
@@ -100,12 +100,11 @@ class Backend(unittest.TestCase):
 
     def refused(self, name, *words, **more):
         """The reason with which the backend declines a call, which networkx answers then."""
-        with self.assertRaises(NotImplementedError) as caught:
-            getattr(networkx, name)(*words, backend="dimacs", **more)
+        it = raised(NotImplementedError, getattr(networkx, name), *words, backend="dimacs", **more)
         from dimacs.backend import Unable
 
-        self.assertIsInstance(caught.exception.__cause__, Unable)
-        return str(caught.exception.__cause__)
+        self.assertIsInstance(it.__cause__, Unable)
+        return str(it.__cause__)
 
 
 class Flows(Backend):
@@ -181,8 +180,7 @@ class Flows(Backend):
             graph.edges["s", "a"]["capacity"] = amount
             self.assertIn("edge ('s', 'a')", self.refused("minimum_cut", graph, "s", "t"))
         graph.edges["s", "a"]["capacity"] = 0.5
-        with self.assertRaises(NotImplementedError):
-            networkx.maximum_flow(graph, "s", "t", backend="dimacs")
+        self.assertRaises(NotImplementedError, networkx.maximum_flow, graph, "s", "t", backend="dimacs")
         with networkx.config(backend_priority=["dimacs"]):
             self.assertEqual(networkx.maximum_flow_value(graph, "s", "t"), 2.5)
 
@@ -195,8 +193,7 @@ class Flows(Backend):
         graph.add_edge("s", "t", capacity=2.0**53)
         with networkx.config(backend_priority=["dimacs"]):
             self.assertIsInstance(networkx.maximum_flow_value(graph, "s", "t"), float)
-        with self.assertRaises(NotImplementedError):
-            networkx.maximum_flow(graph, "s", "t", backend="dimacs")
+        self.assertRaises(NotImplementedError, networkx.maximum_flow, graph, "s", "t", backend="dimacs")
 
     def test_numbers_of_other_types(self):
         class Whole:
@@ -500,8 +497,7 @@ class Paths(Backend):
         graph.add_edge("a", "s", weight=-3)
         self.same(networkx.single_source_bellman_ford, graph, "s")
         self.assertIsNone(self.compared(networkx.single_source_bellman_ford, graph, "a"))
-        with self.assertRaises(NegativeCycle):
-            distances_from(2, [1, 2], [2, 1], [-2, 1], 1)
+        self.assertRaises(NegativeCycle, distances_from, 2, [1, 2], [2, 1], [-2, 1], 1)
 
     def test_missing_nodes(self):
         for function in (
@@ -537,8 +533,7 @@ class Paths(Backend):
         networkx.set_edge_attributes(graph, 2**62, "weight")
         with networkx.config(backend_priority=["dimacs"]):
             self.assertEqual(networkx.dijkstra_path_length(graph, 0, 2), 2**63)
-        with self.assertRaises(NotImplementedError):
-            networkx.dijkstra_path_length(graph, 0, 2, backend="dimacs")
+        self.assertRaises(NotImplementedError, networkx.dijkstra_path_length, graph, 0, 2, backend="dimacs")
 
     def test_no_target(self):
         """None is no target, also where networkx has no default for it."""
@@ -716,8 +711,7 @@ class Registered(Backend):
             self.assertFalse(running.can_run("maximum_flow", (graph, "s", "t"), {}))
 
     def test_wrong_arguments(self):
-        with self.assertRaises(TypeError):
-            networkx.maximum_flow(pipes(), "s", backend="dimacs")
+        self.assertRaises(TypeError, networkx.maximum_flow, pipes(), "s", backend="dimacs")
 
 
 if __name__ == "__main__":

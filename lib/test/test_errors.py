@@ -10,7 +10,7 @@ from decimal import Decimal
 from fractions import Fraction
 
 import dimacs
-from modules import networkx, numpy
+from shared import networkx, numpy, raised
 
 INF, NAN = float("inf"), float("nan")
 NOT_WHOLE = "not a whole number: scale= takes multiples of a unit"
@@ -94,11 +94,10 @@ class Arrays(Errors):
                 (f"solution 1 2 NotMaximum: {better}", dimacs.certify_max, TEXT, "s 1\nf 1 2 1\n"),
             ],
         )
-        with self.assertRaises(dimacs.NotOptimal) as caught:
-            certify_max(*MAX, [3, 3])
-        self.assertEqual((caught.exception.value, caught.exception.better_value), (3, 4))
+        it = raised(dimacs.NotOptimal, certify_max, *MAX, [3, 3])
+        self.assertEqual((it.value, it.better_value), (3, 4))
         shown = "NotOptimal('NotMaximum', text='solution', line=0, field=0, numbers={'value': 3, 'better_value': 4}, better=[4, 4])"
-        self.assertEqual(repr(caught.exception), shown)
+        self.assertEqual(repr(it), shown)
 
     def test_numbers(self):
         flows, certify, judge, last = [0, 4], dimacs.certify_max_arrays, dimacs.judge_max_arrays, 2**63 - 1
@@ -401,10 +400,9 @@ class Graphs(Errors):
                 ),
             ],
         )
-        with self.assertRaises(dimacs.Refused) as caught:
-            certify_min(self.graph(), flow)
+        it = raised(dimacs.Refused, certify_min, self.graph(), flow)
         self.assertEqual(
-            repr(caught.exception), "Refused('Balance', node='Leeds', numbers={'leaves': 31, 'supply': 30})"
+            repr(it), "Refused('Balance', node='Leeds', numbers={'leaves': 31, 'supply': 30})"
         )
 
     def test_arguments(self):

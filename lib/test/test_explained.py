@@ -23,6 +23,7 @@ from test_arrays import pandas
 from test_networkx import networkx, pipes
 from test_texts import CLAIMED, CUT, FLOW, LEAST, MAX, MIN, PAIRS, POT, SOURCE
 from test_texts import GRAPH as ROADS
+from shared import raised
 
 try:
     import explain as cases  # tests/explain.py
@@ -108,9 +109,8 @@ WEIGHT is a whole number, digits with a sign or without, and not `500.5`
 
 class Explained(unittest.TestCase):
     def refused(self, call, *words, **how):
-        with self.assertRaises(dimacs.Refused) as caught:
-            call(*words, **how)
-        return caught.exception.explain()
+        it = raised(dimacs.Refused, call, *words, **how)
+        return it.explain()
 
 
 class Texts(Explained):

@@ -6,7 +6,7 @@ import warnings
 from fractions import Fraction
 
 import dimacs
-from modules import pandas
+from shared import pandas, raised
 
 
 @unittest.skipUnless(pandas, "no pandas")
@@ -18,11 +18,6 @@ class Frames(unittest.TestCase):
     def network(self, **more):
         return dimacs.from_frame(self.edges, "from", "to", capacity="room", cost="price", **more)
 
-    def refused(self, kind, call, *words):
-        with self.assertRaises(kind) as caught:
-            call(*words)
-        return caught.exception
-
     def test_a_maximum_flow(self):
         value, edges, nodes = answer = self.network().solve_max("spring", "town")
         flows = answer.flows
@@ -33,10 +28,10 @@ class Frames(unittest.TestCase):
         for claim in "flow", flows, flows.tolist():
             self.assertEqual(self.network().certify_max("spring", "town", claim).value, 9)
         self.edges["flow"] -= [1, 0, 1, 0]
-        no = self.refused(dimacs.NotOptimal, self.network().certify_max, "spring", "town", "flow")
+        no = raised(dimacs.NotOptimal, self.network().certify_max, "spring", "town", "flow")
         self.assertEqual((no.value, no.better.to_dict()), (8, flows.to_dict()))
         self.edges.loc["d", "flow"] = 6
-        no = self.refused(dimacs.Refused, self.network().certify_max, "spring", "town", "flow")
+        no = raised(dimacs.Refused, self.network().certify_max, "spring", "town", "flow")
         self.assertEqual(str(no), "arc 'd' AboveCap: it carries 6, its capacity is 5")
 
     def test_what_the_caller_changes_later(self):
@@ -46,7 +41,7 @@ class Frames(unittest.TestCase):
         network, named = self.network(supply=supply), self.network()
         self.edges.sort_values("room", inplace=True)
         self.edges.loc[:, "room"], supply["spring"] = 99, 0
-        no = self.refused(dimacs.Refused, named.certify_max, "spring", "town", "sent")
+        no = raised(dimacs.Refused, named.certify_max, "spring", "town", "sent")
         self.assertEqual(str(no), "arc 'c' AboveCap: it carries 5, its capacity is 4")
         self.assertEqual(network.solve_min().flows.to_dict(), {"a": 4, "b": 5, "c": 4, "d": 5})
 
@@ -66,14 +61,14 @@ class Frames(unittest.TestCase):
         self.assertEqual((cost, flows.to_dict()), (20, {"a": 2, "b": 5, "c": 2, "d": 5}))
         self.assertEqual(nodes.loc["spring", "potential"] - nodes.loc["town", "potential"], 5)
         self.assertEqual(network.certify_min(flows).value, 20)
-        no = self.refused(dimacs.Refused, network.certify_min, flows * 0)
+        no = raised(dimacs.Refused, network.certify_min, flows * 0)
         self.assertEqual(str(no), "node 'spring' Balance: 0 leaves, its supply is 7")
-        no = self.refused(dimacs.Feasible, network.certify_infeasible)
+        no = raised(dimacs.Feasible, network.certify_infeasible)
         self.assertEqual(list(no.flow.index), list("abcd"))
 
     def test_no_flow(self):
         network = self.network(supply={"spring": 10, "town": -10})
-        no = self.refused(dimacs.Infeasible, network.solve_min)
+        no = raised(dimacs.Infeasible, network.solve_min)
         self.assertEqual(no.inside["inside"].to_dict(), network.certify_infeasible().nodes["inside"].to_dict())
         self.assertFalse(no.inside.loc["town", "inside"])
 
@@ -83,17 +78,17 @@ class Frames(unittest.TestCase):
         self.assertEqual(found["predecessor"].to_dict(), {"spring": None, "mill": None, "farm": None, "town": "mill"})
         again = self.network().certify_paths("mill", found["distance"]).nodes
         self.assertEqual(again["predecessor"].to_dict(), found["predecessor"].to_dict())
-        no = self.refused(dimacs.Refused, self.network().certify_paths, "mill", {"mill": 0, "town": 2})
+        no = raised(dimacs.Refused, self.network().certify_paths, "mill", {"mill": 0, "town": 2})
         self.assertEqual(str(no), "node 'town' NoTightArc: no arc gives its distance 2")
 
     def test_numbers(self):
         self.edges["room"] = [0.6, 0.8, 0.4, 0.5]
         self.assertEqual(self.network(scale=10).solve_max("spring", "town").value, Fraction(9, 10))
-        no = self.refused(ValueError, self.network().solve_max, "spring", "town")
+        no = raised(ValueError, self.network().solve_max, "spring", "town")
         self.assertEqual(str(no), "room of row 'a' is 0.6, not a whole number: scale= takes multiples of a unit")
-        no = self.refused(ValueError, self.network().solve_max, "spring", "sea")
+        no = raised(ValueError, self.network().solve_max, "spring", "sea")
         self.assertEqual(str(no), "'sea' is no node of the frame")
-        no = self.refused(ValueError, dimacs.from_frame, self.edges, "from", "where")
+        no = raised(ValueError, dimacs.from_frame, self.edges, "from", "where")
         self.assertEqual(str(no), "the frame has no column 'where': it has 'from', 'to', 'room', 'price'")
 
     def test_lower_bounds(self):
@@ -101,7 +96,7 @@ class Frames(unittest.TestCase):
         self.edges["least"] = [0, 8, 0, 0]
         network = self.network(low="least")
         for call, *words in (network.solve_max,), (network.certify_max, [4, 5, 4, 5]):
-            no = self.refused(ValueError, call, "spring", "town", *words)
+            no = raised(ValueError, call, "spring", "town", *words)
             self.assertEqual(str(no), "a maximum flow has no lower bounds: column 'least'")
 
     def test_distances_above_2_to_53(self):
@@ -114,21 +109,21 @@ class Frames(unittest.TestCase):
         for claim in found, found.to_dict(), {"mill": 0, "town": 2**53 + 1}:
             again = network.certify_paths("mill", claim).nodes["distance"]
             self.assertEqual([again["town"], again["farm"]], [2**53 + 1, float("inf")])
-        no = self.refused(dimacs.Refused, network.certify_paths, "mill", {"mill": 0, "town": 2**53})
+        no = raised(dimacs.Refused, network.certify_paths, "mill", {"mill": 0, "town": 2**53})
         self.assertEqual(str(no), f"node 'town' NoTightArc: no arc gives its distance {2**53}")
 
     def test_a_label_twice(self):
         twice = pandas.Series([3, 4, -7], index=["spring", "spring", "town"])
-        no = self.refused(ValueError, lambda: self.network(supply=twice))
+        no = raised(ValueError, lambda: self.network(supply=twice))
         self.assertEqual(str(no), "supply has the node 'spring' twice")
         twice = pandas.Series([9, 0, 3], index=["town", "mill", "town"])
-        no = self.refused(ValueError, self.network().certify_paths, "mill", twice)
+        no = raised(ValueError, self.network().certify_paths, "mill", twice)
         self.assertEqual(str(no), "distances has the node 'town' twice")
         twice = pandas.Series([1, 1.0], index=[0, 0.0])
-        no = self.refused(ValueError, lambda: self.network(supply=twice))
+        no = raised(ValueError, lambda: self.network(supply=twice))
         self.assertEqual(str(no), "supply has the node 0.0 twice")
         self.edges.columns = ["from", "to", "room", "room"]
-        no = self.refused(ValueError, lambda: dimacs.from_frame(self.edges, "from", "to", capacity="room"))
+        no = raised(ValueError, lambda: dimacs.from_frame(self.edges, "from", "to", capacity="room"))
         self.assertEqual(str(no), "the frame has the column 'room' twice")
 
     def test_what_is_given_wrongly(self):
@@ -168,7 +163,7 @@ class Frames(unittest.TestCase):
         for kind, rows in (TypeError, types), (ValueError, values):
             for message, call, *words in rows:
                 with self.subTest(message):
-                    self.assertEqual(str(self.refused(kind, call, *words)), message)
+                    self.assertEqual(str(raised(kind, call, *words)), message)
 
     def test_flows_in_each_form(self):
         network, flows = self.network(), [4, 5, 4, 5]

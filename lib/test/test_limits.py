@@ -12,7 +12,7 @@ import unittest
 
 import dimacs
 from dimacs import ortools
-from modules import csgraph, networkx, numpy, sparse
+from shared import csgraph, networkx, numpy, sparse
 from test_ortools import MaxFlow
 
 if networkx:

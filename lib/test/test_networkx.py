@@ -4,7 +4,7 @@ import random
 import unittest
 
 import dimacs
-from modules import networkx, numpy
+from shared import networkx, numpy, raised
 from test_arrays import improved
 
 
@@ -52,11 +52,6 @@ def random_graph(kind, nodes, edges, seed):
 
 
 class Networkx(unittest.TestCase):
-    def refused(self, kind, call, *words):
-        with self.assertRaises(kind) as caught:
-            call(*words)
-        return caught.exception
-
     def setUp(self):
         if networkx is None:
             self.skipTest("networkx isn't there")
@@ -80,23 +75,23 @@ class MaximumFlow(Networkx):
         value, flow = networkx.maximum_flow(graph, "spring", "town")
         self.assertEqual(dimacs.certify_networkx_max(graph, "spring", "town", flow).value, value)
         del graph["spring"]["mill"]["capacity"]
-        it = self.refused(dimacs.NotOptimal, dimacs.certify_networkx_max, graph, "spring", "town", flow)
+        it = raised(dimacs.NotOptimal, dimacs.certify_networkx_max, graph, "spring", "town", flow)
         self.assertGreater(sum(it.better["spring"].values()), value)
-        it = self.refused(dimacs.Refused, dimacs.judge_networkx_max, graph, "spring", "town", flow, {"spring"})
+        it = raised(dimacs.Refused, dimacs.judge_networkx_max, graph, "spring", "town", flow, {"spring"})
         self.assertEqual((it.arc, it.reason), (("spring", "mill"), "NotSaturated"))
         flow["spring"]["mill"] = 2**63 - 1
-        self.refused(ValueError, dimacs.certify_networkx_max, graph, "spring", "town", flow)
+        raised(ValueError, dimacs.certify_networkx_max, graph, "spring", "town", flow)
 
     def test_refused(self):
         graph = pipes()
         ends = "spring", "town"
         _, flow = networkx.maximum_flow(graph, *ends)
-        it = self.refused(dimacs.Refused, dimacs.judge_networkx_max, graph, *ends, flow, {"spring"})
+        it = raised(dimacs.Refused, dimacs.judge_networkx_max, graph, *ends, flow, {"spring"})
         self.assertEqual((it.arc[0], it.node, it.reason), ("spring", None, "NotSaturated"))
-        it = self.refused(dimacs.Refused, dimacs.judge_networkx_max, graph, *ends, flow, ["town"])
+        it = raised(dimacs.Refused, dimacs.judge_networkx_max, graph, *ends, flow, ["town"])
         self.assertEqual((it.arc, it.node, str(it)), (None, "spring", "node 'spring' SourceOutside"))
         flow["mill"]["farm"] += 1
-        it = self.refused(dimacs.Refused, dimacs.certify_networkx_max, graph, *ends, flow)
+        it = raised(dimacs.Refused, dimacs.certify_networkx_max, graph, *ends, flow)
         self.assertIn((it.node, it.arc), [("mill", None), (None, ("mill", "farm"))])
 
     def test_forms_of_a_side(self):
@@ -110,13 +105,13 @@ class MaximumFlow(Networkx):
         if numpy is not None:
             marked = {node: numpy.bool_(is_inside) for node, is_inside in inside.items()}
             self.assertEqual(dimacs.judge_networkx_max(graph, *ends, flow, marked).value, value)
-        it = self.refused(dimacs.Refused, dimacs.judge_networkx_max, graph, *ends, flow, dict.fromkeys(graph, False))
+        it = raised(dimacs.Refused, dimacs.judge_networkx_max, graph, *ends, flow, dict.fromkeys(graph, False))
         self.assertEqual((it.node, it.reason), ("spring", "SourceOutside"))
         for form in (dict.fromkeys(side, 1), {**inside, "town": None}, {node: graph[node] for node in side}, flow):
-            it = self.refused(TypeError, dimacs.judge_networkx_max, graph, *ends, flow, form)
+            it = raised(TypeError, dimacs.judge_networkx_max, graph, *ends, flow, form)
             self.assertIn("side", str(it))
         for form in ({**inside, "moat": False}, {*side, "moat"}):
-            self.refused(ValueError, dimacs.judge_networkx_max, graph, *ends, flow, form)
+            raised(ValueError, dimacs.judge_networkx_max, graph, *ends, flow, form)
 
         class Table(list):
             """Is gone through by the names of its columns, as a DataFrame is."""
@@ -125,7 +120,7 @@ class MaximumFlow(Networkx):
                 return [[1] * len(self)]
 
         for form in ((side, others), Table(side), 3, None):
-            self.refused(TypeError, dimacs.judge_networkx_max, graph, *ends, flow, form)
+            raised(TypeError, dimacs.judge_networkx_max, graph, *ends, flow, form)
         view = graph.subgraph(side).nodes
         self.assertEqual(dimacs.judge_networkx_max(graph, *ends, flow, view), dimacs.Verdict("max", value))
 
@@ -139,14 +134,14 @@ class MaximumFlow(Networkx):
         if numpy is not None:
             forms.append(numpy.array([True, False, False]))
         for form in forms:
-            it = self.refused(TypeError, dimacs.judge_networkx_max, graph, 0, 2, flow, form)
+            it = raised(TypeError, dimacs.judge_networkx_max, graph, 0, 2, flow, form)
             self.assertIn("side", str(it))
 
     def test_better(self):
         graph = pipes()
         none = {node: dict.fromkeys(graph[node], 0) for node in graph}
         for flow in (none, {}):
-            it = self.refused(dimacs.NotOptimal, dimacs.certify_networkx_max, graph, "spring", "town", flow)
+            it = raised(dimacs.NotOptimal, dimacs.certify_networkx_max, graph, "spring", "town", flow)
             self.assertEqual((it.reason, it.text, it.line, it.field), ("NotMaximum", "solution", 0, 0))
             self.assertEqual({node: set(it.better[node]) for node in graph}, {node: set(graph[node]) for node in graph})
             found = improved(dimacs.certify_networkx_max, graph, "spring", "town", it.better)
@@ -156,9 +151,9 @@ class MaximumFlow(Networkx):
         graph = networkx.MultiDiGraph([("s", "t", {"capacity": 2}), ("s", "t", {"capacity": 3})])
         flow = {"s": {"t": {0: 2, 1: 3}}}
         self.assertEqual(dimacs.certify_networkx_max(graph, "s", "t", flow).value, 5)
-        it = self.refused(dimacs.NotOptimal, dimacs.certify_networkx_max, graph, "s", "t", {"s": {"t": {1: 3}}})
+        it = raised(dimacs.NotOptimal, dimacs.certify_networkx_max, graph, "s", "t", {"s": {"t": {1: 3}}})
         self.assertEqual(it.better, {"s": {"t": flow["s"]["t"]}, "t": {}})
-        it = self.refused(dimacs.Refused, dimacs.certify_networkx_max, graph, "s", "t", {"s": {"t": {0: 3}}})
+        it = raised(dimacs.Refused, dimacs.certify_networkx_max, graph, "s", "t", {"s": {"t": {0: 3}}})
         self.assertEqual((it.arc, it.reason), (("s", "t", 0), "AboveCap"))
 
 
@@ -181,18 +176,18 @@ class LeastCost(Networkx):
         graph = shipping()
         flow = {"a": {"b": {"road": 3}}, "b": {"c": {0: 3}}}
         for call in (dimacs.judge_networkx_min, dimacs.certify_networkx_min):
-            it = self.refused(dimacs.NotOptimal, call, graph, flow)
+            it = raised(dimacs.NotOptimal, call, graph, flow)
             self.assertEqual(it.reason, "NotLeast")
             cost, _ = improved(dimacs.certify_networkx_min, graph, it.better)
             self.assertEqual(cost, 9)
-        it = self.refused(dimacs.Refused, dimacs.judge_networkx_min, graph, flow, {})
+        it = raised(dimacs.Refused, dimacs.judge_networkx_min, graph, flow, {})
         self.assertEqual((it.arc, it.reason), (("a", "b", "road"), "NotTight"))
 
     def test_a_circle_that_pays_without_end(self):
         graph = networkx.DiGraph()
         graph.add_edge("a", "b", weight=-1)
         graph.add_edge("b", "a")
-        it = self.refused(dimacs.NotOptimal, dimacs.certify_networkx_min, graph, {"a": {"b": 5}, "b": {"a": 5}})
+        it = raised(dimacs.NotOptimal, dimacs.certify_networkx_min, graph, {"a": {"b": 5}, "b": {"a": 5}})
         self.assertGreater(it.better["a"]["b"], 5)
 
     def test_floats_that_are_whole(self):
@@ -202,7 +197,7 @@ class LeastCost(Networkx):
         flow["b"]["c"][0] = float(flow["b"]["c"][0])
         self.assertEqual(dimacs.certify_networkx_min(graph, flow).value, 9)
         graph["b"]["c"][0]["weight"] = 1.5
-        self.refused(ValueError, dimacs.certify_networkx_min, graph, flow)
+        raised(ValueError, dimacs.certify_networkx_min, graph, flow)
 
 
 class NoFlow(Networkx):
@@ -210,12 +205,12 @@ class NoFlow(Networkx):
         for seed in range(10):
             for kind in (networkx.DiGraph, networkx.MultiDiGraph):
                 graph = random_graph(kind, 30, 100, seed)
-                it = self.refused(dimacs.Feasible, dimacs.certify_networkx_infeasible, graph)
+                it = raised(dimacs.Feasible, dimacs.certify_networkx_infeasible, graph)
                 cost, _ = networkx.network_simplex(graph)
                 self.assertEqual(improved(dimacs.certify_networkx_min, graph, it.flow).value, cost)
                 for node, demand in (("n0", -400), ("n1", 400)):
                     graph.nodes[node]["demand"] = graph.nodes[node].get("demand", 0) + demand
-                self.refused(networkx.NetworkXUnfeasible, networkx.network_simplex, graph)
+                raised(networkx.NetworkXUnfeasible, networkx.network_simplex, graph)
                 found = dimacs.certify_networkx_infeasible(graph)
                 self.assertIsNone(found.value)
                 self.assertGreater(*self.sides(graph, found.inside))
@@ -235,13 +230,13 @@ class NoFlow(Networkx):
             graph.add_node(node, demand=demand)
         self.assertIn(dimacs.certify_networkx_infeasible(graph).inside, (set("abc"), set("d")))
         graph.add_edge("c", "d")
-        it = self.refused(dimacs.Feasible, dimacs.certify_networkx_infeasible, graph)
+        it = raised(dimacs.Feasible, dimacs.certify_networkx_infeasible, graph)
         self.assertEqual(it.flow["c"], {"d": great})
         for demand, node in ((great, "d"), (great, "e"), (0, "c")):
             graph.add_node(node, demand=demand)
         graph.add_edge("d", "e")
         for call in (dimacs.certify_networkx_infeasible, dimacs.solve_networkx_min):
-            it = self.refused(dimacs.GaveUp, call, graph)
+            it = raised(dimacs.GaveUp, call, graph)
             self.assertIn("arcs without a limit", str(it))
 
 
@@ -270,17 +265,17 @@ class Demands(Networkx):
     @unittest.skipUnless(numpy, "numpy isn't there")
     def test_those_that_have_no_sign(self):
         for leaves in (numpy.uint8(255), numpy.uint32(2**32 - 1), 255):
-            it = self.refused(dimacs.Refused, self.certified, leaves, 1, 1)
+            it = raised(dimacs.Refused, self.certified, leaves, 1, 1)
             self.assertEqual((it.node, it.reason), ("a", "Balance"))
-        it = self.refused(ValueError, self.certified, numpy.uint64(2**64 - 1), 1, 1)
+        it = raised(ValueError, self.certified, numpy.uint64(2**64 - 1), 1, 1)
         self.assertIn("demand of node 'a' is 18446744073709551615, not", str(it))
 
     def test_ends(self):
         for leaves, enters in ((-(2**63) + 1, 2**63 - 1), (0, 2**63)):
-            it = self.refused(dimacs.Refused, self.certified, leaves, enters, 1)
+            it = raised(dimacs.Refused, self.certified, leaves, enters, 1)
             self.assertEqual((it.node, it.reason), ("a", "Balance"))
         for demand in (-(2**63), 2**63 + 1):
-            it = self.refused(ValueError, self.certified, demand, 0, 1)
+            it = raised(ValueError, self.certified, demand, 0, 1)
             self.assertIn(f"demand of node 'a' is {demand}, not", str(it))
 
 
@@ -314,7 +309,7 @@ class Distances(Networkx):
             ({"a": 0, "b": 1, "c": 1}, (None, "c", "NoTightArc")),
             ({"b": 1, "c": 2}, (None, "a", "NotShortest")),
         ]:
-            it = self.refused(dimacs.Refused, dimacs.certify_networkx_paths, graph, "a", distances)
+            it = raised(dimacs.Refused, dimacs.certify_networkx_paths, graph, "a", distances)
             self.assertEqual((it.arc, it.node, it.reason), wanted)
 
 
@@ -338,9 +333,8 @@ class Solves(Networkx):
 
     def test_no_flow(self):
         networkx.set_node_attributes(self.graph, {"a": -7, "d": 7}, "demand")
-        with self.assertRaises(dimacs.Infeasible) as no:
-            dimacs.solve_networkx_min(self.graph)
-        self.assertEqual(no.exception.inside, {"a"})
+        no = raised(dimacs.Infeasible, dimacs.solve_networkx_min, self.graph)
+        self.assertEqual(no.inside, {"a"})
 
     def test_distances(self):
         self.graph.add_node("e")
@@ -351,17 +345,15 @@ class Solves(Networkx):
 
     def test_an_edge_without_end(self):
         self.graph.add_edge("a", "d")
-        with self.assertRaises(networkx.NetworkXUnbounded):
-            dimacs.solve_networkx_max(self.graph, "a", "d")
+        self.assertRaises(networkx.NetworkXUnbounded, dimacs.solve_networkx_max, self.graph, "a", "d")
         del self.graph.edges["a", "b"]["capacity"]
         self.graph.remove_edge("a", "d")
         self.assertEqual(dimacs.solve_networkx_max(self.graph, "a", "d").value, 7)
 
     def test_names(self):
         self.graph.edges["b", "c"]["weight"] = -1
-        with self.assertRaises(dimacs.Refused) as no:
-            dimacs.solve_networkx_paths(self.graph, "a")
-        self.assertEqual(no.exception.arc, ("b", "c"))
+        no = raised(dimacs.Refused, dimacs.solve_networkx_paths, self.graph, "a")
+        self.assertEqual(no.arc, ("b", "c"))
 
     def test_several_edges_between_nodes(self):
         graph = networkx.MultiDiGraph()
@@ -384,7 +376,7 @@ class Misuse(Networkx):
             (dimacs.judge_networkx_min, (graph, flow, {"well": 3})),
             (dimacs.certify_networkx_min, (networkx.Graph(graph), flow)),
         ]:
-            it = self.refused(ValueError, call, *words)
+            it = raised(ValueError, call, *words)
             self.assertNotIsInstance(it, dimacs.PastLimit)
 
     def test_shapes(self):
@@ -396,24 +388,24 @@ class Misuse(Networkx):
         for graph, shape, flows in shapes:
             for flow in flows:
                 with self.subTest(str(flow)):
-                    it = self.refused(TypeError, dimacs.certify_networkx_max, graph, "a", "b", flow)
+                    it = raised(TypeError, dimacs.certify_networkx_max, graph, "a", "b", flow)
                     self.assertIn(f"the amounts {shape}, ", str(it))
-                    it = self.refused(TypeError, dimacs.certify_networkx_min, graph, flow)
+                    it = raised(TypeError, dimacs.certify_networkx_min, graph, flow)
                     self.assertIn(f"the amounts {shape}, ", str(it))
         for distances in ([0, 1], None, ({"a": 0, "b": 1}, {})):
-            it = self.refused(TypeError, dimacs.certify_networkx_paths, one, "a", distances)
+            it = raised(TypeError, dimacs.certify_networkx_paths, one, "a", distances)
             self.assertIn("a dict by node", str(it))
-        it = self.refused(TypeError, dimacs.judge_networkx_min, one, {}, [0, 0])
+        it = raised(TypeError, dimacs.judge_networkx_min, one, {}, [0, 0])
         self.assertIn("potentials is a list", str(it))
-        it = self.refused(TypeError, dimacs.certify_networkx_max, {"a": {"b": {}}}, "a", "b", {})
+        it = raised(TypeError, dimacs.certify_networkx_max, {"a": {"b": {}}}, "a", "b", {})
         self.assertIn("a DiGraph or MultiDiGraph", str(it))
 
     def test_limits(self):
         graph = pipes()
         graph["mill"]["farm"]["capacity"] = -1
-        it = self.refused(dimacs.PastLimit, dimacs.certify_networkx_max, graph, "spring", "town", {})
+        it = raised(dimacs.PastLimit, dimacs.certify_networkx_max, graph, "spring", "town", {})
         self.assertEqual((it.arc, it.node, it.reason), (("mill", "farm"), None, "BoundOrder"))
-        it = self.refused(dimacs.PastLimit, dimacs.certify_networkx_max, pipes(), "town", "town", {})
+        it = raised(dimacs.PastLimit, dimacs.certify_networkx_max, pipes(), "town", "town", {})
         self.assertEqual((it.arc, it.node, it.reason), (None, "town", "NodeTwice"))
 
 

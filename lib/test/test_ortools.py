@@ -4,7 +4,7 @@ import unittest
 
 import dimacs
 from dimacs import ortools
-from modules import numpy
+from shared import numpy, raised
 
 try:
     from ortools.graph.python import max_flow, min_cost_flow
@@ -62,9 +62,8 @@ class Standing(unittest.TestCase):
     """What stands in for a solver."""
 
     def raises(self, kind, solver, *ends):
-        with self.assertRaises(kind) as it:
-            ortools.certify(solver, *ends)
-        return it.exception
+        it = raised(kind, ortools.certify, solver, *ends)
+        return it
 
     def test_a_maximum_flow(self):
         solver = MaxFlow([4, 2, 2, 2, 4], 6)

@@ -6,6 +6,7 @@ import unittest
 import xml.etree.ElementTree as ElementTree
 
 import dimacs
+from shared import raised
 
 MAX = "p max 3 3\nn 1 s\nn 3 t\na 1 2 4\na 2 3 3\na 1 2 2\n"
 FLOW = "s 3\nf 1 2 3\nf 2 3 3\n"
@@ -60,27 +61,21 @@ class Pictures(unittest.TestCase):
 
     def test_only(self):
         chain = "p sp 900 899\n" + "".join(f"a {k} {k + 1} 1\n" for k in range(1, 900))
-        with self.assertRaisesRegex(ValueError, "900 nodes and 899 arcs, and a picture .* only="):
-            dimacs.draw(chain)
+        self.assertRaisesRegex(ValueError, "900 nodes and 899 arcs, and a picture .* only=", dimacs.draw, chain)
         self.assertIn('data-node="401"', dimacs.draw(chain, only=[400], layers=True).svg)
 
     def test_source(self):
         distances = "p distances 3 2\nt 1 2\nd 2 5\nd 3 11\nt 2 1\nd 3 6\n"
         self.assertIn("distance 6", dimacs.draw(GRAPH, distances, source=2).svg)
-        with self.assertRaisesRegex(ValueError, "no distances from 3"):
-            dimacs.draw(GRAPH, distances, source=3)
+        self.assertRaisesRegex(ValueError, "no distances from 3", dimacs.draw, GRAPH, distances, source=3)
 
     def test_misuse(self):
-        with self.assertRaisesRegex(ValueError, "is followed by"):
-            dimacs.draw(MAX, CUT)
-        with self.assertRaises(dimacs.Refused) as caught:
-            dimacs.draw("p max 3 3\nn 1 s\nn 9 t\n", FLOW)
-        self.assertEqual(caught.exception.line, 3)
+        self.assertRaisesRegex(ValueError, "is followed by", dimacs.draw, MAX, CUT)
+        it = raised(dimacs.Refused, dimacs.draw, "p max 3 3\nn 1 s\nn 9 t\n", FLOW)
+        self.assertEqual(it.line, 3)
         for wrong in (None, 5, ["p sp 1 0"]):
-            with self.assertRaisesRegex(TypeError, "draw takes texts"):
-                dimacs.draw(wrong)
-        with self.assertRaisesRegex(ValueError, "names a file: pass pathlib.Path"):
-            dimacs.draw(__file__)
+            self.assertRaisesRegex(TypeError, "draw takes texts", dimacs.draw, wrong)
+        self.assertRaisesRegex(ValueError, "names a file: pass pathlib.Path", dimacs.draw, __file__)
 
 
 if __name__ == "__main__":

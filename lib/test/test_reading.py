@@ -18,7 +18,7 @@ from unittest import mock
 import dimacs
 from dimacs import UNREACHED, Cut, Distances, Graph, Labels, MaxInstance, MinInstance, Potentials, Queries, Solution, instances
 from spoiled_texts import JUDGES, judged_texts
-from modules import numpy
+from shared import numpy, raised
 
 MAX = "c pipes\np max 4 3\nn 4 t\nn 1 s\na 1 2 9223372036854775807\n\na 2 4 +05\na 1 4 0\n"
 MIN = "p min 3 2\nn 3 -4\nn 1 4\na 1 2 0 9223372036854775807 -9223372036854775808\na 2 3 1 5 7\n"
@@ -119,8 +119,7 @@ class Rows(unittest.TestCase):
         self.assertEqual((listed(found), found.radius), ([1, [0, 5, UNREACHED], [0, 1, 0]], 6))
         self.assertEqual(found, Labels(1, [0, 5, UNREACHED], [0, 1, 0], 6))
         self.assertNotEqual(found, Labels(1, [0, 5, UNREACHED], [0, 1, 0]))
-        with self.assertRaisesRegex(ValueError, "labels with a radius, here 6, aren't written"):
-            dimacs.write(found)
+        self.assertRaisesRegex(ValueError, "labels with a radius, here 6, aren't written", dimacs.write, found)
 
     def test_refused_beyond_the_text(self):
         """What only arrays refuse: no explanation of the text alone names it."""
@@ -140,11 +139,9 @@ class Rows(unittest.TestCase):
             with self.subTest(line), self.assertRaises(dimacs.Refused) as caught:
                 dimacs.read(kind, text, *of)
             self.assertEqual(caught.exception.printed, line)
-            with self.assertRaisesRegex(ValueError, "doesn't keep what it was asked of"):
-                caught.exception.explain()
-        with self.assertRaises(dimacs.Refused) as caught:
-            dimacs.read("solution", "s 9\nf 4 4 1\nf 1 2 x\n", instance)
-        self.assertTrue(caught.exception.explain().startswith("x solution 3 4 BadNumber\n"))
+            self.assertRaisesRegex(ValueError, "doesn't keep what it was asked of", caught.exception.explain)
+        it = raised(dimacs.Refused, dimacs.read, "solution", "s 9\nf 4 4 1\nf 1 2 x\n", instance)
+        self.assertTrue(it.explain().startswith("x solution 3 4 BadNumber\n"))
 
     def test_queries(self):
         rows = [
@@ -375,8 +372,7 @@ class Files(unittest.TestCase):
             path.write_bytes(packed(MAX.encode()))
             self.assertEqual(dimacs.read("max", path), dimacs.read("max", MAX))
             self.assertEqual(dimacs.show("max", path), "i max 4 3 1 4\n")
-        with self.assertRaises(FileNotFoundError):
-            dimacs.read("max", self.place / "none.gz")
+        self.assertRaises(FileNotFoundError, dimacs.read, "max", self.place / "none.gz")
 
     def test_packed_files_that_are_not_whole(self):
         packed = gzip.compress(MAX.encode())
@@ -384,8 +380,7 @@ class Files(unittest.TestCase):
         for text in packed[:-9], packed[:12], damaged, MAX.encode():
             path = self.place / "pipes.max.gz"
             path.write_bytes(text)
-            with self.assertRaisesRegex(ValueError, "pipes.max.gz: "):
-                dimacs.read("max", path)
+            self.assertRaisesRegex(ValueError, "pipes.max.gz: ", dimacs.read, "max", path)
 
     def test_texts_that_are_none(self):
         for text, line in [
@@ -394,14 +389,12 @@ class Files(unittest.TestCase):
             ("", "x instance 1 0 ProblemMissing"),
             (gzip.compress(GRAPH.encode()), None),
         ]:
-            with self.assertRaises(dimacs.Refused) as caught:
-                dimacs.read("gr", text)
-            with self.assertRaises(dimacs.Refused) as wanted:
-                dimacs.show("gr", text)
-            self.assertEqual(caught.exception.printed, wanted.exception.printed)
-            self.assertEqual(caught.exception.explain(), wanted.exception.explain())
+            it = raised(dimacs.Refused, dimacs.read, "gr", text)
+            wanted = raised(dimacs.Refused, dimacs.show, "gr", text)
+            self.assertEqual(it.printed, wanted.printed)
+            self.assertEqual(it.explain(), wanted.explain())
             if line:
-                self.assertEqual(caught.exception.printed, line)
+                self.assertEqual(it.printed, line)
 
     @unittest.skipUnless(sys.platform == "linux", "another system")
     def test_no_memory_for_arcs_that_are_declared(self):
@@ -413,8 +406,7 @@ class Files(unittest.TestCase):
             ("min", "p min 2 268435456\n"),
             ("gr", "p sp 2 268435456\n"),
         ]:
-            with self.assertRaisesRegex(dimacs.Refused, "TooFew"):
-                dimacs.read(kind, text)
+            self.assertRaisesRegex(dimacs.Refused, "TooFew", dimacs.read, kind, text)
         self.assertLess(resource.getrusage(resource.RUSAGE_SELF).ru_maxrss - before, 10_000)  # kB
         self.assertLess(time.process_time() - begun, 1)
 

@@ -9,7 +9,7 @@ from fractions import Fraction
 
 import dimacs
 from dimacs.scales import Scale
-from modules import networkx, numpy
+from shared import networkx, numpy, raised
 
 INF = math.inf
 
@@ -144,9 +144,8 @@ class Flows(unittest.TestCase):
         self.assertEqual((cost, flows), (Fraction(215, 1000), [Fraction(5, 2), 2]))
         self.assertEqual(prices[0] - prices[1], Fraction(7, 100))
         self.assertEqual(dimacs.judge_min_arrays(2, *words, flows, prices, scale=(10, 100), base=0).value, cost)
-        with self.assertRaises(dimacs.NotOptimal) as no:
-            dimacs.certify_min_arrays(2, *words, [2, 2.5], scale=(10, 100), base=0)
-        self.assertEqual((no.exception.value, no.exception.better), (Fraction(235, 1000), flows))
+        no = raised(dimacs.NotOptimal, dimacs.certify_min_arrays, 2, *words, [2, 2.5], scale=(10, 100), base=0)
+        self.assertEqual((no.value, no.better), (Fraction(235, 1000), flows))
 
     def test_distances(self):
         found = dimacs.solve_paths_arrays(4, [0, 1], [1, 2], [0.5, 0.25], 0, scale="exact", base=0)
@@ -200,8 +199,7 @@ class Graphs(unittest.TestCase):
                 wanted = Fraction(networkx.network_simplex(whole)[0], unit * unit)
             except networkx.NetworkXUnbounded:
                 kinds["unbounded"] += 1
-                with self.assertRaises(networkx.NetworkXUnbounded):
-                    dimacs.solve_networkx_min(graph, scale=scale)
+                self.assertRaises(networkx.NetworkXUnbounded, dimacs.solve_networkx_min, graph, scale=scale)
                 continue
             kinds["yes"] += 1
             cost, flow, prices = dimacs.solve_networkx_min(graph, scale=scale)
@@ -242,10 +240,9 @@ class Limitless(unittest.TestCase):
         words = 3, [1, 2, 1], [2, 3, 3]
         cost, flows, _ = dimacs.solve_min_arrays(*words, [0] * 3, [INF, INF, 2], [1, 1, 1], [5, 0, -5])
         self.assertEqual((cost, flows), (8, [3, 3, 2]))
-        with self.assertRaises(dimacs.Infeasible) as no:
-            dimacs.solve_min_arrays(*words, [0] * 3, [INF, 1, 2], [1, 1, 1], [5, 0, -5])
+        no = raised(dimacs.Infeasible, dimacs.solve_min_arrays, *words, [0] * 3, [INF, 1, 2], [1, 1, 1], [5, 0, -5])
         self.assertEqual(
-            dimacs.judge_infeasible_arrays(*words, [0] * 3, [INF, 1, 2], [1] * 3, [5, 0, -5], no.exception.inside).kind,
+            dimacs.judge_infeasible_arrays(*words, [0] * 3, [INF, 1, 2], [1] * 3, [5, 0, -5], no.inside).kind,
             "infeasible",
         )
 
@@ -284,25 +281,21 @@ class Limitless(unittest.TestCase):
     def test_giving_up(self):
         """It is unbounded only if a flow is feasible."""
         words = 3, [1, 2], [2, 1], [0, 0], [INF, INF], [-1, 0]
-        with self.assertRaises(dimacs.Unbounded):
-            dimacs.solve_min_arrays(*words, [0, 0, 0], limit=0)
+        self.assertRaises(dimacs.Unbounded, dimacs.solve_min_arrays, *words, [0, 0, 0], limit=0)
         for limit in 0, 10:
-            with self.assertRaises((dimacs.Infeasible, dimacs.GaveUp)):
-                dimacs.solve_min_arrays(*words, [1, 0, -1], limit=limit)
+            self.assertRaises((dimacs.Infeasible, dimacs.GaveUp), dimacs.solve_min_arrays, *words, [1, 0, -1], limit=limit)
 
     def test_bounds(self):
         """The bound in place of inf is neither below a lower bound nor blamed for another arc."""
         self.assertEqual(dimacs.solve_min_arrays(2, [1], [2], [10], [INF], [3], [10, -10]).value, 30)
-        with self.assertRaises(dimacs.PastLimit) as no:
-            dimacs.solve_max_arrays(3, 1, 3, [1, 2], [2, 3], [INF, -5])
-        self.assertEqual(no.exception.arc, 2)
+        no = raised(dimacs.PastLimit, dimacs.solve_max_arrays, 3, 1, 3, [1, 2], [2, 3], [INF, -5])
+        self.assertEqual(no.arc, 2)
 
     @unittest.skipUnless(numpy, "no numpy")
     def test_what_is_masked(self):
         caps = numpy.ma.array([5.0, 4.0], mask=[0, 1])
         for scale in None, 10, "exact":
-            with self.assertRaisesRegex(TypeError, "masked"):
-                dimacs.solve_max_arrays(3, 1, 3, [1, 2], [2, 3], caps, scale=scale)
+            self.assertRaisesRegex(TypeError, "masked", dimacs.solve_max_arrays, 3, 1, 3, [1, 2], [2, 3], caps, scale=scale)
 
     def test_a_set_that_shows_nothing(self):
         """It is violated by less than 2^63, and not by an arc without a limit."""
@@ -311,10 +304,9 @@ class Limitless(unittest.TestCase):
         with self.assertRaises(dimacs.Refused) as no:
             dimacs.judge_infeasible_arrays(2, [1], [2], [0], [INF], [0], [2**63 - 1, -(2**63) + 1], [1, 0])
         self.assertEqual(no.exception.reason, "NotViolated")
-        with self.assertRaises(dimacs.Refused) as no:
-            dimacs.judge_infeasible_arrays(*words, [1, 1, 0, 0])
+        no = raised(dimacs.Refused, dimacs.judge_infeasible_arrays, *words, [1, 1, 0, 0])
         self.assertEqual(
-            str(no.exception),
+            str(no),
             f"certificate 0 0 NotViolated: the set supplies {2**63 - 1 + 2**62}, and from 0 to inf can leave it",
         )
 
@@ -336,12 +328,10 @@ class FromZero(unittest.TestCase):
             self.assertTrue(dimacs.judge_paths_arrays(*words, base=0))
 
     def test_refusals(self):
-        with self.assertRaises(dimacs.Refused) as no:
-            dimacs.certify_max_arrays(2, 0, 1, [0, 0], [1, 1], [3, 3], [3, 4], base=0)
-        self.assertEqual(str(no.exception), "arc 1 AboveCap: it carries 4, its capacity is 3")
-        with self.assertRaises(dimacs.PastLimit) as no:
-            dimacs.certify_max_arrays(2, 0, 2, [0], [1], [3], [3], base=0)
-        self.assertEqual(str(no.exception), "node 2 NodeRange: nodes are numbered from 0, and there are 2")
+        no = raised(dimacs.Refused, dimacs.certify_max_arrays, 2, 0, 1, [0, 0], [1, 1], [3, 3], [3, 4], base=0)
+        self.assertEqual(str(no), "arc 1 AboveCap: it carries 4, its capacity is 3")
+        no = raised(dimacs.PastLimit, dimacs.certify_max_arrays, 2, 0, 2, [0], [1], [3], [3], base=0)
+        self.assertEqual(str(no), "node 2 NodeRange: nodes are numbered from 0, and there are 2")
         with self.assertRaisesRegex(dimacs.Refused, "node 1 NodeRange: its predecessor is 2, and there are 2 nodes"):
             dimacs.judge_paths_arrays(2, [0], [1], [3], 0, [0, 3], [-1, 2], base=0)
 

@@ -6,7 +6,7 @@ import warnings
 from decimal import Decimal
 
 import dimacs
-from modules import csgraph, numpy, optimize, sparse
+from shared import csgraph, numpy, optimize, raised, sparse
 
 if csgraph:
     from dimacs import scipy as ours
@@ -168,10 +168,9 @@ class MaximumFlow(Scipy):
             ((graph, -1, 3), {}),
             ((graph, 0, 3), {"method": "another"}),
         ):
-            with self.assertRaises((TypeError, ValueError)) as theirs:
-                csgraph.maximum_flow(*words, **more)
-            no = self.raises(type(theirs.exception), "", ours.maximum_flow, *words, **more)
-            self.assertEqual(str(no), str(theirs.exception))
+            theirs = raised((TypeError, ValueError), csgraph.maximum_flow, *words, **more)
+            no = self.raises(type(theirs), "", ours.maximum_flow, *words, **more)
+            self.assertEqual(str(no), str(theirs))
         self.raises(ValueError, "from 0 to 1 is -4", ours.maximum_flow, -graph, 0, 3)
 
 
@@ -448,9 +447,8 @@ class Assignments(Scipy):
         self.raises(TypeError, "'0', not a number", certify, costs, ["0", "1"], [1, 0])
         self.raises(ValueError, "row_ind has 2 items, and col_ind 1", certify, costs, [0, 1], [1])
         for wrong in ([1, 2], [[numpy.nan]], [[-numpy.inf]]):
-            with self.assertRaises(ValueError) as theirs:
-                optimize.linear_sum_assignment(wrong)
-            self.assertEqual(str(self.raises(ValueError, "", ours.linear_sum_assignment, wrong)), str(theirs.exception))
+            theirs = raised(ValueError, optimize.linear_sum_assignment, wrong)
+            self.assertEqual(str(self.raises(ValueError, "", ours.linear_sum_assignment, wrong)), str(theirs))
 
     def test_nothing_to_assign(self):
         for shape in (0, 3), (3, 0), (0, 0):

@@ -9,6 +9,7 @@ from unittest import mock
 
 import dimacs
 from dimacs import library
+from shared import raised
 
 MAX = "p max 4 5\nn 1 s\nn 4 t\na 1 2 4\na 1 3 2\na 2 3 2\na 2 4 3\na 3 4 5\n"
 FLOW = "s 6\nf 1 2 4\nf 1 3 2\nf 2 3 1\nf 2 4 3\nf 3 4 3\n"
@@ -59,22 +60,17 @@ class Judges(unittest.TestCase):
             (dimacs.show, ("gr", "p sp 2 1\u00b9\n"), ("instance", 1, 4, "BadNumber")),
         ]
         for call, words, wanted in cases:
-            with self.assertRaises(dimacs.Refused) as caught:
-                call(*words)
-            it = caught.exception
+            it = raised(dimacs.Refused, call, *words)
             self.assertEqual((it.text, it.line, it.field, it.reason), wanted)
             self.assertEqual((it.arc, it.node), (None, None))
             self.assertNotIsInstance(it, dimacs.NotOptimal)
 
     def test_failed_tests(self):
-        with self.assertRaises(dimacs.Refused) as caught:
-            dimacs.judge_max(MAX, SLOW, CUT)
-        it = caught.exception
+        it = raised(dimacs.Refused, dimacs.judge_max, MAX, SLOW, CUT)
         self.assertEqual((it.arc, it.node, it.reason, str(it)), (1, None, "NotSaturated", "arc 1 NotSaturated"))
         self.assertEqual((it.text, it.line, it.field), (None, None, None))
-        with self.assertRaises(dimacs.Refused) as caught:
-            dimacs.judge_max(MAX, "s 6\nf 1 2 4\n", CUT)
-        self.assertEqual((caught.exception.arc, caught.exception.node), (None, 2))
+        it = raised(dimacs.Refused, dimacs.judge_max, MAX, "s 6\nf 1 2 4\n", CUT)
+        self.assertEqual((it.arc, it.node), (None, 2))
 
     def test_pairs_of_many_lines(self):
         pairs = "".join(f"q 1 {k % 4 + 1}\n" for k in range(1000))
@@ -108,38 +104,30 @@ class Certifies(unittest.TestCase):
             (dimacs.certify_max, dimacs.judge_max, MAX, SLOW, "NotMaximum"),
             (dimacs.certify_min, dimacs.judge_min, MIN, DEAR, "NotLeast"),
         ]:
-            with self.assertRaises(dimacs.NotOptimal) as caught:
-                call(instance, claim)
-            it = caught.exception
+            it = raised(dimacs.NotOptimal, call, instance, claim)
             self.assertEqual((it.text, it.line, it.field, it.reason), ("solution", 1, 2, reason))
             self.assertIsInstance(it.better, str)
             value, certificate = call(instance, it.better)
             self.assertEqual(judge(instance, it.better, certificate).value, value)
-            with self.assertRaises(dimacs.NotOptimal) as caught:
-                call(instance, claim.encode())
-            self.assertIsInstance(caught.exception.better, bytes)
+            it = raised(dimacs.NotOptimal, call, instance, claim.encode())
+            self.assertIsInstance(it.better, bytes)
 
     def test_not_feasible(self):
-        with self.assertRaises(dimacs.Refused) as caught:
-            dimacs.certify_min(MIN, "s 0\n")
-        self.assertNotIsInstance(caught.exception, dimacs.NotOptimal)
-        self.assertEqual(caught.exception.node, 1)
+        it = raised(dimacs.Refused, dimacs.certify_min, MIN, "s 0\n")
+        self.assertNotIsInstance(it, dimacs.NotOptimal)
+        self.assertEqual(it.node, 1)
 
     def test_infeasible(self):
         for instance, form in (SURPLUS, str), (SURPLUS.encode(), bytes):
             value, shown = dimacs.certify_infeasible(instance)
             self.assertEqual((value, type(shown)), (None, form))
             self.assertEqual(dimacs.judge_infeasible(instance, shown), dimacs.Verdict("infeasible"))
-            with self.assertRaises(dimacs.Feasible) as caught:
-                dimacs.certify_infeasible(form(MIN) if form is str else MIN.encode())
-            it = caught.exception
+            it = raised(dimacs.Feasible, dimacs.certify_infeasible, form(MIN) if form is str else MIN.encode())
             self.assertEqual((it.text, it.line, it.field, it.reason), ("instance", 0, 0, "Feasible"))
             self.assertIsInstance(it.flow, form)
-        with self.assertRaises(dimacs.NotOptimal):
-            dimacs.certify_min(MIN, DEAR)
-        with self.assertRaises(dimacs.Refused) as caught:
-            dimacs.certify_infeasible("p min 1 0\nn 2 1\n")
-        self.assertNotIsInstance(caught.exception, dimacs.Feasible)
+        self.assertRaises(dimacs.NotOptimal, dimacs.certify_min, MIN, DEAR)
+        it = raised(dimacs.Refused, dimacs.certify_infeasible, "p min 1 0\nn 2 1\n")
+        self.assertNotIsInstance(it, dimacs.Feasible)
 
     def test_paths(self):
         self.assertEqual(dimacs.certify_paths(GRAPH, CLAIMED), dimacs.Certified(None, DIST))
@@ -150,9 +138,8 @@ class Certifies(unittest.TestCase):
             ("p distances 5 0\n", "distances 0 0 NodesDiffer"),
             ("p distances 4 1\nt 1 1\nd 5 5\n", "distances 3 2 NodeRange"),
         ]:
-            with self.assertRaises(dimacs.Refused) as caught:
-                dimacs.certify_paths(GRAPH, claim)
-            self.assertEqual(str(caught.exception), wanted)
+            it = raised(dimacs.Refused, dimacs.certify_paths, GRAPH, claim)
+            self.assertEqual(str(it), wanted)
 
 
 class Spreads(unittest.TestCase):
@@ -163,9 +150,8 @@ class Spreads(unittest.TestCase):
         self.assertEqual(
             dimacs.spread_min("p min 2 2\na 1 2 0 3 9\na 1 2 0 5 1\n", "s 0\nf 1 2 6\n"), "s 0\nf 1 2 1\nf 1 2 5\n"
         )
-        with self.assertRaises(dimacs.Refused) as caught:
-            dimacs.spread_max(parallel, "s 6\nf 2 1 6\n")
-        self.assertEqual(str(caught.exception), "solution 2 0 UnknownArc")
+        it = raised(dimacs.Refused, dimacs.spread_max, parallel, "s 6\nf 2 1 6\n")
+        self.assertEqual(str(it), "solution 2 0 UnknownArc")
 
     def test_arrays(self):
         arcs = [1, 1, 2], [2, 2, 1], [3, 5, 4]
@@ -173,8 +159,7 @@ class Spreads(unittest.TestCase):
         self.assertEqual(dimacs.spread_min_arrays(2, [1, 1], [2, 2], [0, 0], [3, 5], [9, 1], [1], [2], [6]), [1, 5])
         given = array.array("q", [6])
         self.assertEqual(dimacs.spread_max_arrays(2, 1, 2, *arcs, [1], [2], given), array.array("q", [3, 3, 0]))
-        with self.assertRaises(dimacs.Refused):
-            dimacs.spread_max_arrays(3, 1, 2, *arcs, [3], [1], [6])
+        self.assertRaises(dimacs.Refused, dimacs.spread_max_arrays, 3, 1, 2, *arcs, [3], [1], [6])
 
     def test_forms_of_arrays(self):
         numbers = (ctypes.c_int64 * 3)(3, 5, 4)
@@ -189,12 +174,10 @@ class Spreads(unittest.TestCase):
     def test_numbers_from_0(self):
         arcs = [0, 0, 1], [1, 1, 0], [3, 5, 4]
         self.assertEqual(dimacs.spread_max_arrays(2, 0, 1, *arcs, [0, 1], [1, 0], [6, 1], base=0), [3, 3, 1])
-        with self.assertRaises(dimacs.PastLimit) as caught:
-            dimacs.spread_max_arrays(2, 0, 1, [0, 0], [1, 2], [3, 5], [], [], [], base=0)
-        self.assertEqual(str(caught.exception), "arc 1 NodeRange: it goes from 0 to 2; nodes are numbered from 0, and there are 2")
-        with self.assertRaises(dimacs.Refused) as caught:
-            dimacs.spread_min_arrays(3, [0], [1], [0], [3], [1], [0, 2], [1, 1], [3, 1], base=0)
-        self.assertEqual(str(caught.exception), "solution 3 0 UnknownArc: no arc goes from 2 to 1")
+        it = raised(dimacs.PastLimit, dimacs.spread_max_arrays, 2, 0, 1, [0, 0], [1, 2], [3, 5], [], [], [], base=0)
+        self.assertEqual(str(it), "arc 1 NodeRange: it goes from 0 to 2; nodes are numbered from 0, and there are 2")
+        it = raised(dimacs.Refused, dimacs.spread_min_arrays, 3, [0], [1], [0], [3], [1], [0, 2], [1, 1], [3, 1], base=0)
+        self.assertEqual(str(it), "solution 3 0 UnknownArc: no arc goes from 2 to 1")
 
     def test_limits_of_arrays(self):
         none = [[]] * 3
@@ -214,8 +197,7 @@ class Spreads(unittest.TestCase):
 
     def test_pairs_of_different_lengths(self):
         arcs = [1, 1, 2], [2, 2, 1], [3, 5, 4]
-        with self.assertRaises(ValueError):
-            dimacs.spread_max_arrays(2, 1, 2, *arcs, [1], [2, 1], [6])
+        self.assertRaises(ValueError, dimacs.spread_max_arrays, 2, 1, 2, *arcs, [1], [2, 1], [6])
 
 
 class Solves(unittest.TestCase):
@@ -235,11 +217,10 @@ class Solves(unittest.TestCase):
         self.assertEqual(cost, 14)
 
     def test_no_flow(self):
-        with self.assertRaises(dimacs.Infeasible) as no:
-            dimacs.solve_min(SURPLUS)
-        self.assertEqual(dimacs.judge_infeasible(SURPLUS, no.exception.certificate).kind, "infeasible")
-        self.assertEqual(str(no.exception), "no flow is feasible")
-        self.assertIsInstance(no.exception, dimacs.Refused)
+        no = raised(dimacs.Infeasible, dimacs.solve_min, SURPLUS)
+        self.assertEqual(dimacs.judge_infeasible(SURPLUS, no.certificate).kind, "infeasible")
+        self.assertEqual(str(no), "no flow is feasible")
+        self.assertIsInstance(no, dimacs.Refused)
 
     def test_distances_and_answers(self):
         none, pairs, labels = dimacs.solve_paths(GRAPH, PAIRS)
@@ -264,9 +245,8 @@ class Solves(unittest.TestCase):
             (lambda: dimacs.solve_paths("p sp 2 1\na 1 2 -1\n", PAIRS), "node 4 QueryNode"),
             (lambda: dimacs.solve_paths("p sp 4 1\na 1 2 -1\n", PAIRS), "arc 1 NegativeWeight"),
         ):
-            with self.assertRaises(dimacs.Refused) as no:
-                call()
-            self.assertEqual(str(no.exception), message)
+            no = raised(dimacs.Refused, call)
+            self.assertEqual(str(no), message)
 
 
 class Texts(unittest.TestCase):
@@ -299,10 +279,8 @@ class Texts(unittest.TestCase):
         self.assertEqual(dimacs.convert("max", spread), plain)
 
     def test_misuse(self):
-        with self.assertRaises(ValueError):
-            dimacs.convert("graph", GRAPH)
-        with self.assertRaises(TypeError):
-            dimacs.convert("gr", 5)
+        self.assertRaises(ValueError, dimacs.convert, "graph", GRAPH)
+        self.assertRaises(TypeError, dimacs.convert, "gr", 5)
 
 
 if __name__ == "__main__":
