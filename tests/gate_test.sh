@@ -142,38 +142,46 @@ edit.settle(None)
 it.judge_errors(edit, [": `goal-3` is not in scope", ": the record has no field `goal-4`"])
 print("OK" if edit.result == it.BAD else edit.result)'
 
-# What is proved but for a function that it calls, and what isn't. A check that can't show of one function that a twin is
-# proved is made again for the others.
+# A check of wrong bodies that can't show something of each: what calls a function that is edited in place is tried again
+# without that, and if a twin without an edit isn't proved, so are the twins of other functions.
 python '
 import collections, try_bodies as it
-verdicts = {
-    "one": "proved",
-    "two": "not proved; it stands on `Rattle.c.proofs.m.other.Answers.returns`, which antt refuses; it calls `c::m::other`",
-    "three": "no proof: it calls `c::m::other`, which is not proved",
-    "four": "not proved; it stands on `Rattle.c.proofs.m.four.Answers.returns`, which antt refuses",
-    "five": "no proof: expected answers in ./proofs/m/five/Answers.antt; it calls `c::m::other`, which is not proved",
-}
-report = it.Report(1, "".join(f"fn c::m::{name}: {verdict}\n" for name, verdict in verdicts.items()), collections.Counter(c=1))
-proved = [name for name in verdicts if it.is_as_proved(["m", name], report)]
-assert proved == ["one", "two", "three"], proved
-
-class Trial:
-    put_holes, check = lambda self, edits: None, lambda self, log: report
+VERDICTS = {"placed": "not proved", "calls": "not proved; it calls `c::m::placed`, which is not proved", "none": "not proved"}
+class Trial(it.Trial):
+    put_holes = lambda self, edits: None
     def __init__(self, crate, room):
-        self.control, self.paths = None, {}
+        self.control, self.paths, self.lines = None, {}, {}
+    def put_in_place(self, edit):
+        self.paths[edit] = [["m", edit.name]]
     def put_twins(self, edits):
-        self.control, self.paths = edits[0], {edit: [["m", edit.name]] for edit in edits}
+        self.control = next(iter(edits), None)
+        self.lines = dict.fromkeys(edits)
+        self.paths |= {edit: [["m", edit.name]] for edit in edits}
+    def check(self, log):
+        checks.append(sorted(edit.name for edit in self.paths))
+        calls = any(edit.name == "placed" for edit in self.paths)
+        verdict = lambda name: VERDICTS[name] if name in VERDICTS and (calls or name != "calls") else "proved"
+        lines = (f"fn c::m::{edit.name}: {verdict(edit.name)}\n" for edit in self.paths)
+        return it.Report(1, "".join(lines), collections.Counter(c=1))
 
 class Edit(it.Edit):
-    log, may_have_twin = str, lambda self: True
+    log = str
     def __init__(self, name, function):
         self.crate, self.name, self.functions, self.result = "c", name, [function], None
+    def may_have_twin(self):
+        return self.name != "placed"
 
-it.Trial = Trial
-edits = [Edit("four", "f"), Edit("five", "f"), Edit("one", "g")]
+it.Trial, checks = Trial, []
+it.judge = lambda edit, paths, report: edit.settle(it.verdict_at(paths[0], report))
+edits = [Edit("placed", "p"), Edit("calls", "f"), Edit("other", "g")]
 minutes = it.try_together(edits)
+assert checks == [["calls", "other", "placed"], ["calls", "other"]], checks
+assert [edit.result for edit in edits] == ["not proved", "proved", "proved"]
+checks.clear()
+edits = [Edit("none", "f"), Edit("other", "g")]
+it.try_together(edits)
 found = [edit.result for edit in edits]
-print("OK" if found == [None, None, it.PROVED] and minutes["c"] == 2 else [found, minutes])'
+print("OK" if checks == [["none", "other"], ["other"]] and found == [None, "proved"] and minutes["c"] == 2 else [checks, found])'
 
 # .ci/run installs what isn't there, and runs the gate, where nothing may be left out, only if that is there then.
 mkdir "$room/debian"

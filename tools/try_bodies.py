@@ -7,9 +7,10 @@ They are mistakes made on purpose, and a contract has to refuse each. Without a 
 One check of a copy of a crate tries many. Most are tried on a twin: the function stays as it is, and after it, under
 another name, comes one with its contract, its proof files and the wrong body. A method of a trait can have no twin, nor
 can several functions: they are edited in place, each function once in a check. The check asks for these alone, and takes
-the other functions of a proved library by their contracts. In each check a twin without an edit has to be proved, but
-for what it calls that is edited in place; if it isn't, the twins of other functions are tried by another check. What lies
-outside of functions is tried by a check of the whole crate, as is what such checks don't report.
+the other functions of a proved library by their contracts. What calls a function that is edited in place is tried again
+without that. In each check a twin without an edit has to be proved; if it isn't, the twins of other functions are tried
+by another check. What lies outside of functions is tried by a check of the whole crate, as is what such checks don't
+report.
 
 A wrong body is refused if the proof of the function fails. It fails this script if it is proved, and where it is bad: it
 can't be applied or compiled, or the proof fails only since a proof file names what the edit took away.
@@ -52,10 +53,8 @@ PROOF_ERROR = re.compile(r"^(?:note: )?(?:\./)?(proofs/\S+?):\d+:\d+: error(.*(?
 CODE_ERROR = re.compile(r"^(?:\./)?(src/\S+?):(\d+):\d+: error(.*)", re.M)
 LOST = re.compile(r"has\s+no field|is not in scope|has\s+no `|was not admitted")
 
-# What a check reports of what is proved, or is but for functions that are taken by their contracts, and how these are; and
-# of what isn't since another function isn't.
+# What a check reports of what is proved, or is but for functions that are taken by their contracts, and how these are.
 AS_PROVED = ("proved", "no holes", "depends on a hole")
-OF_OTHERS = ("not proved; it stands on ", "no proof: it calls ", "no proof: it passes ")
 HOLE = """use Rattle.{module}.Statement.{{statement}}
 
 pub {name}_spec : {{M : Type 1}} → statement M
@@ -272,6 +271,12 @@ class Trial:
         found = twins or [it for it in others if file in {place.file for place in it.functions}]
         return [it for it in found if it is not self.control]
 
+    def calls_edited(self, edit, report):
+        """Whether a check reports that one of its functions calls what another edit changed in place, or its impl."""
+        others = [path for it, paths in self.paths.items() if it not in self.lines and it is not edit for path in paths]
+        names = ["::".join(part) for path in others for part in (path, path[:-1])]
+        return any(f"::{name}`" in verdict_at(path, report) for path in self.paths[edit] for name in names)
+
     def check(self, log):
         """Checks what is edited in the copy, or all of it."""
         words = [*check_words(self.crate), "--jobs", "1", *(["--allow-holes"] if self.paths and self.keys else [])]
@@ -346,13 +351,6 @@ def verdict_at(path, report):
     return found[0] if len(found) == 1 else ""
 
 
-def is_as_proved(path, report):
-    """Whether the function at a path is proved, or would be but for others: what it calls may be edited in place."""
-    verdict = verdict_at(path, report)
-    own = f".{'.'.join(path)}."
-    return verdict.startswith(AS_PROVED) or verdict.startswith(OF_OTHERS) and own not in verdict
-
-
 def closure_verdicts(path, report):
     """What a check reports of the closures in a function."""
     ends = "|".join(re.escape("::".join(it)) for it in within(path)[1:])
@@ -399,13 +397,22 @@ def try_together(edits):
     rest = [it for it in edits if it.result is None]
     if 0 < len(rest) < len(edits):
         return report.minutes + try_together(rest)
-    of_control = trial.control.functions if trial.control else []
-    if of_control and not is_as_proved(trial.paths[trial.control][0], report):
-        others = [it for it in rest if it.functions != of_control]
-        return report.minutes + (try_together(others) if others else collections.Counter())
-    for edit in rest:
-        judge(edit, trial.paths[edit], report)
-    return report.minutes
+    return sum(map(try_together, settle(rest, trial, report)), report.minutes)
+
+
+def settle(edits, trial, report):
+    """Settles the edits that a check shows something of, and answers the groups in which others are tried again."""
+    twins = [it for it in edits if it in trial.lines]
+    calling = [it for it in edits if trial.calls_edited(it, report)]
+    again = [it for it in twins if it in calling]
+    is_shown = not trial.control or verdict_at(trial.paths[trial.control][0], report).startswith(AS_PROVED)
+    if not is_shown:
+        calls = trial.calls_edited(trial.control, report)
+        again = [it for it in twins if calls or it.functions != trial.control.functions]
+    for edit in edits:
+        if edit not in calling and (is_shown or edit not in twins):
+            judge(edit, trial.paths[edit], report)
+    return ([again] if again else []) + [[it] for it in calling if it not in twins]
 
 
 def try_alone(edit):
