@@ -157,15 +157,16 @@ def unlocked(part):
 
 
 def test_table(place, writer):
-    """Fails if a file is neither a table that can be read, nor one that this writer wrote."""
-    begin = io.StringIO()
-    writer(begin).head()
+    """Fails if a file isn't a table of the format of this writer. One that is empty can be taken up again."""
+    head = io.StringIO()
+    writer(head).head()
+    begin = head.getvalue() or ROW
     with open(place, newline="", **ANY_NAMES) as it:
-        if begin.getvalue() and it.read(len(begin.getvalue())) == begin.getvalue():
-            return
-    if writer.IS_READ:
+        found = it.read(len(begin))
+    if found != begin and (found or writer.IS_READ):
         fail(f"{place}: not a table of this format; name another file")
-    collections.deque(read_table(place), maxlen=0)
+    if not writer.IS_READ:
+        collections.deque(read_table(place), maxlen=0)
 
 
 def put_alone(file, write, test):
