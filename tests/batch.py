@@ -533,6 +533,11 @@ def odd(place):
     _, table, _ = place.run("list")
     wanted = ["gone: No such file or directory", "gone.max: No such file or directory", ".: not a regular file"]
     assert column(table, "verdict") == wanted and set(column(table, "class")) == {"failed"}, table
+    place.write("list", "1.max\ts\t\t\n")
+    assert column(place.run("list")[1], "command") == ["certify-max 1.max s"]
+    place.write("list", "1.max s\n\0\n")
+    status, _, err = place.run("list")
+    assert status == 2 and err == "dimacs-batch: list: no list: a line has a byte 0\n", err
 
 
 def misused(place):

@@ -403,7 +403,9 @@ def in_list(file, keep):
         for line in lines:
             if not line.strip() or line.startswith("#"):
                 continue
-            words = line.rstrip("\r\n").split("\t") if "\t" in line else line.split()
+            if "\0" in line:
+                fail(f"{file}: no list: a line has a byte 0")
+            words = line.rstrip("\t\r\n").split("\t") if "\t" in line else line.split()
             instance, *answers = (joined(os.path.dirname(file), word) for word in words)
             test_keep(keep, *(os.path.dirname(it) or os.curdir for it in (instance, *answers)))
             yield instance, answers
