@@ -1108,15 +1108,15 @@ def full_while_kept(place, binary):
     for number in range(40):
         shutil.copy(os.path.join(TOP, "examples/pipes.solution"), place.path(f"a-{number:02}.sol"))
     place.write(f"kept/{keep.MARK}", "")
-    os.symlink("/dev/full", place.path("kept/.a.03.part"))
+    os.symlink("/dev/full", place.path("kept/.a.03.4.part"))
     status, _, err = place.run(".", "-o", "table", "--keep", "kept", "-j", "1", program=binary)
-    assert status == 2 and err == "dimacs-batch: kept/.a.03.part: No space left on device\n", err
+    assert status == 2 and err == "dimacs-batch: kept/.a.03.4.part: No space left on device\n", err
     assert len(place.table()) == 3, err
     shutil.copy(os.path.join(TOP, "examples/pipes.cut"), place.path("a-03.cut"))
-    os.unlink(place.path("kept/.a.03.part"))
-    os.symlink("/dev/full", place.path("kept/a.03.cut.part"))
+    os.unlink(place.path("kept/.a.03.4.part"))
+    os.symlink("/dev/full", place.path("kept/a.03.4.cut.part"))
     status, _, err = place.run(".", "-o", "table", "--keep", "kept", "-j", "1", program=binary)
-    assert status == 2 and err == "dimacs-batch: kept/a.03.cut.part: No space left on device\n", err
+    assert status == 2 and err == "dimacs-batch: kept/a.03.4.cut.part: No space left on device\n", err
 
 
 def one_name(place):
@@ -1329,9 +1329,10 @@ def same_names(place, binary):
     """Files of one name don't replace each other."""
     for folder in "12":
         shutil.copytree(os.path.join(TOP, "examples"), place.path(f"in/{folder}"))
+    shutil.copy(place.path("in/1/pipes-careless.solution"), place.path("in/2/pipes-8.solution"))
     place.run("in", "-o", "table", "--keep", "kept", program=binary)
     names = [it for it in column(place.table(), "kept") if it]
-    assert len(set(names)) == len(names) == 26 and "pipes.8.cut" in names, names
+    assert len(set(names)) == len(names) == 27 and "pipes.8.cut" in names and names_kept(place) == sorted(names), names
     assert place.run("--recheck", "table", "kept", program=binary)[0] == 0
 
 

@@ -2,6 +2,7 @@
 import hashlib
 import json
 import os
+import re
 import shlex
 import sqlite3
 
@@ -114,10 +115,10 @@ class Rows:
         return {"number": str(number), "of": str(self.count), "list": self.hash.hexdigest()[:16]}
 
     def file_name(self, number, task):
-        """The name under which its files are kept, with its number if another has the same."""
+        """The name under which its files are kept, with its number if another has the same, or if it ends with one."""
         name = name_of(task)
         same = self.db.execute("select count(*) from task where name = ?", (json.dumps(name),)).fetchone()[0]
-        return f"{name}.{number}" if same > 1 else name
+        return f"{name}.{number}" if same > 1 or re.search(r"\.\d+$", name) else name
 
     def take(self, number, row):
         self.db.execute("update task set row = ? where number = ?", (json.dumps(row), number))
