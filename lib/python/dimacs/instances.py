@@ -327,22 +327,29 @@ def _array(kind: Array, numbers: Any) -> Any:
 
 
 class ByNode(Value):
-    """What Cut and Potentials have in common: one array, with an item for each node. Its length is the number of nodes."""
+    """What Cut, Potentials, Distances and Labels have in common: IDs, then arrays of an item for each node. Its length is the
+    number of nodes."""
 
-    form: ClassVar[Array]
+    ids: ClassVar[tuple[str, ...]] = ()
+    arrays: ClassVar[tuple[Array, ...]]
 
     def __init_subclass__(cls) -> None:
-        cls.fields = (cls.form.name,)
+        cls.fields = (*cls.ids, *(it.name for it in cls.arrays))
 
     def __post_init__(self) -> None:
-        self._set(_array(self.form, *self))
+        ids = [number_of(getattr(self, it), IDS, it) for it in self.ids]
+        first, *others = arrays = [_array(it, getattr(self, it.name)) for it in self.arrays]
+        for kind, it in zip(self.arrays[1:], others):
+            if len(it) != len(first):
+                raise ValueError(f"{kind.name} has {len(it)} items, and {self.arrays[0].name} has {len(first)}")
+        self._set(*ids, *arrays)
 
     def __len__(self) -> int:
-        return len(getattr(self, self.form.name))
+        return len(getattr(self, self.arrays[0].name))
 
     def words(self) -> tuple[list[int], list[Buffer]]:
-        (numbers,) = self
-        return [], [array_of(numbers, self.form.items, self.form.name)]
+        arrays = [array_of(getattr(self, it.name), it.items, it.name) for it in self.arrays]
+        return [getattr(self, it) for it in self.ids], arrays
 
 
 @dataclass(frozen=True, eq=False, repr=False)
@@ -358,7 +365,7 @@ class Cut(ByNode):
     """
 
     name = "cut"
-    form = INSIDE
+    arrays = (INSIDE,)
     inside: Any
 
     def __repr__(self) -> str:
@@ -380,7 +387,7 @@ class Potentials(ByNode):
     """
 
     name = "potentials"
-    form = POTENTIALS
+    arrays = (POTENTIALS,)
     potentials: Any
 
     def __repr__(self) -> str:
@@ -388,8 +395,8 @@ class Potentials(ByNode):
 
 
 @dataclass(frozen=True, eq=False, repr=False)
-class Distances(Value):
-    """The distance of each node from a source, UNREACHED of a node that isn't reached. Its length is the number of nodes.
+class Distances(ByNode):
+    """The distance of each node from a source, UNREACHED of a node that isn't reached.
 
     >>> far = Distances(1, [0, 5, float("inf")])
     >>> far
@@ -400,21 +407,13 @@ class Distances(Value):
     """
 
     name = "distances"
-    fields: ClassVar[tuple[str, ...]] = ("source", "distances")
+    ids = ("source",)
+    arrays: ClassVar[tuple[Array, ...]] = (DISTANCES,)
     source: int
     distances: Any
 
-    def __post_init__(self) -> None:
-        self._set(number_of(self.source, IDS, "source"), _array(DISTANCES, self.distances))
-
-    def __len__(self) -> int:
-        return len(self.distances)
-
     def __repr__(self) -> str:
         return f"{type(self).__name__} of {len(self)} nodes from {self.source}"
-
-    def words(self) -> tuple[list[int], list[Buffer]]:
-        return [self.source], [array_of(self.distances, NUMBERS, "distances")]
 
 
 @dataclass(frozen=True, eq=False, repr=False)
@@ -428,16 +427,14 @@ class Labels(Distances):
     """
 
     name = "labels"
-    fields = ("source", "distances", "predecessors")
+    arrays = (DISTANCES, PREDECESSORS)
     predecessors: Any
     radius: int | None = None
 
     def __post_init__(self) -> None:
         super().__post_init__()
-        radius = None if self.radius is None else number_of(self.radius, NUMBERS, "radius")
-        self._set(self.source, self.distances, _array(PREDECESSORS, self.predecessors), radius=radius)
-        if len(self.predecessors) != len(self):
-            raise ValueError(f"predecessors has {len(self.predecessors)} items, and distances has {len(self)}")
+        if self.radius is not None:
+            self._set(radius=number_of(self.radius, NUMBERS, "radius"))
 
     def _compared(self) -> tuple[Any, ...]:
         return (*super()._compared(), self.radius)
@@ -445,8 +442,7 @@ class Labels(Distances):
     def words(self) -> tuple[list[int], list[Buffer]]:
         if self.radius is not None:
             raise ValueError(f"labels with a radius, here {self.radius}, aren't written")
-        numbers, arrays = super().words()
-        return numbers, [*arrays, array_of(self.predecessors, IDS, "predecessors")]
+        return super().words()
 
 
 _QUERIES = Array("froms", IDS, "queries"), Array("tos", IDS, "queries")

@@ -124,24 +124,21 @@ def _read_queries(text: Buffer) -> Queries:
     return Queries.made(froms, tos if pairs.value else None)
 
 
-def _read_block(kind: type[Value], text: Buffer, source: Any) -> Value:
-    """The block of a source. Only labels have a radius."""
-    source, radius = number_of(source, IDS, "source"), ctypes.c_int64()
-    found, after = _Reading(kind, text, *[radius] * (kind is Labels)), [ctypes.c_uint32(source)]
-    if kind is Distances:
-        return Distances.made(source, *found.others(text.length // _NODE, NUMBERS).made(after=after))
-    arrays = found.others(text.length // _NODE, NUMBERS, IDS).made(after=after)
-    return Labels.made(source, *arrays, radius=None if radius.value == UNREACHED else radius.value)
+def _read_by_node(kind: type[ByNode], text: Buffer, source: Any) -> ByNode:
+    """The block of a source, if there are any. Only labels have a radius."""
+    ids, radius = [number_of(source, IDS, it) for it in kind.ids], ctypes.c_int64()
+    reading = _Reading(kind, text, *[radius] * (kind is Labels))
+    arrays = reading.others(text.length // _NODE, *(it.items for it in kind.arrays)).made(after=[*map(ctypes.c_uint32, ids)])
+    more = {"radius": None if radius.value == UNREACHED else radius.value} if kind is Labels else {}
+    return kind.made(*ids, *arrays, **more)
 
 
 def _read(kind: type[Value], text: Buffer, of: Any) -> Value:
     if issubclass(kind, Instance):
         return _read_instance(kind, text)
     if issubclass(kind, ByNode):
-        return kind.made(*_Reading(kind, text).others(text.length // _NODE, kind.form.items).made())
-    if kind is Queries:
-        return _read_queries(text)
-    return _read_solution(text, of) if kind is Solution else _read_block(kind, text, of)
+        return _read_by_node(kind, text, of)
+    return _read_queries(text) if kind is Queries else _read_solution(text, of)
 
 
 #: What a text of a kind is of.
