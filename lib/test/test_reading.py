@@ -377,7 +377,7 @@ class Files(unittest.TestCase):
     def test_packed_files_that_are_not_whole(self):
         packed = gzip.compress(MAX.encode())
         damaged = packed[:20] + bytes([packed[20] ^ 255]) + packed[21:]
-        for text in packed[:-9], packed[:12], damaged, MAX.encode():
+        for text in packed[:-9], packed[:12], damaged, MAX.encode(), b"":
             path = self.place / "pipes.max.gz"
             path.write_bytes(text)
             self.assertRaisesRegex(ValueError, "pipes.max.gz: ", dimacs.read, "max", path)

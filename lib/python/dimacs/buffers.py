@@ -80,7 +80,10 @@ def _bytes_in(path: Path) -> bytes:
         return path.read_bytes()
     try:
         with gzip.open(path) as packed:
-            return packed.read()
+            text = packed.read()
+        if not text and not path.stat().st_size:
+            raise EOFError("the file is empty")
+        return text
     except (EOFError, gzip.BadGzipFile, zlib.error) as it:
         raise ValueError(f"{path}: {it}") from None
 
