@@ -1,5 +1,6 @@
 """Pictures, from Python. tests/draw.py tests what is in them."""
 
+import gzip
 import pathlib
 import tempfile
 import unittest
@@ -53,6 +54,9 @@ class Pictures(unittest.TestCase):
             instance, picture = pathlib.Path(folder, "a & b.max"), pathlib.Path(folder, "made.svg")
             instance.write_text(MAX)
             drawn = dimacs.draw(instance, FLOW)
+            packed = pathlib.Path(folder, "a & b.max.gz")
+            packed.write_bytes(gzip.compress(MAX.encode()))
+            self.assertEqual(dimacs.draw(packed, FLOW).svg, drawn.svg.replace("b.max", "b.max.gz"))
             drawn.save(picture)
             self.assertEqual(picture.read_text(encoding="utf-8"), drawn.svg)
             self.assertIn("a & b.max", "".join(ElementTree.parse(picture).getroot().itertext()))

@@ -32,12 +32,10 @@ class _Library:
 def _text(name: str, text: Any) -> drawing.Text:
     """A text, with the name of its file if it has one."""
     if isinstance(text, os.PathLike):
-        return drawing.Text(Path(text).name, Path(text).read_bytes())
-    if isinstance(text, str) and "\n" not in text and os.path.isfile(text):
+        name = Path(text).name
+    elif isinstance(text, str) and "\n" not in text and os.path.isfile(text):
         raise ValueError(f"draw takes texts, and {text!r} names a file: pass pathlib.Path({text!r})")
-    bytes_of(text, "draw")  # raises TypeError if it isn't a text
-    content = text.encode("utf-8", "surrogatepass") if isinstance(text, str) else bytes(memoryview(text))
-    return drawing.Text(name, content)
+    return drawing.Text(name, bytes(bytes_of(text, "draw").kept))
 
 
 def draw(
