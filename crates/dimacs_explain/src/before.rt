@@ -3,8 +3,8 @@
 use crate::lookups::declared;
 use dimacs_records::{End, Record};
 
-/// What explanations need of the lines before a fault.
-#[derive(Clone, Copy)]
+/// What explanations need of the lines before a fault; what isn't there has 0.
+#[derive(Clone, Copy, Default)]
 pub(crate) struct Before {
     pub(crate) lines: u64,
     /// The problem line, NODES and the count that it declares.
@@ -23,23 +23,6 @@ pub(crate) struct Before {
     pub(crate) labels: u32,
     pub(crate) labelled: u64,
 }
-
-/// Before the first line. What isn't there has 0.
-pub(crate) const NOTHING_BEFORE: Before = Before {
-    lines: 0,
-    problem_line: 0,
-    nodes: 0,
-    count: 0,
-    counted: 0,
-    source_line: None,
-    sink_line: None,
-    value_line: 0,
-    block_line: 0,
-    source: 0,
-    radius: None,
-    labels: 0,
-    labelled: 0,
-};
 
 impl Before {
     /// Adds a line.

@@ -3,9 +3,9 @@
 use crate::entries::{MostCost, NodeFlow};
 use crate::forms::range_of;
 use crate::lookups::Wanted;
-use crate::page::{Page, Stop};
+use crate::page::{Page, Said, Stop};
 use crate::reopen::Reopen;
-use crate::sentence::{Value, ending};
+use crate::sentence::{Value, ending, values};
 use crate::texts::TextFile;
 use dimacs_records::{At, End, Record, TextKind};
 
@@ -20,7 +20,7 @@ impl<'a, A: Reopen> Page<'a, A> {
     }
 
     /// Explains that an arc has more entries than there are arcs with its ends.
-    pub(crate) fn explain_arc_twice(&mut self, at: At) -> Result<(), Stop<'a>> {
+    pub(crate) fn explain_arc_twice(&mut self, at: At) -> Said<'a> {
         let Record::SolutionEntry { tail, head, .. } = self.quote_solution(at)? else {
             return Ok(());
         };
@@ -28,39 +28,30 @@ impl<'a, A: Reopen> Page<'a, A> {
         let file = Value::File(self.texts.instance()?.file);
         self.write(
             "{} has {} arc{} from {} to {}, and as many earlier entries have these ends\n",
-            &[
-                file,
-                count.into(),
-                ending(count).into(),
-                tail.into(),
-                head.into(),
-            ],
+            &values![file, count, ending(count), tail, head],
         )?;
         self.write_spread()
     }
 
     /// Explains that an entry belongs to no arc.
-    pub(crate) fn explain_unknown_arc(&mut self, at: At) -> Result<(), Stop<'a>> {
+    pub(crate) fn explain_unknown_arc(&mut self, at: At) -> Said<'a> {
         let Record::SolutionEntry { tail, head, .. } = self.quote_solution(at)? else {
             return Ok(());
         };
         let file = Value::File(self.texts.instance()?.file);
-        self.write(
-            "{} has no arc from {} to {}\n",
-            &[file, tail.into(), head.into()],
-        )?;
+        self.write("{} has no arc from {} to {}\n", &values![file, tail, head])?;
         let back = self.parallel(head, tail, 0)?;
         if back.all > 0 {
             self.write(
                 "arc {} leads from {} to {}\n",
-                &[back.first.into(), head.into(), tail.into()],
+                &values![back.first, head, tail],
             )?;
         }
         Ok(())
     }
 
     /// Compares the value or cost of a flow with the claimed one.
-    pub(crate) fn explain_value(&mut self, at: At) -> Result<(), Stop<'a>> {
+    pub(crate) fn explain_value(&mut self, at: At) -> Said<'a> {
         let Record::SolutionValue { value } = self.quote_solution(at)? else {
             return Ok(());
         };
@@ -71,11 +62,11 @@ impl<'a, A: Reopen> Page<'a, A> {
         }
     }
 
-    fn explain_claimed_cost(&mut self, claimed: i128) -> Result<(), Stop<'a>> {
+    fn explain_claimed_cost(&mut self, claimed: i128) -> Said<'a> {
         let cost = self.claimed_cost()?;
         self.write(
             "{} is claimed, and the flow costs {}\n",
-            &[claimed.into(), cost.into()],
+            &values![claimed, cost],
         )?;
         self.write_wrapped(claimed, cost)
     }
@@ -85,7 +76,7 @@ impl<'a, A: Reopen> Page<'a, A> {
         instance: TextFile<'a>,
         solution: TextFile<'a>,
         claimed: i128,
-    ) -> Result<(), Stop<'a>> {
+    ) -> Said<'a> {
         let source = self.end_of(instance, End::Source)?;
         let mut flow = NodeFlow::new(self.alloc, solution.file, source);
         self.tally(solution, &mut flow)?;
@@ -93,13 +84,7 @@ impl<'a, A: Reopen> Page<'a, A> {
         let value = outflow.saturating_sub(inflow);
         self.write(
             "{} is claimed, and the flow has the value {}: {} leaves the source, node {}, and {} enters it\n",
-            &[
-                claimed.into(),
-                value.into(),
-                outflow.into(),
-                source.into(),
-                inflow.into(),
-            ],
+            &values![claimed, value, outflow, source, inflow],
         )?;
         self.write_wrapped(claimed, value)
     }
@@ -115,7 +100,7 @@ impl<'a, A: Reopen> Page<'a, A> {
     }
 
     /// Names the bits in which a sum may have wrapped around.
-    fn write_wrapped(&mut self, claimed: i128, right: i128) -> Result<(), Stop<'a>> {
+    fn write_wrapped(&mut self, claimed: i128, right: i128) -> Said<'a> {
         let apart = claimed.saturating_sub(right);
         let bits = if apart % 18_446_744_073_709_551_616 == 0 {
             64_u32
@@ -126,18 +111,18 @@ impl<'a, A: Reopen> Page<'a, A> {
         };
         self.write(
             "they differ by a multiple of 2^{}: a sum of {} bits may have wrapped around\n",
-            &[bits.into(), bits.into()],
+            &values![bits, bits],
         )
     }
 
     /// Names the file with the better flow, if one was written, and by how much it is better.
-    pub(crate) fn explain_better(&mut self, at: At) -> Result<(), Stop<'a>> {
+    pub(crate) fn explain_better(&mut self, at: At) -> Said<'a> {
         let solution = self.texts.claim()?;
         if self.texts.written_file == Some(solution.file) {
             let condition = self.condition()?;
             return self.write(
                 "the flow is feasible, and there is a better one: {}{} has it now\n",
-                &[condition.into(), Value::File(solution.file)],
+                &values![condition, Value::File(solution.file)],
             );
         }
         let Record::SolutionValue { value: claimed } = self.quote_solution(at)? else {
@@ -160,12 +145,12 @@ impl<'a, A: Reopen> Page<'a, A> {
 
     /// Compares the value of the flow in a file with a claimed one. One above it is that of a maximum flow, one below is
     /// a cost.
-    fn compare_better(&mut self, file: &'a str, claimed: i128) -> Result<(), Stop<'a>> {
+    fn compare_better(&mut self, file: &'a str, claimed: i128) -> Said<'a> {
         let Some(Record::SolutionValue { value }) = self.quote(solution_in(file), Wanted::Value)?
         else {
             return self.write(
                 "the flow is feasible, and there is a better one, whose cost leaves {}\n",
-                &[range_of("VALUE").into()],
+                &values![range_of("VALUE")],
             );
         };
         let (verb, apart, word) = if value > claimed {
@@ -175,7 +160,7 @@ impl<'a, A: Reopen> Page<'a, A> {
         };
         self.write(
             "this flow is feasible, and {} {} {} than the {} that is claimed\n",
-            &[verb.into(), apart.into(), word.into(), claimed.into()],
+            &values![verb, apart, word, claimed],
         )
     }
 
@@ -191,7 +176,7 @@ impl<'a, A: Reopen> Page<'a, A> {
     }
 
     /// Names the file with a feasible flow, if one was written, and quotes its cost.
-    pub(crate) fn explain_feasible(&mut self) -> Result<(), Stop<'a>> {
+    pub(crate) fn explain_feasible(&mut self) -> Said<'a> {
         let Some(file) = self.texts.written_file else {
             return self.write(
                 "the instance has a feasible flow: name a file after the instance to get one\n",
@@ -201,7 +186,7 @@ impl<'a, A: Reopen> Page<'a, A> {
         let condition = self.condition()?;
         self.write(
             "the instance has a feasible flow: {}{} has one\n",
-            &[condition.into(), Value::File(file)],
+            &values![condition, Value::File(file)],
         )?;
         if self.again.open(file).is_some() {
             self.quote(solution_in(file), Wanted::Value)?;

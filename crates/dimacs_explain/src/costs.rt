@@ -10,22 +10,20 @@ use dimacs_network::{ArcView, PlainArcs};
 impl<'a, A: Reopen> Page<'a, A> {
     /// The instance of a minimum cost flow.
     pub(crate) fn min_instance(&self) -> Result<MinInstance<PlainArcs<ArcView>>, Stop<'a>> {
-        let file = self.texts.instance()?.file;
-        let mut source = self.again.open(file).ok_or(Stop::Unread(file))?;
-        read_plain_min(self.alloc, &mut source).map_err(|_| Stop::Unread(file))
+        let text = self.texts.instance()?;
+        read_plain_min(self.alloc, &mut self.source(text)?).map_err(|_| Stop::Unread(text.file))
     }
 
     /// The cost of the solution's flow.
     pub(crate) fn claimed_cost(&self) -> Result<i128, Stop<'a>> {
         let min = self.min_instance()?;
-        let file = self.texts.claim()?.file;
-        let mut claim = self.again.open(file).ok_or(Stop::Unread(file))?;
+        let text = self.texts.claim()?;
         let places = FlowPlaces::new(self.alloc, min.network())?;
-        let Ok(placed) = read_solution_into(self.alloc, places, &mut claim) else {
-            return Err(Stop::Unread(file));
+        let Ok(placed) = read_solution_into(self.alloc, places, &mut self.source(text)?) else {
+            return Err(Stop::Unread(text.file));
         };
         let Ok(flow) = placed.place.flow() else {
-            return Err(Stop::Unread(file));
+            return Err(Stop::Unread(text.file));
         };
         cost_within(min.network(), flow).map_err(|_| Stop::Said)
     }

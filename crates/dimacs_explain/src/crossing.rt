@@ -1,6 +1,6 @@
 //! What crosses the border of a set: a tight cut shows that a flow is maximum, a violated set that none is feasible.
 
-use crate::sentence::fill;
+use crate::sentence::{fill, values};
 use crate::sums::{Sum, write_set};
 use dimacs_claims::Cut;
 use dimacs_instance::MinInstance;
@@ -52,13 +52,7 @@ fn add_arc(sum: &mut Sum, index: u32, arc: ArcView, bound: Bound) -> Result<(), 
         Bound::Nothing => ("FLOW", 0),
     };
     let count = index.saturating_add(1);
-    let values = [
-        count.into(),
-        arc.tail.into(),
-        arc.head.into(),
-        name.into(),
-        number.into(),
-    ];
+    let values = values![count, arc.tail, arc.head, name, number];
     sum.add_line(
         "  arc {}: {} -> {}, {} {}\n",
         &values,
@@ -162,13 +156,7 @@ impl Crossing {
         fill(
             out,
             " into it\nso what leaves it, less what enters it, is {} {} - {} = {}, but has to be its supply, {}: no flow is feasible\n",
-            &[
-                limit.into(),
-                leaving.into(),
-                entering.into(),
-                self.net().into(),
-                supply.into(),
-            ],
+            &values![limit, leaving, entering, self.net(), supply],
         )
     }
 }

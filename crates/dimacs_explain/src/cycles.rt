@@ -1,7 +1,8 @@
 //! Finds a negative cycle, which leaves nodes without a distance.
 
-use crate::page::{Page, Stop};
+use crate::page::{Page, Said, Stop};
 use crate::reopen::Reopen;
+use crate::sentence::values;
 use crate::sums::Sum;
 use dimacs_instance::read_plain_graph;
 use dimacs_lines::Memory;
@@ -123,25 +124,17 @@ fn negative_cycle<N: Network>(
 
 impl<'a, A: Reopen> Page<'a, A> {
     /// Writes a negative cycle that a source reaches, if one is found.
-    pub(crate) fn write_cycle(&mut self, source: u32) -> Result<(), Stop<'a>> {
-        let file = self.texts.instance()?.file;
-        let Some(mut text) = self.again.open(file) else {
-            return Err(Stop::Unread(file));
-        };
-        let Ok(graph) = read_plain_graph(self.alloc, &mut text) else {
-            return Err(Stop::Unread(file));
+    pub(crate) fn write_cycle(&mut self, source: u32) -> Said<'a> {
+        let text = self.texts.instance()?;
+        let Ok(graph) = read_plain_graph(self.alloc, &mut self.source(text)?) else {
+            return Err(Stop::Unread(text.file));
         };
         let network = graph.network();
         let mut weights = Sum::new(self.alloc);
         for NumberedArc { number, arc } in negative_cycle(self.alloc, network, source)? {
             weights.add_line(
                 "  arc {}: {} -> {}, WEIGHT {}\n",
-                &[
-                    number.into(),
-                    arc.tail.into(),
-                    arc.head.into(),
-                    arc.cost.into(),
-                ],
+                &values![number, arc.tail, arc.head, arc.cost],
                 Some(i128::from(arc.cost)),
             )?;
         }

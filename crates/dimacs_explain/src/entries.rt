@@ -2,7 +2,7 @@
 
 use crate::lines::Tally;
 use crate::lookups::{arc_of, is_entry};
-use crate::sentence::Value;
+use crate::sentence::{Value, values};
 use crate::sums::Sum;
 use dimacs_network::ArcView;
 use dimacs_records::Record;
@@ -144,13 +144,7 @@ impl<'a> Tally for NodeFlow<'a> {
             && tail != head
         {
             let file = self.file;
-            let values = [
-                Value::File(file),
-                line.into(),
-                tail.into(),
-                head.into(),
-                flow.into(),
-            ];
+            let values = values![Value::File(file), line, tail, head, flow];
             if tail == self.node {
                 add_entry(&mut self.out_of, &values, flow)?;
             }

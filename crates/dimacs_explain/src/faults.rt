@@ -1,15 +1,15 @@
 //! Explains the fault of a text.
 
-use crate::before::{Before, NOTHING_BEFORE};
+use crate::before::Before;
 use crate::forms::{field_name, form_of, forms, kind_words, range_of};
 use crate::lines::ANY_LINES;
 use crate::lookups::{Named, Wanted, name_in};
 use crate::numbers::{is_no_distance, meant_number};
 use crate::oddities::{has_lone_return, oddity, other_kind};
-use crate::page::{Page, Stop};
+use crate::page::{Page, Said, Stop};
 use crate::quote::{escape, field_at, quote};
 use crate::reopen::Reopen;
-use crate::sentence::{Value, ending};
+use crate::sentence::{Value, ending, values};
 use crate::texts::TextFile;
 use dimacs_lines::{MAX_LINE, MAX_LINES, fields};
 use dimacs_records::{At, End, Reason, Record, TextKind};
@@ -43,7 +43,7 @@ impl FaultLine {
     /// Before the first line.
     fn new(alloc: Global) -> FaultLine {
         FaultLine {
-            before: NOTHING_BEFORE,
+            before: Before::default(),
             form: "p",
             name: "",
             word: String::new(alloc),
@@ -133,15 +133,10 @@ fn add_word(out: &mut String, word: &[u8]) -> Result<(), AllocError> {
 }
 
 impl<'a, A: Reopen> Page<'a, A> {
-    pub(crate) fn explain_fault(
-        &mut self,
-        text: TextFile<'a>,
-        at: At,
-        reason: Reason,
-    ) -> Result<(), Stop<'a>> {
+    pub(crate) fn explain_fault(&mut self, text: TextFile<'a>, at: At, reason: Reason) -> Said<'a> {
         let seen = self.quote_fault(text, at, reason)?;
         if let Some(odd) = seen.odd {
-            return self.write("{}\n", &[odd.into()]);
+            return self.write("{}\n", &values![odd]);
         }
         if seen.lone_return {
             self.out.push_str("lines end by a carriage return alone: end them by a line feed\n")?;
@@ -187,31 +182,20 @@ impl<'a, A: Reopen> Page<'a, A> {
     }
 
     /// Names the place of a fault at the end of a text, or at a line that is too long to be read.
-    fn name_place(
-        &mut self,
-        file: &str,
-        at: At,
-        reason: Reason,
-        last: u64,
-    ) -> Result<(), Stop<'a>> {
+    fn name_place(&mut self, file: &str, at: At, reason: Reason, last: u64) -> Said<'a> {
         let file = Value::File(file);
         match reason {
             Reason::LineTooLong | Reason::LineLimit => self.write(
                 "{}:{}: ",
-                &[file, at.line.into()],
+                &values![file, at.line],
             ),
             _ if last == 0 => self.write("{}: is empty\n", &[file]),
-            _ => self.write("{}: ends after line {}\n", &[file, last.into()]),
+            _ => self.write("{}: ends after line {}\n", &values![file, last]),
         }
     }
 
     /// Names the kind of a text that isn't of the kind that is wanted.
-    fn write_other_kind(
-        &mut self,
-        kind: TextKind,
-        other: &str,
-        reason: Reason,
-    ) -> Result<(), Stop<'a>> {
+    fn write_other_kind(&mut self, kind: TextKind, other: &str, reason: Reason) -> Said<'a> {
         match reason {
             Reason::UnknownLine | Reason::FieldCount | Reason::BadWord | Reason::ProblemMissing => {
                 let wanted = kind_words(kind);
@@ -222,7 +206,7 @@ impl<'a, A: Reopen> Page<'a, A> {
                 };
                 self.write(
                     "the p line is that of {}, and {} {} wanted\n",
-                    &[other.into(), wanted.into(), verb.into()],
+                    &values![other, wanted, verb],
                 )
             }
             _ => Ok(()),
@@ -236,25 +220,21 @@ impl<'a, A: Reopen> Page<'a, A> {
         line: u64,
         seen: &FaultLine,
         reason: Reason,
-    ) -> Result<(), Stop<'a>> {
+    ) -> Said<'a> {
         let kind = text.kind;
         match reason {
             Reason::LineTooLong => {
                 self.write(
                     "the line has more than {} bytes\n",
-                    &[(MAX_LINE as u64).into()],
+                    &values![(MAX_LINE as u64)],
                 )
             }
-            Reason::LineLimit => self.write("a text has at most {} lines\n", &[MAX_LINES.into()]),
+            Reason::LineLimit => self.write("a text has at most {} lines\n", &values![MAX_LINES]),
             Reason::UnknownLine => self.list_forms(kind, seen.word.as_str()),
             Reason::FieldCount => self.write_field_count(kind, seen),
             Reason::BadWord => self.write(
                 "`{}` stands where `{}` is wanted: the line is `{}`\n",
-                &[
-                    seen.word.as_str().into(),
-                    seen.name.into(),
-                    seen.form.into(),
-                ],
+                &values![seen.word.as_str(), seen.name, seen.form],
             ),
             Reason::BadNumber => self.write_bad_number(seen),
             Reason::NumberRange => self.write_range(seen.word.as_str(), seen.name),
@@ -262,7 +242,7 @@ impl<'a, A: Reopen> Page<'a, A> {
                 let first = form_of(kind, b"p").unwrap_or("p");
                 self.write(
                     "a line `{}` has to stand first, but for comments\n",
-                    &[first.into()],
+                    &values![first],
                 )
             }
             Reason::BoundOrder => self.write_bounds(seen.record),
@@ -277,25 +257,25 @@ impl<'a, A: Reopen> Page<'a, A> {
         kind: TextKind,
         seen: &FaultLine,
         reason: Reason,
-    ) -> Result<(), Stop<'a>> {
+    ) -> Said<'a> {
         let before = &seen.before;
         match reason {
             Reason::ProblemTwice => {
                 self.write(
                     "line {} is a p line already\n",
-                    &[before.problem_line.into()],
+                    &values![before.problem_line],
                 )
             }
             Reason::SolutionTwice => {
                 self.write(
                     "line {} is an s line already\n",
-                    &[before.value_line.into()],
+                    &values![before.value_line],
                 )
             }
             Reason::EndTwice => {
                 self.write(
                     "line {} has the same letter already\n",
-                    &[seen.end_line().into()],
+                    &values![seen.end_line()],
                 )
             }
             Reason::RecordOrder => self.write(order_of(kind), &[]),
@@ -306,11 +286,7 @@ impl<'a, A: Reopen> Page<'a, A> {
             ),
             Reason::NodeRange => self.write(
                 "node {} is above the {} nodes that line {} declares\n",
-                &[
-                    seen.word.as_str().into(),
-                    before.nodes.into(),
-                    before.problem_line.into(),
-                ],
+                &values![seen.word.as_str(), before.nodes, before.problem_line],
             ),
             Reason::TooMany | Reason::TooFew => self.write_count(kind, seen, reason),
             Reason::PredUnknown | Reason::PastRadius => self.write_label_fault(seen, reason),
@@ -318,22 +294,22 @@ impl<'a, A: Reopen> Page<'a, A> {
         }
     }
 
-    fn list_forms(&mut self, kind: TextKind, word: &str) -> Result<(), Stop<'a>> {
+    fn list_forms(&mut self, kind: TextKind, word: &str) -> Said<'a> {
         self.write(
             "no line of {} begins with `{}`\nits lines are",
-            &[kind_words(kind).into(), word.into()],
+            &values![kind_words(kind), word],
         )?;
         for form in forms(kind) {
-            self.write(" `{}`,", &[(*form).into()])?;
+            self.write(" `{}`,", &values![*form])?;
         }
         self.write(" and comments, which begin with c\n", &[])
     }
 
-    fn write_field_count(&mut self, kind: TextKind, seen: &FaultLine) -> Result<(), Stop<'a>> {
+    fn write_field_count(&mut self, kind: TextKind, seen: &FaultLine) -> Said<'a> {
         let wanted = count_fields(seen.form.as_bytes());
         self.write(
             "the line has {} fields, and `{}` has {}",
-            &[seen.fields.into(), seen.form.into(), wanted.into()],
+            &values![seen.fields, seen.form, wanted],
         )?;
         let has_radius = kind == TextKind::Labels && seen.form.starts_with('t');
         self.write(
@@ -346,11 +322,11 @@ impl<'a, A: Reopen> Page<'a, A> {
         )
     }
 
-    fn write_bad_number(&mut self, seen: &FaultLine) -> Result<(), Stop<'a>> {
+    fn write_bad_number(&mut self, seen: &FaultLine) -> Said<'a> {
         let word = seen.word.as_str();
         self.write(
             "{} is a whole number, digits with a sign or without, and not `{}`\n",
-            &[seen.name.into(), word.into()],
+            &values![seen.name, word],
         )?;
         if seen.name == "DIST" && is_no_distance(word) {
             return self.write(
@@ -359,17 +335,17 @@ impl<'a, A: Reopen> Page<'a, A> {
             );
         }
         match meant_number(self.alloc, word)? {
-            Some(number) => self.write("write {}\n", &[number.as_str().into()]),
+            Some(number) => self.write("write {}\n", &values![number.as_str()]),
             None => Ok(()),
         }
     }
 
     /// Names the range of a number, and what one that is outside may come from.
-    fn write_range(&mut self, word: &str, name: &str) -> Result<(), Stop<'a>> {
+    fn write_range(&mut self, word: &str, name: &str) -> Said<'a> {
         let range = range_of(name);
         self.write(
             "{} is a number from {}, and not {}\n",
-            &[name.into(), range.into(), word.into()],
+            &values![name, range, word],
         )?;
         match (word.parse::<i64>(), word.parse::<u64>()) {
             (Ok(0), _) if range.starts_with('1') => {
@@ -377,44 +353,39 @@ impl<'a, A: Reopen> Page<'a, A> {
             }
             (_, Ok(number)) if number > MOST_WHOLE && range.starts_with("-2^63") => self.write(
                 "in 64 bits with a sign this is -{}: a number may have wrapped around\n",
-                &[u64::MAX.saturating_sub(number).saturating_add(1).into()],
+                &values![u64::MAX.saturating_sub(number).saturating_add(1)],
             ),
             _ => Ok(()),
         }
     }
 
-    fn write_bounds(&mut self, record: Option<Record>) -> Result<(), Stop<'a>> {
+    fn write_bounds(&mut self, record: Option<Record>) -> Said<'a> {
         match record {
             Some(Record::MaxArc { cap, .. }) => {
-                self.write("CAP is {}, and has to be 0 or more\n", &[cap.into()])
+                self.write("CAP is {}, and has to be 0 or more\n", &values![cap])
             }
             Some(Record::MinArc { low, cap, .. }) if low < 0 => self.write(
                 "LOW is {} (and CAP {}), and has to be 0 or more\n",
-                &[low.into(), cap.into()],
+                &values![low, cap],
             ),
             Some(Record::MinArc { low, cap, .. }) => {
-                self.write("CAP is {}, less than LOW, {}\n", &[cap.into(), low.into()])
+                self.write("CAP is {}, less than LOW, {}\n", &values![cap, low])
             }
             _ => Ok(()),
         }
     }
 
     /// Compares the declared and the actual number of lines.
-    fn write_count(
-        &mut self,
-        kind: TextKind,
-        seen: &FaultLine,
-        reason: Reason,
-    ) -> Result<(), Stop<'a>> {
+    fn write_count(&mut self, kind: TextKind, seen: &FaultLine, reason: Reason) -> Said<'a> {
         let before = &seen.before;
         if seen.is_in_block(reason) {
             return self.write(
                 "the block of line {}, from source {}, declares {} d lines, and {} stand before this place\n",
-                &[
-                    before.block_line.into(),
-                    before.source.into(),
-                    before.labels.into(),
-                    before.labelled.into(),
+                &values![
+                    before.block_line,
+                    before.source,
+                    before.labels,
+                    before.labelled
                 ],
             );
         }
@@ -424,7 +395,7 @@ impl<'a, A: Reopen> Page<'a, A> {
             let end = Value::Word(ending(before.counted));
             return self.write(
                 "{} {}{} of the {} that line {} declares\n",
-                &[before.counted.into(), lines, end, declared, line],
+                &values![before.counted, lines, end, declared, line],
             );
         }
         let end = Value::Word(ending(u64::from(before.count)));
@@ -434,29 +405,24 @@ impl<'a, A: Reopen> Page<'a, A> {
         )
     }
 
-    fn write_label_fault(&mut self, seen: &FaultLine, reason: Reason) -> Result<(), Stop<'a>> {
+    fn write_label_fault(&mut self, seen: &FaultLine, reason: Reason) -> Said<'a> {
         let Some(Record::LabelsNode { dist, pred, .. }) = seen.record else {
             return Ok(());
         };
         if reason == Reason::PredUnknown {
             return self.write(
                 "PRED, {}, is neither the source of the block nor the ID of a d line before this one: order the d lines so that each stands after that of its PRED\n",
-                &[pred.into()],
+                &values![pred],
             );
         }
         self.write(
             "DIST is {}, above the RADIUS of the block, {}\n",
-            &[dist.into(), seen.before.radius.unwrap_or(0).into()],
+            &values![dist, seen.before.radius.unwrap_or(0)],
         )
     }
 
     /// Names the earlier line about the same node.
-    fn write_earlier(
-        &mut self,
-        text: TextFile<'a>,
-        line: u64,
-        seen: &FaultLine,
-    ) -> Result<(), Stop<'a>> {
+    fn write_earlier(&mut self, text: TextFile<'a>, line: u64, seen: &FaultLine) -> Said<'a> {
         let Some(named) = seen.record.and_then(name_in) else {
             return Ok(());
         };
@@ -466,7 +432,7 @@ impl<'a, A: Reopen> Page<'a, A> {
         };
         match self.find(text, Wanted::Name { named, from })? {
             Some(found) if found.line < line => {
-                self.write("line {} names the node already\n", &[found.line.into()])
+                self.write("line {} names the node already\n", &values![found.line])
             }
             _ => Ok(()),
         }

@@ -4,9 +4,9 @@ use crate::entries::{EntrySum, NodeFlow, Parallel};
 use crate::forms::range_of;
 use crate::least_cost::{paid_bound, reduced_cost};
 use crate::lookups::{Wanted, arc_of};
-use crate::page::{Page, Stop};
+use crate::page::{Page, Said, Stop};
 use crate::reopen::Reopen;
-use crate::sentence::{Value, ending};
+use crate::sentence::{Value, ending, values};
 use crate::texts::TextFile;
 use dimacs_network::ArcView;
 use dimacs_records::{Record, TextKind};
@@ -48,7 +48,7 @@ impl<'a, A: Reopen> Page<'a, A> {
     }
 
     /// Explains that an arc carries more or less than a bound.
-    pub(crate) fn explain_bound(&mut self, number: u32, bound: Bound) -> Result<(), Stop<'a>> {
+    pub(crate) fn explain_bound(&mut self, number: u32, bound: Bound) -> Said<'a> {
         if self.texts.is_spread {
             return self.explain_spread(number, bound);
         }
@@ -59,13 +59,7 @@ impl<'a, A: Reopen> Page<'a, A> {
         };
         self.write(
             "arc {} carries {}, {} than its {}, {}\n",
-            &[
-                number.into(),
-                flow.into(),
-                is.into(),
-                name.into(),
-                least.into(),
-            ],
+            &values![number, flow, is, name, least],
         )?;
         if parallel.all > 1 {
             return self.explain_order(arc, parallel);
@@ -74,15 +68,10 @@ impl<'a, A: Reopen> Page<'a, A> {
     }
 
     /// Explains that entries belong to parallel arcs in their order, and whether another order fits.
-    fn explain_order(&mut self, arc: ArcView, parallel: Parallel) -> Result<(), Stop<'a>> {
+    fn explain_order(&mut self, arc: ArcView, parallel: Parallel) -> Said<'a> {
         self.write(
             "{} arcs lead from {} to {}, and arc {} is the first of them: entries with these ends belong to them in the order of the instance\n",
-            &[
-                parallel.all.into(),
-                arc.tail.into(),
-                arc.head.into(),
-                parallel.first.into(),
-            ],
+            &values![parallel.all, arc.tail, arc.head, parallel.first],
         )?;
         let sum = self.entry_sum(arc.tail, arc.head)?;
         if parallel.low <= sum && sum <= parallel.cap {
@@ -90,24 +79,18 @@ impl<'a, A: Reopen> Page<'a, A> {
         }
         self.write(
             "the f lines with these ends add up to {}, outside of {} to {}, what these arcs can carry: no order fits\n",
-            &[sum.into(), parallel.low.into(), parallel.cap.into()],
+            &values![sum, parallel.low, parallel.cap],
         )
     }
 
     /// Explains an amount that is left for the first of parallel arcs and doesn't fit 64 bits.
-    fn explain_spread(&mut self, number: u32, bound: Bound) -> Result<(), Stop<'a>> {
+    fn explain_spread(&mut self, number: u32, bound: Bound) -> Said<'a> {
         let arc = self.quote_arc(number)?;
         let parallel = self.parallel(arc.tail, arc.head, number)?;
         let sum = self.entry_sum(arc.tail, arc.head)?;
         self.write(
             "{} arc{} from {} to {}: the f lines with these ends add up to {}\n",
-            &[
-                parallel.all.into(),
-                ending(parallel.all).into(),
-                arc.tail.into(),
-                arc.head.into(),
-                sum.into(),
-            ],
+            &values![parallel.all, ending(parallel.all), arc.tail, arc.head, sum],
         )?;
         let (name, others) = match bound {
             Bound::Low => ("LOW", parallel.low.saturating_sub(i128::from(arc.low))),
@@ -115,58 +98,47 @@ impl<'a, A: Reopen> Page<'a, A> {
         };
         self.write(
             "the arcs but the first carry their {}, {} in all, and {} is left for the first, arc {}: a FLOW is a number from {}\n",
-            &[
-                name.into(),
-                others.into(),
-                sum.saturating_sub(others).into(),
-                parallel.first.into(),
-                range_of("FLOW").into(),
+            &values![
+                name,
+                others,
+                sum.saturating_sub(others),
+                parallel.first,
+                range_of("FLOW")
             ],
         )
     }
 
     /// Explains that the costs of the arcs up to one leave their range.
-    pub(crate) fn explain_cost(&mut self, number: u32) -> Result<(), Stop<'a>> {
+    pub(crate) fn explain_cost(&mut self, number: u32) -> Said<'a> {
         let (arc, flow, _) = self.quote_flow(number)?;
         self.write(
             "arc {} carries {} at a COST of {}: the costs of the arcs up to this one leave {}\n",
-            &[
-                number.into(),
-                flow.into(),
-                arc.cost.into(),
-                range_of("VALUE").into(),
-            ],
+            &values![number, flow, arc.cost, range_of("VALUE")],
         )
     }
 
     /// Explains that an arc out of the cut isn't full.
-    pub(crate) fn explain_leaving(&mut self, number: u32) -> Result<(), Stop<'a>> {
+    pub(crate) fn explain_leaving(&mut self, number: u32) -> Said<'a> {
         let (arc, flow, _) = self.quote_flow(number)?;
         self.write(
             "arc {} leaves the set, from {} inside to {} outside, and carries {} of its CAP, {}\n",
-            &[
-                number.into(),
-                arc.tail.into(),
-                arc.head.into(),
-                flow.into(),
-                arc.cap.into(),
-            ],
+            &values![number, arc.tail, arc.head, flow, arc.cap],
         )?;
         self.write_open()
     }
 
     /// Explains that an arc into the cut isn't empty.
-    pub(crate) fn explain_entering(&mut self, number: u32) -> Result<(), Stop<'a>> {
+    pub(crate) fn explain_entering(&mut self, number: u32) -> Said<'a> {
         let (arc, flow, _) = self.quote_flow(number)?;
         self.write(
             "arc {} enters the set, from {} outside to {} inside, and carries {}, not 0\n",
-            &[number.into(), arc.tail.into(), arc.head.into(), flow.into()],
+            &values![number, arc.tail, arc.head, flow],
         )?;
         self.write_open()
     }
 
     /// Explains that an arc doesn't carry the bound that its reduced cost demands.
-    pub(crate) fn explain_slack(&mut self, number: u32) -> Result<(), Stop<'a>> {
+    pub(crate) fn explain_slack(&mut self, number: u32) -> Said<'a> {
         let (arc, flow, _) = self.quote_flow(number)?;
         let certificate = self.texts.certificate()?;
         let tail = self.quote_node(certificate, arc.tail)?;
@@ -175,26 +147,18 @@ impl<'a, A: Reopen> Page<'a, A> {
         let (bound, wanted) = paid_bound(arc, reduced);
         self.write(
             "the reduced cost of arc {} is COST - y({}) + y({}) = {} - {} + {} = {}",
-            &[
-                number.into(),
-                arc.tail.into(),
-                arc.head.into(),
-                arc.cost.into(),
-                tail.into(),
-                head.into(),
-                reduced.into(),
-            ],
+            &values![number, arc.tail, arc.head, arc.cost, tail, head, reduced],
         )?;
         let sign = if reduced > 0 { "above" } else { "below" };
         self.write(
             ", {} 0, so it has to carry its {}, {}, and carries {}\n",
-            &[sign.into(), bound.into(), wanted.into(), flow.into()],
+            &values![sign, bound, wanted, flow],
         )?;
         self.write_open()
     }
 
     /// Names the command that deals a flow out to parallel arcs.
-    pub(crate) fn write_spread(&mut self) -> Result<(), Stop<'a>> {
+    pub(crate) fn write_spread(&mut self) -> Said<'a> {
         self.write(
             "if the entries don't follow the order of the arcs, have them dealt out: ",
             &[],
@@ -204,7 +168,7 @@ impl<'a, A: Reopen> Page<'a, A> {
     }
 
     /// Writes that a certificate which fails leaves its claim open, and the command that decides it.
-    pub(crate) fn write_open(&mut self) -> Result<(), Stop<'a>> {
+    pub(crate) fn write_open(&mut self) -> Said<'a> {
         self.write(
             "this certificate doesn't show the claim, which may be true all the same: to find out, run ",
             &[],
@@ -214,21 +178,18 @@ impl<'a, A: Reopen> Page<'a, A> {
     }
 
     /// Writes a command about the claimed flow, or that none is feasible.
-    fn write_command(&mut self, verb: &str) -> Result<(), Stop<'a>> {
+    fn write_command(&mut self, verb: &str) -> Said<'a> {
         let instance = self.texts.instance()?;
         let file = Value::File(instance.file);
         let Ok(claim) = self.texts.claim() else {
-            return self.write("dimacs {}-infeasible {}", &[verb.into(), file]);
+            return self.write("dimacs {}-infeasible {}", &values![verb, file]);
         };
         let kind = match instance.kind {
             TextKind::Max => "max",
             _ => "min",
         };
         let claim = Value::File(claim.file);
-        self.write(
-            "dimacs {}-{} {} {}",
-            &[verb.into(), kind.into(), file, claim],
-        )
+        self.write("dimacs {}-{} {} {}", &values![verb, kind, file, claim])
     }
 
     /// Quotes the entry of an arc after others with its ends, and returns its flow.
@@ -260,7 +221,7 @@ impl<'a, A: Reopen> Page<'a, A> {
     }
 
     /// Explains why the balance of a node is wrong.
-    pub(crate) fn explain_balance(&mut self, node: u32) -> Result<(), Stop<'a>> {
+    pub(crate) fn explain_balance(&mut self, node: u32) -> Said<'a> {
         let (instance, solution) = (self.texts.instance()?, self.texts.claim()?);
         let mut flow = NodeFlow::new(self.alloc, solution.file, node);
         self.tally(solution, &mut flow)?;
@@ -271,40 +232,32 @@ impl<'a, A: Reopen> Page<'a, A> {
         Ok(())
     }
 
-    fn write_balance(
-        &mut self,
-        node: u32,
-        outflow: i128,
-        inflow: i128,
-        supply: i128,
-    ) -> Result<(), Stop<'a>> {
+    fn write_balance(&mut self, node: u32, outflow: i128, inflow: i128, supply: i128) -> Said<'a> {
         let excess = outflow.saturating_sub(inflow).saturating_sub(supply);
-        let (node, out_of, into) = (Value::from(node), outflow.into(), inflow.into());
         if supply < 0 {
-            let takes = supply.saturating_neg().into();
             self.write(
                 "{} enters node {}, {} leaves it, and it takes {}",
-                &[into, node, out_of, takes],
+                &values![inflow, node, outflow, supply.saturating_neg()],
             )?;
             return self.write_excess(excess.saturating_neg(), "arrives");
         }
-        self.write("{} leaves node {}, {} enters it", &[out_of, node, into])?;
+        self.write(
+            "{} leaves node {}, {} enters it",
+            &values![outflow, node, inflow],
+        )?;
         if supply > 0 {
-            self.write(", and it supplies {}", &[supply.into()])?;
+            self.write(", and it supplies {}", &values![supply])?;
         }
         self.write_excess(excess, "leaves")
     }
 
     /// Writes how much more than wanted leaves or arrives, or how much less.
-    fn write_excess(&mut self, excess: i128, verb: &str) -> Result<(), Stop<'a>> {
+    fn write_excess(&mut self, excess: i128, verb: &str) -> Said<'a> {
         let (amount, word) = if excess > 0 {
             (excess, "much")
         } else {
             (excess.saturating_neg(), "little")
         };
-        self.write(
-            ": {} too {} {}\n",
-            &[amount.into(), word.into(), verb.into()],
-        )
+        self.write(": {} too {} {}\n", &values![amount, word, verb])
     }
 }

@@ -1,6 +1,6 @@
 //! Why a flow costs least: by the potentials, each feasible flow costs at least as much.
 
-use crate::sentence::{Value, fill};
+use crate::sentence::{Value, fill, values};
 use crate::sums::{SHOWN, Sum};
 use dimacs_claims::Potentials;
 use dimacs_instance::MinInstance;
@@ -57,7 +57,7 @@ fn write_cost<N: Network>(
         }
     }
     if count > SHOWN {
-        fill(out, "  all others: {}\n", &[rest.into()])?;
+        fill(out, "  all others: {}\n", &values![rest])?;
         sum.add(Some(rest))?;
     }
     sum.write(out)?;
@@ -77,14 +77,7 @@ fn write_product(
     fill(
         out,
         "  arc {}: {} -> {}, {} * {} = {}\n",
-        &[
-            count.into(),
-            arc.tail.into(),
-            arc.head.into(),
-            amount.into(),
-            price,
-            cost.into(),
-        ],
+        &values![count, arc.tail, arc.head, amount, price, cost],
     )
 }
 
@@ -118,7 +111,7 @@ fn supply_sum<N: Network>(
         let id = before.saturating_add(1);
         let (y, supply) = (potentials.of(id), i128::from(instance.supply(id)));
         if y != 0 && supply != 0 {
-            let values = [id.into(), y.into(), Value::Operand(supply)];
+            let values = values![id, y, Value::Operand(supply)];
             sum.add_line("  node {}: {} * {}\n", &values, y.checked_mul(supply))?;
         }
     }
@@ -158,16 +151,16 @@ fn add_reduced(
     if reduced == 0 || bound == 0 {
         return Ok(());
     }
-    let values = [
-        index.saturating_add(1).into(),
-        arc.tail.into(),
-        arc.head.into(),
-        arc.cost.into(),
+    let values = values![
+        index.saturating_add(1),
+        arc.tail,
+        arc.head,
+        arc.cost,
         Value::Operand(tail),
         Value::Operand(head),
-        reduced.into(),
-        name.into(),
-        bound.into(),
+        reduced,
+        name,
+        bound
     ];
     let term = reduced.checked_mul(i128::from(bound));
     sum.add_line(
@@ -232,7 +225,7 @@ fn write_tight<N: Network>(
         if reduced_cost(arc, potentials.of(arc.tail), potentials.of(arc.head)) == 0 {
             count = count.saturating_add(1);
             if count <= SHOWN {
-                fill(&mut list, " {}", &[i.saturating_add(1).into()])?;
+                fill(&mut list, " {}", &values![i.saturating_add(1)])?;
             }
         }
     }
@@ -243,11 +236,6 @@ fn write_tight<N: Network>(
     fill(
         out,
         "another flow of this cost can differ only on arcs with r = 0, {} of {}:{}{}\n",
-        &[
-            count.into(),
-            network.arcs().into(),
-            list.as_str().into(),
-            end.into(),
-        ],
+        &values![count, network.arcs(), list.as_str(), end],
     )
 }

@@ -4,55 +4,25 @@ use crate::forms::{field_name, form_of, kind_words};
 use crate::quote::field_at;
 use dimacs_records::TextKind;
 
-/// How files begin that are no plain texts, and what to do about them.
-static BEGINNINGS: [(&[u8], &str); 8] = [
-    (
-        b"\x1f\x8b",
-        "the file is compressed by gzip: give <(zcat FILE) in its place",
-    ),
-    (
-        b"\xef\xbb\xbf",
-        "the file begins with a byte order mark (EF BB BF): write it without one",
-    ),
-    (
-        b"\xff\xfe",
-        "the file is in UTF-16: write it in ASCII or UTF-8",
-    ),
-    (
-        b"\xfe\xff",
-        "the file is in UTF-16: write it in ASCII or UTF-8",
-    ),
-    (
-        b"BZh",
-        "the file is compressed by bzip2: give <(bzcat FILE) in its place",
-    ),
-    (
-        b"\xfd7zXZ",
-        "the file is compressed by xz: give <(xzcat FILE) in its place",
-    ),
-    (
-        b"\x28\xb5\x2f\xfd",
-        "the file is compressed by zstd: give <(zstdcat FILE) in its place",
-    ),
-    (
-        b"PK\x03\x04",
-        "the file is a zip archive, as those of office programs are: save its text alone",
-    ),
-];
-
-/// The message for a file whose first line shows that it isn't a plain text.
+/// What a file is whose first line shows that it isn't a plain text, and what to do about it.
 pub(crate) fn oddity(first: &[u8]) -> Option<&'static str> {
-    for (beginning, message) in &BEGINNINGS {
-        if first.starts_with(beginning) {
-            return Some(message);
-        }
-    }
-    match first {
-        [a, 0, b, 0, ..] | [0, a, 0, b, ..] if *a > 0 && *b > 0 => {
-            Some("the file looks like UTF-16: write it in ASCII or UTF-8")
-        }
-        _ => None,
-    }
+    Some(match first {
+        [0x1f, 0x8b, ..] => "the file is compressed by gzip: give <(zcat FILE) in its place",
+        [b'B', b'Z', b'h', ..] =>
+            "the file is compressed by bzip2: give <(bzcat FILE) in its place",
+        [0xfd, b'7', b'z', b'X', b'Z', ..] =>
+            "the file is compressed by xz: give <(xzcat FILE) in its place",
+        [0x28, 0xb5, 0x2f, 0xfd, ..] =>
+            "the file is compressed by zstd: give <(zstdcat FILE) in its place",
+        [b'P', b'K', 3, 4, ..] =>
+            "the file is a zip archive, as those of office programs are: save its text alone",
+        [0xef, 0xbb, 0xbf, ..] =>
+            "the file begins with a byte order mark (EF BB BF): write it without one",
+        [0xff, 0xfe, ..] | [0xfe, 0xff, ..] => "the file is in UTF-16: write it in ASCII or UTF-8",
+        [a, 0, b, 0, ..] | [0, a, 0, b, ..] if *a > 0 && *b > 0 =>
+            "the file looks like UTF-16: write it in ASCII or UTF-8",
+        _ => return None,
+    })
 }
 
 /// Whether a line of a text has a carriage return before its last byte. If all lines of a file end by one, the file is a
@@ -74,23 +44,6 @@ const KINDS: [TextKind; 8] = [
     TextKind::Potentials,
     TextKind::Distances,
     TextKind::Labels,
-];
-
-/// What other texts are whose problem lines have these words.
-static UNREAD: [(&str, &str); 4] = [
-    (
-        "edge",
-        "a graph to be coloured, which is no kind of text here",
-    ),
-    (
-        "col",
-        "a graph to be coloured, which is no kind of text here",
-    ),
-    ("cnf", "a formula (cnf), which is no kind of text here"),
-    (
-        "asn",
-        "an assignment problem, which is no kind of text here",
-    ),
 ];
 
 /// What the problem line of a text of another kind is for.
@@ -117,11 +70,12 @@ fn kind_of(word: &[u8]) -> Option<TextKind> {
     None
 }
 
+/// What another text is whose problem line has this word.
 fn unread_kind(word: &[u8]) -> Option<&'static str> {
-    for (name, what) in &UNREAD {
-        if name.as_bytes() == word {
-            return Some(what);
-        }
+    match word {
+        b"edge" | b"col" => Some("a graph to be coloured, which is no kind of text here"),
+        b"cnf" => Some("a formula (cnf), which is no kind of text here"),
+        b"asn" => Some("an assignment problem, which is no kind of text here"),
+        _ => None,
     }
-    None
 }

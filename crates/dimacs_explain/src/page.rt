@@ -20,6 +20,9 @@ pub(crate) enum Stop<'a> {
     Said,
 }
 
+/// Whether there is more to say.
+pub(crate) type Said<'a> = Result<(), Stop<'a>>;
+
 impl<'a> From<AllocError> for Stop<'a> {
     fn from(_: AllocError) -> Stop<'a> {
         Stop::Memory
@@ -59,34 +62,32 @@ impl<'a, A: Reopen> Page<'a, A> {
     }
 
     /// Writes a sentence, with the next value for each `{}`.
-    pub(crate) fn write(&mut self, sentence: &str, values: &[Value<'_>]) -> Result<(), Stop<'a>> {
+    pub(crate) fn write(&mut self, sentence: &str, values: &[Value<'_>]) -> Said<'a> {
         fill(&mut self.out, sentence, values)?;
         Ok(())
     }
 
     /// Reports that a file can't be read again.
-    pub(crate) fn write_unread(&mut self, file: &str) -> Result<(), Stop<'a>> {
+    pub(crate) fn write_unread(&mut self, file: &str) -> Said<'a> {
         self.write(
             "{}: is no file that can be read again, so its lines are left out\n",
             &[Value::File(file)],
         )
     }
 
+    /// A text, to be read again.
+    pub(crate) fn source(&self, text: TextFile<'a>) -> Result<A::Input, Stop<'a>> {
+        self.again.open(text.file).ok_or(Stop::Unread(text.file))
+    }
+
     /// The lines of a text, before the first.
     pub(crate) fn open(&self, text: TextFile<'a>) -> Result<TextLines<A::Input>, Stop<'a>> {
         let lines = Lines::new(self.alloc)?;
-        match self.again.open(text.file) {
-            Some(source) => Ok(TextLines::new(lines, source, text.kind)),
-            None => Err(Stop::Unread(text.file)),
-        }
+        Ok(TextLines::new(lines, self.source(text)?, text.kind))
     }
 
     /// Adds all records of a text.
-    pub(crate) fn tally<T: Tally>(
-        &self,
-        text: TextFile<'a>,
-        tally: &mut T,
-    ) -> Result<(), Stop<'a>> {
+    pub(crate) fn tally<T: Tally>(&self, text: TextFile<'a>, tally: &mut T) -> Said<'a> {
         let mut lines = self.open(text)?;
         for _ in 0..ANY_LINES {
             let Some(line) = lines.next() else {

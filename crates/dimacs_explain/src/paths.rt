@@ -4,9 +4,9 @@ use crate::blocks::{
     ArcsInto, Tested, Unreached, failing_ends, unreached_distance, unreached_label,
 };
 use crate::lookups::{Named, Wanted};
-use crate::page::{Page, Stop};
+use crate::page::{Page, Said, Stop};
 use crate::reopen::Reopen;
-use crate::sentence::Value;
+use crate::sentence::{Value, values};
 use crate::texts::TextFile;
 use dimacs_claims::{Labels, read_distances, read_labels};
 use dimacs_network::ArcView;
@@ -17,9 +17,7 @@ const SHOWN_SOURCES: usize = 5;
 
 impl<'a, A: Reopen> Page<'a, A> {
     fn read_tested(&self, text: TextFile<'a>) -> Result<Tested, Stop<'a>> {
-        let Some(mut source) = self.again.open(text.file) else {
-            return Err(Stop::Unread(text.file));
-        };
+        let mut source = self.source(text)?;
         if text.kind == TextKind::Distances {
             return match read_distances(self.alloc, &mut source) {
                 Ok(distances) => Ok(Tested::Distances(distances)),
@@ -41,16 +39,16 @@ impl<'a, A: Reopen> Page<'a, A> {
     }
 
     /// Explains that a graph has a negative WEIGHT where none is allowed.
-    pub(crate) fn explain_negative(&mut self, number: u32) -> Result<(), Stop<'a>> {
+    pub(crate) fn explain_negative(&mut self, number: u32) -> Said<'a> {
         let arc = self.quote_arc(number)?;
         self.write(
             "arc {} has the WEIGHT {}, below 0: solve-paths takes no such graph, and a block with a RADIUS has none\n",
-            &[number.into(), arc.cost.into()],
+            &values![number, arc.cost],
         )
     }
 
     /// Explains that an arc leads nearer to its head than the head's label or distance, or to a node without one.
-    pub(crate) fn explain_farther(&mut self, number: u32) -> Result<(), Stop<'a>> {
+    pub(crate) fn explain_farther(&mut self, number: u32) -> Said<'a> {
         let arc = self.quote_arc(number)?;
         let text = self.texts.tested()?;
         let tested = self.read_tested(text)?;
@@ -58,7 +56,7 @@ impl<'a, A: Reopen> Page<'a, A> {
             return Err(Stop::Unread(text.file));
         };
         let line = self.block_line(text, ends.source)?;
-        let values = [Value::File(text.file), line.into(), ends.source.into()];
+        let values = values![Value::File(text.file), line, ends.source];
         self.write("{}:{}: the block from source {}\n", &values)?;
         self.write_leads(number, arc, ends.tail, ends.sum)?;
         let name = match text.kind {
@@ -66,29 +64,15 @@ impl<'a, A: Reopen> Page<'a, A> {
             _ => "label",
         };
         match ends.head {
-            Some(head) => self.write(", and its {} says {}\n", &[name.into(), head.into()])?,
-            None => self.write(", and has no {}\n", &[name.into()])?,
+            Some(head) => self.write(", and its {} says {}\n", &values![name, head])?,
+            None => self.write(", and has no {}\n", &values![name])?,
         }
         self.write_cycle(ends.source)
     }
 
     /// Writes how near an arc leads, from a tail at this distance.
-    fn write_leads(
-        &mut self,
-        number: u32,
-        arc: ArcView,
-        dist: i128,
-        sum: i128,
-    ) -> Result<(), Stop<'a>> {
-        let values = [
-            number.into(),
-            arc.tail.into(),
-            dist.into(),
-            arc.head.into(),
-            arc.cost.into(),
-            arc.head.into(),
-            sum.into(),
-        ];
+    fn write_leads(&mut self, number: u32, arc: ArcView, dist: i128, sum: i128) -> Said<'a> {
+        let values = values![number, arc.tail, dist, arc.head, arc.cost, arc.head, sum];
         self.write(
             "arc {} leads from node {}, at distance {}, to node {} with the WEIGHT {}: node {} is at distance {} at most",
             &values,
@@ -96,7 +80,7 @@ impl<'a, A: Reopen> Page<'a, A> {
     }
 
     /// Explains why a label has no tight arc, or no walk has a claimed distance.
-    pub(crate) fn explain_unreached(&mut self, node: u32) -> Result<(), Stop<'a>> {
+    pub(crate) fn explain_unreached(&mut self, node: u32) -> Said<'a> {
         let (graph, text) = (self.texts.instance()?, self.texts.tested()?);
         let mut arcs = ArcsInto::new(self.alloc, node);
         self.tally(graph, &mut arcs)?;
@@ -115,31 +99,26 @@ impl<'a, A: Reopen> Page<'a, A> {
         labels: &Labels,
         arcs: &ArcsInto,
         node: u32,
-    ) -> Result<(), Stop<'a>> {
+    ) -> Said<'a> {
         let Some(unreached) = unreached_distance(labels, arcs) else {
             return self.write(
                 "the arcs that lead to the distance of node {} come from nodes that no walk from the source reaches at theirs\n",
-                &[node.into()],
+                &values![node],
             );
         };
         self.quote_unreached(text, unreached)?;
         self.write(
             " no arc leads to node {} at distance {}: ",
-            &[node.into(), unreached.label.dist.into()],
+            &values![node, unreached.label.dist],
         )?;
         match unreached.least {
-            Some(least) => self.write("the nearest leads there at distance {}\n", &[least.into()]),
+            Some(least) => self.write("the nearest leads there at distance {}\n", &values![least]),
             None => self.write("none comes from a node that has a distance\n", &[]),
         }
     }
 
     /// Explains why a label has no tight arc.
-    fn explain_label(
-        &mut self,
-        text: TextFile<'a>,
-        labels: &Labels,
-        arcs: &ArcsInto,
-    ) -> Result<(), Stop<'a>> {
+    fn explain_label(&mut self, text: TextFile<'a>, labels: &Labels, arcs: &ArcsInto) -> Said<'a> {
         let Some(unreached) = unreached_label(labels, arcs) else {
             return Err(Stop::Unread(text.file));
         };
@@ -148,71 +127,67 @@ impl<'a, A: Reopen> Page<'a, A> {
     }
 
     /// Quotes a label, and names its block.
-    fn quote_unreached(
-        &mut self,
-        text: TextFile<'a>,
-        unreached: Unreached,
-    ) -> Result<(), Stop<'a>> {
+    fn quote_unreached(&mut self, text: TextFile<'a>, unreached: Unreached) -> Said<'a> {
         let from = self.block_line(text, unreached.source)?;
         let named = Named::Label(unreached.label.id);
         self.quote_there(text, Wanted::Name { named, from })?;
-        let values = [unreached.source.into(), from.into()];
+        let values = values![unreached.source, from];
         self.write("in the block from source {} (line {})", &values)
     }
 
     /// Compares a label with that of its PRED, and names the lightest arc from there.
-    fn write_label(&mut self, unreached: Unreached, lightest: Option<i64>) -> Result<(), Stop<'a>> {
+    fn write_label(&mut self, unreached: Unreached, lightest: Option<i64>) -> Said<'a> {
         let Unreached { label, before, .. } = unreached;
         let (node, pred, dist) = (label.id, label.pred, label.dist);
         let weight = dist.saturating_sub(before);
         self.write(
             " node {} is at distance {}, and its PRED, node {}, at distance {}: ",
-            &[node.into(), dist.into(), pred.into(), before.into()],
+            &values![node, dist, pred, before],
         )?;
-        let ends = [pred.into(), node.into(), weight.into()];
+        let ends = values![pred, node, weight];
         self.write("no arc from {} to {} has the WEIGHT {}\n", &ends)?;
         match lightest {
             Some(weight) => {
-                let values = [pred.into(), node.into(), weight.into()];
+                let values = values![pred, node, weight];
                 self.write(
                     "the lightest arc from {} to {} has the WEIGHT {}\n",
                     &values,
                 )
             }
-            None => self.write("no arc leads from {} to {}\n", &[pred.into(), node.into()]),
+            None => self.write("no arc leads from {} to {}\n", &values![pred, node]),
         }
     }
 
     /// Explains why a node of a query is none of the graph.
-    pub(crate) fn explain_query_node(&mut self, node: u32) -> Result<(), Stop<'a>> {
+    pub(crate) fn explain_query_node(&mut self, node: u32) -> Said<'a> {
         let (graph, queries) = (self.texts.instance()?, self.texts.claim()?);
         self.quote_there(queries, Wanted::QueryNaming(node))?;
         self.quote(graph, Wanted::Problem)?;
-        self.write("node {} is above the NODES of the graph\n", &[node.into()])
+        self.write("node {} is above the NODES of the graph\n", &values![node])
     }
 
     /// Explains why no block answers a query.
-    pub(crate) fn explain_query(&mut self, node: u32) -> Result<(), Stop<'a>> {
+    pub(crate) fn explain_query(&mut self, node: u32) -> Said<'a> {
         let queries = self.texts.claim()?;
         self.quote_there(queries, Wanted::Query(node))?;
         let text = self.texts.certificate()?;
         let tested = self.read_tested(text)?;
         self.write(
             "{} has no block from source {} that serves the query; its blocks are from",
-            &[Value::File(text.file), node.into()],
+            &values![Value::File(text.file), node],
         )?;
         self.list_sources(tested.labels())
     }
 
-    fn list_sources(&mut self, labels: &Labels) -> Result<(), Stop<'a>> {
+    fn list_sources(&mut self, labels: &Labels) -> Said<'a> {
         let blocks = labels.blocks();
         for block in blocks.iter().take(SHOWN_SOURCES) {
-            self.write(" {}", &[block.source().into()])?;
+            self.write(" {}", &values![block.source()])?;
             if block.radius().is_some() {
                 self.out
                     .push_str(" (up to a RADIUS, which serves no ss query)")?;
             }
         }
-        self.write("; {} in all\n", &[(blocks.len() as u64).into()])
+        self.write("; {} in all\n", &values![(blocks.len() as u64)])
     }
 }

@@ -1,6 +1,6 @@
 //! Quotes of lines.
 
-use crate::sentence::{Value, fill};
+use crate::sentence::{Value, fill, values};
 use dimacs_lines::{Field, fields};
 use std::alloc::{AllocError, Global};
 
@@ -24,7 +24,7 @@ pub(crate) fn quote(
     let end = bytes.len().min(from.saturating_add(SHOWN));
     let stop = end.min(start.saturating_add(length));
     let mut text = String::new(alloc);
-    fill(&mut text, "{}:{}: ", &[Value::File(file), line.into()])?;
+    fill(&mut text, "{}:{}: ", &values![Value::File(file), line])?;
     text.push_str(if from > 0 { ".." } else { "" })?;
     escape(&mut text, bytes.get(from..start).unwrap_or(&[]))?;
     let begin = text.chars().count();

@@ -2,7 +2,7 @@
 
 use crate::flows::Bound;
 use crate::lookups::Wanted;
-use crate::page::{Page, Stop};
+use crate::page::{Page, Said, Stop};
 use crate::reopen::Reopen;
 use crate::sentence::Value;
 use dimacs_judging::Where;
@@ -44,7 +44,7 @@ impl<'a, A: Reopen> Page<'a, A> {
     }
 
     /// Explains a refusal, and names the files that a solver has emptied.
-    fn explain(&mut self, report: &Report) -> Result<(), Stop<'a>> {
+    fn explain(&mut self, report: &Report) -> Said<'a> {
         match self.explain_report(report) {
             Err(Stop::Unread(file)) => self.write_unread(file)?,
             Err(Stop::Memory) => return Err(Stop::Memory),
@@ -59,7 +59,7 @@ impl<'a, A: Reopen> Page<'a, A> {
         Ok(())
     }
 
-    fn explain_report(&mut self, report: &Report) -> Result<(), Stop<'a>> {
+    fn explain_report(&mut self, report: &Report) -> Said<'a> {
         match report {
             Report::Fault(_, _, Reason::Feasible) => self.explain_feasible(),
             Report::Fault(_, _, Reason::NodesDiffer) => self.explain_nodes(),
@@ -76,7 +76,7 @@ impl<'a, A: Reopen> Page<'a, A> {
     }
 
     /// Ends the explanation if a text of the run can't be read again, and names each such text.
-    fn test_readable(&mut self) -> Result<(), Stop<'a>> {
+    fn test_readable(&mut self) -> Said<'a> {
         let mut all = Ok(());
         for text in self.texts.all() {
             if let Some(text) = text
@@ -90,7 +90,7 @@ impl<'a, A: Reopen> Page<'a, A> {
     }
 
     /// Explains a test that failed. The other reasons are those of texts.
-    fn explain_test(&mut self, place: Place, reason: Reason) -> Result<(), Stop<'a>> {
+    fn explain_test(&mut self, place: Place, reason: Reason) -> Said<'a> {
         match reason {
             Reason::UnknownArc => self.explain_unknown_arc(place.at),
             Reason::ArcTwice => self.explain_arc_twice(place.at),
@@ -139,7 +139,7 @@ impl<'a, A: Reopen> Page<'a, A> {
     }
 
     /// Explains that an instance and what is tested against it differ in NODES.
-    fn explain_nodes(&mut self) -> Result<(), Stop<'a>> {
+    fn explain_nodes(&mut self) -> Said<'a> {
         self.test_readable()?;
         let (instance, tested) = (self.texts.instance()?, self.texts.tested()?);
         self.quote_there(instance, Wanted::Problem)?;

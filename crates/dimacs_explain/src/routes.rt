@@ -1,6 +1,6 @@
 //! Why distances are right: a route for each, with its weights.
 
-use crate::sentence::fill;
+use crate::sentence::{fill, values};
 use crate::sums::{SHOWN, Sum};
 use dimacs_claims::{Block, Label, Labels};
 use dimacs_instance::Queries;
@@ -22,14 +22,20 @@ pub(crate) fn explain_distances(
     labels: &Labels,
     out: &mut String,
 ) -> Result<(), Memory> {
-    let mut count = queries.len();
-    let has_route = match queries {
-        Queries::Pairs(pairs) if count > 0 => write_pairs(alloc, pairs, labels, out)?,
-        Queries::Sources(ids) if count > 0 => write_sources(alloc, ids, labels, out)?,
-        _ => {
-            count = labels.blocks().len();
-            write_blocks(alloc, labels, out)?
+    let mut has_route = false;
+    for k in 0..ROUTES {
+        if let Some((from, to)) = ends_at(queries, labels, k)
+            && let Some(block) = block_from(labels, from)
+        {
+            has_route |= match to {
+                Some(to) => write_pair(alloc, block, to, out)?,
+                None => write_farthest(alloc, block, labels.nodes(), out)?,
+            };
         }
+    }
+    let count = match queries.len() {
+        0 => labels.blocks().len(),
+        asked => asked,
     };
     if count == 0 {
         out.push_str("no distance is claimed: there is no block\n")?;
@@ -45,6 +51,18 @@ pub(crate) fn explain_distances(
     Ok(())
 }
 
+/// The ends of a route: those of the query with this index; without queries, of the block. Without a second end it leads
+/// to the farthest node.
+fn ends_at(queries: &Queries, labels: &Labels, k: usize) -> Option<(u32, Option<u32>)> {
+    match queries {
+        Queries::Pairs(pairs) if !pairs.is_empty() => pairs
+            .get(k)
+            .map(|ends| (ends.0, Some(ends.1))),
+        Queries::Sources(ids) if !ids.is_empty() => ids.get(k).map(|id| (*id, None)),
+        _ => labels.blocks().get(k).map(|block| (block.source(), None)),
+    }
+}
+
 fn block_from(labels: &Labels, source: u32) -> Option<&Block> {
     labels
         .blocks()
@@ -52,51 +70,10 @@ fn block_from(labels: &Labels, source: u32) -> Option<&Block> {
         .find(|block| block.source() == source)
 }
 
-/// Explains the first pairs. Returns whether there is a route for one of them.
-fn write_pairs(
-    alloc: Global,
-    pairs: &[(u32, u32)],
-    labels: &Labels,
-    out: &mut String,
-) -> Result<bool, Memory> {
-    let mut has_route = false;
-    for (from, to) in pairs.iter().take(ROUTES) {
-        if let Some(block) = block_from(labels, *from) {
-            has_route |= write_pair(alloc, block, *to, out)?;
-        }
-    }
-    Ok(has_route)
-}
-
-/// Explains the blocks of the first sources. Returns whether there is a route in one of them.
-fn write_sources(
-    alloc: Global,
-    ids: &[u32],
-    labels: &Labels,
-    out: &mut String,
-) -> Result<bool, Memory> {
-    let mut has_route = false;
-    for id in ids.iter().take(ROUTES) {
-        if let Some(block) = block_from(labels, *id) {
-            has_route |= write_farthest(alloc, block, labels.nodes(), out)?;
-        }
-    }
-    Ok(has_route)
-}
-
-/// Explains the first blocks. Returns whether there is a route in one of them.
-fn write_blocks(alloc: Global, labels: &Labels, out: &mut String) -> Result<bool, Memory> {
-    let mut has_route = false;
-    for block in labels.blocks().iter().take(ROUTES) {
-        has_route |= write_farthest(alloc, block, labels.nodes(), out)?;
-    }
-    Ok(has_route)
-}
-
 /// Writes the route to a node, or why there is none. Returns whether there is one.
 fn write_pair(alloc: Global, block: &Block, to: u32, out: &mut String) -> Result<bool, Memory> {
     if to == block.source() {
-        fill(out, "{} to itself, without an arc: 0\n", &[to.into()])?;
+        fill(out, "{} to itself, without an arc: 0\n", &values![to])?;
         return Ok(true);
     }
     let route = route_to(alloc, block, to)?;
@@ -104,17 +81,13 @@ fn write_pair(alloc: Global, block: &Block, to: u32, out: &mut String) -> Result
         write_route(alloc, block.source(), &route, out)?;
         return Ok(true);
     }
-    fill(
-        out,
-        "no walk from {} to {}",
-        &[block.source().into(), to.into()],
-    )?;
+    fill(out, "no walk from {} to {}", &values![block.source(), to])?;
     match block.radius() {
         None => write_reached(block, out)?,
         Some(radius) => fill(
             out,
             " weighs at most {}, the RADIUS: each arc from a node with a label to one without leads past it, and no WEIGHT is negative\n",
-            &[radius.into()],
+            &values![radius],
         )?,
     }
     Ok(false)
@@ -124,14 +97,14 @@ fn write_pair(alloc: Global, block: &Block, to: u32, out: &mut String) -> Result
 fn write_reached(block: &Block, out: &mut String) -> Result<(), AllocError> {
     let count = block.labels().len().saturating_add(1) as u64;
     let source = block.source();
-    let values = [source.into(), count.into(), source.into()];
+    let values = values![source, count, source];
     fill(
         out,
         ": no arc leads out of the nodes that {} reaches, {}: {}",
         &values,
     )?;
     for label in block.labels().into_iter().take(REACHED) {
-        fill(out, " {}", &[label.id.into()])?;
+        fill(out, " {}", &values![label.id])?;
     }
     out.push_str(if block.labels().len() > REACHED {
         " ..\n"
@@ -158,11 +131,11 @@ fn write_farthest(
         }
     }
     let count = block.labels().len();
-    let values = [block.source().into(), (count as u64).into()];
+    let values = values![block.source(), (count as u64)];
     fill(out, "the farthest node from {}, of {}", &values)?;
     match block.radius() {
         None => out.push_str(" that it reaches: ")?,
-        Some(radius) => fill(out, " within {}, the RADIUS: ", &[radius.into()])?,
+        Some(radius) => fill(out, " within {}, the RADIUS: ", &values![radius])?,
     }
     let route = route_to(alloc, block, farthest.id)?;
     write_route(alloc, block.source(), &route, out)?;
@@ -179,12 +152,12 @@ fn write_alone(block: &Block, out: &mut String) -> Result<(), AllocError> {
         None => fill(
             out,
             "{} reaches no other node: no arc leads from it to another\n",
-            &[source.into()],
+            &values![source],
         ),
         Some(radius) => fill(
             out,
             "no other node is within {}, the RADIUS, of {}: each arc from it to another leads past it\n",
-            &[radius.into(), source.into()],
+            &values![radius, source],
         ),
     }
 }
@@ -217,11 +190,11 @@ fn write_route(
 ) -> Result<(), AllocError> {
     let mut weights = Sum::new(alloc);
     let mut before = 0i128;
-    fill(out, "{}", &[source.into()])?;
+    fill(out, "{}", &values![source])?;
     let last = route.len().saturating_sub(1);
     for (k, label) in route.iter().enumerate() {
         if weights.shows_next() || k == last {
-            fill(out, " -> {}", &[label.id.into()])?;
+            fill(out, " -> {}", &values![label.id])?;
         } else if weights.count == SHOWN {
             out.push_str(" -> ..")?;
         }

@@ -3,6 +3,13 @@
 use crate::quote::escape;
 use std::alloc::AllocError;
 
+/// The values of a sentence.
+macro_rules! values {
+    ($($value:expr),* $(,)?) => { [$($crate::sentence::Value::from($value)),*] };
+}
+
+pub(crate) use values;
+
 /// What a sentence names.
 #[derive(Clone, Copy)]
 pub(crate) enum Value<'a> {

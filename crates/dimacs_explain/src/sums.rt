@@ -1,6 +1,6 @@
 //! Sums and lists, of which the first items are shown.
 
-use crate::sentence::{Value, fill};
+use crate::sentence::{Value, fill, values};
 use dimacs_claims::Cut;
 use std::alloc::{AllocError, Global};
 
@@ -71,10 +71,10 @@ impl Sum {
 
     /// Writes what the lines are, how many they are, and the first of them.
     pub(crate) fn write_lines(&self, what: &str, out: &mut String) -> Result<(), AllocError> {
-        fill(out, "{}: {}\n", &[what.into(), self.count.into()])?;
+        fill(out, "{}: {}\n", &values![what, self.count])?;
         out.push_str(self.lines.as_str())?;
         if self.count > SHOWN {
-            fill(out, "  all others: {}\n", &[self.rest.unwrap_or(0).into()])?;
+            fill(out, "  all others: {}\n", &values![self.rest.unwrap_or(0)])?;
         }
         Ok(())
     }
@@ -88,7 +88,7 @@ impl Sum {
             }
             out.push_str(" = ")?;
         }
-        fill(out, "{}", &[self.sum().into()])
+        fill(out, "{}", &values![self.sum()])
     }
 }
 
@@ -100,22 +100,18 @@ fn plus(one: Option<i128>, other: Option<i128>) -> Option<i128> {
 /// Writes a number, with its sign between blanks unless it is the first.
 fn write_term(term: i128, out: &mut String) -> Result<(), AllocError> {
     if out.is_empty() {
-        fill(out, "{}", &[term.into()])
+        fill(out, "{}", &values![term])
     } else if term < 0 {
         write!(out, " - {}", term.unsigned_abs())
     } else {
-        fill(out, " + {}", &[term.into()])
+        fill(out, " + {}", &values![term])
     }
 }
 
 /// Writes the first nodes of a set, and how many it has.
 pub(crate) fn write_set(set: &Cut, out: &mut String) -> Result<(), AllocError> {
     let count = u64::from(set.len());
-    fill(
-        out,
-        "{} of the {} nodes:",
-        &[count.into(), set.nodes().into()],
-    )?;
+    fill(out, "{} of the {} nodes:", &values![count, set.nodes()])?;
     let mut left = SHOWN;
     for before in 0..set.nodes() {
         if left == 0 {
@@ -123,7 +119,7 @@ pub(crate) fn write_set(set: &Cut, out: &mut String) -> Result<(), AllocError> {
         }
         let id = before.saturating_add(1);
         if set.contains(id) {
-            fill(out, " {}", &[id.into()])?;
+            fill(out, " {}", &values![id])?;
             left = left.saturating_sub(1);
         }
     }
