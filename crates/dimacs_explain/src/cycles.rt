@@ -138,16 +138,17 @@ impl<'a, A: Reopen> Page<'a, A> {
                 Some(i128::from(arc.cost)),
             )?;
         }
-        if weights.count > 0 {
-            weights.write_lines(
-                "a cycle that the source reaches weighs less than 0; its arcs",
-                &mut self.out,
-            )?;
-            weights.write(&mut self.out)?;
-            self.out.push_str(
-                ": with each round a walk weighs less, so the nodes that it leads to have no distance\n",
-            )?;
+        if weights.count == 0 {
+            return Ok(());
         }
-        Ok(())
+        self.write_lines(
+            "a cycle that the source reaches weighs less than 0; its arcs",
+            &weights,
+        )?;
+        self.write_sum(&weights)?;
+        self.write(
+            ": with each round a walk weighs less, so the nodes that it leads to have no distance\n",
+            &[],
+        )
     }
 }

@@ -227,9 +227,8 @@ impl<'a, A: Reopen> Page<'a, A> {
         self.tally(solution, &mut flow)?;
         let supply = self.quote_node(instance, node)?;
         self.write_balance(node, flow.out_of.sum(), flow.into.sum(), supply)?;
-        flow.out_of.write_lines("entries out of it", &mut self.out)?;
-        flow.into.write_lines("entries into it", &mut self.out)?;
-        Ok(())
+        self.write_lines("entries out of it", &flow.out_of)?;
+        self.write_lines("entries into it", &flow.into)
     }
 
     fn write_balance(&mut self, node: u32, outflow: i128, inflow: i128, supply: i128) -> Said<'a> {

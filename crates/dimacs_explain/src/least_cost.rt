@@ -1,5 +1,7 @@
 //! Why a flow costs least: by the potentials, each feasible flow costs at least as much.
 
+use crate::page::{Page, Said};
+use crate::reopen::Reopen;
 use crate::sentence::{Value, fill, values};
 use crate::sums::{SHOWN, Sum};
 use dimacs_claims::Potentials;
@@ -8,34 +10,23 @@ use dimacs_judging::Flow;
 use dimacs_network::{ArcView, Network};
 use std::alloc::{AllocError, Global};
 
-/// Explains a flow of least cost by potentials that are slack for it.
-pub(crate) fn explain_least<N: Network>(
-    alloc: Global,
-    instance: &MinInstance<N>,
-    flow: &Flow,
-    potentials: &Potentials,
-    out: &mut String,
-) -> Result<(), AllocError> {
-    write_cost(alloc, instance.network(), flow, out)?;
-    let fixed = supply_sum(alloc, instance, potentials)?;
-    let least = reduced_sum(alloc, instance.network(), potentials)?;
-    write_bound(alloc, &fixed, &least, out)?;
-    write_tight(alloc, instance.network(), potentials, out)
-}
-
 /// What the flow of the arc with this index costs.
 fn arc_cost(arc: ArcView, flow: &Flow, index: usize) -> i128 {
     let amount = flow.amounts().get(index).copied().unwrap_or(0);
     i128::from(amount).saturating_mul(i128::from(arc.cost))
 }
 
-/// Writes the cost as a sum, the arcs whose cost is greatest in size first.
-fn write_cost<N: Network>(
-    alloc: Global,
-    network: &N,
-    flow: &Flow,
-    out: &mut String,
-) -> Result<(), AllocError> {
+/// What the flows of all arcs cost.
+#[derive(Clone, Copy)]
+struct Costs {
+    /// The costs of greatest size, with the indices of their arcs, and the sum of the others.
+    greatest: [(i128, u32); 6],
+    rest: i128,
+    /// How many costs aren't 0.
+    count: u64,
+}
+
+fn costs_of<N: Network>(network: &N, flow: &Flow) -> Costs {
     let mut greatest = [(0i128, 0u32); 6];
     let mut rest = 0i128;
     let mut count = 0u64;
@@ -44,41 +35,11 @@ fn write_cost<N: Network>(
         rest = rest.saturating_add(keep_great(&mut greatest, (cost, i)));
         count = count.saturating_add(u64::from(cost != 0));
     }
-    if count == 0 {
-        return out.push_str("no arc with flow has a COST: the cost is 0\n");
+    Costs {
+        greatest,
+        rest,
+        count,
     }
-    out.push_str("FLOW * COST of the arcs, the greatest in size first:\n")?;
-    let mut sum = Sum::new(alloc);
-    for (cost, i) in greatest {
-        if cost != 0 && i < network.arcs() {
-            let amount = flow.amounts().get(i as usize).copied().unwrap_or(0);
-            write_product(network.arc(i), i, amount, cost, out)?;
-            sum.add(Some(cost))?;
-        }
-    }
-    if count > SHOWN {
-        fill(out, "  all others: {}\n", &values![rest])?;
-        sum.add(Some(rest))?;
-    }
-    sum.write(out)?;
-    out.push_str(", the cost\n")
-}
-
-/// Writes what the flow of the arc with this index costs.
-fn write_product(
-    arc: ArcView,
-    index: u32,
-    amount: i64,
-    cost: i128,
-    out: &mut String,
-) -> Result<(), AllocError> {
-    let price = Value::Operand(i128::from(arc.cost));
-    let count = index.saturating_add(1);
-    fill(
-        out,
-        "  arc {}: {} -> {}, {} * {} = {}\n",
-        &values![count, arc.tail, arc.head, amount, price, cost],
-    )
 }
 
 /// Keeps the costs of greatest size, with the indices of their arcs. Returns the one that is left out.
@@ -151,17 +112,9 @@ fn add_reduced(
     if reduced == 0 || bound == 0 {
         return Ok(());
     }
-    let values = values![
-        index.saturating_add(1),
-        arc.tail,
-        arc.head,
-        arc.cost,
-        Value::Operand(tail),
-        Value::Operand(head),
-        reduced,
-        name,
-        bound
-    ];
+    let (number, from, to) = (index.saturating_add(1), arc.tail, arc.head);
+    let (y, z) = (Value::Operand(tail), Value::Operand(head));
+    let values = values![number, from, to, arc.cost, y, z, reduced, name, bound];
     let term = reduced.checked_mul(i128::from(bound));
     sum.add_line(
         "  arc {}: {} -> {}, r = {} - {} + {} = {}, {} {}\n",
@@ -179,63 +132,119 @@ pub(crate) fn paid_bound(arc: ArcView, reduced: i128) -> (&'static str, i64) {
     }
 }
 
-/// Writes what each feasible flow costs at least.
-fn write_bound(
-    alloc: Global,
-    fixed: &Sum,
-    least: &Sum,
-    out: &mut String,
-) -> Result<(), AllocError> {
-    let mut bound = Sum::new(alloc);
-    bound.add(fixed.total)?;
-    bound.add(least.total)?;
-    out.push_str(
-        "with potentials y (0 without a line) and r = COST - y(TAIL) + y(HEAD), a feasible flow costs the sum of y * SUPPLY over the nodes plus that of r * FLOW over the arcs\n",
-    )?;
-    if bound.total.is_none() {
-        return out.push_str("some of these numbers don't fit 128 bits, so they are left out\n");
+impl<'a, A: Reopen> Page<'a, A> {
+    /// Explains a flow of least cost by potentials that are slack for it.
+    pub(crate) fn explain_least<N: Network>(
+        &mut self,
+        instance: &MinInstance<N>,
+        flow: &Flow,
+        potentials: &Potentials,
+    ) -> Said<'a> {
+        let network = instance.network();
+        self.write_cost(network, flow)?;
+        let fixed = supply_sum(self.alloc, instance, potentials)?;
+        let least = reduced_sum(self.alloc, network, potentials)?;
+        self.write_bound(&fixed, &least)?;
+        self.write_tight(network, potentials)
     }
-    fixed.write_lines(
-        "y * SUPPLY, the same for each flow; nodes where it isn't 0",
-        out,
-    )?;
-    fixed.write(out)?;
-    least.write_lines(
-        "\nr * FLOW, at least r * LOW if r is above 0, else r * CAP; arcs where that isn't 0",
-        out,
-    )?;
-    least.write(out)?;
-    out.push('\n')?;
-    bound.write(out)?;
-    out.push_str(": no flow costs less\n")
-}
 
-/// Writes on how many arcs another flow of this cost can differ, and the first of them: the others carry the bound at
-/// which their reduced cost is paid least.
-fn write_tight<N: Network>(
-    alloc: Global,
-    network: &N,
-    potentials: &Potentials,
-    out: &mut String,
-) -> Result<(), AllocError> {
-    let mut list = String::new(alloc);
-    let mut count = 0u64;
-    for i in 0..network.arcs() {
-        let arc = network.arc(i);
-        if reduced_cost(arc, potentials.of(arc.tail), potentials.of(arc.head)) == 0 {
-            count = count.saturating_add(1);
-            if count <= SHOWN {
-                fill(&mut list, " {}", &values![i.saturating_add(1)])?;
+    /// Writes the cost as a sum, the arcs whose cost is greatest in size first.
+    fn write_cost<N: Network>(&mut self, network: &N, flow: &Flow) -> Said<'a> {
+        let Costs {
+            greatest,
+            rest,
+            count,
+        } = costs_of(network, flow);
+        if count == 0 {
+            return self.write("no arc with flow has a COST: the cost is 0\n", &[]);
+        }
+        self.write(
+            "FLOW * COST of the arcs, the greatest in size first:\n",
+            &[],
+        )?;
+        let mut sum = Sum::new(self.alloc);
+        for (cost, i) in greatest {
+            if cost != 0 && i < network.arcs() {
+                let amount = flow.amounts().get(i as usize).copied().unwrap_or(0);
+                self.write_product(network.arc(i), i, amount, cost)?;
+                sum.add(Some(cost))?;
             }
         }
+        if count > SHOWN {
+            self.write("  all others: {}\n", &values![rest])?;
+            sum.add(Some(rest))?;
+        }
+        self.write_sum(&sum)?;
+        self.write(", the cost\n", &[])
     }
-    if count == 0 {
-        return out.push_str("no arc has r = 0: no other flow costs as little\n");
+
+    /// Writes what the flow of the arc with this index costs.
+    fn write_product(&mut self, arc: ArcView, index: u32, amount: i64, cost: i128) -> Said<'a> {
+        let price = Value::Operand(i128::from(arc.cost));
+        self.write(
+            "  arc {}: {} -> {}, {} * {} = {}\n",
+            &values![
+                index.saturating_add(1),
+                arc.tail,
+                arc.head,
+                amount,
+                price,
+                cost
+            ],
+        )
     }
-    let end = if count > SHOWN { " .." } else { "" };
-    fill(
-        out,
-        "another flow of this cost can differ only on arcs with r = 0, {} of {}:{}{}\n",
-        &values![count, network.arcs(), list.as_str(), end],
-    )
+
+    /// Writes what each feasible flow costs at least.
+    fn write_bound(&mut self, fixed: &Sum, least: &Sum) -> Said<'a> {
+        let mut bound = Sum::new(self.alloc);
+        bound.add(fixed.total)?;
+        bound.add(least.total)?;
+        self.write(
+            "with potentials y (0 without a line) and r = COST - y(TAIL) + y(HEAD), a feasible flow costs the sum of y * SUPPLY over the nodes plus that of r * FLOW over the arcs\n",
+            &[],
+        )?;
+        if bound.total.is_none() {
+            return self.write(
+                "some of these numbers don't fit 128 bits, so they are left out\n",
+                &[],
+            );
+        }
+        self.write_lines(
+            "y * SUPPLY, the same for each flow; nodes where it isn't 0",
+            fixed,
+        )?;
+        self.write_sum(fixed)?;
+        self.write_lines(
+            "\nr * FLOW, at least r * LOW if r is above 0, else r * CAP; arcs where that isn't 0",
+            least,
+        )?;
+        self.write_sum(least)?;
+        self.write("\n", &[])?;
+        self.write_sum(&bound)?;
+        self.write(": no flow costs less\n", &[])
+    }
+
+    /// Writes on how many arcs another flow of this cost can differ, and the first of them: the others carry the bound
+    /// at which their reduced cost is paid least.
+    fn write_tight<N: Network>(&mut self, network: &N, potentials: &Potentials) -> Said<'a> {
+        let mut list = String::new(self.alloc);
+        let mut count = 0u64;
+        for i in 0..network.arcs() {
+            let arc = network.arc(i);
+            if reduced_cost(arc, potentials.of(arc.tail), potentials.of(arc.head)) == 0 {
+                count = count.saturating_add(1);
+                if count <= SHOWN {
+                    fill(&mut list, " {}", &values![i.saturating_add(1)])?;
+                }
+            }
+        }
+        if count == 0 {
+            return self.write("no arc has r = 0: no other flow costs as little\n", &[]);
+        }
+        let end = if count > SHOWN { " .." } else { "" };
+        self.write(
+            "another flow of this cost can differ only on arcs with r = 0, {} of {}:{}{}\n",
+            &values![count, network.arcs(), list.as_str(), end],
+        )
+    }
 }

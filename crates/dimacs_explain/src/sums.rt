@@ -1,5 +1,7 @@
 //! Sums and lists, of which the first items are shown.
 
+use crate::page::{Page, Said};
+use crate::reopen::Reopen;
 use crate::sentence::{Value, fill, values};
 use dimacs_claims::Cut;
 use std::alloc::{AllocError, Global};
@@ -68,28 +70,6 @@ impl Sum {
         }
         self.add(number)
     }
-
-    /// Writes what the lines are, how many they are, and the first of them.
-    pub(crate) fn write_lines(&self, what: &str, out: &mut String) -> Result<(), AllocError> {
-        fill(out, "{}: {}\n", &values![what, self.count])?;
-        out.push_str(self.lines.as_str())?;
-        if self.count > SHOWN {
-            fill(out, "  all others: {}\n", &values![self.rest.unwrap_or(0)])?;
-        }
-        Ok(())
-    }
-
-    /// Writes the numbers and their sum.
-    pub(crate) fn write(&self, out: &mut String) -> Result<(), AllocError> {
-        if self.count > 1 {
-            out.push_str(self.terms.as_str())?;
-            if self.count > SHOWN {
-                write_term(self.rest.unwrap_or(0), out)?;
-            }
-            out.push_str(" = ")?;
-        }
-        fill(out, "{}", &values![self.sum()])
-    }
 }
 
 /// The sum of two numbers; none if one isn't there, or the sum doesn't fit 128 bits.
@@ -108,20 +88,43 @@ fn write_term(term: i128, out: &mut String) -> Result<(), AllocError> {
     }
 }
 
-/// Writes the first nodes of a set, and how many it has.
-pub(crate) fn write_set(set: &Cut, out: &mut String) -> Result<(), AllocError> {
-    let count = u64::from(set.len());
-    fill(out, "{} of the {} nodes:", &values![count, set.nodes()])?;
-    let mut left = SHOWN;
-    for before in 0..set.nodes() {
-        if left == 0 {
-            break;
+impl<'a, A: Reopen> Page<'a, A> {
+    /// Writes what the lines of a sum are, how many they are, and the first of them.
+    pub(crate) fn write_lines(&mut self, what: &str, sum: &Sum) -> Said<'a> {
+        self.write("{}: {}\n{}", &values![what, sum.count, sum.lines.as_str()])?;
+        if sum.count > SHOWN {
+            return self.write("  all others: {}\n", &values![sum.rest.unwrap_or(0)]);
         }
-        let id = before.saturating_add(1);
-        if set.contains(id) {
-            fill(out, " {}", &values![id])?;
-            left = left.saturating_sub(1);
-        }
+        Ok(())
     }
-    out.push_str(if count > SHOWN { " ..\n" } else { "\n" })
+
+    /// Writes the numbers of a sum, and what they add up to.
+    pub(crate) fn write_sum(&mut self, sum: &Sum) -> Said<'a> {
+        if sum.count > 1 {
+            self.out.push_str(sum.terms.as_str())?;
+            if sum.count > SHOWN {
+                write_term(sum.rest.unwrap_or(0), &mut self.out)?;
+            }
+            self.out.push_str(" = ")?;
+        }
+        self.write("{}", &values![sum.sum()])
+    }
+
+    /// Writes the first nodes of a set, and how many it has.
+    pub(crate) fn write_set(&mut self, set: &Cut) -> Said<'a> {
+        let count = u64::from(set.len());
+        self.write("{} of the {} nodes:", &values![count, set.nodes()])?;
+        let mut left = SHOWN;
+        for before in 0..set.nodes() {
+            if left == 0 {
+                break;
+            }
+            let id = before.saturating_add(1);
+            if set.contains(id) {
+                self.write(" {}", &values![id])?;
+                left = left.saturating_sub(1);
+            }
+        }
+        self.write(if count > SHOWN { " ..\n" } else { "\n" }, &[])
+    }
 }

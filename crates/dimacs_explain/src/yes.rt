@@ -3,10 +3,9 @@
 ghost use Rattle.std.specs.Prelude.{IfSome};
 ghost use Rattle.dimacs_instance.specs.QueryTexts.{AreLawful, asked};
 
-use crate::crossing::{explain_infeasible, explain_maximum};
-use crate::least_cost::explain_least;
+use crate::page::Page;
 use crate::reopen::Reopen;
-use crate::routes::explain_distances;
+use crate::texts::Texts;
 use dimacs_claims::{read_cut, read_labels, read_potentials, read_solution};
 use dimacs_instance::{Queries, read_plain_graph, read_plain_max, read_plain_min, read_queries};
 use dimacs_judging::{
@@ -72,7 +71,8 @@ pub(crate) fn explain_yes<A: Reopen>(
     let Some(files) = YesFiles::of(job, report) else {
         return Ok(String::new(alloc));
     };
-    if let Some(text) = explanation(alloc, again, files, report) {
+    let page = Page::new(alloc, again, Texts::of(job));
+    if let Some(text) = explanation(page, files, report) {
         return Ok(text);
     }
     Ok(String::from_str(
@@ -83,23 +83,23 @@ pub(crate) fn explain_yes<A: Reopen>(
 
 /// None if the texts, read again, don't give the same yes.
 fn explanation<A: Reopen>(
-    alloc: Global,
-    again: &A,
+    page: Page<'_, A>,
     files: YesFiles<'_>,
     report: &Report,
 ) -> Option<String> {
-    let mut texts = TextsAgain {
-        alloc,
+    let (alloc, again) = (page.alloc, page.again);
+    let texts = TextsAgain {
+        page,
         report,
         instance: again.open(files.instance.as_str())?,
         claim: again.open(files.claim.as_str())?,
         has_queries: files.has_queries,
     };
     match files.certificate {
-        Some(file) => texts.explain(files.kind, &mut again.open(file.as_str())?),
+        Some(file) => texts.explained(files.kind, &mut again.open(file.as_str())?),
         None => {
             let text = certificate_text(alloc, again, files)?;
-            texts.explain(files.kind, &mut MemorySource::new(text.bytes()))
+            texts.explained(files.kind, &mut MemorySource::new(text.bytes()))
         }
     }
 }
@@ -127,71 +127,73 @@ fn certificate_text<A: Reopen>(
     }
 }
 
-/// An instance and a claim, to be read again, and what was reported of them.
+/// An instance and a claim, to be read again, what was reported of them, and the page for what shows it.
 #[derive(Drop)]
-struct TextsAgain<'a, P> {
-    alloc: Global,
+struct TextsAgain<'a, A: Reopen> {
+    page: Page<'a, A>,
     report: &'a Report,
-    instance: P,
-    claim: P,
+    instance: A::Input,
+    claim: A::Input,
     has_queries: bool,
 }
 
-impl<'a, P: Source> TextsAgain<'a, P> {
-    /// None if they don't give the same yes with this certificate.
-    fn explain<R: Source>(&mut self, kind: JudgeKind, certificate: &mut R) -> Option<String> {
-        match kind {
-            JudgeKind::Max => self.maximum(certificate),
-            JudgeKind::Min => self.least(certificate),
-            JudgeKind::Infeasible => self.infeasible(certificate),
-            JudgeKind::Paths => self.distances(certificate),
+impl<'a, A: Reopen> TextsAgain<'a, A> {
+    /// The page, filled; none if the texts don't give the same yes with this certificate.
+    fn explained<R: Source>(mut self, kind: JudgeKind, certificate: &mut R) -> Option<String> {
+        let verdict = match kind {
+            JudgeKind::Max => self.maximum(certificate)?,
+            JudgeKind::Min => self.least(certificate)?,
+            JudgeKind::Infeasible => self.infeasible(certificate)?,
+            JudgeKind::Paths => self.distances(certificate)?,
+        };
+        let answers_no_queries = matches!(kind, JudgeKind::Paths) && !self.has_queries;
+        if answers_no_queries
+            || matches!(self.report, Report::Yes(reported) if *reported == verdict)
+        {
+            return Some(self.page.out);
         }
+        None
     }
 
-    /// Whether this verdict was reported.
-    fn is_same(&self, verdict: &Verdict) -> bool {
-        matches!(self.report, Report::Yes(reported) if reported == verdict)
+    fn maximum<R: Source>(&mut self, certificate: &mut R) -> Option<Verdict> {
+        let alloc = self.page.alloc;
+        let max = read_plain_max(alloc, &mut self.instance).ok()?;
+        let solution = read_solution(alloc, &mut self.claim).ok()?;
+        let cut = read_cut(alloc, certificate).ok()?;
+        let verdict = judge_max(alloc, &max, &solution, &cut).ok()?;
+        self.page.explain_maximum(max.network(), &cut).ok()?;
+        Some(verdict)
     }
 
-    fn maximum<R: Source>(&mut self, certificate: &mut R) -> Option<String> {
-        let max = read_plain_max(self.alloc, &mut self.instance).ok()?;
-        let solution = read_solution(self.alloc, &mut self.claim).ok()?;
-        let cut = read_cut(self.alloc, certificate).ok()?;
-        let verdict = judge_max(self.alloc, &max, &solution, &cut).ok()?;
-        let mut out = String::new(self.alloc);
-        explain_maximum(self.alloc, max.network(), &cut, &mut out).ok()?;
-        self.is_same(&verdict).then_some(out)
+    fn least<R: Source>(&mut self, certificate: &mut R) -> Option<Verdict> {
+        let alloc = self.page.alloc;
+        let min = read_plain_min(alloc, &mut self.instance).ok()?;
+        let solution = read_solution(alloc, &mut self.claim).ok()?;
+        let potentials = read_potentials(alloc, certificate).ok()?;
+        let verdict = judge_min(alloc, &min, &solution, &potentials).ok()?;
+        let flow = flow_of(alloc, min.network(), &solution).ok()?;
+        self.page.explain_least(&min, &flow, &potentials).ok()?;
+        Some(verdict)
     }
 
-    fn least<R: Source>(&mut self, certificate: &mut R) -> Option<String> {
-        let min = read_plain_min(self.alloc, &mut self.instance).ok()?;
-        let solution = read_solution(self.alloc, &mut self.claim).ok()?;
-        let potentials = read_potentials(self.alloc, certificate).ok()?;
-        let verdict = judge_min(self.alloc, &min, &solution, &potentials).ok()?;
-        let flow = flow_of(self.alloc, min.network(), &solution).ok()?;
-        let mut out = String::new(self.alloc);
-        explain_least(self.alloc, &min, &flow, &potentials, &mut out).ok()?;
-        self.is_same(&verdict).then_some(out)
-    }
-
-    fn infeasible<R: Source>(&mut self, certificate: &mut R) -> Option<String> {
-        let min = read_plain_min(self.alloc, &mut self.instance).ok()?;
-        let set = read_cut(self.alloc, certificate).ok()?;
+    fn infeasible<R: Source>(&mut self, certificate: &mut R) -> Option<Verdict> {
+        let alloc = self.page.alloc;
+        let min = read_plain_min(alloc, &mut self.instance).ok()?;
+        let set = read_cut(alloc, certificate).ok()?;
         let verdict = judge_infeasible(&min, &set).ok()?;
-        let mut out = String::new(self.alloc);
-        explain_infeasible(self.alloc, &min, &set, &mut out).ok()?;
-        self.is_same(&verdict).then_some(out)
+        self.page.explain_infeasible(&min, &set).ok()?;
+        Some(verdict)
     }
 
-    fn distances<R: Source>(&mut self, certificate: &mut R) -> Option<String> {
-        let graph = read_plain_graph(self.alloc, &mut self.instance).ok()?;
-        let mut labels = read_labels(self.alloc, certificate).ok()?;
+    fn distances<R: Source>(&mut self, certificate: &mut R) -> Option<Verdict> {
+        let alloc = self.page.alloc;
+        let graph = read_plain_graph(alloc, &mut self.instance).ok()?;
+        let mut labels = read_labels(alloc, certificate).ok()?;
         let queries = self.queries()?;
         index_for(&queries, &mut labels).ok()?;
-        let verdict = judge_paths(self.alloc, &graph, &queries, &labels).ok()?;
-        let mut out = String::new(self.alloc);
-        explain_distances(self.alloc, &queries, &labels, &mut out).ok()?;
-        (!self.has_queries || self.is_same(&verdict)).then_some(out)
+        let verdict = judge_paths(alloc, &graph, &queries, &labels).ok()?;
+        self.page.explain_distances(&queries, &labels).ok()?;
+        Some(verdict)
     }
 
     /// The queries that labels have to answer: none if the claim was certified.
@@ -199,8 +201,8 @@ impl<'a, P: Source> TextsAgain<'a, P> {
         ensures lawful { IfSome result (λ queries. AreLawful (asked queries)) }
     {
         if self.has_queries {
-            return read_queries(self.alloc, &mut self.claim).ok();
+            return read_queries(self.page.alloc, &mut self.claim).ok();
         }
-        Some(Queries::Sources(Vec::new(self.alloc)))
+        Some(Queries::Sources(Vec::new(self.page.alloc)))
     }
 }
