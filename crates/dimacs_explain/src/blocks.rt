@@ -2,35 +2,10 @@
 
 use crate::lines::Tally;
 use crate::lookups::arc_of;
-use dimacs_claims::{Block, Distances, Label, Labels};
-use dimacs_lines::Memory;
+use dimacs_claims::{Block, Label, Labels};
 use dimacs_network::ArcView;
 use dimacs_records::Record;
 use std::alloc::{AllocError, Global};
-
-/// What a graph is tested against: labels, or distances, which have no predecessors.
-#[derive(Drop)]
-pub(crate) enum Tested {
-    Labels(Labels),
-    Distances(Distances),
-}
-
-impl Tested {
-    pub(crate) fn labels(&self) -> &Labels {
-        match self {
-            Tested::Labels(labels) => labels,
-            Tested::Distances(distances) => distances.labels(),
-        }
-    }
-
-    /// Indexes the labels by ID, so that they are found quickly.
-    pub(crate) fn index(&mut self) -> Result<(), Memory> {
-        match self {
-            Tested::Labels(labels) => labels.index(),
-            Tested::Distances(distances) => distances.index(),
-        }
-    }
-}
 
 /// The labels of an arc's ends in a block in which it fails its test.
 #[derive(Clone, Copy)]

@@ -1,8 +1,6 @@
 //! Explains the tests of labels, distances and queries.
 
-use crate::blocks::{
-    ArcsInto, Tested, Unreached, failing_ends, unreached_distance, unreached_label,
-};
+use crate::blocks::{ArcsInto, Unreached, failing_ends, unreached_distance, unreached_label};
 use crate::lookups::{Named, Wanted};
 use crate::page::{Page, Said, Stop};
 use crate::reopen::Reopen;
@@ -16,16 +14,18 @@ use dimacs_records::TextKind;
 const SHOWN_SOURCES: usize = 5;
 
 impl<'a, A: Reopen> Page<'a, A> {
-    fn read_tested(&self, text: TextFile<'a>) -> Result<Tested, Stop<'a>> {
+    /// The labels or distances that a graph is tested against.
+    fn read_tested(&self, text: TextFile<'a>) -> Result<Labels, Stop<'a>> {
         let mut source = self.source(text)?;
-        if text.kind == TextKind::Distances {
-            return match read_distances(self.alloc, &mut source) {
-                Ok(distances) => Ok(Tested::Distances(distances)),
-                Err(_) => Err(Stop::Memory),
-            };
-        }
-        match read_labels(self.alloc, &mut source) {
-            Ok(labels) => Ok(Tested::Labels(labels)),
+        let labels = match text.kind {
+            TextKind::Distances => match read_distances(self.alloc, &mut source) {
+                Ok(distances) => Ok(distances.into_labels()),
+                Err(error) => Err(error),
+            },
+            _ => read_labels(self.alloc, &mut source),
+        };
+        match labels {
+            Ok(labels) => Ok(labels),
             Err(_) => Err(Stop::Memory),
         }
     }
@@ -52,7 +52,7 @@ impl<'a, A: Reopen> Page<'a, A> {
         let arc = self.quote_arc(number)?;
         let text = self.texts.tested()?;
         let tested = self.read_tested(text)?;
-        let Some(ends) = failing_ends(tested.labels(), arc) else {
+        let Some(ends) = failing_ends(&tested, arc) else {
             return Err(Stop::Unread(text.file));
         };
         let line = self.block_line(text, ends.source)?;
@@ -87,8 +87,8 @@ impl<'a, A: Reopen> Page<'a, A> {
         let mut tested = self.read_tested(text)?;
         tested.index()?;
         match text.kind {
-            TextKind::Distances => self.explain_distance(text, tested.labels(), &arcs, node),
-            _ => self.explain_label(text, tested.labels(), &arcs),
+            TextKind::Distances => self.explain_distance(text, &tested, &arcs, node),
+            _ => self.explain_label(text, &tested, &arcs),
         }
     }
 
@@ -176,7 +176,7 @@ impl<'a, A: Reopen> Page<'a, A> {
             "{} has no block from source {} that serves the query; its blocks are from",
             &values![Value::File(text.file), node],
         )?;
-        self.list_sources(tested.labels())
+        self.list_sources(&tested)
     }
 
     fn list_sources(&mut self, labels: &Labels) -> Said<'a> {
