@@ -15,12 +15,13 @@ use Rattle.dimacs_judging.specs.Rows.{one_test}
 use Rattle.dimacs_judging.specs.Tests.{Row, Settles}
 use Rattle.dimacs_decide.specs.Claims.{claimed_by_node}
 use Rattle.dimacs_decide.specs.Distances.{source_row}
+use Rattle.dimacs_decide.specs.Predecessors.{pred_by_node}
 use Rattle.dimacs_arrays.specs.declared.error.Array.TheVariants as arrays
 use Rattle.dimacs_arrays.specs.declared.error.ArrayError.{ArrayError}
 use Rattle.dimacs_arrays.specs.declared.lengths.ArrayLength.{ArrayLength}
 use Rattle.dimacs_arrays.specs.Answers.{AnswersArrays, length_of}
 use Rattle.dimacs_arrays.specs.GraphArrays.{source_rows}
-use Rattle.dimacs_arrays.specs.Paths.{AreInOrder, AreLabelsBy, label_rows, pred_by_node}
+use Rattle.dimacs_arrays.specs.Paths.{AreInOrder, AreLabelsBy, label_rows}
 
 -- ---- queries
 -- at most 2^28 queries; as many `tos` as `froms` for pairs, otherwise none

@@ -19,9 +19,8 @@ use crate::labels::labels_by_node;
 use crate::lengths::{ArrayLength, lengths_hold};
 use crate::limits::{PastLimit, node_holds};
 use crate::over::nodes_hold;
-use crate::proposed::distance_of;
 use dimacs_claims::{Block, Distances, Label, Labels};
-use dimacs_decide::{DistancesByNode, source_holds};
+use dimacs_decide::{DistanceClaim, DistancesByNode, source_holds};
 use dimacs_instance::Queries;
 use dimacs_judging::{JudgeError, Where};
 use dimacs_lines::Memory;
@@ -143,9 +142,10 @@ fn block_by_id(alloc: Global, source: u32, distances: &[i64]) -> Result<Block, M
     ensures block { IfOk result (λ block. block ≡ block_spelled source distances.now) }
     ensures lawful { IfOk result (IsBlock (length distances.now)) }
 {
+    let claim = DistancesByNode { distances };
     let mut block = Block::new(alloc, source);
     for id in 1..distances.len() as u32 + 1 {
-        if let Some(label) = label_to(source, id, distance_of(distances, id)) {
+        if let Some(label) = label_to(source, id, claim.of(id)) {
             block.add(label)?;
         }
     }

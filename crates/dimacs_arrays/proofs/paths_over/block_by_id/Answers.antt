@@ -11,7 +11,7 @@ add-requires c =
     let s = c.args.source in
     let claim = claimed_by_node c.args.distances.now in
     let some : 1 ≤ c.loop-id.id = search rules in
-    let labelled : label_with s c.loop-id.id (claim c.loop-id.id) ≡ Some c.in-Some.label = rw c.distance_of.ensures.distance at (sym c.label_to.ensures ∙ c.in-Some.is) in
+    let labelled : label_with s c.loop-id.id (claim c.loop-id.id) ≡ Some c.in-Some.label = rw c.of.ensures.claimed at (sym c.label_to.ensures ∙ c.in-Some.is) in
     none_yet s claim c.loop-id.id c.loop-id.block c.in-Some.label some c.loop-id.invariant.0 labelled
 
 pub loop-id-preserved : goal.loop-id-preserved
@@ -24,9 +24,9 @@ loop-id-preserved c =
     elim c.match-label_to.branch [
       | in-Some+in_ok-add w ↦
           let l = w.in-Some.label in
-          let labelled : label_with s id (claim id) ≡ Some l = rw c.distance_of.ensures.distance at (sym c.label_to.ensures ∙ w.in-Some.is) in
+          let labelled : label_with s id (claim id) ≡ Some l = rw c.of.ensures.claimed at (sym c.label_to.ensures ∙ w.in-Some.is) in
           let is = c.loop-id.invariant.0 in
-          let label = lawful_label s claim id c.loop-id.block l some is labelled (length c.args.distances.now) c.distance_of.result c.distance_of.ensures.distance c.distance_of.ensures.wide c.requires.source within in (
+          let label = lawful_label s claim id c.loop-id.block l some is labelled (length c.args.distances.now) c.of.result c.of.ensures.claimed c.of.ensures.wide c.requires.source within in (
             w.block-is ∙ w.in_ok-add.ensures.added ∙ one_more s claim id c.loop-id.block l some is labelled,
             subst (IsBlock (length c.args.distances.now)) (sym w.block-is)
                 (w.in_ok-add.ensures.lawful (length c.args.distances.now) c.loop-id.invariant.1 label (few_yet s claim id c.loop-id.block l some is labelled (omega (arith, within, c.requires.node_limit)))

@@ -3,7 +3,8 @@ use Rattle.dimacs_judging.specs.Tests.{Settles}
 use Rattle.dimacs_decide.specs.Claims.{claimed_by_node}
 use Rattle.dimacs_arrays.specs.declared.error.Array.TheVariants.{Predecessors}
 use Rattle.dimacs_arrays.specs.Answers.{length_of}
-use Rattle.dimacs_arrays.specs.Paths.{label_rows, pred_by_node}
+use Rattle.dimacs_arrays.specs.Paths.{label_rows}
+use Rattle.dimacs_decide.specs.Predecessors.{pred_by_node}
 use Rattle.dimacs_arrays.specs.PathsSpelled.{AreOrderedLabels, HasSource, source_limits}
 use Rattle.dimacs_arrays.proofs.AnswerLemmas.{tells_refusal}
 use Rattle.dimacs_arrays.proofs.PathsOverLemmas.{none_ordered}
