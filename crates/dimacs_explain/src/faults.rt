@@ -380,7 +380,7 @@ impl<'a, A: Reopen> Page<'a, A> {
         let before = &seen.before;
         if seen.is_in_block(reason) {
             return self.write(
-                "the block of line {}, from source {}, declares {} d lines, and {} stand before this place\n",
+                "the block of line {}, from source {}, declares {} d lines, and has {} before this place\n",
                 &values![
                     before.block_line,
                     before.source,

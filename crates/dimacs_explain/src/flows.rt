@@ -53,14 +53,13 @@ impl<'a, A: Reopen> Page<'a, A> {
             return self.explain_spread(number, bound);
         }
         let (arc, flow, parallel) = self.quote_flow(number)?;
-        let (is, name, least) = match bound {
-            Bound::Low => ("less", "LOW", arc.low),
-            Bound::Cap => ("more", "CAP", arc.cap),
-        };
-        self.write(
-            "arc {} carries {}, {} than its {}, {}\n",
-            &values![number, flow, is, name, least],
-        )?;
+        let has_lows = self.texts.instance()?.kind == TextKind::Min;
+        self.write("arc {} carries {}", &values![number, flow])?;
+        match bound {
+            Bound::Low if !has_lows => self.write(", less than 0\n", &[])?,
+            Bound::Low => self.write(", less than its LOW, {}\n", &values![arc.low])?,
+            Bound::Cap => self.write(", more than its CAP, {}\n", &values![arc.cap])?,
+        }
         if parallel.all > 1 {
             return self.explain_order(arc, parallel);
         }

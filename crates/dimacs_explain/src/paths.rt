@@ -64,6 +64,9 @@ impl<'a, A: Reopen> Page<'a, A> {
             _ => "label",
         };
         match ends.head {
+            Some(_) if arc.head == ends.source => {
+                self.write(", and is the source, at distance 0\n", &[])?
+            }
             Some(head) => self.write(", and its {} says {}\n", &values![name, head])?,
             None => self.write(", and has no {}\n", &values![name])?,
         }
@@ -172,6 +175,9 @@ impl<'a, A: Reopen> Page<'a, A> {
         self.quote_there(queries, Wanted::Query(node))?;
         let text = self.texts.certificate()?;
         let tested = self.read_tested(text)?;
+        if tested.blocks().is_empty() {
+            return self.write("{} has no block\n", &values![Value::File(text.file)]);
+        }
         self.write(
             "{} has no block from source {} that serves the query; its blocks are from",
             &values![Value::File(text.file), node],
