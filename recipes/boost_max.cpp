@@ -1,7 +1,7 @@
 // A maximum flow by Boost, certified: boost_max INSTANCE SOLUTION CUT
 //
-// Reads INSTANCE, writes SOLUTION, and runs `dimacs certify-max` on the two, which writes CUT; DIMACS names the judge. In
-// the folder above this one:
+// Reads INSTANCE, writes SOLUTION, and runs `dimacs certify-max` on the two, which writes CUT; DIMACS names the judge.
+// In the folder above this one:
 //
 //     g++ -O2 -std=c++17 -Ilib/include -o boost_max recipes/boost_max.cpp build/libdimacs.a
 #include "command.hpp"

@@ -1,8 +1,8 @@
 // That no flow is feasible, by LEMON, certified: lemon_infeasible INSTANCE SET
 //
 // Reads INSTANCE (least cost flow) and asks LEMON for a flow. If LEMON finds none, `dimacs certify-infeasible` needs no
-// certificate: it decides whether that is so, and writes SET, which shows it. DIMACS names the judge. In the folder above
-// this one:
+// certificate: it decides whether that is so, and writes SET, which shows it. DIMACS names the judge. In the folder
+// above this one:
 //
 //     g++ -O2 -std=c++17 -Ilib/include -o lemon_infeasible recipes/lemon_infeasible.cpp build/libdimacs.a
 #include "command.hpp"

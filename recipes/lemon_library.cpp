@@ -1,7 +1,7 @@
 // A flow of least cost and its potentials by LEMON, judged in the same process: lemon_library INSTANCE
 //
-// Reads INSTANCE, asks the library about LEMON's maps, and prints its answer; a refusal has LEMON's ID of the arc or the
-// node. Writes no file. In the folder above this one:
+// Reads INSTANCE, asks the library about LEMON's maps, and prints its answer; a refusal has LEMON's ID of the arc or
+// the node. Writes no file. In the folder above this one:
 //
 //     g++ -O2 -std=c++17 -Ilib/include -o lemon_library recipes/lemon_library.cpp build/libdimacs.a
 #include "command.hpp"

@@ -1,7 +1,7 @@
 // A maximum flow and a minimum cut by LEMON, judged: lemon_max INSTANCE SOLUTION CUT
 //
-// Reads INSTANCE, writes SOLUTION and CUT, and runs `dimacs judge-max` on the three; DIMACS names the judge. In the folder
-// above this one:
+// Reads INSTANCE, writes SOLUTION and CUT, and runs `dimacs judge-max` on the three; DIMACS names the judge. In the
+// folder above this one:
 //
 //     g++ -O2 -std=c++17 -Ilib/include -o lemon_max recipes/lemon_max.cpp build/libdimacs.a
 #include "command.hpp"

@@ -1,7 +1,7 @@
 // A flow of least cost and its potentials by LEMON, judged: lemon_min INSTANCE SOLUTION POTENTIALS
 //
-// Reads INSTANCE, writes SOLUTION and POTENTIALS, and runs `dimacs judge-min` on the three; DIMACS names the judge. In the
-// folder above this one:
+// Reads INSTANCE, writes SOLUTION and POTENTIALS, and runs `dimacs judge-min` on the three; DIMACS names the judge. In
+// the folder above this one:
 //
 //     g++ -O2 -std=c++17 -Ilib/include -o lemon_min recipes/lemon_min.cpp build/libdimacs.a
 #include "command.hpp"

@@ -1,8 +1,8 @@
 // Distances by LEMON (Dijkstra), certified: lemon_paths GRAPH QUERY DISTANCES
 //
 // Reads GRAPH (.gr, no negative weights) and QUERY (.ss or .p2p), writes DISTANCES with a block for each source in
-// QUERY, and runs `dimacs certify-paths`, which needs no predecessors. The variable DIMACS names the judge. In the folder
-// above this one:
+// QUERY, and runs `dimacs certify-paths`, which needs no predecessors. The variable DIMACS names the judge. In the
+// folder above this one:
 //
 //     g++ -O2 -std=c++17 -Ilib/include -o lemon_paths recipes/lemon_paths.cpp build/libdimacs.a
 #include "command.hpp"
@@ -34,6 +34,7 @@ int main(int count, char** words) {
         const std::string block = dimacs::lemon::write_distances(graph, graph.nodeFromId(source - 1), dijkstra).value();
         blocks += block.substr(block.find('\n') + 1);  // without its first line
     }
-    write(words[3], "p distances " + std::to_string(graph.nodeNum()) + ' ' + std::to_string(sources.size()) + '\n' + blocks);
+    const std::string sizes = std::to_string(graph.nodeNum()) + ' ' + std::to_string(sources.size());
+    write(words[3], "p distances " + sizes + '\n' + blocks);
     return run({"certify-paths", words[1], words[3]});
 }

@@ -47,7 +47,7 @@ def has_read(command, instance):
 
 
 def cells(judge, show, asked):
-    """The processor time of each program on the instance of these two works, its quotient by that of show, and its peak."""
+    """The processor time of each program on the instance of these works, its quotient by that of show, and its peak."""
     kind, instance = show.words[1], show.files[0]
     commands = {name: [asked.binary, *it.words, *it.files] for name, it in ((JUDGING, judge), (SHOWING, show))}
     for command in commands.values():
