@@ -42,27 +42,10 @@ def texts(binary, kind, megabytes):
     return [f"{folder}/{file}" for file in files]
 
 
-# ---- texts to arrays
-
-
-def lines(file, letter):
-    """Yields the fields of the lines with a letter."""
-    with open(file) as text:
-        yield from (line.split()[1:] for line in text if line[0] == letter)
-
-
-def by_node(code, nodes, named, missing=0):
-    """An array by node, of pairs of a node and its number."""
-    made = array(code, [missing]) * nodes
-    for node, number in named:
-        made[int(node) - 1] = int(number)
-    return made
-
-
 # ---- pairs of calls, by their names
 
 
-def max_pairs(dimacs, texts, *files):
+def max_pairs(dimacs, texts):
     instance = dimacs.read("max", texts[0])
     flows, inside = dimacs.read("solution", texts[1], instance).flows, dimacs.read("cut", texts[2]).inside
     return {
@@ -71,31 +54,29 @@ def max_pairs(dimacs, texts, *files):
     }
 
 
-def min_pairs(dimacs, texts, *files):
+def min_pairs(dimacs, texts):
     instance = dimacs.read("min", texts[0])
-    flows = dimacs.read("solution", texts[1], instance).flows
-    prices = by_node("q", instance.nodes, lines(files[2], "y"))
+    flows, prices = dimacs.read("solution", texts[1], instance).flows, dimacs.read("pot", texts[2]).potentials
     return {
         "judge-min": (lambda: dimacs.judge_min(*texts), lambda: dimacs.judge_min_arrays(*instance, flows, prices)),
         "certify-min": (lambda: dimacs.certify_min(*texts[:2]), lambda: dimacs.certify_min_arrays(*instance, flows)),
     }
 
 
-def paths_pairs(dimacs, texts, file, _, labels):
-    nodes, arcs = declared(file)
-    _, *read = dimacs.read("gr", texts[0])
-    arrays = [array(code, bytes(it)) for code, it in zip("IIq", read)]  # which can be written to, as `plain` takes them
-    source = int(next(lines(labels, "t"))[0])
-    labelled = [*lines(labels, "d"), [source, 0, 0]]
-    distances = by_node("q", nodes, (it[:2] for it in labelled), dimacs.UNREACHED)
-    predecessors = by_node("I", nodes, (it[::2] for it in labelled))
-    claim = nodes, *arrays, source, distances
-    found = array("I", [0]) * nodes
+def paths_pairs(dimacs, texts):
+    graph, source = dimacs.read("gr", texts[0]), int(dimacs.read("query", texts[1]).froms[0])
+    labels = dimacs.read("dist", texts[2], source)
+    claim = *graph, source, labels.distances
     plain = ctypes.CDLL("./plain").plain_certify_paths
-    places = [(ctypes.c_char * 1).from_buffer(it) for it in (*arrays, distances, found)]  # by their addresses, and kept
-    words = [ctypes.c_size_t(nodes), ctypes.c_size_t(arcs), ctypes.c_size_t(source), *places]
+    read = zip("IIqqI", (graph.tails, graph.heads, graph.weights, labels.distances, labels.predecessors))
+    kept = [array(code, bytes(it)) for code, it in read]  # plain finds them by their addresses, and writes to the last
+    sizes = map(ctypes.c_size_t, (graph.nodes, len(graph), source))
+    words = [*sizes, *((ctypes.c_char * 1).from_buffer(it) for it in kept)]
     return {
-        "judge-paths": (lambda: dimacs.judge_paths(*texts), lambda: dimacs.judge_paths_arrays(*claim, predecessors)),
+        "judge-paths": (
+            lambda: dimacs.judge_paths(*texts),
+            lambda: dimacs.judge_paths_arrays(*claim, labels.predecessors),
+        ),
         "certify-paths": (lambda: plain(*words) or sys.exit("no"), lambda: dimacs.certify_paths_arrays(*claim)),
     }
 
@@ -130,7 +111,7 @@ def measure_size(asked, dimacs, megabytes):
     for kind, pairs_of in PAIRS.items():
         files = texts(asked.binary, kind, megabytes)
         _, arcs = declared(files[0])
-        for name, pair in pairs_of(dimacs, [open(file, "rb").read() for file in files], *files).items():
+        for name, pair in pairs_of(dimacs, [open(file, "rb").read() for file in files]).items():
             if wants(name):
                 first, second = measure_pair(name, pair, asked.rounds)
                 times = (f"{1e9 * it.cpu() / arcs:.1f}" for it in (first, second))
