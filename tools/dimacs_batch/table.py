@@ -103,12 +103,16 @@ def place_of(file):
 
 
 def put_file(place, fill):
-    """Writes a file beside its place, and then puts it there: so it is whole at any time."""
-    new = f"{place}.new"
+    """Writes a file beside its place, of a name that nothing has there, and then puts it there: so it is whole at any
+    time.
+    """
+    new = f"{place}.{os.getpid()}.new"
     try:
-        if os.path.lexists(new):
-            os.unlink(new)  # one that was left, or a link
-        with open(new, "x", newline="", **ANY_NAMES) as out:
+        out = open(new, "x", newline="", **ANY_NAMES)
+    except OSError as error:
+        fail_of(error, place)
+    try:
+        with out:
             fill(out)
             out.flush()
             os.fsync(out.fileno())
