@@ -5,7 +5,6 @@ short. A time is the median of the rounds. A ratio is the median of the rounds' 
 other: on a machine that others use too, the best times of two programs may lie in different minutes.
 """
 
-import math
 import os
 import re
 import statistics
@@ -26,7 +25,7 @@ MORE_ROUNDS = 5
 SHORT_ROUND = 2
 
 # What a run took, its status, and what it printed where that was asked for.
-Taken = namedtuple("Taken", "wall cpu peak_bytes status printed", defaults=(0, 0, None))
+Taken = namedtuple("Taken", "cpu peak_bytes status printed", defaults=(0, 0, None))
 
 
 class Rounds:
@@ -34,9 +33,6 @@ class Rounds:
 
     def __init__(self, *runs):
         self.runs = list(runs)
-
-    def wall(self):
-        return statistics.median(run.wall for run in self.runs)
 
     def cpu(self):
         return statistics.median(run.cpu for run in self.runs)
@@ -61,8 +57,8 @@ def measure(command, limit=NO_LIMIT, stdout=subprocess.DEVNULL):
     words = ["./runner", "taken", str(limit), *(["taskset", "-c", core] if core else []), *command]
     run = subprocess.run(words, stdout=stdout, stderr=subprocess.DEVNULL, text=True, check=False)
     with open("taken") as line:
-        wall, cpu, kilobytes = line.read().split()
-    return Taken(float(wall), float(cpu), int(kilobytes) * 1024, run.returncode, run.stdout)
+        cpu, kilobytes = line.read().split()
+    return Taken(float(cpu), int(kilobytes) * 1024, run.returncode, run.stdout)
 
 
 def printed(command):
@@ -80,11 +76,6 @@ def measure_in_turn(commands, rounds, run=measure):
         for name in list(commands)[:: -1 if turn % 2 else 1]:
             taken[name].runs.append(run(commands[name]))
     return taken
-
-
-def mean(ratios):
-    """The geometric mean."""
-    return math.exp(sum(map(math.log, ratios)) / len(ratios))
 
 
 def row(*cells):

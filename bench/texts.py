@@ -49,8 +49,11 @@ FAMILIES = {
     },
 }
 
+# The arcs for each node of a flow that gen makes, and its certificate.
+ARCS_PER_NODE = {"max": 6, "min": 8}
+CERTIFICATES = {"max": "cut", "min": "pot"}
+
 SOURCES = {1: 8, 20: 4}  # of a graph, by the size of the texts in MB
-UNITS = 5_000_000_000  # so many more from one end to another than can be moved
 
 
 def generate(folder, *commands):
@@ -91,17 +94,29 @@ def instance(kind, family, megabytes):
     return f"{folder}/instance.{kind}"
 
 
+def flow_texts(folder, kind, arcs, generator):
+    """The files of an instance with its claim and its certificate, as gen makes them by one of its words."""
+    generate(folder, ["gen", generator, arcs // ARCS_PER_NODE[kind], arcs, SEED, "flow"])
+    return [f"{folder}/flow.{end}" for end in (kind, "solution", CERTIFICATES[kind])]
+
+
+def road_texts(folder, binary, junctions, degree, count):
+    """The files of a graph, of queries from so many sources, and of the labels that dimacs makes."""
+    files = ["road.gr", "road.query", "road.dist"]
+    generate(
+        folder,
+        ["gen", "road", junctions, degree, SEED, files[0]],
+        ["gen", "sources", junctions, count, SEED, files[1]],
+        [binary, "solve-paths", *files],
+    )
+    return [f"{folder}/{file}" for file in files]
+
+
 def beside(file, name, *command):
     """The folder beside an instance in which a command was run."""
     folder = f"{os.path.dirname(file)}-{name}"
     generate(folder, command[0] if callable(command[0]) else command)
     return folder
-
-
-def infeasible(file):
-    """The file of an infeasible instance that is like another."""
-    folder = beside(file, "infeasible", lambda part: least.infeasible(UNITS, file).write(f"{part}/instance.min"))
-    return f"{folder}/instance.min"
 
 
 def solved(binary, file):

@@ -57,8 +57,8 @@ def write_distances(path, nodes, blocks):
 
 
 def judge_max(doc, solve):
-    """Reads INSTANCE, writes SOLUTION and CUT, and has them judged. solve(instance) returns the flow's value, the flow of each
-    arc, and the nodes on the source's side of a minimum cut."""
+    """Reads INSTANCE, writes SOLUTION and CUT, and runs `dimacs judge-max` on the three. solve(instance) returns the
+    flow's value, the flow of each arc, and the nodes on the source's side of a minimum cut."""
     path, solution, cut = arguments(doc)
     instance = read("max", path)
     value, flows, side = solve(instance)
@@ -73,7 +73,8 @@ def cost_of(flows, instance):
 
 
 def certify_min(doc, solve):
-    """Reads INSTANCE, writes SOLUTION, and has it certified. solve(instance) returns the flow of each arc."""
+    """Reads INSTANCE, writes SOLUTION, and runs `dimacs certify-min` on the two, which writes POTENTIALS.
+    solve(instance) returns the flow of each arc."""
     path, solution, potentials = arguments(doc)
     instance = read("min", path)
     flows = solve(instance)
@@ -82,8 +83,9 @@ def certify_min(doc, solve):
 
 
 def certify_paths(doc, solve):
-    """Reads GRAPH and QUERY, writes DISTANCES, and has them certified. solve(graph, sources) returns the distances from each
-    source: a dict of the nodes that are reached."""
+    """Reads GRAPH (.gr) and QUERY (.ss or .p2p), writes DISTANCES with a block for each source in QUERY, and runs
+    `dimacs certify-paths`, which needs no predecessors. solve(graph, sources) returns the distances from each source: a
+    dict of the nodes that are reached."""
     path, query, distances = arguments(doc)
     graph = read("gr", path)
     sources = set(read("query", query).froms.tolist())

@@ -1,7 +1,6 @@
 #!/usr/bin/env python3
 """A maximum flow and a minimum cut by igraph, judged: igraph_max.py INSTANCE SOLUTION CUT
 
-Reads INSTANCE, writes SOLUTION and CUT, and runs `dimacs judge-max` on the three. The variable DIMACS names the judge.
 igraph's flows are floating point numbers (`4.0`): they are exact below 2^53.
 """
 import sys

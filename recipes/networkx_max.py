@@ -1,8 +1,5 @@
 #!/usr/bin/env python3
-"""A maximum flow and a minimum cut by networkx, judged: networkx_max.py INSTANCE SOLUTION CUT
-
-Reads INSTANCE, writes SOLUTION and CUT, and runs `dimacs judge-max` on the three. The variable DIMACS names the judge.
-"""
+"""A maximum flow and a minimum cut by networkx, judged: networkx_max.py INSTANCE SOLUTION CUT"""
 import sys
 
 import networkx as nx

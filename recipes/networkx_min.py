@@ -1,8 +1,7 @@
 #!/usr/bin/env python3
 """A flow of least cost by networkx, certified: networkx_min.py INSTANCE SOLUTION POTENTIALS
 
-Reads INSTANCE, writes SOLUTION, and runs `dimacs certify-min` on the two, which writes POTENTIALS. The variable DIMACS
-names the judge. An instance without a feasible flow ends it with a message: networkx_infeasible.py shows that there is none.
+An instance without a feasible flow ends it with a message: networkx_infeasible.py shows that there is none.
 """
 import sys
 

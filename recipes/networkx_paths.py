@@ -1,8 +1,7 @@
 #!/usr/bin/env python3
 """Distances by networkx (Dijkstra), certified: networkx_paths.py GRAPH QUERY DISTANCES
 
-Reads GRAPH (.gr, no negative weights) and QUERY (.ss or .p2p), writes DISTANCES with a block for each source in QUERY,
-and runs `dimacs certify-paths`, which needs no predecessors. The variable DIMACS names the judge.
+No weight may be negative.
 """
 import sys
 

@@ -2,8 +2,6 @@
 """A maximum flow and a minimum cut by OR-Tools, judged: ortools_max.py INSTANCE SOLUTION CUT
 
 NOT RUN YET: written after the documentation of OR-Tools 9, since no package of it was at hand.
-
-Reads INSTANCE, writes SOLUTION and CUT, and runs `dimacs judge-max` on the three. The variable DIMACS names the judge.
 """
 import sys
 

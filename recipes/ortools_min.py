@@ -3,8 +3,7 @@
 
 NOT RUN YET: written after the documentation of OR-Tools 9, since no package of it was at hand.
 
-Reads INSTANCE, writes SOLUTION, and runs `dimacs certify-min` on the two, which writes POTENTIALS. The variable DIMACS
-names the judge. An instance without a feasible flow ends it with a message: networkx_infeasible.py shows that there is none.
+An instance without a feasible flow ends it with a message: networkx_infeasible.py shows that there is none.
 """
 import sys
 

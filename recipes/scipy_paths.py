@@ -1,9 +1,7 @@
 #!/usr/bin/env python3
 """Distances by SciPy (Dijkstra), certified: scipy_paths.py GRAPH QUERY DISTANCES
 
-Reads GRAPH (.gr, no negative weights) and QUERY (.ss or .p2p), writes DISTANCES with a block for each source in QUERY,
-and runs `dimacs certify-paths`, which needs no predecessors. The variable DIMACS names the judge. SciPy's distances are
-floating point numbers: they are exact below 2^53.
+No weight may be negative. SciPy's distances are floating point numbers: they are exact below 2^53.
 """
 import sys
 

@@ -5,19 +5,12 @@ The file abi has each call and struct, and since which version. The header has t
 shared library in BUILD, build if none is given, to export these calls and no others, by the same soname. The last line
 counts what agreed and what didn't.
 """
-import os
 import re
 import subprocess
 import sys
 
 import scripts
-
-TOP = os.path.dirname(os.path.dirname(os.path.abspath(__file__)))
-
-
-def read(name):
-    with open(f"{TOP}/{name}", encoding="utf-8") as it:
-        return it.read()
+from scripts import TOP, read
 
 
 def listed():
@@ -35,7 +28,6 @@ def type_of(argument):
 
 
 def declared():
-    """The calls and structs of the header."""
     text = re.sub(r"/\*.*?\*/", "", read("lib/include/dimacs.h"), flags=re.DOTALL)
     calls = re.findall(r"^uint32_t (dimacs_\w+)\((.*?)\);", text, re.MULTILINE | re.DOTALL)
     structs = re.findall(r"^typedef struct \{(.*?)\} (\w+);", text, re.MULTILINE | re.DOTALL)
@@ -44,7 +36,6 @@ def declared():
 
 
 def exported(library):
-    """The soname and the calls of a shared library."""
     words = ["readelf", "--dynamic", "--dyn-syms", "--wide", library]
     shown = subprocess.run(words, capture_output=True, text=True, check=True).stdout
     calls = re.findall(r"GLOBAL +DEFAULT +\d+ (\w+)$", shown, re.MULTILINE)

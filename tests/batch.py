@@ -34,12 +34,12 @@ import time
 import traceback
 import unittest.mock
 
-from instances import compiled_once
+import scripts
+from instances import BINARY as BUILT, Folder, compiled_once
+from scripts import TOP
 
-TOP = os.path.join(os.path.dirname(os.path.abspath(__file__)), "..")
-BATCH = os.path.join(TOP, "tools/dimacs-batch")
-BUILT = os.path.join(TOP, "crates/dimacs/out/dimacs")
-sys.path.append(os.path.join(TOP, "tools"))
+BATCH, TEXTS = f"{TOP}/tools/dimacs-batch", f"{TOP}/examples"
+sys.path.append(f"{TOP}/tools")
 
 from dimacs_batch import keep, progress, runs
 
@@ -54,17 +54,17 @@ case $status in [0-15]) printf '%b\\n' "$line" ;; *) printf '%b\\n' "$line" >&2 
 exit "$status"
 """
 
+# Modules of others are not looked for: a run begins with a seventh less processor time.
+PYTHON = [sys.executable, "-S"]
+
 # One that says nothing about itself, and takes 200 MB.
 HEAVY = """#!/bin/sh
 [ "$1" = --version ] && exit 2
 exec python3 -c "x = [1] * 25_000_000; print('v max 1')"
 """
 
-CLASSES = [
-    "yes", "no", "not shown", "faulty text", "instance faulty", "gave up", "nothing claimed", "no answer", "unmatched",
-    "failed",
-]
-COUNTED = ["yes", "no", "faulty text", "gave up", "no answer", "unmatched", "failed"]
+# The classes that are counted after yes, in their order.
+CLASSES = "no not_shown faulty_text instance_faulty gave_up nothing_claimed no_answer unmatched failed".split()
 
 # What the examples are judged as: instance, answers, the words of the command up to its files, the line and its class.
 EXAMPLES = """
@@ -112,28 +112,28 @@ list | list=a.max,a.sol;a.max,x/a.sol;a.max,lemon.sol a.max a.sol x/a.sol lemon.
 """
 
 
-class Place:
-    """A folder with a stand-in and texts."""
+class Place(Folder):
+    """A folder with texts and a program: a stand-in, if none is given."""
 
-    def __init__(self, folder):
-        self.folder = folder
-        self.ran = os.path.join(folder, "ran")
-        self.program = self.write("stand-in", STAND_IN)
-        os.chmod(self.program, 0o755)
-
-    def path(self, name):
-        return os.path.join(self.folder, name)
+    def __init__(self, folder, program):
+        super().__init__(folder)
+        self.ran = self.path("ran")
+        self.program = program or self.script("stand-in", STAND_IN)
 
     def write(self, name, text):
-        file = self.path(name)
-        os.makedirs(os.path.dirname(file), exist_ok=True)
-        with open(file, "w", encoding="utf-8") as it:
-            it.write(text)
-        return file
+        os.makedirs(os.path.dirname(self.path(name)), exist_ok=True)
+        super().write(name, text)
 
-    def read(self, name):
-        with open(self.path(name), newline="", encoding="utf-8", errors="surrogateescape") as it:
-            return it.read()
+    def script(self, name, text):
+        """Writes a script that can be run; its path."""
+        self.write(name, text)
+        os.chmod(self.path(name), 0o755)
+        return self.path(name)
+
+    def copy(self, names, to="."):
+        os.makedirs(self.path(to), exist_ok=True)
+        for name in names.split():
+            shutil.copy(f"{TEXTS}/{name}", self.path(to))
 
     def table(self, name="table"):
         return rows(self.read(name))
@@ -146,17 +146,34 @@ class Place:
         self.write(name, "".join(f"{k}.max {k}.solution\n" for k in range(len(lines))))
 
     def started(self, *words, program=None, **how):
+        """Begins a run of these words, or of those that stand in one text."""
         pipe = subprocess.PIPE
         usual = {"cwd": self.folder, "stdin": subprocess.DEVNULL, "stdout": pipe, "stderr": pipe, "text": True}
         its = {**os.environ, "RAN": self.ran, **how.pop("env", {})}
-        words = [sys.executable, BATCH, "--program", program or self.program, *words]
+        words = shlex.split(words[0]) if len(words) == 1 else words
+        words = [*PYTHON, BATCH, "--program", program or self.program, *words]
         return subprocess.Popen(words, env=its, **{**usual, **how})
 
-    def run(self, *words, program=None, **how):
-        """The status, the rows on the standard output, and the standard error."""
-        process = self.started(*words, program=program, **how)
+    def ended(self, *words, **how):
+        """The status of a run, and what it printed to both streams."""
+        process = self.started(*words, **how)
         out, err = process.communicate(timeout=60)
-        return process.returncode, rows(out or ""), err
+        return process.returncode, out or "", err
+
+    def run(self, *words, **how):
+        """The status, the rows on the standard output, and the standard error."""
+        status, out, err = self.ended(*words, **how)
+        return status, rows(out), err
+
+    def expect(self, status, err, *words, **how):
+        """Runs it, which has to end with this status and this standard error."""
+        found, _, printed = self.run(*words, **how)
+        assert (found, printed) == (status, err), (words, found, printed)
+
+    def refuses(self, part, *words, **how):
+        """Runs it with words or files that it refuses, in a line that has this part, and no more."""
+        status, table, err = self.run(*words, **how)
+        assert status == 2 and not table and part in err and "Traceback" not in err, (words, status, err)
 
     def runs(self):
         """How many runs there were since it was asked last."""
@@ -165,7 +182,6 @@ class Place:
         return count
 
     def wait_for(self, name, lines):
-        """Waits until a file has so many lines."""
         for _ in range(400):
             time.sleep(0.05)
             if os.path.exists(self.path(name)) and self.read(name).count("\n") == lines:
@@ -177,7 +193,6 @@ def rows(text):
 
 
 def names_kept(place):
-    """What a run kept."""
     return sorted(it for it in os.listdir(place.path("kept")) if it != keep.MARK)
 
 
@@ -189,10 +204,9 @@ def column(table, name):
     return [row[name] for row in table]
 
 
-def counted(*counts, taken_over=0, made_anew=0, **others):
+def counted(yes=0, taken_over=0, made_anew=0, **others):
     """The last line."""
-    found = {**dict(zip(COUNTED, counts, strict=True)), **{it.replace("_", " "): count for it, count in others.items()}}
-    line = ", ".join(f"{found[it]} {it}" for it in CLASSES if found.get(it) or it == "yes")
+    line = ", ".join([f"{yes} yes", *(f"{others[it]} {it.replace('_', ' ')}" for it in CLASSES if it in others)])
     return line + (f"; {taken_over} taken over, {made_anew} made anew" if taken_over or made_anew else "") + "\n"
 
 
@@ -221,7 +235,7 @@ def order_and_columns(place):
     classes = "yes,no,instance faulty,faulty text,no,failed,gave up,yes,failed,failed,failed"
     assert column(table, "class") == classes.split(","), table
     assert column(table, "kind") == ["max"] * 11 and 0.3 <= float(table[0]["seconds"]) < 5, table
-    assert err == counted(2, 2, 1, 1, 0, 0, 4, instance_faulty=1), err
+    assert err == counted(yes=2, no=2, faulty_text=1, gave_up=1, failed=4, instance_faulty=1), err
 
 
 def commands(place):
@@ -252,33 +266,24 @@ def commands(place):
     _, table, _ = place.run("list", "--run", "max=solve-max {instance} {name}.{instance}")
     assert table[0]["command"] == "solve-max '{name}.max' 's.{name}.max'", table[0]
     place.write("list", "c.gr d.dist\n")
-    status, table, err = place.run("list")
-    assert status == 2 and not table and "--run gr=" in err, err
+    place.refuses("--run gr=", "list")
 
 
 def folders(place):
-    """In a folder answers belong to the instance with whose name theirs begins, the longest one."""
-    for name in ("deep/a.max", "deep/a-b.max", "deep/g.gr", "x.min"):
+    """Queries alone are no answer, unless a command takes them, and a folder with an answer's ending is none."""
+    for name in ("deep/a.max", "deep/g.gr", "x.min"):
         place.write(f"all/{name}", "0 0 v max 1\n")
-    for name in ("a.solution", "a.cut", "a-c.sol", "a-b.solution", "a-b-d.solution", "ab.solution", "g.ss"):
+    for name in ("a.solution", "a.cut", "a-c.sol", "ab.solution", "g.ss"):
         place.write(f"all/deep/{name}", "")
-    _, table, _ = place.run("all", "--show")
+    _, table, _ = place.run("all --show")
     names = [" ".join(map(os.path.basename, row["command"].split())) for row in table]
-    assert column(table, "verdict")[-1] == "it belongs to no instance", table
-    assert names == [
-        "show min x.min",
-        "certify-max a-b.max a-b-d.solution",
-        "certify-max a-b.max a-b.solution",
-        "certify-max a.max a-c.sol",
-        "judge-max a.max a.solution a.cut",
-        "show gr g.gr",
-        "",
-    ], names
+    wanted = ["show min x.min", "certify-max a.max a-c.sol", "judge-max a.max a.solution a.cut", "show gr g.gr", ""]
+    assert names == wanted and column(table, "verdict")[-1] == "it belongs to no instance", table
     _, table, _ = place.run("all", "--run", "gr=solve-paths {instance} {answers} {name}.dist")
     assert table[-2]["command"] == "solve-paths all/deep/g.gr all/deep/g.ss all/deep/g.dist", table[-2]
     place.write("all/deep/folder.solution/text", "")
-    _, table, _ = place.run("all/x.min", "all/deep")
-    assert column(table, "class") == ["yes"] * 5 + ["failed", "unmatched"], column(table, "class")
+    _, table, _ = place.run("all/x.min all/deep")
+    assert column(table, "class") == ["yes"] * 3 + ["failed", "unmatched"], column(table, "class")
 
 
 def layouts(place):
@@ -289,12 +294,10 @@ def layouts(place):
             name, _, listed = file.partition("=")
             text = "".join(f"{it}\n" for it in listed.split(";")).replace(",", "\t") if listed else "0 0 v max 1\n"
             place.write(f"{number}/{name}", text)
-        where = place.path(str(number))
-        process = place.started(*words.split(), cwd=where)
-        out, err = process.communicate(timeout=60)
+        _, table, err = place.run(words, cwd=place.path(str(number)))
         found = [
             (os.path.basename(row["instance"]) or "-", "+".join(base_names(row["answers"])), row["solver"])
-            for row in rows(out)
+            for row in table
         ]
         found = " ; ".join(" ".join(filter(None, it)) for it in found)
         assert found == re.sub(" +", " ", wanted), (line, found, err)
@@ -305,18 +308,15 @@ def gaps(place):
     for name in ("set/instances/a.max", "set/instances/b.max", "set/answers/lemon/a.sol", "set/answers/igraph/b.sol"):
         place.write(name, "0 0 v max 1\n")
     for again in (0, 2):
-        status, _, err = place.run("set", "-o", "table")
-        assert status == 3 and err == counted(2, 0, 0, 0, 2, 0, 0, taken_over=again), err
+        place.expect(3, counted(yes=2, no_answer=2, taken_over=again), "set", "-o", "table")
         seen = [(row["class"], row["solver"], row["verdict"]) for row in place.table()]
         lacks = "it has no answer of this solver"
         assert seen == [("yes", "lemon", "v max 1"), ("no answer", "igraph", lacks)] + [
             ("yes", "igraph", "v max 1"), ("no answer", "lemon", lacks)
         ], seen
-    status, _, err = place.run("set", "--show")
-    assert status == 3 and err == counted(2, 0, 0, 0, 2, 0, 0), err
+    place.expect(3, counted(yes=2, no_answer=2), "set", "--show")
     place.write("set/answers/lemon/b.sol", "s 1\n")
-    status, _, err = place.run("set", "-o", "table")
-    assert status == 3 and err == counted(3, 0, 0, 0, 1, 0, 0, taken_over=2), err
+    place.expect(3, counted(yes=3, no_answer=1, taken_over=2), "set", "-o", "table")
 
 
 def links(place):
@@ -331,26 +331,23 @@ def links(place):
     assert status == 0 and column(table, "solver") == ["igraph", "lemon", "same"], table
 
 
-def kept_inside(place, binary):
+def kept_inside(place):
     """What is kept inside the folder is no answer the next time; the folder itself is no place for it."""
-    for name in ("pipes.max", "pipes.solution"):
-        place.write(f"set/{name}", "")
-        shutil.copy(os.path.join(TOP, "examples", name), place.path("set"))
+    place.copy("pipes.max pipes.solution", to="set")
     for taken_over in (0, 1):
-        status, _, err = place.run("set", "-o", "table", "--keep", "set/kept", program=binary)
-        assert status == 0 and err == counted(1, 0, 0, 0, 0, 0, 0, taken_over=taken_over), err
-    before = state_of(place.path("set"))
-    for words in ("set/pipes.max set/kept --keep set", "list --keep set"):
-        place.write("list", "set/pipes.max\n")
-        status, _, err = place.run(*words.split(), "--show", program=binary)
-        assert status == 2 and "--keep" in err and state_of(place.path("set")) == before, (words, err)
+        place.expect(0, counted(yes=1, taken_over=taken_over), "set -o table --keep set/kept")
+    place.write("list", "set/pipes.max\n")
     place.write("set/cuts/pipes.cut", "p cut 5 1\nu 1\n")
-    status, _, err = place.run("set", "--keep", "set/cuts", program=binary)
-    assert status == 2 and err == "dimacs-batch: --keep set/cuts: has files that weren't kept; name a new folder\n", err
     os.mkdir(place.path("set/answers"))
-    for words in ("set --keep set/.", "set --keep set/answers", "set/pipes.max set --keep set"):
-        status, _, err = place.run(*words.split(), program=binary)
-        assert status == 2 and "--keep" in err and "Traceback" not in err, err
+    before = state_of(place.path("set"))
+    for words, part in (
+        ("set/pipes.max set/kept --keep set --show", "--keep"), ("list --keep set --show", "--keep"),
+        ("set --keep set/.", "--keep"),
+        ("set --keep set/cuts", "dimacs-batch: --keep set/cuts: has files that weren't kept; name a new folder\n"),
+        ("set --keep set/answers", "--keep"), ("set/pipes.max set --keep set", "--keep"),
+    ):
+        place.refuses(part, words)
+        assert state_of(place.path("set")) == before, words
 
 
 def unanswered(place):
@@ -359,10 +356,10 @@ def unanswered(place):
         place.write(f"in/{k}.max", "0 0 i max 2 1\n")
         place.write(f"out/{k}.solution", "s 1\n")
     status, table, err = place.run("in")
-    assert status == 3 and err == counted(0, 0, 0, 0, 3, 0, 0) and place.runs() == 0, err
+    assert (status, err, place.runs()) == (3, counted(no_answer=3), 0), err
     assert column(table, "class") == ["no answer"] * 3 and set(column(table, "verdict")) == {"it has no answer"}, table
     status, table, err = place.run("in", "--show")
-    assert status == 3 and err == counted(0, 0, 0, 0, 3, 0, 0) and place.runs() == 3, err
+    assert status == 3 and err == counted(no_answer=3) and place.runs() == 3, err
     assert column(table, "verdict") == ["i max 2 1"] * 3, table
     for k, line in enumerate(["0 v max 1", "0 v max 2", "1 x arc 1 AboveCap"]):
         place.write(f"in/{k}.max", f"0 {line}\n")
@@ -371,10 +368,10 @@ def unanswered(place):
     assert place.run("in", "--answers", "out")[0] == 0
     place.write("out/other.solution", "s 1\n")
     status, table, err = place.run("in", "--answers", "out")
-    assert status == 3 and err == counted(3, 0, 0, 0, 0, 1, 0), err
+    assert status == 3 and err == counted(yes=3, unmatched=1), err
     assert (table[3]["answers"], table[3]["class"]) == ("out/other.solution", "unmatched"), table
     os.mkdir(place.path("empty"))
-    assert place.run("empty")[0] == 2
+    place.refuses("no instance", "empty")
 
 
 def evidence(place):
@@ -389,9 +386,7 @@ def evidence(place):
     assert row["answers_sha256"].split() == hashes[1:3] and row["program_sha256"] == hashes[3], row
     assert (row["size"], row["arcs"], row["limit"], row["host"]) == ("22", "7", "50", os.uname().nodename), row
     assert (row["version"], row["proof"]) == ("9.8", "proved by a kit"), row
-    place.write("heavy", HEAVY)
-    os.chmod(place.path("heavy"), 0o755)
-    _, (row,), _ = place.run(".", program=place.path("heavy"))
+    _, (row,), _ = place.run(".", program=place.script("heavy", HEAVY))
     assert (row["version"], row["proof"]) == ("unknown", "unproved"), row
     assert 200_000 < int(row["memory"]) < 300_000, row["memory"]
     assert 0.02 < float(row["cpu"]) <= float(row["seconds"]) + 0.01, row
@@ -404,7 +399,7 @@ def made_anew(place):
     def again(taken_over, *words):
         status, _, err = place.run("list", "-o", "table", *words)
         assert status == 0 and place.runs() == 4 - taken_over, (taken_over, words, err)
-        assert err == counted(4, 0, 0, 0, 0, 0, 0, taken_over=taken_over, made_anew=4 - taken_over), err
+        assert err == counted(yes=4, taken_over=taken_over, made_anew=4 - taken_over), err
 
     place.run("list", "-o", "table")
     place.runs()
@@ -426,7 +421,7 @@ def made_anew(place):
     place.run("list", "-o", "table", "--seconds", "70")
     place.runs()
     status, _, err = place.run("list", "-o", "table", "--seconds", "70")
-    assert place.runs() == 1 and err == counted(2, 0, 0, 1, 0, 0, 1, taken_over=3), err
+    assert place.runs() == 1 and err == counted(yes=2, gave_up=1, failed=1, taken_over=3), err
 
 
 def changed_while_judged(place):
@@ -457,22 +452,23 @@ def taken_up(place):
     assert place.run("list", "-o", "table")[0] == 0 and place.runs() == 0
     assert not [name for name in os.listdir(place.folder) if name.startswith("table.")]
     place.write("other", "5.max 5.solution\n")
-    assert place.run("other", "-o", "table")[0] == 2 and len(place.table()) == 6
+    place.refuses("has rows of other commands", "other -o table")
+    assert len(place.table()) == 6
     for text in ("s 1\n", "{}\n", 'a,"b\n'):
         place.write("text", text)
-        assert place.run("list", "-o", "text")[0] == 2 and place.read("text") == text
-        assert not os.path.exists(place.path("text.part"))
+        place.refuses("not a table", "list -o text")
+        assert place.read("text") == text and not os.path.exists(place.path("text.part"))
 
 
 def killed(place):
-    """So is one whose run was killed, ten times, at any moment. 2,000 rows take no more memory than few."""
-    count = 2000
+    """So is one whose run was killed, five times, at any moment. 700 rows take no more memory than few."""
+    count = 700
     lines = [f"0 0 v max {k}" if k % 3 else f"0 1 x arc {k + 1} AboveCap" for k in range(count)]
     place.list(lines)
     chance = random.Random(7)
-    for _ in range(10):
+    for _ in range(5):
         process = place.started("list", "-o", "table", "-j", "4", stderr=subprocess.DEVNULL)
-        time.sleep(chance.uniform(0.1, 1.5))
+        time.sleep(chance.uniform(0.1, 1))
         process.kill()
         process.wait()
     with open(os.devnull, "w", encoding="ascii") as nothing:
@@ -480,10 +476,10 @@ def killed(place):
         _, status, usage = os.wait4(process.pid, 0)
         process.returncode = os.waitstatus_to_exitcode(status)
     table = place.table()
-    assert process.returncode == 1 and usage.ru_maxrss < 60_000, (process.returncode, usage.ru_maxrss)
+    assert process.returncode == 1 and usage.ru_maxrss < 38_000, (process.returncode, usage.ru_maxrss)
     assert column(table, "verdict") == [line[4:] for line in lines]
     assert column(table, "number") == [str(k + 1) for k in range(count)] and set(column(table, "of")) == {str(count)}
-    assert count <= place.runs() <= count + 10 * 12  # what ran when it was killed ran again
+    assert count <= place.runs() <= count + 5 * 12  # what ran when it was killed ran again
     assert set(column(table, "memory")) == {""}  # too little to be told from what the batch has itself
     assert not [it for it in os.listdir(place.folder) if it.startswith("table.")]
 
@@ -509,13 +505,6 @@ def beside(place):
     assert column(place.table(), "number") == ["2", "3"], place.table()
 
 
-def late(place):
-    """A run that takes too long is ended, and run again the next time."""
-    place.list(["30 0 v max 1"])
-    status, table, _ = place.run("list", "--seconds", "0.3")
-    assert status == 3 and table[0]["status"] == "124" and table[0]["verdict"] == "ended after 0.3 s", table
-
-
 def odd(place):
     """A name that isn't UTF-8, words that ask for no run, and a refusal with lines after it."""
     name = os.fsdecode(b"\xff.max")
@@ -536,33 +525,27 @@ def odd(place):
     place.write("list", "1.max\ts\t\t\n")
     assert column(place.run("list")[1], "command") == ["certify-max 1.max s"]
     place.write("list", "1.max s\n\0\n")
-    status, _, err = place.run("list")
-    assert status == 2 and err == "dimacs-batch: list: no list: a line has a byte 0\n", err
+    place.expect(2, "dimacs-batch: list: no list: a line has a byte 0\n", "list")
 
 
 def misused(place):
     """Words that ask for nothing, and a program that isn't there."""
     place.list(["0 0 v max 1"])
-    assert place.run()[0] == 2 and place.run("list", "--run", "max")[0] == 2 and place.run("missing")[0] == 2
-    assert place.run("list", "--run", "max='")[0] == 2 and place.run("list", "--run", "max=")[0] == 2
-    for match in ("{instance}{instance}.txt", "{instance}.{solver}.{solver}.txt"):
-        status, _, err = place.run(".", "--match", match)
-        assert status == 2 and "once" in err and "Traceback" not in err, err
-    for seconds in ("inf", "nan", "-1", "0", "1e300"):
-        status, _, err = place.run("list", f"--seconds={seconds}")
-        assert status == 2 and "--seconds" in err and "Traceback" not in err, err
-    step = {f"SLURM_ARRAY_TASK_{it}": "0" for it in ("ID", "MIN", "STEP")}
-    status, _, err = place.run("list", env={**step, "SLURM_ARRAY_TASK_COUNT": "1"})
-    assert status == 2 and "SLURM_ARRAY_TASK_STEP" in err and "Traceback" not in err, err
-    place.run("list", "-o", "numbered")
+    for part, words in (
+        ("PLACE", ""), ("missing: No such", "missing"), ("--run", "list --run max"), ("--run", "list --run \"max='\""),
+        ("--run", "list --run max="), ("once", ". --match {instance}{instance}.txt"),
+        ("once", ". --match {instance}.{solver}.{solver}.txt"), ("--seconds", "list --seconds=inf"),
+        ("--seconds", "list --seconds=nan"), ("--seconds", "list --seconds=-1"), ("--seconds", "list --seconds=0"),
+        ("--seconds", "list --seconds=1e300"), ("--answers", "list --answers ."), ("--match", ". --match x"),
+    ):
+        place.refuses(part, words)
+    slurm = {f"SLURM_ARRAY_TASK_{name}": "0" for name in ("ID", "MIN", "STEP")}
+    place.refuses("SLURM_ARRAY_TASK_STEP", "list", env={**slurm, "SLURM_ARRAY_TASK_COUNT": "1"})
+    place.refuses("/nowhere/dimacs", "list", program="/nowhere/dimacs")
+    place.run("list -o numbered")
     place.write("numbered", place.read("numbered").replace("\n1,", "\nx,"))
-    status, _, err = place.run("--join", "numbered")
-    assert status == 2 and err == "dimacs-batch: numbered: not a table of dimacs-batch: number is x\n", err
-    assert place.run("list", "--answers", ".")[0] == 2 and place.run(".", "--match", "x")[0] == 2
-    status, _, err = place.run("list", program="/nowhere/dimacs")
-    assert status == 2 and "/nowhere/dimacs" in err, err
-    with open(os.path.join(TOP, "VERSION"), encoding="ascii") as it:
-        assert place.started("--version").communicate()[0] == f"dimacs-batch {it.read().strip()}\n"
+    place.expect(2, "dimacs-batch: numbered: not a table of dimacs-batch: number is x\n", "--join numbered")
+    assert place.ended("--version")[1] == f"dimacs-batch {scripts.read('VERSION').strip()}\n"
 
 
 def safe_files(place):
@@ -570,8 +553,7 @@ def safe_files(place):
     place.list(["0 0 v max 1"])
     os.mkfifo(place.path("pipe"))
     for name in ("/dev/full", "/dev/null", "pipe", "."):
-        status, _, err = place.run("list", "-o", name)
-        assert status == 2 and err == f"dimacs-batch: {name}: not a regular file\n", err
+        place.expect(2, f"dimacs-batch: {name}: not a regular file\n", f"list -o {name}")
     os.mkdir(place.path("real"))
     os.symlink("real/table", place.path("link"))
     for _ in range(2):
@@ -579,9 +561,8 @@ def safe_files(place):
     assert len(place.table("real/table")) == 1 and os.listdir(place.path("real")) == ["table"]
     for text in ('{\n  "jobs": 2\n}\n', "{jobs: 2}"):
         place.write("settings", text)
-        for words in ("list", "--join real/table"):
-            status, _, err = place.run(*words.split(), "-o", "settings")
-            assert status == 2 and "settings: not a table of " in err, (words, err)
+        for words in ("list -o settings", "--join real/table -o settings"):
+            place.refuses("settings: not a table of ", words)
             assert place.read("settings") == text, words
     os.chmod(place.path("real/table"), 0o640)
     place.run("list", "-o", "link")
@@ -590,45 +571,37 @@ def safe_files(place):
     place.runs()
     process = place.started("list", "-o", "link")
     place.wait_for("ran", 1)
-    status, _, err = place.run("list", "-o", "real/table")
-    assert status == 2 and err == "dimacs-batch: real/table: another dimacs-batch writes it\n", err
+    place.expect(2, "dimacs-batch: real/table: another dimacs-batch writes it\n", "list", "-o", "real/table")
     process.kill()
     process.communicate()
-    status, _, err = place.run("list", "-o", "nowhere/table")
-    assert status == 2 and err.endswith("nowhere/table.part: No such file or directory\n"), err
+    place.refuses("nowhere/table.part: No such file or directory\n", "list -o nowhere/table")
 
 
 def other_outputs(place):
     """What --join and --report write replaces only what they made, and nothing that another run writes."""
     place.list(["0 0 v max 1"])
-    place.run("list", "-o", "table")
+    place.run("list -o table")
     text = place.read("table")
     place.write("page.html", "<!doctype html>\n")
-    place.run("list", "--format", "jsonl", "-o", "lines")
-    for words in (["--join", "table", "-o", "0.max"], ["--report", "table", "-o", "0.max"],
-                  ["--report", "table", "-o", "table"], ["--report", "table", "-o", "page.html"],
-                  ["--join", "table", "-o", "page.html"], ["--join", "table", "--format", "latex", "-o", "table"],
-                  ["--join", "table", "--format", "jsonl", "-o", "table"],
-                  ["--join", "table", "-o", "lines"]):
-        before = place.read(words[words.index("-o") + 1])
-        status, _, err = place.run(*words)
-        assert status == 2 and place.read(words[words.index("-o") + 1]) == before and "not a" in err, (words, err)
-        assert not [it for it in os.listdir(place.folder) if it.endswith(".part")], words
+    place.run("list --format jsonl -o lines")
+    for words in ("--join table -o 0.max", "--report table -o 0.max", "--report table -o table",
+                  "--report table -o page.html", "--join table -o page.html", "--join table --format latex -o table",
+                  "--join table --format jsonl -o table", "--join table -o lines"):
+        out = words.split()[-1]
+        before = place.read(out)
+        place.refuses("not a", words)
+        assert place.read(out) == before and not [it for it in os.listdir(place.folder) if it.endswith(".part")], words
     assert place.read("table") == text
-    for words in (["--join", "table", "-o", "joined"], ["--report", "table"],
-                  ["--join", "table", "--format", "latex", "-o", "table.tex"],
-                  ["--join", "table", "--format", "jsonl", "-o", "table.jsonl"],
-                  ["--join", "table", "--format", "markdown", "-o", "table.md"]):
+    for words in ("--join table -o joined", "--report table", "--join table --format latex -o table.tex",
+                  "--join table --format jsonl -o table.jsonl", "--join table --format markdown -o table.md"):
         for _ in range(2):
-            status, _, err = place.run(*words)
-            assert status == 0, (words, err)
+            assert place.run(words)[0] == 0, words
     with open(place.path("joined.part"), "a", encoding="ascii") as part:
         fcntl.flock(part, fcntl.LOCK_EX)
-        status, _, err = place.run("--join", "table", "-o", "joined")
-        assert status == 2 and err == "dimacs-batch: joined: another dimacs-batch writes it\n", err
+        place.expect(2, "dimacs-batch: joined: another dimacs-batch writes it\n", "--join table -o joined")
     place.write("joined.part", text)
-    status, _, err = place.run("--join", "table", "-o", "joined")
-    assert status == 2 and place.read("joined.part") == text, err
+    place.refuses("joined.part", "--join table -o joined")
+    assert place.read("joined.part") == text
 
 
 def others_beside(place):
@@ -642,7 +615,7 @@ def others_beside(place):
 def closed_streams(place):
     """Standard streams that are closed give no traceback, and no status of a refusal."""
     place.list(["0 0 v max 1"])
-    words = f"{shlex.quote(sys.executable)} {shlex.quote(BATCH)} --program ./stand-in"
+    words = shlex.join([*PYTHON, BATCH, "--program", "./stand-in"])
     for rest, wanted in (
         ("list <&-", 0), ("list -o table <&-", 0), ("list -o table >&-", 0), ("list >&-", 2), ("- <&-", 2),
         ("list 2>&- >out", 0), ("list -o table 2>&-", 0), ("list -o t2 <&- >&- 2>&-", 0), ("list 2>/dev/full", 0),
@@ -660,8 +633,7 @@ def full(place):
     """A disk that is full, and a reader that has gone, are told in words."""
     place.list([f"0 0 v max {k}" for k in range(300)])
     with open("/dev/full", "w", encoding="ascii") as it:
-        status, _, err = place.run("list", stdout=it)
-    assert status == 2 and err == "dimacs-batch: standard output: No space left on device\n", err
+        place.expect(2, "dimacs-batch: standard output: No space left on device\n", "list", stdout=it)
     process = place.started("list")
     process.stdout.close()
     err = process.stderr.read()
@@ -670,8 +642,7 @@ def full(place):
     place.run("short", "-o", "table")
     for room in (1_000, 50_000):  # bytes that a file may have, as on a disk with little room
         limit = functools.partial(resource.setrlimit, resource.RLIMIT_FSIZE, (room, room))
-        status, _, err = place.run("list", "-o", "table", preexec_fn=limit)
-        assert status == 2 and err.endswith(": File too large\n") and "Traceback" not in err, err
+        place.refuses(": File too large\n", "list -o table", preexec_fn=limit)
         table = place.table()
         assert table and all(int(row["value"]) == int(row["number"]) - 1 for row in table), table
     status, _, _ = place.run("list", "-o", "table")
@@ -684,7 +655,7 @@ def shards(place):
     place.list(lines)
     place.run("list", "-o", "whole")
     place.runs()
-    commands, _ = place.started("list", "-o", "t.{shard}", "--commands", "3").communicate()
+    _, commands, _ = place.ended("list -o t.{shard} --commands 3")
     for command, status in zip(commands.splitlines(), (3, 1, 3), strict=True):
         words = shlex.split(command)
         assert words[0] == BATCH and place.run(*words[1:])[0] == status, command
@@ -696,23 +667,22 @@ def shards(place):
         assert err.startswith(f"shard {task + 1} of 4: "), err
     for tables in (["t.3", "t.1", "t.2"], ["s.1", "s.2", "s.3", "s.4", "t.2"]):
         status, table, err = place.run("--join", *tables)
-        assert status == 3 and err == counted(4, 1, 0, 1, 0, 0, 1), err
+        assert status == 3 and err == counted(yes=4, no=1, gave_up=1, failed=1), err
         assert timeless(table) == timeless(place.table("whole")), table
 
     status, table, err = place.run("--join", "s.1", "s.4")
     gaps = "numbers 2 to 3 are in no table\nnumbers 6 to 7 are in no table\n"
     assert status == 3 and column(table, "number") == ["1", "4", "5"], table
-    assert err == gaps + counted(2, 0, 0, 1, 0, 0, 0).rstrip("\n") + "; 4 in no table\n", err
+    assert err == gaps + counted(yes=2, gave_up=1).rstrip("\n") + "; 4 in no table\n", err
     place.write("other", place.read("s.1").replace("v max 2", "v max 7"))
-    status, table, err = place.run("--join", "s.1", "other", "-o", "joined")
-    assert status == 2 and err == "dimacs-batch: number 5: verdict is v max 7 in other, and v max 2 in s.1\n", err
+    differs = "dimacs-batch: number 5: verdict is v max 7 in other, and v max 2 in s.1\n"
+    place.expect(2, differs, "--join s.1 other -o joined")
     assert not os.path.exists(place.path("joined"))
     place.write("list", place.read("list") + "6.max 0.solution\n")
     place.run("list", "-o", "other")
-    status, _, err = place.run("--join", "s.1", "other")
-    assert status == 2 and err == "dimacs-batch: other: has rows of another list than s.1\n", err
+    place.expect(2, "dimacs-batch: other: has rows of another list than s.1\n", "--join", "s.1", "other")
     for wrong in ("0/3", "4/3", "1", "a/b"):
-        assert place.run("list", "--shard", wrong)[0] == 2, wrong
+        place.refuses("shard", f"list --shard {wrong}")
 
 
 # Runs what is submitted at once, and each task of an array.
@@ -731,13 +701,14 @@ echo "$(wc -l <submitted);cluster"
 def on_slurm(place):
     """slurm.sh submits an array and a job after it, and prints both; without words it says its usage."""
     script = os.path.join(TOP, "recipes/cluster/slurm.sh")
-    ran = subprocess.run(["sh", script], capture_output=True, text=True, check=False)
+    how = {"capture_output": True, "text": True, "check": False, "cwd": place.folder}
+    ran = subprocess.run(["sh", script], **how)
     assert ran.returncode == 2 and ran.stderr == "usage: slurm.sh SHARDS TABLE WORDS..\n", ran
     place.list(["0 0 v max 1"] * 5)
-    os.chmod(place.write("sbatch", SBATCH), 0o755)
+    place.script("sbatch", SBATCH)
     words = ["sh", script, "3", "table", "--program", "./stand-in", "list"]
     env = {**os.environ, "PATH": f"{place.folder}:{os.environ['PATH']}", "DIMACS_BATCH": BATCH, "RAN": place.ran}
-    ran = subprocess.run(words, cwd=place.folder, env=env, capture_output=True, text=True, check=False)
+    ran = subprocess.run(words, env=env, **how)
     assert ran.stdout == "array 1;cluster\njoin 2;cluster\n", (ran, place.read("log"))
     assert "--dependency=afterany:1 " in place.read("submitted") and len(place.table()) == 5, place.read("submitted")
 
@@ -746,22 +717,20 @@ def formats(place):
     """A table is written in each format, and taken up again where the format has all of it."""
     place.list(["0 0 v max 1", "0 1 x arc 1 AboveCap", "0 0 v max |_&"])
     _, table, _ = place.run("list")
-    out, _ = place.started("list", "--format", "jsonl").communicate()
+    _, out, _ = place.ended("list --format jsonl")
     assert timeless(map(json.loads, out.splitlines())) == timeless(table), out
-    out, _ = place.started("list", "--format", "markdown").communicate()
-    lines = out.splitlines()
+    lines = place.ended("list --format markdown")[1].splitlines()
     assert lines[0] == "| instance | solver | arcs | class | verdict | seconds to judge | KiB to judge |", lines
     assert lines[3].startswith("| 1.max |  |  | no | x arc 1 AboveCap | 0."), lines
     assert r"| v max \|\_& |" in lines[4], lines
     assert lines[6].startswith("Judged by dimacs 9.8 (proved by a kit), whose program has the SHA-256 "), lines
-    out, _ = place.started("list", "--format", "latex").communicate()
-    lines = out.splitlines()
+    lines = place.ended("list --format latex")[1].splitlines()
     assert lines[0] == r"\begin{tabular}{llrllrr}" and lines.index(r"\end{tabular}") == 8, lines
     assert r" & v max $|$\_\& & " in lines[6], lines
     place.run("list", "-o", "table", "--format", "jsonl")
     place.runs()
     assert place.run("list", "-o", "table", "--format", "jsonl")[0] == 1 and place.runs() == 0
-    assert place.run("list", "-o", "table", "--format", "latex")[0] == 2
+    place.refuses("this format can't be taken up again", "list -o table --format latex")
     assert place.run("--join", "table", "--format", "latex", "-o", "table.tex")[0] == 1
     assert place.read("table.tex").splitlines()[0] == lines[0]
 
@@ -775,19 +744,19 @@ def line_ends(place):
     for form in ("csv", "jsonl"):
         for taken_over in (0, 3):
             _, _, err = place.run("in", "-o", f"table.{form}", "--format", form)
-            assert err == counted(3, 0, 0, 0, 0, 0, 0, taken_over=taken_over), (form, err)
+            assert err == counted(yes=3, taken_over=taken_over), (form, err)
         _, _, err = place.run("--join", f"table.{form}", "-o", "joined")
-        assert column(place.table("joined"), "instance") == [f"in/{it}" for it in sorted(names)] and err == counted(3, 0, 0, 0, 0, 0, 0), (form, err)
+        assert column(place.table("joined"), "instance") == [f"in/{it}" for it in sorted(names)], place.table("joined")
+        assert err == counted(yes=3), (form, err)
         for read in ("markdown", "latex"):
-            out = subprocess.run([sys.executable, BATCH, "--join", place.path(f"table.{form}"), "--format", read],
-                                 capture_output=True, check=True).stdout
+            _, out, _ = place.ended(f"--join table.{form} --format {read}", text=False)
             assert b"\r" not in out and out.count(b"a b.max") == 2 and out.count(b"a  b.max") == 1, out
 
 
-def report(place, binary):
+def report(place):
     """A page has the counts, each refusal explained, a point for each row, and nothing of a network."""
-    place.run(os.path.join(TOP, "examples"), "-o", "table.csv", program=binary)
-    status, _, err = place.run("--report", "table.csv", program=binary)
+    place.run(TEXTS, "-o", "table.csv")
+    status, _, err = place.run("--report", "table.csv")
     page = place.read("table.html")
     assert status == 0 and err.endswith("table.html\n"), err
     assert not re.search(r"https?:|src=|href=|@import|url\(", page)
@@ -795,9 +764,9 @@ def report(place, binary):
     assert "<td class=\"\">careless</td><td class=\"number\">0</td><td class=\"number\">1</td>" in page, page
     assert "arc 2 carries 8, more than its CAP, 3" in page and "the nearest leads there at distance 1400" in page, page
     os.rename(place.path("table.csv"), place.path("<b>&.csv"))
-    place.run("--report", "<b>&.csv", program=binary)
+    place.run("--report", "<b>&.csv")
     assert "<b>&.csv" not in place.read("<b>&.html") and "&lt;b&gt;&amp;.csv" in place.read("<b>&.html")
-    assert place.run("--report", "table.csv", program=binary)[0] == 2
+    place.refuses("table.csv: No such file or directory", "--report table.csv")
 
 
 def on_terminal(place):
@@ -814,7 +783,7 @@ def on_terminal(place):
         assert re.search(wanted, shown), shown
         *lines, last = shown.split("\r\x1b[K")
         assert all(len(it) < (columns or 80) for it in lines), shown
-        assert last == counted(3, 0, 1, 0, 0, 0, 0).replace("\n", "\r\n"), shown
+        assert last == counted(yes=3, faulty_text=1).replace("\n", "\r\n"), shown
         os.close(master)
 
 
@@ -835,7 +804,7 @@ def in_log(_):
 
 def reasons(_):
     """Each reason at a place of a text that the pages name is of the class that its page names."""
-    texts, judging = (open(f"{TOP}/docs/{name}.md", encoding="utf-8").read() for name in ("TEXTS", "JUDGING"))
+    texts, judging = (scripts.read(f"docs/{name}.md") for name in ("TEXTS", "JUDGING"))
     judged = set(re.findall(r"`x (?:(?:solution|certificate) \S+ \S+|\w+ 0 0) (\w+)`", judging))
     of_texts = set(re.findall(r"^\| \d+ \| (\w+) \|", texts, re.MULTILINE))
     assert runs.OF_THE_CLAIM == judged, runs.OF_THE_CLAIM ^ judged
@@ -890,19 +859,16 @@ def refusals(_):
         command, refusal, wanted = line.split(" | ")
         found = runs.class_of(command, runs.Ended(refusal, 1, 0, 0, ""))
         assert found == wanted, (line, found)
-    with open(f"{TOP}/docs/JUDGING.md", encoding="utf-8") as it:
-        row = re.search(r"^\| (.*); (.*) of a judge \| The certificate doesn't", it.read(), re.MULTILINE)
+    judging = scripts.read("docs/JUDGING.md")
+    row = re.search(r"^\| (.*); (.*) of a judge \| The certificate doesn't", judging, re.MULTILINE)
     unshown, of_judge = row.groups()
     assert {*unshown.split(", "), of_judge} <= runs.UNSHOWN_BY_JUDGE and of_judge not in runs.UNSHOWN, unshown
 
 
-def nothing_claimed(place, binary):
+def nothing_claimed(place):
     """Distances from no source, or not from one that the queries ask for, are no yes."""
-    os.mkdir(place.path("set"))
-    shutil.copy(os.path.join(TOP, "examples/road.gr"), place.path("set/road.gr"))
-    with open(os.path.join(TOP, "examples/road.distances"), encoding="ascii") as it:
-        both = it.read()
-    _, first, second = re.split("^(?=t )", both, flags=re.MULTILINE)
+    place.copy("road.gr", to="set")
+    _, first, second = re.split("^(?=t )", scripts.read("examples/road.distances"), flags=re.MULTILINE)
     for name, text in (("none", ""), ("one", first), ("other", second), ("both", first + second)):
         place.write(f"set/{name}/road.distances", f"p distances 6 {text.count('t ')}\n{text}")
     for query, verdicts in (
@@ -923,24 +889,24 @@ def nothing_claimed(place, binary):
         name, _, text = (query or "").partition(" ")
         if query:
             place.write(f"set/{name}", text)
-        status, _, err = place.run("set", "-o", "table", program=binary)
+        status, _, err = place.run("set", "-o", "table")
         table = place.table()
         classes = ["nothing claimed" if "no block" in it or it.endswith(" 0") else "yes" for it in verdicts]
         assert status == 3 and column(table, "verdict") == verdicts, column(table, "verdict")
         assert column(table, "class") == classes, column(table, "class")
         assert column(table, "files_sha256") == [hashlib.sha256(text.encode()).hexdigest() if query else ""] * 4, table
         for _ in range(2):
-            assert place.run("--recheck", "table", "kept", program=binary)[2].startswith("4 agree"), table
-            place.run("set", "-o", "table", "--keep", "kept", program=binary)
+            assert place.run("--recheck", "table", "kept")[2].startswith("4 agree"), table
+            place.run("set", "-o", "table", "--keep", "kept")
         place.write("forged", place.read("table").replace("; no block of 1", "").replace("nothing claimed", "yes"))
-        assert place.run("--recheck", "forged", "kept", program=binary)[0] == 1
+        assert place.run("--recheck", "forged", "kept")[0] == 1
         if query:
             os.unlink(place.path(f"set/{name}"))
     place.write("none.query", "p aux sp p2p 0\n")
     place.write("none.dist", "p dist 6 0\n")
     place.write("list", "set/road.gr none.query none.dist\n")
     for words in ((), ("--run", "gr=solve-paths {instance} none.query {name}.dist")):
-        assert place.run("list", *words, program=binary)[2] == "0 yes, 1 nothing claimed\n"
+        assert place.run("list", *words)[2] == "0 yes, 1 nothing claimed\n"
 
 
 def state_of(folder):
@@ -975,21 +941,21 @@ gr=show max {instance}
 """
 
 
-def report_writes_nothing(place, binary):
+def report_writes_nothing(place):
     """A report writes itself and nothing else, whatever the commands of its rows write; what it shows is explained."""
-    shutil.copytree(os.path.join(TOP, "examples"), place.path("in"), ignore=shutil.ignore_patterns("library"))
+    shutil.copytree(TEXTS, place.path("in"), ignore=shutil.ignore_patterns("library"))
     for number, run in enumerate(REFUSING.strip().splitlines()):
-        place.run(".", "-o", f"../{number}.csv", "--run", run, program=binary, cwd=place.path("in"))
+        place.run(".", "-o", f"../{number}.csv", "--run", run, cwd=place.path("in"))
         lines = place.read(f"{number}.csv")
         assert ",1," in lines, (run, lines)
         before = state_of(place.path("in"))
-        status, _, err = place.run("--report", f"../{number}.csv", program=binary, cwd=place.path("in"))
+        status, _, err = place.run("--report", f"../{number}.csv", cwd=place.path("in"))
         assert status == 0 and state_of(place.path("in")) == before, (run, err)
         page = place.read(f"{number}.html")
         assert "(not explained" not in page and page.count("<dt>") == page.count("<dd><pre>") >= 4, (run, page)
     assert "this flow is feasible, and costs 3 less than the 58 that is claimed" in place.read("6.html")
     before = state_of(place.folder)
-    assert place.run("--report", "6.csv", "-o", "6.html", program=binary)[0] == 0  # from where the files aren't
+    assert place.run("--report", "6.csv", "-o", "6.html")[0] == 0  # from where the files aren't
     assert "files aren't here" in place.read("6.html").replace("&#x27;", "'")
     after = state_of(place.folder)
     assert {it for it in before if before[it] != after.get(it)} == {place.path("6.html")} and len(before) == len(after)
@@ -1022,9 +988,8 @@ def cut_off(place):
         assert status == (3 if wanted else 0) and f'"missing">{wanted}<' in place.read("cut.html"), (wanted, err)
         assert not wanted or err.endswith(f"dimacs-batch: cut: {wanted}\n"), err
         for form in ("markdown", "latex", "jsonl"):
-            process = place.started("--join", "cut", "--format", form)
-            out, err = process.communicate()
-            assert process.returncode == (3 if wanted else 0), (form, wanted, err)
+            status, out, err = place.ended(f"--join cut --format {form}")
+            assert status == (3 if wanted else 0), (form, wanted, err)
             assert form == "jsonl" or out.endswith(f"\n{wanted}\n") == bool(wanted), (form, out)
     other = lines[5].replace(place.table()[5]["list"], "0" * 16)
     for more, wanted in ((lines[3:5], "Rows that stand there again: 2."),
@@ -1034,12 +999,12 @@ def cut_off(place):
         assert status == 3 and err.endswith(f"dimacs-batch: cut: {wanted}\n"), err
 
 
-def compressed(place, binary):
+def compressed(place):
     """Compressed texts are found and judged as others are; one that isn't whole blames nobody."""
     packers = {"gz": gzip, "bz2": bz2, "xz": lzma}
 
     def pack(name, ending, to=""):
-        with open(os.path.join(TOP, "examples", name), "rb") as it:
+        with open(f"{TEXTS}/{name}", "rb") as it:
             text = it.read()
         os.makedirs(place.path("in"), exist_ok=True)
         with packers[ending].open(place.path(f"in/{to or name}.{ending}"), "wb") as out:
@@ -1049,9 +1014,9 @@ def compressed(place, binary):
                          ("trucks.solution", "gz"), ("road.gr", "xz"), ("road.query", "gz"), ("road.dist", "gz"),
                          ("road.distances", "bz2"), ("freight.min", "gz"), ("freight-dear.solution", "gz")):
         pack(name, ending)
-    shutil.copy(os.path.join(TOP, "examples/trucks.cut"), place.path("in"))
+    place.copy("trucks.cut", to="in")
     pack("trucks.solution", "gz", "trucks-odd.sol")
-    status, _, err = place.run("in", "-o", "table", "--keep", "kept", program=binary)
+    status, _, err = place.run("in", "-o", "table", "--keep", "kept")
     wanted = ["x solution 2 2 NotLeast", "v max 12", "v 1 5 1400; 2 more", "v sp distances 2; sources 1 6"]
     wanted += ["v max 23", "v max 23"]
     table = place.table()
@@ -1064,22 +1029,22 @@ def compressed(place, binary):
     kept = ["freight.dear.better.solution", "pipes.cut", "road.3.dist", "road.4.dist", "trucks.cut", "trucks.odd.cut"]
     assert names_kept(place) == kept, names_kept(place)
     assert "p cut 5" in place.read("kept/pipes.cut"), place.read("kept/pipes.cut")
-    assert place.run("in", "-o", "table", "--keep", "kept", program=binary)[2].endswith("6 taken over, 0 made anew\n")
-    assert place.run("--recheck", "--referee", "table", "kept", program=binary)[0] == 0
-    place.run("--report", "table", program=binary)
+    assert place.run("in", "-o", "table", "--keep", "kept")[2].endswith("6 taken over, 0 made anew\n")
+    assert place.run("--recheck", "--referee", "table", "kept")[0] == 0
+    place.run("--report", "table")
     assert "in/freight-dear.solution.gz:2: s 58" in place.read("table.html"), place.read("table.html")
-    status, table, _ = place.run("in", "--match", "{instance}-{solver}.sol", program=binary)
+    status, table, _ = place.run("in", "--match", "{instance}-{solver}.sol")
     assert ("in/trucks.max.gz", "in/trucks-odd.sol.gz") in [(it["instance"], it["answers"]) for it in table], table
-    _, table, _ = place.run("in", "--run", "max=solve-max {instance} {name}.made {name}.made.cut", program=binary)
+    _, table, _ = place.run("in", "--run", "max=solve-max {instance} {name}.made {name}.made.cut")
     assert place.read("in/pipes.made").startswith("s 12"), table
     pack("trucks.max", "xz")
-    shutil.copy(os.path.join(TOP, "examples/pipes.max"), place.path("in"))  # unpacked, with the other beside it
-    assert place.run("in/pipes.max", "in", program=binary)[1][0]["instance"] == "in/pipes.max"
+    place.copy("pipes.max", to="in")  # unpacked, with the other beside it
+    assert place.run("in/pipes.max", "in")[1][0]["instance"] == "in/pipes.max"
     place.write("list", "".join(f"in/{it} in/pipes.solution.xz\n" for it in ("pipes.max", "cut.max.gz", "a.max.zst")))
     with open(place.path("in/pipes.max.gz"), "rb") as whole, open(place.path("in/cut.max.gz"), "wb") as part:
         part.write(whole.read()[:-20])
     place.write("in/a.max.zst", "")
-    _, table, _ = place.run("list", program=binary)
+    _, table, _ = place.run("list")
     assert column(table, "class") == ["yes", "failed", "failed"], table
     assert table[1]["verdict"].startswith("in/cut.max.gz: isn't whole as gzip writes it"), table
     if sys.version_info < (3, 14):
@@ -1087,7 +1052,7 @@ def compressed(place, binary):
 
 
 def signalled(place):
-    """A run that a signal ends is named; its children end with it."""
+    """A run that a signal ends is named, as is one that takes too long; its children end with it."""
     place.list(["0 0 v max 1"])
     does = 'case $(cat "$2") in *kill) kill -9 $$ ;; *child) (sleep 1; echo >late) & wait ;; esac\nread -r'
     place.write("stand-in", STAND_IN.replace("read -r", does))
@@ -1096,26 +1061,24 @@ def signalled(place):
     assert status == 3 and (row["verdict"], row["status"]) == ("killed by SIGKILL", "137"), row
     place.write("0.max", "0 0 child\n")
     status, (row,), _ = place.run("list", "--seconds", "0.3")
-    assert status == 3 and row["verdict"] == "ended after 0.3 s", row
+    assert status == 3 and (row["verdict"], row["status"]) == ("ended after 0.3 s", "124"), row
     time.sleep(1.2)
     assert not os.path.exists(place.path("late"))
 
 
-def full_while_kept(place, binary):
+def full_while_kept(place):
     """If what is kept doesn't fit on a disk the run ends at once, and names the file."""
-    shutil.copy(os.path.join(TOP, "examples/pipes.max"), place.path("a.max"))
+    shutil.copy(f"{TEXTS}/pipes.max", place.path("a.max"))
     for number in range(40):
-        shutil.copy(os.path.join(TOP, "examples/pipes.solution"), place.path(f"a-{number:02}.sol"))
+        shutil.copy(f"{TEXTS}/pipes.solution", place.path(f"a-{number:02}.sol"))
     place.write(f"kept/{keep.MARK}", "")
     os.symlink("/dev/full", place.path("kept/.a.03.4.part"))
-    status, _, err = place.run(".", "-o", "table", "--keep", "kept", "-j", "1", program=binary)
-    assert status == 2 and err == "dimacs-batch: kept/.a.03.4.part: No space left on device\n", err
-    assert len(place.table()) == 3, err
-    shutil.copy(os.path.join(TOP, "examples/pipes.cut"), place.path("a-03.cut"))
+    place.expect(2, "dimacs-batch: kept/.a.03.4.part: No space left on device\n", ". -o table --keep kept -j 1")
+    assert len(place.table()) in (2, 3), place.table()  # the third may end together with the one that fails
+    shutil.copy(f"{TEXTS}/pipes.cut", place.path("a-03.cut"))
     os.unlink(place.path("kept/.a.03.4.part"))
     os.symlink("/dev/full", place.path("kept/a.03.4.cut.part"))
-    status, _, err = place.run(".", "-o", "table", "--keep", "kept", "-j", "1", program=binary)
-    assert status == 2 and err == "dimacs-batch: kept/a.03.4.cut.part: No space left on device\n", err
+    place.expect(2, "dimacs-batch: kept/a.03.4.cut.part: No space left on device\n", ". -o table --keep kept -j 1")
 
 
 def one_name(place):
@@ -1125,54 +1088,51 @@ def one_name(place):
     _, table, err = place.run("list", "-o", "table")
     assert len(place.table()) == 1, err
     for words in ("list", "./list", ". --answers .", "./.", "0.max .", "./0.max ./."):
-        assert place.run(*words.split(), "-o", "table")[2] == counted(1, 0, 0, 0, 0, 0, 0, taken_over=1), words
+        assert place.run(f"{words} -o table")[2] == counted(yes=1, taken_over=1), words
 
 
-def kept_of_refused(place, binary):
+def kept_of_refused(place):
     """An answer that is refused now has no certificate that was kept earlier."""
-    shutil.copy(os.path.join(TOP, "examples/pipes.max"), place.folder)
-    shutil.copy(os.path.join(TOP, "examples/pipes.solution"), place.folder)
+    place.copy("pipes.max pipes.solution")
     words = [".", "-o", "table", "--keep", "kept"]
     for name, kept in (("pipes.solution", ["pipes.cut"]), ("pipes-careless.solution", ["pipes.better.solution"]),
                        ("freight.solution", []), ("pipes.solution", ["pipes.cut"])):
-        shutil.copy(os.path.join(TOP, "examples", name), place.path("pipes.solution"))
-        place.run(*words, program=binary)
+        shutil.copy(f"{TEXTS}/{name}", place.path("pipes.solution"))
+        place.run(*words)
         assert names_kept(place) == kept, (name, names_kept(place))
         assert column(place.table(), "gap") == ["2" if "careless" in name else ""], place.table()
     place.write("list", "pipes.max pipes.solution\n")
     before = state_of(place.folder)
-    status, _, err = place.run("list", "--keep", ".", program=binary)
-    assert status == 2 and "--keep" in err and state_of(place.folder) == before, err
+    place.refuses("--keep", "list --keep .")
+    assert state_of(place.folder) == before
 
 
-def odd_names(place, binary):
+def odd_names(place):
     """Names that aren't UTF-8, which the program doesn't take, are judged, kept and explained as others are."""
     odd = os.fsdecode(b"in/\xff")
     os.mkdir(place.path("in"))
     for name in ("pipes.max", "pipes.solution", "pipes-careless.solution"):
-        shutil.copy(os.path.join(TOP, "examples", name), place.path(f"{odd}{name}"))
+        shutil.copy(f"{TEXTS}/{name}", place.path(f"{odd}{name}"))
     words = ["in", "-o", "table", "--keep", "kept"]
-    status, _, err = place.run(*words, program=binary)
-    assert status == 1 and err == counted(1, 1, 0, 0, 0, 0, 0), (err, place.table())
+    status, _, err = place.run(*words)
+    assert status == 1 and err == counted(yes=1, no=1), (err, place.table())
     assert column(place.table(), "gap") == ["2", ""] and len(names_kept(place)) == 2, place.table()
-    assert place.run(*words, program=binary)[2] == counted(1, 1, 0, 0, 0, 0, 0, taken_over=2)
-    status, _, err = place.run("--recheck", "--referee", "table", "kept", program=binary)
+    assert place.run(*words)[2] == counted(yes=1, no=1, taken_over=2)
+    status, _, err = place.run("--recheck", "--referee", "table", "kept")
     assert status == 0, err
-    place.run("--report", "table", program=binary)
+    place.run("--report", "table")
     assert "has 2 more than the 10 that is claimed" in place.read("table.html"), place.read("table.html")
 
 
-def infeasible(place, binary):
+def infeasible(place):
     """`s infeasible` in a solution claims that no flow is feasible, with a set or without one."""
-    for name in ("shortage.min", "detroit.min", "freight.min"):
-        place.write(f"set/instances/{name}", "")
-        shutil.copy(os.path.join(TOP, "examples", name), place.path("set/instances"))
+    place.copy("shortage.min detroit.min freight.min", to="set/instances")
     claim = "s infeasible\n"
     for name, text in (("shortage", "cost none\n\n s  infeasible\r\n"), ("detroit", claim), ("freight", claim)):
         place.write(f"set/answers/net/{name}.sol", text)
-    shutil.copy(os.path.join(TOP, "examples/detroit.cut"), place.path("set/answers/net"))
-    shutil.copy(os.path.join(TOP, "examples/freight.solution"), place.path("set/answers/freight-right.sol"))
-    status, _, err = place.run("set", "-o", "table", "--keep", "kept", program=binary)
+    place.copy("detroit.cut", to="set/answers/net")
+    shutil.copy(f"{TEXTS}/freight.solution", place.path("set/answers/freight-right.sol"))
+    status, _, err = place.run("set", "-o", "table", "--keep", "kept")
     table = place.table()
     assert [row["command"].replace("set/instances/", "") for row in table] == [
         "judge-infeasible detroit.min set/answers/net/detroit.cut",
@@ -1182,40 +1142,39 @@ def infeasible(place, binary):
     verdicts = ["v infeasible", "v min 55", "x instance 0 0 Feasible", "v infeasible"]
     assert status == 1 and column(table, "verdict") == verdicts, err
     assert column(table, "class") == ["yes", "yes", "no", "yes"], table
-    assert place.run("set", "-o", "table", "--keep", "kept", program=binary)[2].endswith("4 taken over, 0 made anew\n")
-    assert place.run("--recheck", "--referee", "table", "kept", program=binary)[0] == 0
+    assert place.run("set", "-o", "table", "--keep", "kept")[2].endswith("4 taken over, 0 made anew\n")
+    assert place.run("--recheck", "--referee", "table", "kept")[0] == 0
     place.write("set/answers/net/shortage.sol", "s infeasible\nc\n")
-    assert place.run("--recheck", "--referee", "table", "kept", program=binary)[0] == 1
+    assert place.run("--recheck", "--referee", "table", "kept")[0] == 1
     place.write("list", "set/instances/shortage.min\tset/answers/net/shortage.sol\n")
-    assert column(place.run("list", program=binary)[1], "verdict") == ["v infeasible"]
+    assert column(place.run("list")[1], "verdict") == ["v infeasible"]
     for text, wanted in (("s infeasible\nf 1 2 3\n", "x solution 1 2 BadNumber"),
                          ("s 5\nf 1 2 3\ns infeasible\n", "x solution 3 2 BadNumber")):
         place.write("set/answers/net/shortage.sol", text)
-        assert column(place.run("list", program=binary)[1], "verdict") == [wanted], text
+        assert column(place.run("list")[1], "verdict") == [wanted], text
 
 
-def other_referee(place, binary):
+def other_referee(place):
     """--referee PATH judges again by that program."""
-    for name in ("pipes.max", "pipes.solution", "pipes.cut"):
-        shutil.copy(os.path.join(TOP, "examples", name), place.folder)
-    place.run(".", "-o", "table", program=binary)
+    place.copy("pipes.max pipes.solution pipes.cut")
+    place.run(".", "-o", "table")
     agrees = "1 agree, 0 differ, 0 not there, 0 not judged\n"
     for line, status in (("v max 12", 0), ("v max 13", 1)):
-        place.write("judge", f'#!/bin/sh\necho "$*" >asked\necho {line}\n')
-        os.chmod(place.path("judge"), 0o755)
+        place.script("judge", f'#!/bin/sh\necho "$*" >asked\necho {line}\n')
         for words in ("--referee ./judge table .", "table . --referee ./judge", "--referee=./judge table ."):
-            found, _, err = place.run("--recheck", *words.split(), program=binary)
+            found, _, err = place.run(f"--recheck {words}")
             assert found == status and place.read("asked") == "max pipes.max pipes.solution pipes.cut\n", (words, err)
         for words in ("--referee table .", "table . --referee"):
-            assert place.run("--recheck", *words.split(), program=binary)[2] == agrees, words
-    for words in ("--referee nowhere table .", "--referee table", "--referee"):
-        assert place.run("--recheck", *words.split(), program=binary)[0] == 2, words
+            assert place.run(f"--recheck {words}")[2] == agrees, words
+    place.refuses("nowhere: no such program", "--recheck --referee nowhere table .")
+    for words in ("--referee table", "--referee"):
+        place.refuses("", f"--recheck {words}")
 
 
-def examples(place, binary):
+def examples(place):
     """The examples are judged as their page shows."""
     wanted = [[cell.strip() for cell in line.split("|")] for line in EXAMPLES.strip().splitlines()]
-    status, table, _ = place.run(os.path.join(TOP, "examples"), "--show", program=binary)
+    status, table, _ = place.run(TEXTS, "--show")
     assert status == 3, status
     for row, (instance, answers, command, line, its_class) in zip(table, wanted, strict=True):
         seen = [os.path.basename(row["instance"]), " ".join(map(os.path.basename, row["answers"].split()))]
@@ -1223,15 +1182,15 @@ def examples(place, binary):
         assert seen == [instance, answers, command, line, its_class], row
 
 
-def kept(place, binary):
+def kept(place):
     """What is kept of the examples shows it again, to the judges and to the referee."""
-    shutil.copytree(os.path.join(TOP, "examples"), place.path("in"), ignore=shutil.ignore_patterns("library"))
+    shutil.copytree(TEXTS, place.path("in"), ignore=shutil.ignore_patterns("library"))
     for name in ("road", "romania"):
         os.unlink(place.path(f"in/{name}.dist"))
     place.write("in/pipes-lemon.solution", place.read("in/pipes.solution"))
     place.write("in/freight-odd.solution", "s x\n")
     words = ["in", "-o", "table", "--keep", "kept"]
-    assert place.run(*words, program=binary)[0] == 3
+    assert place.run(*words)[0] == 3
     wanted = "bridges.cut canning.pot detroit.cut freight.dear.better.solution freight.pot"
     wanted += " pipes.careless.better.solution pipes.cut pipes.lemon.cut road.dist romania.dist shortage.cut trucks.cut"
     assert names_kept(place) == wanted.split(), names_kept(place)
@@ -1239,40 +1198,32 @@ def kept(place, binary):
     for row in table:
         text = place.read(f"kept/{row['kept']}").encode() if row["kept"] else b""
         assert row["kept_sha256"] == (hashlib.sha256(text).hexdigest() if text else ""), row
-    status, _, err = place.run(*words, program=binary)
-    assert err == counted(10, 4, 1, 0, 1, 0, 0, taken_over=15), err
-    recheck = ["--recheck", "--referee", "table", "kept"]
-    status, _, err = place.run(*recheck, program=binary)
-    assert status == 0 and err == "15 agree, 0 differ, 0 not there, 1 not judged\n", err
-    for named, wanted in ((os.path.join(TOP, "referee/referee.py"), (0, "15 agree, 0 differ")), ("false", (1, "1 agree, 14 differ"))):
-        status, _, err = place.run("--recheck", f"--referee={named}", "table", "kept", program=binary)
-        assert (status, err[: len(wanted[1])]) == wanted, err
-    assert place.run("--recheck", "--referee=absent", "table", "kept", program=binary)[0] == 2
+    status, _, err = place.run(*words)
+    assert err == counted(yes=10, no=4, faulty_text=1, no_answer=1, taken_over=15), err
+    place.expect(0, "15 agree, 0 differ, 0 not there, 1 not judged\n", "--recheck --referee table kept")
 
     place.write("kept/pipes.cut", place.read("kept/pipes.cut") + "c\n")
     place.write("in/canning.solution", place.read("in/canning.solution") + "c\n")
     os.unlink(place.path("kept/trucks.cut"))
-    assert place.run(*recheck, program=binary)[2] == "12 agree, 2 differ, 1 not there, 1 not judged\n"
-    status, _, err = place.run(*words, program=binary)
-    assert err == counted(10, 4, 1, 0, 1, 0, 0, taken_over=12, made_anew=3), err
+    assert place.run("--recheck table kept")[2] == "12 agree, 2 differ, 1 not there, 1 not judged\n"
+    status, _, err = place.run(*words)
+    assert err == counted(yes=10, no=4, faulty_text=1, no_answer=1, taken_over=12, made_anew=3), err
     spoiled = place.read("table").replace(",v max 23,23,", ",v max 24,24,").replace("AboveCap", "BelowLow")
     place.write("table", spoiled)
-    assert place.run(*recheck, program=binary)[2] == "13 agree, 2 differ, 0 not there, 1 not judged\n"
-    place.run("in", "-o", "bare", program=binary)
-    assert place.run("--recheck", "bare", "kept", program=binary)[0] == 0
+    assert place.run("--recheck table kept")[2] == "13 agree, 2 differ, 0 not there, 1 not judged\n"
+    place.run("in", "-o", "bare")
+    assert place.run("--recheck", "bare", "kept")[0] == 0
     for old, new in ((",v max 23,23,", ",v max 24,24,"), (",v infeasible,,", ",v infeasible; 1 more,,"),
                      ("NotLeast", "NotMaximum"), ("; sources 1 6,", "; sources 1,")):
         place.write("forged", place.read("bare").replace(old, new, 1))
-        status, _, err = place.run("--recheck", "--referee", "forged", "kept", program=binary)
+        status, _, err = place.run("--recheck", "forged", "kept")
         assert status == 1 and err == "14 agree, 1 differ, 0 not there, 1 not judged\n", (old, err)
 
 
-def recheck_whole(place, binary):
+def recheck_whole(place):
     """A table that was cut, torn or edited isn't rechecked with status 0."""
-    for name in ("pipes", "trucks", "bridges"):
-        for ending in ("max", "solution", "cut"):
-            shutil.copy(os.path.join(TOP, "examples", f"{name}.{ending}"), place.folder)
-    place.run(".", "-o", "table", program=binary)
+    place.copy(" ".join(f"{name}.{ending}" for name in ("pipes", "trucks", "bridges") for ending in ("max", "solution", "cut")))
+    place.run(".", "-o", "table")
     whole = place.read("table")
     lines = whole.splitlines(keepends=True)
     counts = "2 agree, 0 differ, 0 not there, 0 not judged; 1 in no table\n"
@@ -1283,91 +1234,80 @@ def recheck_whole(place, binary):
         (whole[:-9], "number 3 is in no table\n" + counts),
     ):
         place.write("cut", text)
-        status, _, err = place.run("--recheck", "cut", ".", program=binary)
+        status, _, err = place.run("--recheck", "cut", ".")
         assert status == 3 and err == wanted, (text, err)
     for old, new in ((",v max 12,12,yes", ",v max 12,13,yes"), (",v max 12,12,yes", ",v max 12,12,no")):
         place.write("edited", whole.replace(old, new))
-        status, _, err = place.run("--recheck", "edited", ".", program=binary)
-        assert status == 1 and err == "2 agree, 1 differ, 0 not there, 0 not judged\n", err
+        place.expect(1, "2 agree, 1 differ, 0 not there, 0 not judged\n", "--recheck", "edited", ".")
     for command in ("certify-x pipes.max", "certify-max", "judge-max", "solve-max pipes.max", "judge-max 'pipes.max", "x"):
         row = {**place.table()[1], "command": command}
         place.write("forged", json.dumps(row) + "\n")
-        status, _, err = place.run("--recheck", "forged", ".", program=binary)
+        status, _, err = place.run("--recheck", "forged", ".")
         assert status in (1, 3) and "0 agree" in err and "Traceback" not in err, (command, err)
         row["class"] = "no"
         place.write("forged", json.dumps(row) + "\n")
-        status, _, err = place.run("--report", "forged", program=binary)
+        status, _, err = place.run("--report", "forged")
         assert status == 3 and "Traceback" not in err, (command, err)
-    process = place.started("--recheck", "edited", ".", program=binary)
+    process = place.started("--recheck", "edited", ".")
     process.stdout.close()
     err = process.stderr.read()
     assert err == "dimacs-batch: standard output: Broken pipe\n" and process.wait() == 2, err
     place.write("table", whole.replace(",v max 12,12,yes,0,", ",x arc 1 AboveCap,,yes,1,"))
-    status, _, err = place.run(".", "-o", "table", program=binary)
-    assert status == 0 and err == counted(3, 0, 0, 0, 0, 0, 0, taken_over=2, made_anew=1), err
+    place.expect(0, counted(yes=3, taken_over=2, made_anew=1), ".", "-o", "table")
 
 
-def recheck_others(place, binary):
+def recheck_others(place):
     """The instance and the other files of a row have to be those of the table, wherever the command names them."""
-    for name in ("pipes.max", "trucks.max"):
-        place.write(f"in/{name}", "")
-        shutil.copy(os.path.join(TOP, "examples", name), place.path("in"))
-    for name in ("pipes.solution", "pipes.cut"):
-        shutil.copy(os.path.join(TOP, "examples", name), place.folder)
+    place.copy("pipes.max trucks.max", to="in")
+    place.copy("pipes.solution pipes.cut")
     run = "max=judge-max in/pipes.max pipes.solution pipes.cut"
-    assert place.run("in", "-o", "table", "--run", run, program=binary)[0] == 0
+    assert place.run("in", "-o", "table", "--run", run)[0] == 0
     for status, wanted in ((0, "2 agree, 0 differ, 0 not there"), (1, "0 agree, 2 differ, 0 not there")):
-        found, _, err = place.run("--recheck", "table", ".", program=binary)
+        found, _, err = place.run("--recheck", "table", ".")
         assert found == status and err == f"{wanted}, 0 not judged\n", err
         place.write("pipes.cut", place.read("pipes.cut") + "c\n")
     os.unlink(place.path("pipes.cut"))
-    assert place.run("--recheck", "table", ".", program=binary)[2].startswith("0 agree, 0 differ, 2 not there")
+    assert place.run("--recheck", "table", ".")[2].startswith("0 agree, 0 differ, 2 not there")
 
 
-def same_names(place, binary):
+def same_names(place):
     """Files of one name don't replace each other."""
     for folder in "12":
-        shutil.copytree(os.path.join(TOP, "examples"), place.path(f"in/{folder}"))
+        shutil.copytree(TEXTS, place.path(f"in/{folder}"))
     shutil.copy(place.path("in/1/pipes-careless.solution"), place.path("in/2/pipes-8.solution"))
-    place.run("in", "-o", "table", "--keep", "kept", program=binary)
+    place.run("in", "-o", "table", "--keep", "kept")
     names = [it for it in column(place.table(), "kept") if it]
     assert len(set(names)) == len(names) == 27 and "pipes.8.cut" in names and names_kept(place) == sorted(names), names
-    assert place.run("--recheck", "table", "kept", program=binary)[0] == 0
+    assert place.run("--recheck", "table", "kept")[0] == 0
 
 
-def solved(place, binary):
+def solved(place):
     """What a solver wrote is judged again where it lies."""
-    for name in ("pipes.max", "freight.min", "shortage.min", "road.gr", "road.query"):
-        shutil.copy(os.path.join(TOP, "examples", name), place.folder)
+    place.copy("pipes.max freight.min shortage.min road.gr road.query")
     words = ["--run", "max=solve-max {instance} {name}.made {name}.cut --limit 9"]
     words += ["--run", "min=solve-min {instance} {name}.made {name}.pot"]
     words += ["--run", "gr=solve-paths {instance} {answers} {name}.dist"]
-    status, table, _ = place.run(".", *words, "-o", "table", program=binary)
+    status, table, _ = place.run(".", *words, "-o", "table")
     verdicts = ["v min 55", "v max 12", "v 1 5 1400; 2 more", "v infeasible"]
     assert status == 0 and column(place.table(), "verdict") == verdicts, place.table()
-    status, _, err = place.run(".", *words, "-o", "table", program=binary)
-    assert status == 0 and err == counted(4, 0, 0, 0, 0, 0, 0, taken_over=4), err
+    place.expect(0, counted(yes=4, taken_over=4), ".", *words, "-o", "table")
     recheck = ["--recheck", "--referee", "table", "."]
-    assert place.run(*recheck, program=binary)[2] == "4 agree, 0 differ, 0 not there, 0 not judged\n"
+    assert place.run(*recheck)[2] == "4 agree, 0 differ, 0 not there, 0 not judged\n"
     place.write("pipes.cut", "p cut 5 1\nu 1\n")
-    assert place.run(*recheck, program=binary)[2] == "3 agree, 1 differ, 0 not there, 0 not judged\n"
+    assert place.run(*recheck)[2] == "3 agree, 1 differ, 0 not there, 0 not judged\n"
 
 
-def repeated(place, binary):
+def repeated(place):
     """A command that writes beside the instances is repeated: what it wrote is no answer, and goes with its row."""
-    for name in ("pipes.max", "trucks.max", "road.gr", "road.distances"):
-        shutil.copy(os.path.join(TOP, "examples", name), place.folder)
+    place.copy("pipes.max trucks.max road.gr road.distances")
     place.write("trucks-lemon.solution", "s 1\n")
     words = [".", "-o", "table", "--run", "max=solve-max {instance} {name}.solution {name}.cut"]
     words += ["--run", "gr=certify-paths {instance} {answers} {name}.dist"]
-    status, _, err = place.run(*words, program=binary)
-    assert status == 0 and err == counted(3, 0, 0, 0, 0, 0, 0), err
+    place.expect(0, counted(yes=3), *words)
 
-    status, _, err = place.run(*words, program=binary)
-    assert status == 0 and err == counted(3, 0, 0, 0, 0, 0, 0, taken_over=3), err
+    place.expect(0, counted(yes=3, taken_over=3), *words)
     place.write("pipes.solution", "s 77\n")
-    status, _, err = place.run(*words, program=binary)
-    assert status == 0 and err == counted(3, 0, 0, 0, 0, 0, 0, taken_over=2, made_anew=1), err
+    place.expect(0, counted(yes=3, taken_over=2, made_anew=1), *words)
     assert place.read("pipes.solution").startswith("s 12\n")
 
 
@@ -1377,13 +1317,13 @@ def other_files(place):
     place.write("certificate", "c\n")
     words = ["list", "-o", "table", "--run", "max=judge-max {instance} {answers} certificate"]
     place.run(*words)
-    assert place.run(*words)[2] == counted(1, 0, 0, 0, 0, 0, 0, taken_over=1)
+    assert place.run(*words)[2] == counted(yes=1, taken_over=1)
     digest = hashlib.sha256(b"c\n").hexdigest()
     assert column(place.table(), "files_sha256") == [digest], place.table()
     place.write("certificate", "d\n")
-    assert place.run(*words)[2] == counted(1, 0, 0, 0, 0, 0, 0, made_anew=1)
+    assert place.run(*words)[2] == counted(yes=1, made_anew=1)
     os.unlink(place.path("certificate"))
-    assert place.run(*words)[2] == counted(1, 0, 0, 0, 0, 0, 0, made_anew=1)
+    assert place.run(*words)[2] == counted(yes=1, made_anew=1)
     place.write("certificate", "c\n")
     place.write("0.max", "1 0 v max 1\n")
     place.runs()
@@ -1404,9 +1344,10 @@ def same_command(place):
         assert column(place.table(), "instance") == ["in/a.max", "in/b.max"], place.table()
 
 
+# The tests with the stand-in, and those with the program.
 TESTS = [
     order_and_columns, commands, folders, layouts, gaps, links, unanswered, evidence, made_anew,
-    changed_while_judged, taken_up, killed, beside, late, odd, other_files, same_command, misused, safe_files,
+    changed_while_judged, taken_up, killed, beside, odd, other_files, same_command, misused, safe_files,
     other_outputs, others_beside, closed_streams, full, shards, formats, line_ends, on_terminal, in_log, reasons, refusals,
     report_in_time, cut_off, signalled, one_name, on_slurm,
 ]
@@ -1416,30 +1357,26 @@ WITH_BINARY = [
 ]
 
 
-def passes(name, test):
-    """Whether a test passes, in a folder of its own."""
+def fault_of(test, program):
+    """Where and how a test fails, in a folder of its own; none if it passes."""
     with tempfile.TemporaryDirectory() as folder:
         try:
-            test(Place(folder))
+            test(Place(folder, program))
         except Exception as error:
             places = [it.lineno for it in traceback.extract_tb(error.__traceback__) if it.filename == __file__]
-            print(f"{name}, line {places[-1]}: {error!r}")
-            return False
-    return True
+            return f"{test.__name__}, line {places[-1]}: {error!r}"
+    return None
 
 
 def main():
-    tests = [(it.__name__, it) for it in TESTS]
-    binary = os.path.abspath(sys.argv[1]) if len(sys.argv) > 1 else BUILT
+    binary = os.path.abspath([*sys.argv, BUILT][1])
+    tests = [(it, None) for it in TESTS]
     if len(sys.argv) > 1 or os.path.exists(BUILT):
-        tests += [(it.__name__, functools.partial(it, binary=binary)) for it in WITH_BINARY]
-    failed = 0
+        tests += [(it, binary) for it in WITH_BINARY]
     with compiled_once():
-        for name, test in tests:
-            failed += not passes(name, test)
-    print(f"{len(tests) - failed} passed, {failed} failed")
-    return 1 if failed else 0
+        faults = [fault_of(*it) for it in tests]
+    scripts.end_with((fault, fault is None) for fault in faults)
 
 
 if __name__ == "__main__":
-    sys.exit(main())
+    main()

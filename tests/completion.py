@@ -11,8 +11,7 @@ import subprocess
 import tempfile
 
 import scripts
-
-TOP = os.path.realpath(os.path.join(os.path.dirname(os.path.abspath(__file__)), ".."))
+from usage import usages
 
 BASH = """
 source {made}/dimacs.bash
@@ -45,13 +44,8 @@ CHECKS = {"bash": "dimacs.bash", "zsh": "_dimacs", "fish": "dimacs.fish"}
 
 def usage():
     """The places of each command in the usage text, by its word, and the kinds."""
-    with open(os.path.join(TOP, "crates/dimacs/src/usage.rt"), encoding="utf-8") as it:
-        source = it.read()
-    commands = {}
-    for words in re.findall(r'\(\s*"([a-z][^"]*)",\s*"[^"]*",?\s*\)', source):
-        word, *places = words.replace("[--limit N]", "--limit N").replace("[", "").replace("]", "").split()
-        commands[word] = places
-    table = re.search(r'^KIND:\n(.*?)"', source, re.MULTILINE | re.DOTALL)[1]
+    commands = {word: re.sub(r"[][]", "", words).split()[1:] for word, words in usages().items()}
+    table = re.search(r'^KIND:\n(.*?)"', scripts.read("crates/dimacs/src/usage.rt"), re.MULTILINE | re.DOTALL)[1]
     return commands, re.findall(r"(?:^|  )(\w+)  ", table, re.MULTILINE)
 
 
@@ -105,7 +99,7 @@ def cases():
     """Yields what was looked at in each shell that is there, and whether it is right."""
     _, kinds = usage()
     with tempfile.TemporaryDirectory() as folder, tempfile.TemporaryDirectory() as made:
-        subprocess.run([f"{TOP}/tools/completions.py", made], check=True)
+        subprocess.run([f"{scripts.TOP}/tools/completions.py", made], check=True)
         for kind in kinds:
             open(os.path.join(folder, f"a.{kind}"), "w", encoding="ascii").close()
         for shell in SHELLS:

@@ -6,6 +6,7 @@ those after a refusal the case names parts, after a yes it has all, worked out b
 lines. Then COUNT random instances, 150 by default, are solved, judged and certified, and a second reader has to write
 the same lines. BINARY is the built program; crates/dimacs/out/dimacs by default.
 """
+import contextlib
 import os
 import re
 import subprocess
@@ -14,7 +15,7 @@ import tempfile
 
 import explained_yes
 import scripts
-from instances import BINARY, MEMORY
+from instances import BINARY, MEMORY, Folder
 
 MAX = "p max 4 5\nn 1 s\nn 4 t\na 1 2 4\na 1 3 2\na 2 3 2\na 2 4 3\na 3 4 5\n"
 FLOW = "s 6\nf 1 2 4\nf 1 3 2\nf 2 3 1\nf 2 4 3\nf 3 4 3\n"
@@ -25,7 +26,6 @@ POT = "p pot 4 3\ny 1 4\ny 2 2\ny 3 1\n"
 CYCLE = "p sp 4 3\na 1 2 5\na 3 4 0\na 4 3 0\n"
 NEAR = "p sp 4 3\na 1 2 5\na 2 3 4\na 3 4 0\n"
 ASKED = "p aux sp ss 1\ns 1\n"
-PAIRS = "p aux sp p2p 2\nq 1 2\nq 1 4\n"
 HUGE = 9 * 10**18
 
 # Of a pipe that gives more MB nothing is kept.
@@ -272,34 +272,36 @@ no flow reaches the sink, so none has a value above 0
 ]
 
 
-def run(binary, words, folder):
-    return subprocess.run([binary, *words.split()], capture_output=True, cwd=folder, check=False)
+@contextlib.contextmanager
+def place_with(texts):
+    """A folder with these texts, by their names."""
+    with tempfile.TemporaryDirectory(dir=MEMORY) as folder:
+        place = Folder(folder)
+        for name, text in texts.items():
+            place.write(name, text)
+        yield place
 
 
-def written(folder, texts):
-    """Writes the texts of a case."""
-    for name, text in {**TEXTS, **texts}.items():
-        write(folder, name, text)
+def run(binary, words, place):
+    return subprocess.run([binary, *words.split()], capture_output=True, cwd=place.folder, check=False)
 
 
-def write(folder, name, text):
-    with open(os.path.join(folder, name), "wb") as it:
-        it.write(text if isinstance(text, bytes) else text.encode())
+def explained(binary, words, texts):
+    """A run over the texts of a case, and its explanation."""
+    for how in ("", "explain "):
+        with place_with({**TEXTS, **texts}) as place:
+            yield run(binary, how + words, place)
 
 
 def fault_of(binary, case):
     """What is wrong with the explanation of a case; none if nothing is."""
     reason, words, texts, parts = case
-    with tempfile.TemporaryDirectory(dir=MEMORY) as folder:
-        written(folder, texts)
-        plain = run(binary, words, folder)
-        written(folder, texts)
-        explained = run(binary, f"explain {words}", folder)
+    plain, again = explained(binary, words, texts)
     if not plain.stdout.decode().rstrip("\n").endswith(" " + reason):
         return f"prints {plain.stdout} without explain"
-    if explained.returncode != plain.returncode or not explained.stdout.startswith(plain.stdout):
-        return f"status {explained.returncode}, prints {explained.stdout}"
-    printed = explained.stdout[len(plain.stdout) :].decode()
+    if again.returncode != plain.returncode or not again.stdout.startswith(plain.stdout):
+        return f"status {again.returncode}, prints {again.stdout}"
+    printed = again.stdout[len(plain.stdout) :].decode()
     place = 0
     for part in parts:
         found = printed.find(part, place)
@@ -311,90 +313,82 @@ def fault_of(binary, case):
 
 def yes_fault(binary, words, texts, lines):
     """What is wrong with the explanation of a yes; none if nothing is."""
-    with tempfile.TemporaryDirectory(dir=MEMORY) as folder:
-        written(folder, texts)
-        plain = run(binary, words, folder)
-        written(folder, texts)
-        explained = run(binary, f"explain {words}", folder)
-    if plain.returncode or explained.returncode or explained.stdout.decode() != plain.stdout.decode() + lines:
-        return f"status {explained.returncode}, prints\n{explained.stdout.decode()}"
-    return None
+    plain, again = explained(binary, words, texts)
+    is_right = (plain.returncode, again.returncode, again.stdout) == (0, 0, plain.stdout + lines.encode())
+    return None if is_right else f"status {again.returncode}, prints\n{again.stdout.decode()}"
 
 
-def pipe_fault(binary, comments):
-    """What is wrong with a yes about a text of a pipe, after so many MB of comments; none if nothing is."""
-    with tempfile.TemporaryDirectory(dir=MEMORY) as folder:
-        written(folder, {})
-        text = f"yes c | head -c {comments}000000; cat S"
-        words = ["bash", "-c", f"'{binary}' explain judge-max I <({text}) C"]
-        ran = subprocess.run(words, capture_output=True, cwd=folder, check=False)
-        wanted = run(binary, "explain judge-max I S C", folder).stdout
-    if comments > MOST_KEPT:
-        wanted = b"v max 6\nthe numbers are left out: a text has changed, can't be read twice, or memory ran out\n"
-    return None if (ran.returncode, ran.stdout) == (0, wanted) else f"prints {ran.stdout}"
+# Of a pipe that gives more MB than are kept, the numbers aren't there to be explained.
+PIPE = "'{}' explain judge-max I <(yes c | head -c {}000000; cat S) C"
+LEFT_OUT_NUMBERS = "the numbers are left out: a text has changed, can't be read twice, or memory ran out\n"
+
+# A pipe that is named twice.
+TWICE = "cat I | '{}' explain certify-max /dev/stdin /dev/stdin"
+LEFT_OUT_LINES = "/dev/stdin: is no file that can be read again, so its lines are left out\n"
+
+# A file whose name has a line feed.
+NAMED = "printf 'p sp 1 1\\n' >$'\u00e9\\nv max 6'; '{}' explain convert gr $'\u00e9\\nv max 6'"
+IN_NAME = "\u00e9\\x0av max 6: ends after line 1\n0 arc lines of the 1 that line 1 declares\n"
+
+# A line of what a pipe gave, which is empty the second time.
+GIVEN = "mkfifo pipe; printf 'p sp 1 1\\ne 1 1 0\\n' >pipe & timeout 20 '{}' explain show gr pipe"
+OF_PIPE = """x instance 2 1 UnknownLine
+pipe:2: e 1 1 0
+        ^
+no line of a graph (gr) begins with `e`
+its lines are `p sp NODES ARCS`, `a TAIL HEAD WEIGHT`, and comments, which begin with c
+"""
 
 
-def twice_fault(binary):
-    """What is wrong with a refusal of a pipe that is named twice; none if nothing is."""
-    with tempfile.TemporaryDirectory(dir=MEMORY) as folder:
-        written(folder, {})
-        words = ["bash", "-c", f"cat I | '{binary}' explain certify-max /dev/stdin /dev/stdin"]
-        ran = subprocess.run(words, capture_output=True, cwd=folder, check=False)
-    left_out = b"/dev/stdin: is no file that can be read again, so its lines are left out\n"
-    wanted = b"x solution 1 0 SolutionMissing\n" + left_out
-    return None if (ran.returncode, ran.stdout) == (1, wanted) else f"prints {ran.stdout}"
+def shell_runs(binary):
+    """Runs that a shell makes: the commands, their status and what they print."""
+    for size in (0, 60, 70):
+        lines = LEFT_OUT_NUMBERS if size > MOST_KEPT else YES[0][2]
+        yield PIPE.format(binary, size), 0, f"v max 6\n{lines}"
+    yield TWICE.format(binary), 1, f"x solution 1 0 SolutionMissing\n{LEFT_OUT_LINES}"
+    yield GIVEN.format(binary), 1, OF_PIPE
+    yield NAMED.format(binary), 1, f"x instance 2 0 TooFew\n{IN_NAME}"
 
 
-def name_fault(binary):
-    """What is wrong with a refusal of a file whose name has a line feed; none if nothing is."""
-    with tempfile.TemporaryDirectory(dir=MEMORY) as folder:
-        write(folder, "\u00e9\nv max 6", "p sp 1 1\n")
-        words = [binary, "explain", "convert", "gr", "\u00e9\nv max 6"]
-        ran = subprocess.run(words, capture_output=True, cwd=folder, check=False)
-    wanted = "x instance 2 0 TooFew\n\u00e9\\x0av max 6: ends after line 1\n0 arc lines of the 1 that line 1 declares\n"
-    return None if (ran.returncode, ran.stdout.decode()) == (1, wanted) else f"prints {ran.stdout}"
-
-
-def text_in(folder, name):
-    with open(os.path.join(folder, name), encoding="ascii") as it:
-        return it.read()
+def shell_fault(commands, status, printed):
+    """What is wrong with a run that a shell makes; none if nothing is."""
+    with place_with(TEXTS) as place:
+        ran = subprocess.run(["bash", "-c", commands], capture_output=True, cwd=place.folder, check=False)
+    return None if (ran.returncode, ran.stdout.decode()) == (status, printed) else f"prints {ran.stdout}"
 
 
 def reader_faults(binary, count, seed):
     """What the program explains otherwise than the second reader, in a line for each run."""
     for kind, instance, queries in explained_yes.seeded(count, seed):
-        with tempfile.TemporaryDirectory(dir=MEMORY) as folder:
-            write(folder, "I", instance)
-            write(folder, "C", queries)
-            yield from texts_faults(binary, folder, kind)
+        with place_with({"I": instance, "C": queries}) as place:
+            yield from texts_faults(binary, place, kind)
 
 
-def texts_faults(binary, folder, kind):
+def texts_faults(binary, place, kind):
     """Solves the instance I, or answers the queries C, then judges and certifies what was written."""
-    first = run(binary, f"explain solve-{kind} I C K", folder).stdout.decode()
+    first = run(binary, f"explain solve-{kind} I C K", place).stdout.decode()
     runs = [(f"solve-{kind} I C K", "K"), (f"judge-{kind} I C K", "K")]
     reader = {"max": explained_yes.maximum, "min": explained_yes.least, "paths": explained_yes.distances}[kind]
     if first.startswith("v infeasible"):
         runs = [(f"solve-{kind} I C K", "K"), ("judge-infeasible I K", "K"), ("certify-infeasible I A", "A"), ("certify-infeasible I", "A")]
         reader = explained_yes.infeasible
     elif kind == "paths":
-        write(folder, "D", explained_yes.distances_text(text_in(folder, "K")))
-        write(folder, "N", "")
+        place.write("D", explained_yes.distances_text(place.read("K")))
+        place.write("N", "")
         runs += [("certify-paths I D A", "A"), ("certify-paths I D", "A")]
     else:
         runs += [(f"certify-{kind} I C A", "A"), (f"certify-{kind} I C", "A")]
     for words, certificate in runs:
-        plain = run(binary, words, folder).stdout.decode()
-        printed = run(binary, f"explain {words}", folder).stdout.decode()
+        plain = run(binary, words, place).stdout.decode()
+        printed = run(binary, f"explain {words}", place).stdout.decode()
         claim = "N" if words.startswith("certify-paths") else "C"
         names = ["I", certificate] if reader is explained_yes.infeasible else ["I", claim, certificate]
-        texts = [text_in(folder, name) for name in names]
+        texts = [*map(place.read, names)]
         lines = "".join(f"{line}\n" for line in reader(*texts))
         yield None if printed == plain + lines else f"{words}: {texts}\n{printed}instead of\n{plain}{lines}"
 
 
 def reasons():
-    """The names of all reasons."""
     source = os.path.join(os.path.dirname(os.path.abspath(__file__)), "../crates/dimacs_records/src/reasons.rt")
     with open(source, encoding="utf-8") as it:
         return set(re.findall(r'Reason::\w+ => "(\w+)"', it.read()))
@@ -405,9 +399,7 @@ def main():
     binary = os.path.abspath(binary)
     faults = [(f"{case[0]}: explain {case[1]}", fault_of(binary, case)) for case in CASES]
     faults += [(f"explain {case[0]}", yes_fault(binary, *case)) for case in YES]
-    faults += [(f"explain with a pipe, {size} MB", pipe_fault(binary, size)) for size in (0, 60, 70)]
-    faults += [("explain with a pipe named twice", twice_fault(binary))]
-    faults += [("explain with a line feed in a name", name_fault(binary))]
+    faults += [(it[0], shell_fault(*it)) for it in shell_runs(binary)]
     faults += [("explain", fault) for fault in reader_faults(binary, int(count), int(seed))]
     missing = reasons() - {case[0] for case in CASES} - LEFT_OUT
     faults += [(f"no case for {it}", "") for it in sorted(missing)]

@@ -4,7 +4,7 @@ The reader knows the forms of the lines. It computes each number anew by its def
 """
 import random
 
-from instances import graph_text, max_text, min_text
+from instances import graph_text, max_text, min_text, network
 
 SHOWN = 6
 BOUND = (
@@ -18,7 +18,6 @@ SHORTEST = "no walk is shorter: from the source, whose label is 0, each arc rais
 
 
 def numbers(line):
-    """The numbers that a line of a text has after its letter."""
     return [int(word) for word in line.split()[1:] if word.lstrip("-").isdigit()]
 
 
@@ -268,20 +267,9 @@ def farthest(arcs, nodes, source, radius, by_node):
         yield f"no other node is within {radius}, the RADIUS, of {source}: each arc from it to another leads past it"
 
 
-def random_arcs(rng, nodes, most):
-    """Arcs with bounds and a cost, some of them loops or parallel."""
-    arcs = []
-    for _ in range(rng.randint(0, most)):
-        low = rng.choice([0, 0, 0, 0, 1, 2])
-        cost = rng.choice([rng.randint(-3, 9), rng.randint(0, 9)])
-        arcs.append((rng.randint(1, nodes), rng.randint(1, nodes), low, low + rng.randint(0, 6), cost))
-    return arcs
-
-
 def random_texts(rng):
     """Texts of a random instance of each kind: a name for each, with the kind of its solver."""
-    nodes = rng.randint(2, 10)
-    arcs = random_arcs(rng, nodes, rng.choice([6, 24]))
+    nodes, arcs = network(rng, 2, 10, rng.choice([6, 24]))
     source, sink = rng.sample(range(1, nodes + 1), 2)
     yield "max", max_text(nodes, source, sink, arcs), ""
     supplies = [0] * (nodes + 1)

@@ -85,29 +85,29 @@ printf 'pub fn one() -> u8 {\n    1 // one\n}\n' >"$one/crates/dimacs/src/lib.rt
 cp "$one/crates/dimacs/src/lib.rt" "$one/crates/dimacs_c/src/lib.rt"
 echo 'pub mod One' | tee "$one/crates/dimacs_c/specs/Lib.antt" >"$one/crates/dimacs_c/specs/One.antt"
 
-# An edit of one line that shows nothing: why, its old text and its new one.
-shows_nothing() {
-    printf 'name: edit\nfile: %s\nold: %s\nnew: %s\n' src/lib.rt "$2" "$3" >"$one/crates/dimacs/wrong-bodies"
-    prints "edits: 1, showing nothing: 1" "$one/tools/try_bodies.py" --apply dimacs
-    grep -q "$1" "$room/printed" || fail "$1 isn't printed of: $2, $3"
+# edit NAME LINES: adds an edit that shows nothing to those of the crate.
+edit() {
+    printf "name: $1\nfile: src/lib.rt\n$2\n" >>"$one/crates/dimacs/wrong-bodies"
 }
 
-shows_nothing "it changes no code" "    1" "    1"
-shows_nothing "it changes no code" "// one" "// 2"
-shows_nothing "it doesn't parse" "    1 " "    1; ) "
-shows_nothing "stands 2 times" "one" "two"
-shows_nothing "stands 0 times" "three" "two"
-
-# How an edit can't be read.
-unread() {
-    printf "$1" >"$one/crates/dimacs/wrong-bodies"
-    prints "edits: 1, showing nothing: 1" "$one/tools/try_bodies.py" --apply dimacs
-}
-
-file='name: edit\nfile: src/lib.rt\n'
-unread "${file}old: 1\n"
-unread "${file}new: 2\n"
-unread "${file}old: 1\nnew: 2\nand more\n"
+edit same 'old:     1\nnew:     1'
+edit comment 'old: // one\nnew: // 2'
+edit broken 'old:     1 \nnew:     1; ) '
+edit twice 'old: one\nnew: two'
+edit absent 'old: three\nnew: two'
+edit half 'old: 1'
+edit other_half 'new: 2'
+edit longer 'old: 1\nnew: 2\nand more'
+prints "edits: 8, showing nothing: 8" "$one/tools/try_bodies.py" --apply dimacs
+for it in "same: it changes no code" "comment: it changes no code" "broken: it doesn't parse" \
+    "twice: 'one' stands 2 times" "absent: 'three' stands 0 times" "half: it has no line new" \
+    "other_half: the line 'new: 2'" "longer: the line 'and more'"; do
+    if grep -q "^dimacs: $it" "$room/printed"; then
+        passed=$((passed + 1))
+    else
+        fail "it isn't printed that $it: $(cat "$room/printed")"
+    fi
+done
 
 # python CODE: runs lines over the scripts of that repository.
 python() {
@@ -288,7 +288,7 @@ it.keep_module = lambda *_: None"
 built_twice proved_build "
 sys.argv[1:] = ['$one/build']
 it.test_kit = lambda: None
-it.calls_words = lambda kit, listed, room: room
+it.calls_words = lambda kit, room: room
 it.prove_all = lambda _, room: build(it.PROGRAM, it.ARCHIVE, f'{room}/dimacs_c.bc', f'{room}/dimacs_c.words')"
 
 # What rt ci proved is that of the sources too.

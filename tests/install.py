@@ -15,7 +15,9 @@ import subprocess
 import sys
 import tempfile
 
-TOP = os.path.dirname(os.path.dirname(os.path.abspath(__file__)))
+from installed import Installed, put
+from scripts import TOP
+
 COPIED = ["dimacs", "dimacs_c.a", "dimacs.o", "libdimacs.a", "libdimacs.so.0", "linked"]
 
 # The folders of a distribution, as GNU and as this Makefile names them.
@@ -39,58 +41,16 @@ INSTALLED = {
         share/doc/libdimacs-doc/examples/pipes.max""",
 }
 
-IN_C = """#include <dimacs.h>
-int main(void) { return dimacs_version() != DIMACS_VERSION_NUMBER; }
-"""
 
-BY_CMAKE = """cmake_minimum_required(VERSION 3.13)
-project(shown C)
-find_package(dimacs REQUIRED)
-foreach(which dimacs static)
-  add_executable(by_${which} shown.c)
-  target_link_libraries(by_${which} dimacs::${which})
-endforeach()
-"""
-
-
-class Install:
+class Install(Installed):
     """A copy of the repository and of a build, folders to install in, and what came of it."""
 
     def __init__(self, build, place):
-        self.place, self.root, self.moved = place, f"{place}/root", f"{place}/moved/elsewhere"
-        self.passed = self.failed = 0
-        self.printed = ""
-        self.build = os.path.relpath(build, TOP)
-        self.words = ["make", "-C", f"{place}/copy", f"UNPROVED={'1' if self.build == 'build/quick' else ''}"]
-        library = f"{self.moved}/lib/x86_64-linux-gnu"
-        self.environment = {"PATH": "/usr/bin:/bin", "HOME": place, "LANG": "C.UTF-8", "CMAKE_PREFIX_PATH": self.moved}
-        self.environment |= {"PKG_CONFIG_PATH": f"{library}/pkgconfig", "LD_LIBRARY_PATH": library}
-
-    def run(self, *words, **more):
-        """Runs a command without the kit on the path; whether it succeeds."""
-        how = {"stdout": subprocess.PIPE, "stderr": subprocess.STDOUT, "text": True, "check": False}
-        ran = subprocess.run(words, cwd=self.place, **{"env": self.environment, **how, **more})
-        self.printed = ran.stdout
-        return ran.returncode == 0
-
-    def expect(self, name, is_so):
-        """Counts a test."""
-        self.passed += is_so
-        self.failed += not is_so
-        if not is_so:
-            print(f"{name} failed\n{self.printed}", flush=True)
-
-    def has(self, name, *tools):
-        """Whether these tools are there. What needs them is left out else."""
-        lacking = [it for it in tools if not shutil.which(it, path=self.environment["PATH"])]
-        if lacking:
-            print(f"left out: {name}: no {', '.join(lacking)}", flush=True)
-        return not lacking
-
-
-def write(path, text):
-    with open(path, "w", encoding="utf-8") as it:
-        it.write(text)
+        super().__init__(place, f"{place}/moved/elsewhere")
+        self.root, self.build = f"{place}/root", os.path.relpath(build, TOP)
+        is_unproved = self.build == "build/quick"
+        self.suffix = "+unproved" if is_unproved else ""
+        self.make = ["make", "-C", f"{place}/copy", f"UNPROVED={'1' if is_unproved else ''}"]
 
 
 def copy(its):
@@ -111,18 +71,17 @@ def copy(its):
 
 
 def names_below(folder):
-    """The files of a folder."""
     found = (os.path.join(at, it) for at, _, names in os.walk(folder) for it in names)
     return sorted(os.path.relpath(it, folder) for it in found)
 
 
 def test_install(its):
     """What has to be there is, of the right mode, and nothing was linked again for it."""
-    asked = [*its.words, "install", f"DESTDIR={its.root}", *FOLDERS]
-    os.makedirs(f"{its.root}/usr/bin")
-    write(f"{its.root}/usr/bin/other", "")
-    its.expect("make install", its.run(*asked, umask=0o077))
-    its.expect("a copied build isn't built again", "-shared" not in its.printed and "quick_build" not in its.printed)
+    asked = [*its.make, "install", f"DESTDIR={its.root}", *FOLDERS]
+    put(f"{its.root}/usr/bin/other", "")
+    its.run(*asked, umask=0o077)
+    its.expect("make install", its.succeeded)
+    its.expect("a copied build isn't built again", "-shared" not in its.message and "quick_build" not in its.message)
     for mode, names in INSTALLED.items():
         for it in names.split():
             path = f"{its.root}/usr/{it}"
@@ -135,45 +94,26 @@ def test_install(its):
 
 def test_moved(its):
     """What was installed does its work in another place."""
-    shutil.copytree(f"{its.root}/usr", its.moved, symlinks=True)
-    examples = f"{its.moved}/share/doc/libdimacs-doc/examples"
-    instance, answer = f"{examples}/pipes.max", f"{examples}/pipes.solution"
-    its.expect("a verdict", its.run(f"{its.moved}/bin/dimacs", "certify-max", instance, answer))
-    its.expect("that verdict", its.printed == "v max 12\n")
-    its.environment["PATH"] = f"{its.moved}/bin:/usr/bin:/bin"
-    write(f"{its.place}/list", f"{instance} {answer}\n")
-    its.run(f"{its.moved}/bin/dimacs-batch", "list")
-    its.expect("dimacs-batch", "v max 12" in its.printed)
-    its.run(f"{its.moved}/bin/dimacs-draw", instance, answer)
-    its.expect("dimacs-draw", "certify-max: v max 12" in its.printed and its.printed.startswith("<svg "))
-
-
-def test_library(its):
-    """Programs in C that find the library where it was moved."""
-    write(f"{its.place}/shown.c", IN_C)
-    write(f"{its.place}/CMakeLists.txt", BY_CMAKE)
-    if its.has("C by pkg-config", "cc", "pkg-config"):
-        built = its.run("sh", "-c", "cc -o shown shown.c $(pkg-config --cflags --libs dimacs) && ./shown")
-        its.expect("C by pkg-config", built)
-    if its.has("C by CMake", "cc", "cmake"):
-        its.expect("CMake", its.run("sh", "-c", "cmake -S . -B made && cmake --build made"))
-        for it in ("by_dimacs", "by_static"):
-            its.expect(f"C by CMake, {it}", its.run(f"made/{it}"))
+    shutil.copytree(f"{its.root}/usr", its.usr, symlinks=True)
+    its.test_program(f"{its.usr}/bin/dimacs")
+    its.test_tools()
+    its.test_by_pkg_config()
+    its.test_by_cmake()
 
 
 def test_uninstall(its):
     """What was installed is gone, and what wasn't is there."""
-    asked = [*its.words, "uninstall", f"DESTDIR={its.root}", *FOLDERS]
+    asked = [*its.make, "uninstall", f"DESTDIR={its.root}", *FOLDERS]
     kept = f"{its.root}/usr/share/doc/libdimacs-doc/of-a-user"
-    write(kept, "")
-    os.mkdir(f"{its.root}/usr/share/dimacs/dimacs_batch/__pycache__")
-    write(f"{its.root}/usr/share/dimacs/dimacs_batch/__pycache__/main.pyc", "")
-    its.expect("make uninstall", its.run(*asked))
+    put(kept, "")
+    put(f"{its.root}/usr/share/dimacs/dimacs_batch/__pycache__/main.pyc", "")
+    its.run(*asked)
+    its.expect("make uninstall", its.succeeded)
     left = names_below(its.root)
-    its.printed = "\n".join(left)
+    its.message = "\n".join(left)
     its.expect("no more and no less", left == ["usr/bin/other", os.path.relpath(kept, its.root)])
     its.expect("no folder of ours", not os.path.exists(f"{its.root}/usr/include/dimacs"))
-    its.expect("a second time is refused", not its.run(*asked) and "nothing is installed here" in its.printed)
+    its.expect("a second time is refused", "nothing is installed here" in its.run(*asked) and not its.succeeded)
 
 
 def test_flags(its):
@@ -184,11 +124,11 @@ def test_flags(its):
     os.remove(library)
     os.utime(f"{os.path.dirname(library)}/dimacs.o")
     flags = ["CFLAGS=-O2 -fPIC", "LDFLAGS=-Wl,--build-id=0xda7ada7a"]
-    its.run(*its.words, f"{its.build}/libdimacs.so.0", *flags)
+    its.run(*its.make, f"{its.build}/libdimacs.so.0", *flags)
     its.expect("a library that is linked by flags", os.path.exists(library))
     its.run("readelf", "-dlnW", library)
-    its.expect("it has what the flags ask for", "Build ID: da7ada7a" in its.printed)
-    its.expect("its symbols are bound as it is loaded", "BIND_NOW" in its.printed and "GNU_RELRO" in its.printed)
+    its.expect("it has what the flags ask for", "Build ID: da7ada7a" in its.message)
+    its.expect("its symbols are bound as it is loaded", "BIND_NOW" in its.message and "GNU_RELRO" in its.message)
 
 
 def main():
@@ -198,12 +138,10 @@ def main():
         copy(its)
         test_install(its)
         test_moved(its)
-        test_library(its)
         test_uninstall(its)
         test_flags(its)
-    print(f"{its.passed} passed, {its.failed} failed")
-    return 1 if its.failed or not its.passed else 0
+    its.end()
 
 
 if __name__ == "__main__":
-    sys.exit(main())
+    main()

@@ -3,10 +3,8 @@
 An arc is its tail, head, lower bound, capacity and cost. A list by node has an item for node 0 too, which is no node.
 """
 import contextlib
-import itertools
 import os
 import subprocess
-import sys
 import tempfile
 
 BINARY = os.path.join(os.path.dirname(os.path.abspath(__file__)), "../crates/dimacs/out/dimacs")
@@ -24,25 +22,16 @@ def compiled_once():
         yield
 
 
-def asked():
-    """The words COUNT, SEED and BINARY of a script, or what stands for them."""
-    words = [*sys.argv[1:], *["1000", "1", BINARY][len(sys.argv) - 1 :]]
-    return int(words[0]), int(words[1]), words[2]
-
-
 def text(*lines):
-    """A text of these lines."""
     return "".join(f"{line}\n" for line in lines)
 
 
 def max_text(nodes, source, sink, arcs):
-    """The text of an instance of maximum flow."""
     ends = f"n {source} s", f"n {sink} t"
     return text(f"p max {nodes} {len(arcs)}", *ends, *(f"a {arc[0]} {arc[1]} {arc[3]}" for arc in arcs))
 
 
 def min_text(nodes, supplies, arcs):
-    """The text of an instance of least cost."""
     named = (f"n {node} {supply}" for node, supply in enumerate(supplies) if supply)
     return text(f"p min {nodes} {len(arcs)}", *named, *("a " + " ".join(map(str, arc)) for arc in arcs))
 
@@ -52,11 +41,11 @@ def graph_text(nodes, arcs):
     return text(f"p sp {nodes} {len(arcs)}", *("a " + " ".join(map(str, arc)) for arc in arcs))
 
 
-def network(rng, least_nodes, most_nodes):
+def network(rng, least_nodes, most_nodes, most_arcs=6):
     """A number of nodes, and arcs between them, with small numbers, loops and arcs with the same ends."""
     nodes = rng.randint(least_nodes, most_nodes)
     arcs = []
-    for _ in range(rng.randint(0, 6)):
+    for _ in range(rng.randint(0, most_arcs)):
         low = rng.choice([0, 0, 0, 1, 2])
         ends = rng.randint(1, nodes), rng.randint(1, nodes)
         arcs.append((*ends, low, low + rng.randint(0, 3), rng.randint(-4, 6)))
@@ -73,32 +62,38 @@ def nets(nodes, arcs, flow):
 
 
 def cost(arcs, flow):
-    """What a flow costs."""
     return sum(arc[4] * amount for arc, amount in zip(arcs, flow))
 
 
-def flows(arcs):
-    """All flows within the bounds."""
-    return itertools.product(*(range(arc[2], arc[3] + 1) for arc in arcs))
+class Folder:
+    """A folder of texts, by their names."""
+
+    encoding = "utf-8", "surrogateescape"
+
+    def __init__(self, folder):
+        self.folder = folder
+
+    def path(self, name):
+        return os.path.join(self.folder, name)
+
+    def write(self, name, text):
+        with open(self.path(name), "wb") as it:
+            it.write(text if isinstance(text, bytes) else text.encode(*self.encoding))
+
+    def read(self, name):
+        with open(self.path(name), "rb") as it:
+            return it.read().decode(*self.encoding)
 
 
-class Program:
+class Program(Folder):
     """Runs of the program in one folder, in which its words name files."""
 
     def __init__(self, binary, folder):
+        super().__init__(folder)
         self.binary = os.path.abspath(binary)
-        self.folder = folder
 
     def run(self, *words):
         """What it prints; or its status, if it is none of an answer."""
         words = [self.binary, *words]
         ran = subprocess.run(words, capture_output=True, text=True, check=False, cwd=self.folder)
         return ran.stdout.strip() if ran.returncode in (0, 1, 5) else f"status {ran.returncode}"
-
-    def write(self, name, lines):
-        with open(os.path.join(self.folder, name), "w", encoding="ascii") as it:
-            it.write(lines)
-
-    def read(self, name):
-        with open(os.path.join(self.folder, name), encoding="ascii") as it:
-            return it.read()

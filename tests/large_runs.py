@@ -18,6 +18,9 @@ import sys
 import tempfile
 import time
 
+import scripts
+from instances import BINARY, Folder
+
 ITEMS = 1_000_000
 CHAINS = 1_000
 STEPS = ITEMS // CHAINS
@@ -36,7 +39,6 @@ File = collections.namedtuple("File", "name")
 
 
 def lines(items):
-    """A text of these lines."""
     return "".join(item + "\n" for item in items)
 
 
@@ -192,15 +194,13 @@ def spoiled(text, letter):
 
 
 def reading_runs(place):
-    """Converts and shows each text, whole and with a fault in its first item and in its last line."""
+    """Converts and shows each text, and converts it with a fault in its first item and in its last line."""
     for kind, name, letter, shown in KINDS:
         yield Run(f"convert {kind} {name}", 0, File(name))
         yield Run(f"show {kind} {name}", 0, shown)
         for which, (text, line, field) in zip(("first", "last"), spoiled(place.read(name), letter)):
             place.write(f"{name}.{which}", text)
-            fault = f"x {CALLED.get(kind, 'instance')} {line} {field} BadNumber\n"
-            yield Run(f"convert {kind} {name}.{which}", 1, fault)
-            yield Run(f"show {kind} {name}.{which}", 1, fault)
+            yield Run(f"convert {kind} {name}.{which}", 1, f"x {CALLED.get(kind, 'instance')} {line} {field} BadNumber\n")
 
 
 # A text with a fault is refused by each command; of the instances this is the last line.
@@ -306,35 +306,23 @@ PATH_RUNS = [
 ]
 
 
-class Place:
+class Place(Folder):
     """A folder of texts in which the program runs."""
 
     def __init__(self, binary, folder):
-        self.binary, self.folder = binary, folder
-
-    def path(self, name):
-        return os.path.join(self.folder, name)
-
-    def write(self, name, text):
-        with open(self.path(name), "w", encoding="ascii") as it:
-            it.write(text)
-
-    def read(self, name):
-        with open(self.path(name), encoding="ascii") as it:
-            return it.read()
+        super().__init__(folder)
+        self.binary = binary
 
     def begin(self, name, size=200):
         with open(self.path(name), encoding="ascii") as it:
             return it.read(size)
 
     def prints(self, wanted):
-        """Whether this is what the last run printed."""
         if isinstance(wanted, File):
             return filecmp.cmp(self.path("printed"), self.path(wanted.name), shallow=False)
         return os.path.getsize(self.path("printed")) == len(wanted) and self.read("printed") == wanted
 
     def fault_of(self, run):
-        """What is wrong with a run."""
         with open(self.path("printed"), "wb") as out:
             ran = subprocess.run(
                 [self.binary, *run.words.split()], stdout=out, stderr=subprocess.PIPE, check=False, cwd=self.folder
@@ -355,21 +343,16 @@ def runs(place):
 
 
 def main():
-    top = os.path.join(os.path.dirname(os.path.abspath(__file__)), "..")
-    built = sys.argv[1] if len(sys.argv) > 1 else os.path.join(top, "crates/dimacs/out/dimacs")
-    failed = passed = 0
+    counts = scripts.Counts()
     with tempfile.TemporaryDirectory() as folder:
-        place = Place(os.path.abspath(built), folder)
+        place = Place(os.path.abspath([*sys.argv, BINARY][1]), folder)
         for run in runs(place):
             begun = time.monotonic()
             fault = place.fault_of(run)
-            took = time.monotonic() - begun
-            print(f"{'FAILED: ' if fault else ''}{fault or run.words}: {took:.2f} s", flush=True)
-            failed += bool(fault)
-            passed += not fault
-    print(f"{passed} passed, {failed} failed")
-    return 1 if failed or not passed else 0
+            print(f"{run.words}: {time.monotonic() - begun:.2f} s", flush=True)
+            counts.expect(fault, not fault)
+    counts.end()
 
 
 if __name__ == "__main__":
-    sys.exit(main())
+    main()

@@ -16,7 +16,9 @@ import subprocess
 import sys
 import tempfile
 
-TOP = os.path.dirname(os.path.dirname(os.path.abspath(__file__)))
+import scripts
+from scripts import TOP
+
 sys.path.insert(0, f"{TOP}/tools/targets")
 import lower_addresses as step  # noqa: E402  (the folder isn't a package of this one)
 from lower_addresses import F32, F64, I32, I64, V128, leb  # noqa: E402
@@ -150,17 +152,6 @@ def run_by_node(flags, file, count):
     return json.loads(ran.stdout) if ran.returncode == 0 else ran.stderr.strip()
 
 
-class Counts:
-    def __init__(self):
-        self.passed = self.failed = 0
-
-    def add(self, holds, what):
-        self.passed += holds
-        self.failed += not holds
-        if not holds:
-            print(f"FAILED: {what}")
-
-
 def memory64_flags(room):
     """The flags by which node takes a memory of 64-bit addresses."""
     with open(f"{room}/small.wasm", "wb") as it:
@@ -179,22 +170,21 @@ def after_calls(room, flags, module, count):
 
 
 def compare(counts, names, wanted, found):
-    """Compares what calls leave, function by function and address by address."""
     if isinstance(wanted, str) or isinstance(found, str):
-        counts.add(False, f"node: {wanted if isinstance(wanted, str) else found}")
+        counts.expect(f"node: {wanted if isinstance(wanted, str) else found}", False)
         return
     cases = [f"{name} at {address}" for name in names for address in ADDRESSES]
     for case, before, after in zip(cases, wanted, found, strict=True):
-        counts.add(before == after, f"{case}: {before} and then {after}")
+        counts.expect(f"{case}: {before} and then {after}", before == after)
     ended = {it[0] for it in wanted}
-    counts.add(ended == {"returned", "trapped"}, f"calls ended by {ended}")
+    counts.expect(f"calls ended by {ended}", ended == {"returned", "trapped"})
 
 
 def test_same(counts, room):
     """Each instruction, before and after its address is cut."""
     flags = memory64_flags(room)
     if flags is None:
-        counts.add(False, "node runs no memory of 64-bit addresses")
+        counts.expect("node runs no memory of 64-bit addresses", False)
         return
     names, codes = zip(*bodies())
     wide = module(codes)
@@ -203,7 +193,6 @@ def test_same(counts, room):
 
 
 def test_lanes(counts, room):
-    """Each instruction of a lane, after its address is cut."""
     names, codes, *how = zip(*lanes())
     wanted = [left_by_lane(*it, address) for it in zip(*how) for address in ADDRESSES]
     compare(counts, names, wanted, after_calls(room, [], step.lowered(module(codes)), len(codes)))
@@ -244,11 +233,11 @@ def test_refused(counts, room):
         words = [sys.executable, f"{TOP}/tools/targets/lower_addresses.py", f"{room}/unknown.wasm", f"{room}/made.wasm"]
         ran = subprocess.run(words, capture_output=True, text=True, check=False)
         is_refused = ran.returncode == 1 and part in ran.stderr and not os.path.exists(f"{room}/made.wasm")
-        counts.add(is_refused, f"{name}: status {ran.returncode}, {ran.stderr.strip()}")
+        counts.expect(f"{name}: status {ran.returncode}, {ran.stderr.strip()}", is_refused)
 
 
 def main():
-    counts = Counts()
+    counts = scripts.Counts()
     with tempfile.TemporaryDirectory() as room:
         if shutil.which("node"):
             test_same(counts, room)
@@ -256,9 +245,8 @@ def main():
         else:
             print("left out: instructions before and after their addresses are cut: no node")
         test_refused(counts, room)
-    print(f"{counts.passed} passed, {counts.failed} failed")
-    return 1 if counts.failed or not counts.passed else 0
+    counts.end()
 
 
 if __name__ == "__main__":
-    sys.exit(main())
+    main()

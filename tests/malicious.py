@@ -11,6 +11,7 @@ itself. A kind text that stands beside several is run once.
 BINARY is the built program; crates/dimacs/out/dimacs by default. With WORD only the cases run that have it in
 their name. refusals.c, which reports the most memory, is compiled with cc.
 """
+import functools
 import os
 import random
 import resource
@@ -18,9 +19,9 @@ import subprocess
 import sys
 import tempfile
 
-from instances import BINARY, max_text, text
-
-HERE = os.path.dirname(os.path.abspath(__file__))
+import scripts
+from instances import BINARY, Folder, max_text, text
+from refusals import build
 
 # How much more a malicious text may take than a kind one: of time, and of memory.
 LIMIT = (5, 5)
@@ -39,7 +40,6 @@ MOST = 134_217_728
 
 
 def near(count):
-    """The IDs from 1 on."""
     return list(range(1, count + 1))
 
 
@@ -58,7 +58,6 @@ def shuffled(items):
 
 
 def path(ids):
-    """The arcs from each node to the next."""
     return list(zip(ids, ids[1:]))
 
 
@@ -178,7 +177,6 @@ def max_cases(n):
 
 
 def min_cases(n):
-    """Cases of least cost."""
     ids = near(n)
     kind, wide, apart = min_path(ids, n), min_path(ids, MOST), min_path(far(n), MOST)
     yield "min: IDs far apart", "judge-min I S C", apart, wide, PAGES_LIMIT
@@ -194,7 +192,6 @@ def min_cases(n):
 
 
 def label_cases(n):
-    """Cases of distances."""
     words = "judge-paths I S C"
     ids = near(n)
     kind, wide, apart = distances([ids], n), distances([ids], MOST), distances([far(n)], MOST)
@@ -245,41 +242,22 @@ class Runner:
     """Runs the program, and measures it."""
 
     def __init__(self, binary, library):
-        self.binary = binary
-        self.library = library
-        self.known = {}
-
-    def measure_kind(self, words, texts):
-        """The same of a kind text, which several cases may have."""
-        key = words, *texts
-        if key not in self.known:
-            self.known[key] = self.measure(words, texts)
-        return self.known[key]
+        self.binary, self.library = binary, library
+        self.measure_kind = functools.cache(self.measure)  # of a kind text, which several cases may have
 
     def measure(self, words, texts):
         """The status of a run, its processor time in seconds, and the most memory that it held, in MB."""
-        with tempfile.TemporaryDirectory() as folder:
+        with tempfile.TemporaryDirectory() as place:
+            folder = Folder(place)
             for name, lines in zip("ISC", texts):
-                with open(os.path.join(folder, name), "w", encoding="ascii") as it:
-                    it.write(lines)
-            counts = os.path.join(folder, "counts")
-            before = resource.getrusage(resource.RUSAGE_CHILDREN)
-            ran = subprocess.run(
-                [self.binary, *words.split()],
-                stdout=subprocess.DEVNULL,
-                stderr=subprocess.DEVNULL,
-                env={"LD_PRELOAD": self.library, "COUNTS": counts},
-                cwd=folder,
-                preexec_fn=end_after_a_minute,
-                check=False,
-            )
-            after = resource.getrusage(resource.RUSAGE_CHILDREN)
-            peak = 0
-            if os.path.exists(counts):
-                with open(counts, encoding="ascii") as it:
-                    peak = int(it.read().split()[4]) / 1024
-        time = after.ru_utime + after.ru_stime - before.ru_utime - before.ru_stime
-        return ran.returncode, time, peak
+                folder.write(name, lines)
+            how = {"stdout": subprocess.DEVNULL, "stderr": subprocess.DEVNULL, "preexec_fn": end_after_a_minute}
+            how["env"] = {"LD_PRELOAD": self.library, "COUNTS": folder.path("counts")}
+            started = subprocess.Popen([self.binary, *words.split()], cwd=place, **how)
+            _, status, used = os.wait4(started.pid, 0)
+            started.returncode = os.waitstatus_to_exitcode(status)
+            peak = int(folder.read("counts").split()[4]) / 1024 if os.path.exists(folder.path("counts")) else 0
+        return started.returncode, used.ru_utime + used.ru_stime, peak
 
 
 def end_after_a_minute():
@@ -291,32 +269,23 @@ def main():
     binary = os.path.abspath(sys.argv[1] if len(sys.argv) > 1 else BINARY)
     count = int(sys.argv[2]) if len(sys.argv) > 2 else 100_000
     word = sys.argv[3] if len(sys.argv) > 3 else ""
-    passed = failed = 0
+    counts = scripts.Counts()
     with tempfile.TemporaryDirectory() as folder:
-        library = os.path.join(folder, "refusals.so")
-        source = os.path.join(HERE, "refusals.c")
-        subprocess.run(["cc", "-O2", "-shared", "-fPIC", "-o", library, source], check=True)
-        runner = Runner(binary, library)
+        runner = Runner(binary, build(folder))
         for cases in (max_cases, min_cases, label_cases):
             for name, words, texts, kind_texts, (most_time, most_memory) in cases(count):
                 if word not in name:
                     continue
                 status, time, peak = runner.measure(words, texts)
-                kind_status, kind_time, kind_peak = runner.measure_kind(words, kind_texts)
+                kind_status, kind_time, kind_peak = runner.measure_kind(words, tuple(kind_texts))
                 slower = (time + COARSE) / (kind_time + COARSE)
-                larger = peak / kind_peak
-                too_large = peak > most_memory * kind_peak + DIRECTORIES
-                fails = status != 0 or kind_status != 0 or slower > most_time or too_large
-                failed += fails
-                passed += not fails
-                print(
-                    f"{'FAILED: ' * fails}{name}: {time:.2f} s, kind {kind_time:.2f} s, {slower:.1f} times; "
-                    f"{peak:.0f} MB, kind {kind_peak:.0f} MB, {larger:.1f} times; status {status}",
-                    flush=True,
-                )
-    print(f"{passed} passed, {failed} failed")
-    return 1 if failed or not passed else 0
+                is_small = peak <= most_memory * kind_peak + DIRECTORIES
+                took = f"{time:.2f} s, kind {kind_time:.2f} s, {slower:.1f} times; {peak:.0f} MB, kind {kind_peak:.0f} MB"
+                print(f"{name}: {took}", flush=True)
+                is_so = status == kind_status == 0 and slower <= most_time and is_small
+                counts.expect(name, is_so, f"status {status}: {took}")
+    counts.end()
 
 
 if __name__ == "__main__":
-    sys.exit(main())
+    main()

@@ -13,14 +13,10 @@ import sys
 import tempfile
 
 import scripts
+from scripts import TOP, read
+from usage import usages
 
-TOP = os.path.join(os.path.dirname(os.path.abspath(__file__)), "..")
 PAGES = ["dimacs.1", "dimacs.5", "dimacs-batch.1", "dimacs-draw.1"]
-
-
-def read(name):
-    with open(os.path.join(TOP, name), encoding="utf-8") as it:
-        return it.read()
 
 
 def shown(text):
@@ -33,7 +29,7 @@ def shown(text):
 
 def wanted():
     """Yields what a page has to have: the page, what it is, and the words."""
-    for words in re.findall(r'\(\s*"([a-z][^"]*)",\s*"[^"]*",?\s*\)', read("crates/dimacs/src/usage.rt")):
+    for words in usages().values():
         yield "dimacs.1", "command", f"dimacs {words}"
     for status in re.findall(r"^  (\d)  ", read("crates/dimacs/src/usage.rt"), re.MULTILINE):
         yield "dimacs.1", "status", f" {status} "

@@ -6,7 +6,7 @@ minutes: over version 0.1.0 by `dpkg -i`, and by pip in a new environment beside
 last they are removed, installed again and purged. Without it, or if debootstrap isn't there or root doesn't run this, they
 are made again in other locales, zones and folders and compared, and unpacked into an empty folder. Then the program is
 asked for a verdict, and so is the library: by a program in C that is built by pkg-config, by one that is built by CMake,
-and from Python. The man pages are shown and words are completed. Of those for another machine the program, and that by
+and from Python. The man pages are shown and completions loaded. Of those for another machine the program, and that by
 pkg-config, are run under qemu, and the library of the wheel with the latter; those for Windows are read alone.
 
 What needs a tool that isn't there is left out, and named. The last line counts what passed and what failed.
@@ -25,7 +25,8 @@ import tarfile
 import tempfile
 import zipfile
 
-TOP = os.path.dirname(os.path.dirname(os.path.abspath(__file__)))
+from installed import Installed, put
+from scripts import TOP
 
 # What the empty Debian has beside its base.
 TOOLS = "python3,python3-venv,python3-numpy,gcc,libc6-dev,cmake,make,pkg-config,man-db,bash-completion"
@@ -70,32 +71,6 @@ HARDENED = {
     "stack": r"\n +GNU_STACK +(0x\w+ +){5}RW +",
 }
 
-MAX = "p max 3 3\nn 1 s\nn 3 t\na 1 2 4\na 2 3 2\na 1 3 1\n"
-FLOW = "s 3\nf 1 2 2\nf 1 3 1\nf 2 3 2\n"
-
-IN_C = """#include <dimacs.h>
-#include <stdio.h>
-#include <string.h>
-
-int main(void) {
-    const char *text = "p cut 4 1\\nu 1\\n";
-    uint8_t line[256];
-    size_t needed;
-    uint32_t status = dimacs_show(DIMACS_TEXT_CUT, (const uint8_t *)text, strlen(text), line, sizeof line, &needed);
-    printf("%.*s%s %s\\n", (int)needed, (char *)line, DIMACS_VERSION, dimacs_version() == DIMACS_VERSION_NUMBER ? "both" : "one");
-    return (int)status;
-}
-"""
-
-BY_CMAKE = """cmake_minimum_required(VERSION 3.13)
-project(shown C)
-find_package(dimacs {series} REQUIRED)
-add_executable(shown shown.c)
-target_link_libraries(shown dimacs::dimacs)
-add_executable(alone shown.c)
-target_link_libraries(alone dimacs::static)
-"""
-
 # A verdict of arrays, which are lists, or those of numpy.
 IN_PYTHON = """
 import dimacs
@@ -104,59 +79,23 @@ tails, heads, caps, flows = [{array}(it) for it in ([1, 2, 1], [2, 3, 3], [4, 2,
 print(dimacs.__version__, dimacs.certify_max_arrays(3, 1, 3, tails, heads, caps, flows).value)
 """
 
-# What bash offers after words.
-OFFERED = """
-. "$1"
-shift
-COMP_WORDS=("$@") COMP_CWORD=$(($# - 1)) COMP_LINE="$*" COMP_POINT=${#COMP_LINE}
-name=$(complete -p dimacs | sed 's/.*-F \\([^ ]*\\).*/\\1/')
-$name dimacs "${@: -1}" "${@: -2:1}"
-printf '%s\\n' "${COMPREPLY[@]}"
-"""
 
+class Packages(Installed):
+    """What is tested, and where it was unpacked: below /usr if `is_root` installs it."""
 
-class Packages:
-    """What is tested, where it was unpacked, and what came of it."""
-
-    def __init__(self, dist, place):
-        self.dist, self.place = dist, place
-        self.passed = self.failed = 0
-        self.usr = f"{place}/root/usr"
-        self.version = open(f"{TOP}/VERSION", encoding="ascii").read().strip()
+    def __init__(self, dist, place, is_root):
+        self.dist = dist
         self.system = self.only("dimacs-*-linux.tar.gz", r"-(\w+)-linux\.tar\.gz$") or "windows"
+        self.triplet = f"{self.system}-linux-gnu"
+        super().__init__(place, "/usr" if is_root else f"{place}/root/usr", self.triplet)
+        if is_root:
+            self.environment = {"HOME": place, "LANG": "C.UTF-8", "PATH": "/usr/sbin:/usr/bin:/sbin:/bin"}
+        else:
+            self.environment["MANPATH"] = f"{self.usr}/share/man"
+            self.environment["PYTHONPATH"] = f"{self.usr}/lib/python3/dist-packages"
         self.is_foreign = self.system != platform.machine()
-        triplet = f"{self.system}-linux-gnu"
-        self.by = [f"qemu-{self.system}", "-L", f"/usr/{triplet}"] if self.is_foreign else []
-        self.compiler = f"{triplet}-gcc" if self.is_foreign else "cc"
-        self.triplet = triplet
-        libraries = f"{self.usr}/lib/{triplet}"
-        paths = {"PKG_CONFIG_PATH": f"{libraries}/pkgconfig", "CMAKE_PREFIX_PATH": self.usr}
-        paths |= {"CMAKE_LIBRARY_ARCHITECTURE": triplet, "PYTHONPATH": f"{self.usr}/lib/python3/dist-packages"}
-        paths |= {"LD_LIBRARY_PATH": libraries, "PATH": f"{self.usr}/bin:/usr/bin:/bin"}
-        self.environment = {"HOME": place, "LANG": "C.UTF-8", "MANPATH": f"{self.usr}/share/man"} | paths
-
-    def run(self, *words, **more):
-        """Runs a command where nothing is set but what finds the packages."""
-        ran = subprocess.run(
-            words, cwd=self.place, env=self.environment, capture_output=True, text=True, check=False, **more
-        )
-        self.succeeded = ran.returncode == 0
-        self.message = f"$ {' '.join(words)}: status {ran.returncode}\n{ran.stdout}{ran.stderr}"
-        return ran.stdout + ran.stderr
-
-    def expect(self, name, is_so):
-        """Counts a test."""
-        self.passed += is_so
-        self.failed += not is_so
-        if not is_so:
-            print(f"{name} failed\n{self.message}", flush=True)
-
-    def has(self, name, *tools):
-        """Whether these tools are there. What needs them is left out else."""
-        lacking = [it for it in tools if not shutil.which(it, path=self.environment["PATH"])]
-        if lacking:
-            print(f"left out: {name}: no {', '.join(lacking)}", flush=True)
-        return not lacking
+        if self.is_foreign:
+            self.by, self.compiler = [f"qemu-{self.system}", "-L", f"/usr/{self.triplet}"], f"{self.triplet}-gcc"
 
     def only(self, pattern, part="(.*)"):
         """The one package whose name has this pattern, or a part of its name."""
@@ -165,14 +104,7 @@ class Packages:
         return re.search(part, found[0])[1] if len(found) == 1 else None
 
     def names(self):
-        """The names of all packages, and of the files beside them."""
         return sorted(it.name for it in os.scandir(self.dist) if it.is_file())
-
-
-def put(path, content):
-    content = content.encode() if isinstance(content, str) else content
-    with open(path, "wb") as it:
-        it.write(content)
 
 
 def test_sums(its):
@@ -306,7 +238,6 @@ def test_debian(its, is_root):
 def test_upgrade(its, packages):
     """Installs the packages over that of version 0.1.0, and once more over themselves."""
     for name, text in OLD.items():
-        os.makedirs(os.path.dirname(f"{its.place}/old/{name}"), exist_ok=True)
         put(f"{its.place}/old/{name}", text)
     its.run("sh", "-c", "dpkg-deb -b old old.deb && dpkg -i old.deb")
     its.expect("installing version 0.1.0", os.path.exists("/usr/lib/libdimacs.so.0.1.0"))
@@ -354,11 +285,8 @@ def test_package_for_python(its):
 
 
 def test_program(its, program):
-    """A verdict, and the version."""
-    output = its.run(*its.by, program, "certify-max", f"{its.place}/instance", f"{its.place}/flow")
-    its.expect("a verdict", output == "v max 3\n")
-    output = its.run(*its.by, program)
-    its.expect("the version of the program", f"dimacs {its.version} (proved by " in output)
+    its.test_program(program)
+    its.expect("the version of the program", f"dimacs {its.version} (proved by " in its.run(*its.by, program))
 
 
 def test_hardening(its):
@@ -372,51 +300,10 @@ def test_hardening(its):
         its.expect(f"no search path of {file}", not re.search("RPATH|RUNPATH|TEXTREL", its.message))
 
 
-def test_batch(its):
-    """A row with the verdict of one answer."""
-    if not os.path.exists(f"{its.usr}/bin/dimacs-batch"):
-        print("left out: dimacs-batch")
-        return
-    os.mkdir(f"{its.place}/answers")
-    for name, text in (("one.max", MAX), ("one.solution", FLOW)):
-        put(f"{its.place}/answers/{name}", text)
-    its.expect("dimacs-batch", ",v max 3,3," in its.run(f"{its.usr}/bin/dimacs-batch", "answers"))
-
-
-def test_draw(its):
-    """A picture with the verdict on one answer."""
-    drawn = its.run(f"{its.usr}/bin/dimacs-draw", f"{its.place}/instance", f"{its.place}/flow")
-    its.expect("dimacs-draw", drawn.startswith("<svg ") and "certify-max: v max 3" in drawn)
-
-
 def test_tarball(its):
-    """The program where the tarball is unpacked."""
     name = f"dimacs-{its.version}-{its.system}-linux"
     its.run("tar", "-xzf", f"{its.dist}/{name}.tar.gz")
     test_program(its, f"{its.place}/{name}/bin/dimacs")
-
-
-def test_pkg_config(its):
-    """A program in C that is built with the flags that pkg-config prints."""
-    if not its.has("C by pkg-config", its.compiler, "pkg-config"):
-        return
-    its.run("sh", "-c", f"{its.compiler} -o shown shown.c $(pkg-config --cflags --libs dimacs)")
-    its.expect("C by pkg-config", its.run(*its.by, "./shown") == f"i cut 4 1\n{its.version} both\n")
-    its.expect("the version of dimacs.pc", its.run("pkg-config", "--modversion", "dimacs") == f"{its.version}\n")
-
-
-def test_cmake(its):
-    """The same by find_package, with the shared library and with the other one."""
-    if not its.has("C by CMake", "cc", "cmake"):
-        return
-    put(f"{its.place}/CMakeLists.txt", BY_CMAKE.format(series=re.match(r"\d+\.\d+", its.version)[0]))
-    its.run("sh", "-c", "cmake -S . -B made && cmake --build made")
-    needed = its.message
-    for made in ("shown", "alone"):
-        is_built = os.path.exists(f"{its.place}/made/{made}")
-        is_so = is_built and its.run(f"made/{made}") == f"i cut 4 1\n{its.version} both\n"
-        its.message = its.message if is_built else needed
-        its.expect(f"C by CMake, {made}", is_so)
 
 
 def test_wheel(its):
@@ -446,11 +333,10 @@ def test_library_of_wheel(its):
     with zipfile.ZipFile(its.only("*.whl")) as it:
         put(f"{its.place}/libdimacs.so.0", it.read("dimacs/libdimacs.so"))
     its.environment["LD_LIBRARY_PATH"] = its.place
-    its.expect("C with the library of the wheel", its.run(*its.by, "./shown") == f"i cut 4 1\n{its.version} both\n")
+    its.expect_shown("C with the library of the wheel", "./shown")
 
 
 def test_man(its):
-    """The pages, if there are some."""
     if not os.path.isdir(f"{its.usr}/share/man") or not its.has("man pages", "man"):
         print("left out: man pages")
         return
@@ -460,34 +346,26 @@ def test_man(its):
 
 
 def test_completion(its):
-    """Words and kinds that bash offers, if there is completion."""
+    """That bash completes the words of dimacs, if there is completion. tests/completion.py tests which it offers."""
     script = f"{its.usr}/share/bash-completion/completions/dimacs"
     if not os.path.exists(script) or not its.has("completion", "bash"):
         print("left out: completion")
         return
-    offered = its.run("bash", "-c", OFFERED, "offered", script, "dimacs", "judge-").split()
-    its.expect("completion of words", {"judge-max", "judge-paths"} <= set(offered))
-    offered = its.run("bash", "-c", OFFERED, "offered", script, "dimacs", "convert", "").split()
-    its.expect("completion of kinds", {"max", "gr", "solution"} <= set(offered))
+    its.expect("completion", its.run("bash", "-c", f". {script} && complete -p dimacs").endswith(" dimacs\n"))
 
 
 def test_all(dist, is_root):
     """Tests the packages here; what passed and what failed."""
     with tempfile.TemporaryDirectory() as place:
-        its = Packages(dist, place)
+        its = Packages(dist, place, is_root)
         before = files_of_system() if is_root else None
-        if is_root:
-            its.usr, its.environment = "/usr", {"HOME": place, "LANG": "C.UTF-8", "PATH": "/usr/sbin:/usr/bin:/sbin:/bin"}
-        for name, text in (("instance", MAX), ("flow", FLOW), ("shown.c", IN_C)):
-            put(f"{place}/{name}", text)
         test_sums(its)
         test_contents(its)
         if not is_root:
             test_again(its)
         if its.system != "windows" and (not its.is_foreign or its.has(f"runs on {its.system}", its.by[0])):
             test_runs(its, before)
-    print(f"{its.passed} passed, {its.failed} failed")
-    return 1 if its.failed or not its.passed else 0
+    its.end()
 
 
 def test_runs(its, before):
@@ -497,13 +375,12 @@ def test_runs(its, before):
     test_program(its, f"{its.usr}/bin/dimacs")
     test_hardening(its)
     test_tarball(its)
-    test_pkg_config(its)
+    its.test_by_pkg_config()
     if its.is_foreign:
         test_library_of_wheel(its)
         return
-    test_batch(its)
-    test_draw(its)
-    test_cmake(its)
+    its.test_tools()
+    its.test_by_cmake()
     test_package_for_python(its)
     test_wheel(its)
     test_man(its)
@@ -536,7 +413,8 @@ def test_in_root(dist):
             return 1
         shutil.copytree(dist, f"{root}/packages/dist")
         os.mkdir(f"{root}/packages/tests")
-        shutil.copy(__file__, f"{root}/packages/tests")
+        for it in ("packages", "installed", "scripts"):
+            shutil.copy(f"{TOP}/tests/{it}.py", f"{root}/packages/tests")
         shutil.copy(f"{TOP}/VERSION", f"{root}/packages")
         words = ["unshare", "--mount", "sh", "-c", 'mount -t proc proc "$0/proc" && exec chroot "$0" "$@"', root]
         words += ["python3", "/packages/tests/packages.py", "/packages/dist", "--installed"]

@@ -13,8 +13,10 @@ import os
 import re
 import sys
 
-TOP = os.path.dirname(os.path.dirname(os.path.abspath(__file__)))
-sys.path.insert(0, os.path.join(TOP, "tools"))
+import scripts
+from scripts import TOP
+
+sys.path.insert(0, f"{TOP}/tools")
 sys.dont_write_bytecode = True
 import believed  # noqa: E402
 
@@ -42,17 +44,11 @@ Function = collections.namedtuple("Function", "crate type name clauses")
 Piece = collections.namedtuple("Piece", "line cells heads before")
 
 
-def text_of(path):
-    with open(os.path.join(TOP, path), encoding="utf-8") as it:
-        return it.read()
-
-
 def paths(pattern):
-    return sorted(glob.glob(os.path.join(TOP, pattern), recursive=True))
+    return sorted(os.path.relpath(it, TOP) for it in glob.glob(os.path.join(TOP, pattern), recursive=True))
 
 
 def functions_in(crate, text):
-    """The functions of a file of code."""
     block = function = None
     for line in text.split("\n"):
         around = re.match(r"(?:pub )?(?:impl|trait)\b(?:<.*?>)? ?(.*?) ?(?:where.*)?\{?$", line)
@@ -75,15 +71,14 @@ class Repository:
     def __init__(self):
         self.files, self.names, self.functions, self.aliases = {}, set(), [], {}
         for path in paths("crates/*/specs/**/*.antt"):
-            crate, _, inner = os.path.relpath(path, os.path.join(TOP, "crates")).partition("/specs/")
+            crate, _, inner = path.removeprefix("crates/").partition("/specs/")
             defined = believed.Definitions()
-            defined.read(path, "")
+            defined.read(os.path.join(TOP, path), "")
             names = {name for _, name in [*defined.blocks, *defined.rests_on]}
             self.files.setdefault((crate, os.path.basename(inner).removesuffix(".antt")), set()).update(names)
             self.names |= names
         for path in paths("crates/*/src/**/*.rt"):
-            crate = os.path.relpath(path, os.path.join(TOP, "crates")).partition("/")[0]
-            text = text_of(path)
+            crate, text = path.split("/")[1], scripts.read(path)
             self.functions += functions_in(crate, text)
             self.names |= set(re.findall(r"^ *(?:pub(?:\([^)]*\))? )?(?:struct|enum|trait|type|mod) (\w+)", text, re.M))
             self.names |= set(re.findall(r"^ *ghost (\w+):", text, re.M))
@@ -223,7 +218,7 @@ def changed(piece):
 
 def main():
     repository = Repository()
-    page = text_of(sys.argv[1] if len(sys.argv) > 1 else os.path.join(TOP, "docs/PROMISES.md"))
+    page = scripts.read([*sys.argv, "docs/PROMISES.md"][1])
     faults, passed = [*wrong_counts(page)], 0
     for piece in pieces(page):
         wrong = faults_of(repository, piece)
@@ -231,9 +226,8 @@ def main():
         faults += wrong + [f"{piece.line}: {name} may be changed" for name in unseen]
         passed += len(list(changed(piece))) - len(unseen)
     print("\n".join(faults), end="\n" if faults else "")
-    print(f"{passed} passed, {len(faults)} failed")
-    return 1 if faults or not passed else 0
+    scripts.finish(passed, len(faults))
 
 
 if __name__ == "__main__":
-    sys.exit(main())
+    main()

@@ -18,16 +18,16 @@ import subprocess
 import sys
 import tempfile
 
-from instances import BINARY, MEMORY
+import scripts
+from instances import BINARY, MEMORY, Folder
 from rows import rows
 from spoiled_texts import JUDGES, KINDS, judged_texts
 import referee  # the folder of which spoiled_texts.py adds to the path
 
-TOP = os.path.dirname(os.path.dirname(os.path.abspath(__file__)))
 WORKERS = 4
 
 # The judge in Coq.
-JUDGE = f"{TOP}/build/referee/judge"
+JUDGE = f"{scripts.TOP}/build/referee/judge"
 NEEDED = ["coqc", "ocamlfind", "flock"]
 
 # The judges in turn. Labels have the most places where they can fail.
@@ -99,10 +99,15 @@ def to_be_met():
     return list(dict.fromkeys(listed))
 
 
+class Texts(Folder):
+    """Texts with a character for each byte."""
+
+    encoding = ("latin-1",)
+
+
 def write(folder, texts):
     for name, text in texts.items():
-        with open(os.path.join(folder, name), "wb") as file:
-            file.write(text.encode("latin-1"))
+        Texts(folder).write(name, text)
 
 
 def second_judge():
@@ -111,12 +116,11 @@ def second_judge():
     if lacking:
         print(f"left out: the judge in Coq: there is no {' '.join(lacking)}")
         return None
-    subprocess.run(["make", "--no-print-directory", "referee"], cwd=TOP, check=True)
+    subprocess.run(["make", "--no-print-directory", "referee"], cwd=scripts.TOP, check=True)
     return JUDGE
 
 
 def answer(words, folder):
-    """The status of a run, and what it prints."""
     ran = subprocess.run(words, stdout=subprocess.PIPE, stderr=subprocess.STDOUT, cwd=folder, check=False)
     return ran.returncode, ran.stdout.decode("latin-1")
 
@@ -266,9 +270,8 @@ def main():
     failures = [failure for _, some in parts for failure in some]
     for failure in failures:
         print(f"FAILED: {failure}")
-    print(f"{sum(tests for tests, _ in parts) - len(failures)} passed, {len(failures)} failed")
-    return int(bool(failures))
+    scripts.finish(sum(tests for tests, _ in parts) - len(failures), len(failures))
 
 
 if __name__ == "__main__":
-    sys.exit(main())
+    main()

@@ -2,17 +2,16 @@
 """Refuses each growth, read, write and opening of a file in turn: tests/refusals.py [BINARY] [TESTS]
 
 Each run below is made again with its Nth growth of memory refused, N counting up until a run meets no refusal; the same
-with the Nth read, write and opening, and with reads and writes of one byte. Each run has to give its own answer, or
-the status and the complaint of its error, with the file, the call and the system's own reason: then nothing was written
-if a growth, a read or an opening failed, and a beginning of what was to be written if a write did. A call that signals
-interrupt, a hundred times in a row, is made again. Each run has to meet the calls that it can't do without: it opens
-each of its files, reads each byte, writes each byte, and takes memory for its words and files. Before each run the
-files that it writes hold an old text, longer than the new one.
+with the Nth read, write and opening; and of the first run of each command, and of each kind of text, with the Nth read
+and write of one byte. Each run has to give its own answer, or the status and the complaint of its error, with the file,
+the call and the system's own reason: then nothing was written if a growth, a read or an opening failed, and a beginning
+of what was to be written if a write did. A call that signals interrupt, a hundred times in a row, is made again. Each run
+has to meet the calls that it can't do without: it opens each of its files, reads each byte, writes each byte, and takes
+memory for its words and files. Before each run the files that it writes hold an old text, longer than the new one.
 
-Runs are made too with the standard devices closed: what is meant for these never lands in a file. What a pipe gave is
-explained without reading it again, and an argument that isn't UTF-8 names no run. Then texts are read that declare the
-greatest counts, which has to take as many growths, and of as many bytes, as the least ones do. Tiny texts with the
-greatest counts and IDs are judged and solved in little memory.
+Runs are made too with the standard devices closed: what is meant for these never lands in a file. Then texts are read
+that declare the greatest counts, which has to take as many growths, and of as many bytes, as the least ones do. Tiny
+texts with the greatest counts and IDs are judged and solved in little memory.
 
 BINARY is the built program, crates/dimacs/out/dimacs by default. TESTS is crates/dimacs_tests as `rt test` builds it:
 its tests of refused growths run with each growth refused. They are left out if neither is given and TESTS isn't there.
@@ -26,9 +25,9 @@ import re
 import subprocess
 import sys
 import tempfile
-import threading
 
-from instances import MEMORY
+import scripts
+from instances import MEMORY, Folder
 
 HERE = os.path.dirname(os.path.abspath(__file__))
 
@@ -153,19 +152,6 @@ GROWING = [
     ("solve-min long.unmet CLAIM SHOWN", 0, "v infeasible\n"),
     ("solve-paths long.gr long.query SHOWN", 0, "v sp ss 2\n"),
 ]
-
-# What judges the files of a run that made a claim or a certificate.
-JUDGES = {
-    "certify-max": "judge-max {instance} {query} SHOWN",
-    "certify-min": "judge-min {instance} {query} SHOWN",
-    "certify-infeasible": "judge-infeasible {instance} SHOWN",
-    "certify-paths": "judge-paths {instance} {sources} SHOWN",
-    "spread-max": "certify-max {instance} SHOWN",
-    "spread-min": "certify-min {instance} SHOWN",
-    "solve-max": "judge-max {instance} CLAIM SHOWN",
-    "solve-min": "judge-min {instance} CLAIM SHOWN",
-    "solve-paths": "judge-paths {instance} {query} SHOWN",
-}
 
 # Runs that create their file once its text is made.
 LATE = ("certify-", "spread-")
@@ -292,43 +278,32 @@ def long_texts():
     return {f"long.{name}": "".join(line + "\n" for line in lines) for name, lines in texts.items()}
 
 
-class Runs:
+class Runs(Folder):
     """Runs of the program over files in one folder, under the library that refuses calls."""
 
     def __init__(self, binary, library, folder):
-        self.binary = binary
-        self.library = library
-        self.folder = folder
-        self.runs = 0
+        super().__init__(folder)
+        self.binary, self.library, self.runs = binary, library, 0
 
     def path(self, name):
-        return os.path.join(self.folder, NAMES.get(name, name))
-
-    def write(self, name, text):
-        with open(self.path(name), "w", encoding="ascii") as it:
-            it.write(text)
-
-    def read(self, name):
-        with open(self.path(name), encoding="ascii") as it:
-            return it.read()
+        return super().path(NAMES.get(name, name))
 
     def made(self, name):
         """What a run wrote to a file; None if it left the old text."""
         text = self.read(name)
         return None if text == OLD else text
 
-    def run(self, words, variables):
-        """Runs the program with these variables."""
+    def run(self, words, variables=None, closed=""):
+        """Runs the program with these variables, or under no library, with these devices closed."""
         self.runs += 1
         for name in MADE:
             self.write(name, OLD)
-        env = {"LD_PRELOAD": self.library, "COUNTS": self.path("counts"), **variables}
-        named = [NAMES.get(word, word) for word in words.split()]
-        ran = subprocess.run(
-            [self.binary, *named], capture_output=True, env=env, cwd=self.folder, check=False
-        )
+        env = os.environ if closed else {"LD_PRELOAD": self.library, "COUNTS": self.path("counts"), **(variables or {})}
+        by_shell = ["sh", "-c", f'exec "$0" "$@" {closed}'] if closed else []
+        words = [*by_shell, self.binary, *(NAMES.get(word, word) for word in words.split())]
+        ran = subprocess.run(words, capture_output=True, env=env, cwd=self.folder, check=False)
         outputs = [*map(self.made, MADE), ran.stdout.decode("ascii")]
-        return Ran(ran.returncode, ran.stderr.decode(), outputs, *self.counted())
+        return Ran(ran.returncode, ran.stderr.decode(), outputs, *((None, None) if closed else self.counted()))
 
     def counted(self):
         """What the library counted in a run, and the call that it refused, if it did."""
@@ -337,35 +312,8 @@ class Runs:
         done, _, name = refused.removesuffix("\n").partition(" ")
         return Counts(*map(int, line.split())), Call(done, name) if done else None
 
-    def run_closed(self, words, closed):
-        """Runs the program with these devices closed, under no library."""
-        self.runs += 1
-        for name in MADE:
-            self.write(name, OLD)
-        named = [NAMES.get(word, word) for word in words.split()]
-        shell = ["sh", "-c", f'exec "$0" "$@" {closed}', self.binary, *named]
-        ran = subprocess.run(shell, capture_output=True, cwd=self.folder, check=False)
-        outputs = [*map(self.made, MADE), ran.stdout.decode("ascii")]
-        return Ran(ran.returncode, ran.stderr.decode(), outputs, None, None)
-
-
-class Cases:
-    """How many cases passed, and how many failed."""
-
-    def __init__(self):
-        self.passed = self.failed = 0
-
-    def count(self, faults):
-        """Counts a case, which fails if it has a fault, and prints these."""
-        found = list(faults)
-        for fault in found:
-            print(fault, flush=True)
-        self.failed += bool(found)
-        self.passed += not found
-
 
 def files_of(words):
-    """The words of a run that name its files."""
     command, *named = words.split(" --limit ")[0].split()
     return named[1:] if command in ("convert", "show") else named
 
@@ -433,6 +381,12 @@ def writes(words, printed):
 def may_pass_over(kind, words, call):
     """Whether the run may go on without this call: a growth, or the opening of what isn't one of its files."""
     return kind.call == "growth" or kind.call == "opening" and call.name not in names_of(words)
+
+
+def what_runs(words):
+    """The command of a run, the kind of text that it converts, and whether it names a file for a certificate."""
+    command, *named = words.split()
+    return command, named[0] if command == "convert" else "", "SHOWN" in named
 
 
 def names_of(words):
@@ -511,12 +465,11 @@ def unmet(runs, kind, words, whole, met, unchanged):
 
 def refuse_all(runs, words, status, printed, kinds):
     """Makes a run, and refuses its calls. Yields what is wrong."""
-    whole = runs.run(words, {})
+    whole = runs.run(words)
     faults = list(faults_of(whole, words, status, printed))
     yield from faults
     if faults:
         return
-    yield from judge_made(runs, words, whole)
     counts = []
     for kind in kinds:
         met, unchanged = yield from refuse_each(runs, words, whole, kind)
@@ -525,64 +478,15 @@ def refuse_all(runs, words, status, printed, kinds):
     print(f"{words}: {', '.join(counts)}", flush=True)
 
 
-def judge_made(runs, words, whole):
-    """Judges what a run made: a claim and a certificate, or a better claim than a refused one. Yields what is wrong."""
-    producer, instance, query = [*words.split(), ""][:3]
-    if producer not in JUDGES or not whole.outputs[1]:
-        return
-    sources = "long.query" if instance.startswith("long") else "source"
-    judge = JUDGES[producer].format(instance=instance, query=query, sources=sources)
-    if whole.outputs[-1] == "v infeasible\n":
-        judge = f"judge-infeasible {instance} SHOWN"
-    if whole.status == 1:
-        judge = f"{producer.replace('infeasible', 'min')} {instance} SHOWN"
-    for name, text in zip(MADE, whole.outputs):
-        runs.write(f"kept.{name}", text or "")
-        judge = judge.replace(name, f"kept.{name}")
-    judged = runs.run(judge, {})
-    wanted = whole.outputs[-1].replace("sp distances", "sp ss")
-    if producer.startswith("spread-"):
-        wanted = judged.outputs[-1]
-    if producer == "certify-infeasible" and whole.status == 1:
-        is_right = judged.status == 0 or judged.outputs[-1] == "x solution 1 2 NotLeast\n"
-    else:
-        is_right = judged.status == 0 and (whole.status == 1 or judged.outputs[-1] == wanted)
-    if not is_right:
-        yield f"dimacs {judge}: prints {judged.outputs[-1]!r} of what dimacs {words} made"
-
-
 def run_closed(runs, words, closed, status, error):
     """Makes a run with devices closed, which has to write to its files what it always does. Yields what is wrong."""
-    whole, ran = runs.run(words, {}), runs.run_closed(words, closed)
+    whole, ran = runs.run(words), runs.run(words, closed=closed)
     printed = "" if error else whole.outputs[-1]
     if (ran.status, ran.outputs) != (status, [*whole.outputs[:-1], printed]):
         yield f"dimacs {words} {closed}: status {ran.status}, writes {ran.outputs!r}"
     complaint = complaint_of(Call("written", "standard output"), error) if error and "2>&-" not in closed else ""
     if ran.complaint != complaint:
         yield f"dimacs {words} {closed}: complains {ran.complaint!r}"
-
-
-def explain_pipe(runs):
-    """Explains a refusal of what a pipe gave, which is empty the second time: its line is shown. Yields what is wrong."""
-    os.mkfifo(runs.path("pipe"))
-    threading.Thread(target=runs.write, args=("pipe", "p sp 1 1\ne 1 1 0\n")).start()
-    words = [runs.binary, *"explain show gr pipe".split()]
-    runs.runs += 1
-    try:
-        ran = subprocess.run(words, capture_output=True, text=True, cwd=runs.folder, timeout=20, check=False)
-    except subprocess.TimeoutExpired:
-        yield "dimacs explain show gr pipe: doesn't end"
-        return
-    if ran.returncode != 1 or not ran.stdout.startswith("x instance 2 1 UnknownLine\npipe:2: e 1 1 0\n"):
-        yield f"dimacs explain show gr pipe: status {ran.returncode}, prints {ran.stdout!r}"
-
-
-def give_bytes(runs):
-    """Gives an argument that isn't UTF-8. Yields what is wrong."""
-    runs.runs += 1
-    ran = subprocess.run([runs.binary, "show", "gr", b"\xff"], capture_output=True, cwd=runs.folder, check=False)
-    if ran.returncode != 2 or ran.stdout or not ran.stderr.startswith(NO_TEXT.encode()):
-        yield f"dimacs show gr \\xff: status {ran.returncode}, prints {ran.stdout!r} and {ran.stderr[:100]!r}"
 
 
 def miss(runs, call):
@@ -597,8 +501,8 @@ def declare(runs, kind, greatest, least):
     """Reads texts that declare the greatest counts and the least. Yields what is wrong."""
     runs.write("much", greatest)
     runs.write("less", least)
-    ran = runs.run(f"convert {kind} much", {})
-    wanted = runs.run(f"convert {kind} less", {})
+    ran = runs.run(f"convert {kind} much")
+    wanted = runs.run(f"convert {kind} less")
     if ran.status != 1 or ran.outputs != wanted.outputs:
         yield f"{greatest!r} prints {ran.outputs[-1]!r}, and {least!r} {wanted.outputs[-1]!r}"
     took, allowed = ((it.counts.growth, it.counts.bytes) for it in (ran, wanted))
@@ -611,7 +515,7 @@ def judge_far(runs, words, texts, printed):
     """Judges or solves tiny texts with the greatest IDs. Yields what is wrong."""
     for name, text in zip("ISC", texts):
         runs.write(name, text)
-    ran = runs.run(words, {})
+    ran = runs.run(words)
     if (ran.status, ran.outputs[-1]) != (0, printed):
         yield f"dimacs {words} of {texts[0]!r}: status {ran.status}, prints {ran.outputs[-1]!r}"
     if not 0 < ran.counts.peak <= FAR_PEAK:
@@ -620,7 +524,6 @@ def judge_far(runs, words, texts, printed):
 
 
 def tests_of(tests):
-    """The names of the tests that go on after a refused growth."""
     output = subprocess.run([tests, "--list"], capture_output=True, text=True, check=True).stdout
     names = (line.split(":  ")[0].rsplit(": ", 1)[0] for line in output.splitlines())
     return [name for name in names if name.startswith("refused_growths::")]
@@ -656,41 +559,38 @@ def main():
     binary = sys.argv[1] if len(sys.argv) > 1 else os.path.join(top, "crates/dimacs/out/dimacs")
     built = "crates/dimacs_tests/out/dimacs_tests_tests"
     tests = os.path.abspath(sys.argv[2] if len(sys.argv) > 2 else os.path.join(top, built))
-    cases = Cases()
+    cases = scripts.Counts()
     with tempfile.TemporaryDirectory() as built, tempfile.TemporaryDirectory(dir=MEMORY) as folder:
         runs = Runs(os.path.abspath(binary), build(built), folder)
         for name, text in {**TEXTS, **long_texts()}.items():
             runs.write(name, text)
+        by_byte = {what_runs(words): words for words, *_ in RUNS[::-1]}.values()
         for run in RUNS:
-            cases.count(refuse_all(runs, *run, KINDS))
-        for run in TWICE:
-            cases.count(refuse_all(runs, *run, KINDS[:3]))
-        for run in GROWING:
-            cases.count(refuse_all(runs, *run, KINDS[:1]))
+            cases.faultless(refuse_all(runs, *run, [it for it in KINDS if "AT_MOST" not in it.variables or run[0] in by_byte]))
+        for table, kinds in (TWICE, KINDS[:3]), (GROWING, KINDS[:1]):
+            for run in table:
+                cases.faultless(refuse_all(runs, *run, kinds))
         for closed in CLOSED:
-            cases.count(run_closed(runs, *closed))
-        cases.count(explain_pipe(runs))
-        cases.count(give_bytes(runs))
+            cases.faultless(run_closed(runs, *closed))
         for call in UNSEEN:
-            cases.count(miss(runs, call))
+            cases.faultless(miss(runs, call))
         for texts in DECLARED:
-            cases.count(declare(runs, *texts))
+            cases.faultless(declare(runs, *texts))
         for row in FAR.strip().splitlines():
             cells = [cell.strip().replace("MOST", MOST).replace(";", "\n") for cell in row.split("|")]
             words, *texts = [cells[0], *(f"{it}\n" for it in cells[1:])]
-            cases.count(judge_far(runs, words, texts[:-1], texts[-1]))
+            cases.faultless(judge_far(runs, words, texts[:-1], texts[-1]))
         if len(sys.argv) > 2 or os.path.exists(tests):
             names = tests_of(tests)
             if not names:
-                cases.count([f"{tests} has no test of refused growths"])
+                cases.faultless([f"{tests} has no test of refused growths"])
             for name in names:
-                cases.count(refuse_in_test(runs, tests, name))
+                cases.faultless(refuse_in_test(runs, tests, name))
         else:
             print(f"no {tests}: its tests aren't run")
     print(f"{runs.runs} runs")
-    print(f"{cases.passed} passed, {cases.failed} failed")
-    return 1 if cases.failed else 0
+    cases.end()
 
 
 if __name__ == "__main__":
-    sys.exit(main())
+    main()

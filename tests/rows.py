@@ -4,7 +4,7 @@
 Each file there is a table, and its first lines say what the cells of a row are. Cells stand between ` | `; in a cell `;`
 ends a line of a text, and `\\r`, `\\t` and `\\x0b` stand for bytes. The answers were worked out by hand.
 
-Each row is a run of the program over its texts, made four times: read and written in pieces of 1, 2 and 7 bytes, and as
+Each row is a run of the program over its texts, made three times: read and written in pieces of 1 and 7 bytes, and as
 the program does it. A canonical text is converted again. Where any right certificate will do, the judge has to accept
 it with the same verdict, and a better solution is certified in turn. The texts of three judges, cut off at each byte,
 are judged alike in pieces of 1 byte and whole. Where a text is refused, no byte after the fault is read. Commands have to
@@ -19,7 +19,8 @@ import subprocess
 import sys
 import tempfile
 
-from instances import BINARY, MEMORY
+import scripts
+from instances import BINARY, MEMORY, Folder
 from refusals import build
 
 HERE = os.path.dirname(os.path.abspath(__file__))
@@ -29,7 +30,7 @@ TEXTS = {"max": "instance", "min": "instance", "gr": "instance", "query": "query
 TEXTS |= {"cut": "certificate", "pot": "certificate", "dist": "certificate", "distances": "distances"}
 
 # The most bytes that a read or a write moves; None for no such limit.
-SIZES = [1, 2, 7, None]
+SIZES = [1, 7, None]
 
 # A flow's instance with so many nodes takes a second, and is read only as the program does.
 MOST_NODES = " 134217728 1"
@@ -92,29 +93,20 @@ def rows(table):
                 yield [unescaped(cell).replace(";", "\n") for cell in re.split(r" \|(?: |$)", line)]
 
 
-class Runs:
+class Runs(Folder):
     """Runs of the program over files of one folder."""
 
+    encoding = ("latin-1",)
+
     def __init__(self, binary, library, folder):
-        self.binary, self.library, self.folder = binary, library, folder
-        self.passed, self.failures = 0, []
-
-    def path(self, name):
-        return os.path.join(self.folder, name)
-
-    def write(self, name, text):
-        with open(self.path(name), "wb") as it:
-            it.write(text if isinstance(text, bytes) else text.encode("latin-1"))
+        super().__init__(folder)
+        self.binary, self.library = binary, library
+        self.counts = scripts.Counts()
 
     def read(self, name):
-        """The text of a file; an empty one if it isn't there."""
-        if not os.path.exists(self.path(name)):
-            return ""
-        with open(self.path(name), encoding="latin-1") as it:
-            return it.read()
+        return super().read(name) if os.path.exists(self.path(name)) else ""
 
     def run(self, words, size=None, **variables):
-        """The status of a run, and what it prints and complains of."""
         env = {"LD_PRELOAD": self.library, **variables, **({"AT_MOST": str(size)} if size else {})}
         ran = subprocess.run([self.binary, *words.split(" ")], capture_output=True, env=env, cwd=self.folder, check=False)
         return ran.returncode, ran.stdout.decode("latin-1"), ran.stderr.decode()
@@ -130,9 +122,7 @@ class Runs:
 
     def case(self, name, faults):
         """Counts a case, which fails if it has a fault."""
-        found = list(faults)
-        self.failures += [f"{name}: {it}" for it in found]
-        self.passed += not found
+        self.counts.faultless(f"{name}: {it}" for it in faults)
 
 
 def is_right(made, wanted):
@@ -366,17 +356,13 @@ def commands(runs):
 
 
 def main():
-    binary = os.path.abspath(sys.argv[1] if len(sys.argv) > 1 else BINARY)
+    binary = os.path.abspath([*sys.argv, BINARY][1])
     with tempfile.TemporaryDirectory() as built, tempfile.TemporaryDirectory(dir=MEMORY) as folder:
         runs = Runs(binary, build(built), folder)
         for part in (texts, judges, certifiers, solvers, commands):
             part(runs)
-    for failure in runs.failures:
-        print(f"FAILED: {failure}")
-    failed = len({it.split(": ")[0] for it in runs.failures})
-    print(f"{runs.passed} passed, {failed} failed")
-    return 1 if failed or not runs.passed else 0
+    runs.counts.end()
 
 
 if __name__ == "__main__":
-    sys.exit(main())
+    main()

@@ -24,22 +24,23 @@ nothing | 0      | tools/try_bodies.py --apply
 nothing | 0      | tools/believed.py
 nothing | 0      | tools/crate_tables.py --check
 nothing | 750    | tests/promises.py
+nothing | 400    | tests/links.py
 nothing | 13     | tests/theorem.py
 nothing | 40     | tests/completion.py
 nothing | 110    | tests/man_pages.py
-build   | 120000 | tests/library.py --build {build}
+build   | 7000   | tests/library.py --build {build} --instances 3000
 build   | 11400  | tests/referee.py {build}/dimacs
-build   | 106    | tests/refusals.py {build}/dimacs {tests}
-build   | 1900   | tests/explain.py {build}/dimacs
-build   | 40     | tests/malicious.py {build}/dimacs
-build   | 180    | tests/large_runs.py {build}/dimacs
-build   | 1028   | tests/rows.py {build}/dimacs
-build   | 3000   | tests/solve_min_trials.py 1500 1 {build}/dimacs
-build   | 650    | tests/draw.py {build}/dimacs
 build   | 51     | tests/batch.py {build}/dimacs
+build   | 150    | tests/large_runs.py {build}/dimacs
+build   | 40     | tests/malicious.py {build}/dimacs 50000
+build   | 105    | tests/refusals.py {build}/dimacs {tests}
+build   | 650    | tests/draw.py {build}/dimacs
+build   | 1028   | tests/rows.py {build}/dimacs
+build   | 1050   | tests/explain.py {build}/dimacs 80
+build   | 43     | tests/install.py {build}
+build   | 800    | tests/solve_min_trials.py 400 1 {build}/dimacs
 build   | 50     | tests/usage.py {build}/dimacs
 build   | 50     | tests/shown_runs.py {build}/dimacs
-build   | 43     | tests/install.py {build}
 build   | 28     | tests/abi.py {build}
 build   | 13     | tests/version.py {build}
 proved  | 6000   | tests/targets.py --build {build}
@@ -50,6 +51,11 @@ COUNTED = re.compile(r"^(\d+) passed, (\d+) failed\b[^\n]*\n?\Z", re.MULTILINE)
 
 Script = collections.namedtuple("Script", "needs least commands")
 Ran = collections.namedtuple("Ran", "name passed failed said")
+
+
+def read(name):
+    with open(f"{TOP}/{name}", encoding="utf-8") as it:
+        return it.read()
 
 
 def listed(*needs):
@@ -118,6 +124,28 @@ def run_all(jobs):
             passed, failed = passed + ran.passed, failed + ran.failed
             print(f"== {ran.name}: {ran.passed} passed, {ran.failed} failed", *ran.said, sep="\n", flush=True)
     return passed, failed
+
+
+class Counts:
+    """What passed and what failed of a script."""
+
+    def __init__(self):
+        self.passed = self.failed = 0
+
+    def expect(self, name, is_so, more=""):
+        """Counts a case, and names one that failed."""
+        self.passed += bool(is_so)
+        self.failed += not is_so
+        if not is_so:
+            print(f"FAILED: {name} {more}".rstrip(), flush=True)
+
+    def faultless(self, faults):
+        """Counts a case, which fails if it has a fault, and prints these."""
+        found = list(faults)
+        self.expect("\n".join(found), not found)
+
+    def end(self):
+        finish(self.passed, self.failed)
 
 
 def end_with(cases):

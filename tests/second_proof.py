@@ -9,10 +9,11 @@ import os
 import re
 import shutil
 import subprocess
-import sys
 import tempfile
 
-TOP = os.path.dirname(os.path.dirname(os.path.abspath(__file__)))
+import scripts
+from scripts import TOP
+
 BUILT = f"{TOP}/build/referee"
 NEEDED = ["coqc", "ocamlfind", "flock"]
 
@@ -40,8 +41,7 @@ def coqc(folder, file):
 
 def stated():
     """The text of second_proof.v, and the theorems that it states."""
-    with open(f"{TOP}/tests/second_proof.v", encoding="utf-8") as it:
-        text = it.read()
+    text = scripts.read("tests/second_proof.v")
     return text, [name for name in re.findall(r"^Check @?(\w+) :", text, re.MULTILINE) if name != "eq_refl"]
 
 
@@ -60,10 +60,9 @@ def wrong_in(folder):
 def unstated():
     """Yields each theorem of Judge.v and Canonical.v that isn't stated in second_proof.v."""
     for file in ("Judge", "Canonical"):
-        with open(f"{TOP}/referee/proof/{file}.v", encoding="utf-8") as it:
-            for name in re.findall(r"^Theorem (\w+)", it.read(), re.MULTILINE):
-                if name not in [*stated()[1], *HELPERS]:
-                    yield f"{name} isn't stated in second_proof.v"
+        for name in re.findall(r"^Theorem (\w+)", scripts.read(f"referee/proof/{file}.v"), re.MULTILINE):
+            if name not in [*stated()[1], *HELPERS]:
+                yield f"{name} isn't stated in second_proof.v"
 
 
 # Theorems that only serve others.
@@ -81,8 +80,7 @@ def unfound(wanted, edits):
     """Yields how an edit of Judge.v fails to be found wrong, for this reason."""
     with tempfile.TemporaryDirectory() as folder:
         link_built(folder, "Judge.vo")
-        with open(f"{TOP}/referee/proof/Judge.v", encoding="utf-8") as it:
-            text = it.read()
+        text = scripts.read("referee/proof/Judge.v")
         for old, new in edits:
             if text.count(old) != 1:
                 yield f"{old!r} stands {text.count(old)} times"
@@ -97,12 +95,12 @@ def unfound(wanted, edits):
 def main():
     lacking = [it for it in NEEDED if not shutil.which(it)]
     if lacking:
-        print(f"left out: the judge in Coq: there is no {' '.join(lacking)}\n1 passed, 0 failed")
-        return 0
+        print(f"left out: the judge in Coq: there is no {' '.join(lacking)}")
+        scripts.finish(1, 0)
     ran = subprocess.run(["make", "--no-print-directory", "referee"], cwd=TOP, capture_output=True, text=True, check=False)
     if ran.returncode:
-        print(f"{ran.stdout}{ran.stderr}FAILED: the proofs aren't accepted\n0 passed, 1 failed")
-        return 1
+        print(f"{ran.stdout}{ran.stderr}FAILED: the proofs aren't accepted")
+        scripts.finish(0, 1)
     with tempfile.TemporaryDirectory() as folder:
         link_built(folder)
         failures = [*wrong_in(folder), *unstated()]
@@ -111,9 +109,8 @@ def main():
     for it in failures:
         print(f"FAILED: {it}")
     tests = len(stated()[1]) + len(SPOILED) + 1
-    print(f"{max(tests - len(failures), 0)} passed, {len(failures)} failed")
-    return int(bool(failures))
+    scripts.finish(max(tests - len(failures), 0), len(failures))
 
 
 if __name__ == "__main__":
-    sys.exit(main())
+    main()

@@ -26,9 +26,10 @@ import subprocess
 import sys
 import tempfile
 
+import scripts
 import usage
+from scripts import TOP
 
-TOP = os.path.dirname(os.path.dirname(os.path.abspath(__file__)))
 TEST, JS = f"{TOP}/lib/test", f"{TOP}/tests/js"
 PROVED = b"rattle logic="
 QEMU = ["qemu-aarch64", "-L", "/usr/aarch64-linux-gnu"]
@@ -37,33 +38,25 @@ WARN = ["-O1", "-Wall", "-Wextra", "-Werror", f"-I{TOP}/lib/include"]
 
 
 def run(*words, **how):
-    """Runs a command and keeps its output."""
     return subprocess.run(words, capture_output=True, text=True, errors="replace", check=False, **how)
 
 
-class Tests:
+class Tests(scripts.Counts):
     """What is tested, and what passed and failed of it."""
 
     def __init__(self, build, is_all, room):
+        super().__init__()
         self.build, self.is_all, self.room = build, is_all, room
-        self.passed = self.failed = 0
-
-    def add(self, name, passed, failed, output=""):
-        self.passed += passed
-        self.failed += failed
-        if failed:
-            print(f"== {name}\n{output.strip()[-3000:]}", flush=True)
 
     def counted(self, name, ran):
         """Adds a run that ends with a line of counts. One without it has failed."""
-        line = re.search(r"^(\d+) passed, (\d+) failed\n?\Z", ran.stdout, re.MULTILINE)
-        passed, failed = map(int, line.groups()) if line else (0, 1)
-        self.add(name, passed, max(failed, int(ran.returncode != 0)), ran.stdout + ran.stderr)
+        added = scripts.counted(name, 1, ran.returncode, ran.stdout)
+        self.passed += added.passed
+        self.failed += added.failed
+        print(*added.said, ran.stderr[-3000:] if added.failed else "", sep="\n", end="")
 
     def ended(self, name, ran, holds=True):
-        """Adds a run whose status is 0 if it passes."""
-        is_fine = ran.returncode == 0 and holds
-        self.add(name, int(is_fine), int(not is_fine), ran.stdout + ran.stderr)
+        self.expect(name, ran.returncode == 0 and holds, (ran.stdout + ran.stderr).strip()[-3000:])
 
     def made(self, *names):
         """Whether make built these files of the folder."""
@@ -71,7 +64,7 @@ class Tests:
         unproved = ["UNPROVED=1"] if os.path.basename(self.build) == "quick" else []
         ran = run("make", "--no-print-directory", *unproved, *files, cwd=TOP)
         if ran.returncode:
-            self.add(f"make {' '.join(files)}", 0, 1, ran.stdout + ran.stderr)
+            self.ended(f"make {' '.join(files)}", ran)
         return ran.returncode == 0
 
 
@@ -152,7 +145,6 @@ def use_package(tests, place, command):
 
 
 def examples():
-    """The examples by their kinds."""
     found = {}
     for path in sorted(glob.glob(f"{TOP}/examples/*.*")):
         found.setdefault(path.rpartition(".")[2], []).append(f"examples/{os.path.basename(path)}")
@@ -175,12 +167,9 @@ def runs_over_examples():
     return found
 
 
-# What no example shows: a line for each, with the words of the command.
+# What no example shows, and no words of tests/usage.py: a line for each, with the words of the command.
 SPECIAL = """
 
-frobnicate
-show gr
-show graph examples/road.gr
 convert gr examples/missing.gr
 convert gr examples
 certify-max examples/pipes.max examples/pipes.solution
@@ -193,16 +182,11 @@ judge-max examples/pipes.max examples examples/pipes.cut
 judge-infeasible examples/shortage.min examples
 solve-max examples/pipes.max out cut --limit 0
 solve-max examples/pipes.max out cut --limit +1000
-solve-max examples/pipes.max out cut --limit 1000000001
-solve-max examples/pipes.max out cut --limit -1
-solve-max examples/pipes.max out cut --limit
 solve-min examples/freight.min out pot --limit 2
 solve-min examples/freight.min out out
 solve-max examples/missing.max out cut
 solve-max examples/pipes.max out missing/cut
-solve-paths examples/road.gr examples/road.query labels --limit 5
 help show gr
---help show
 solv-max
 slove-max
 show idst examples/road.dist
@@ -210,9 +194,6 @@ show POTS examples/road.dist
 help constructor
 solve-max --limit --limit 5
 solve-max examples/pipes.max out cut --limit --limit 5
-judge-max --limit 5
-certify-max
-explain
 explain explain
 explain convert gr examples/road-faulty.gr
 explain judge-max examples/pipes.max examples/pipes.solution examples/pipes.cut
@@ -258,7 +239,7 @@ def compare_commands(tests, name, words, likened=lambda text: text):
     def compare(arguments, **outputs):
         ran = [outcome([*it, *arguments], tests.room, **outputs) for it in ([f"{tests.build}/dimacs"], words)]
         wanted, found = ((status, likened(out), likened(told), files) for status, out, told, files in ran)
-        tests.add(f"{name} {arguments}", int(found == wanted), int(found != wanted), f"{found}\nand not {wanted}")
+        tests.expect(f"{name} {arguments}", found == wanted, f"{found}\nand not {wanted}")
 
     words_alone = [*map(str.split, helped), *wrong, ["show", "gr", "two\nlines"], SPREAD_OUT]
     for it in [*over_examples[::every], *special, *words_alone]:
@@ -283,7 +264,7 @@ def test_command(tests):
         environment = {**os.environ, "DIMACS_WASM": module}
         ran = run(*command, "show", "gr", f"{TOP}/examples/road.gr", env=environment)
         is_fine = ran.returncode == 4 and re.fullmatch(r"dimacs: .+\n", ran.stderr) and not ran.stdout
-        tests.add(f"npx dimacs over {module}", int(bool(is_fine)), int(not is_fine), ran.stderr)
+        tests.expect(f"npx dimacs over {module}", is_fine, ran.stderr)
 
 
 # ---- the page
@@ -298,12 +279,11 @@ def test_page(tests):
 
 def test_reasons(tests):
     """The page knows what each reason of the page on judging says of a claim."""
-    with open(f"{TOP}/lib/page/kinds.js", encoding="utf-8") as it:
-        found = set(" ".join(re.findall(r'^    \w+: "([A-Z][\w ]+)"', it.read(), re.MULTILINE)).split())
-    with open(f"{TOP}/docs/JUDGING.md", encoding="utf-8") as it:
-        rows = re.search(r"## What a refusal means\n\n.*\n.*\n((?:\|.*\n)+)\n", it.read())[1]
+    kinds = scripts.read("lib/page/kinds.js")
+    found = set(" ".join(re.findall(r'^    \w+: "([A-Z][\w ]+)"', kinds, re.MULTILINE)).split())
+    rows = re.search(r"## What a refusal means\n\n.*\n.*\n((?:\|.*\n)+)\n", scripts.read("docs/JUDGING.md"))[1]
     wanted = set(re.findall(r"[A-Z]\w+", "".join(row.split("|")[1] for row in rows.split("\n") if row)))
-    tests.add("the reasons", int(wanted == found), int(wanted != found), f"{wanted ^ found}")
+    tests.expect("the reasons", wanted == found, f"{wanted ^ found}")
 
 
 def test_firefox(tests):
@@ -405,9 +385,8 @@ def main():
             test(tests)
         print(f"{name}: {tests.passed} passed, {tests.failed} failed", flush=True)
         passed, failed = passed + tests.passed, failed + tests.failed
-    print(f"{passed} passed, {failed} failed")
-    return 1 if failed or not passed else 0
+    scripts.finish(passed, failed)
 
 
 if __name__ == "__main__":
-    sys.exit(main())
+    main()

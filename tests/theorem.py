@@ -4,11 +4,11 @@
 The page has to be what tools/theorem.py makes, with nothing that this finds wrong. And it has to find what is wrong in
 spoiled texts of the page. To lay out a definition in fewer lines leaves its words as they are. It needs no program.
 """
-import os
 import sys
 
-TOP = os.path.dirname(os.path.dirname(os.path.abspath(__file__)))
-sys.path.insert(0, os.path.join(TOP, "tools"))
+import scripts
+
+sys.path.insert(0, f"{scripts.TOP}/tools")
 import theorem  # noqa: E402
 
 # What is replaced in the text of the page, by what, and what has to be found wrong.
@@ -29,7 +29,6 @@ SPOILED = [
 
 
 def found_in(frame):
-    """What is found wrong with the page of this text."""
     return theorem.build(frame).wrong
 
 
@@ -56,10 +55,8 @@ def main():
         if old not in frame or expected not in found_in(frame.replace(old, new, 1)):
             wrong.append(f"not found: {expected}")
     print("\n".join(wrong), end="\n" if wrong else "")
-    tests = 3 + len(SPOILED)
-    print(f"{tests - min(len(wrong), tests)} passed, {len(wrong)} failed")
-    return 1 if wrong else 0
+    scripts.finish(3 + len(SPOILED) - min(len(wrong), 3 + len(SPOILED)), len(wrong))
 
 
 if __name__ == "__main__":
-    sys.exit(main())
+    main()

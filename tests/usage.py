@@ -11,10 +11,7 @@ import subprocess
 import sys
 
 import scripts
-
 from instances import BINARY
-
-TOP = os.path.join(os.path.dirname(os.path.abspath(__file__)), "..")
 
 VERSION = r"dimacs \d+\.\d+\.\d+\S* \((?:not proved|proved by .*)\)\n"
 WHOLE = VERSION + r"Reads, .*\n\nUsage: dimacs COMMAND FILE\.\.\.\n\nCommands:\n  convert KIND FILE .*"
@@ -66,8 +63,7 @@ WRONG = [
 
 def usages():
     """The words of each command in the table of usage.rt, by its name."""
-    with open(f"{TOP}/crates/dimacs/src/usage.rt", encoding="utf-8") as it:
-        words = re.findall(r'\(\s*"([a-z][^"]*)",\s*"[^"]*",?\s*\)', it.read())
+    words = re.findall(r'\(\s*"([a-z][^"]*)",\s*"[^"]*",?\s*\)', scripts.read("crates/dimacs/src/usage.rt"))
     return {it.split()[0]: it for it in words}
 
 
@@ -86,7 +82,6 @@ def is_like(text, pattern):
 
 
 def is_narrow(text):
-    """Whether a text fits into 80 columns."""
     return all(len(line) <= 80 for line in text.split("\n"))
 
 

@@ -1,7 +1,7 @@
 #!/usr/bin/env python3
 """Tests that the version is the same everywhere as in the file VERSION: tests/version.py [BUILD]
 
-The program and the library have to say too whether they are proved, and by which kit. BUILD is the folder of the two;
+The program and the library have to say too whether they are proved, and by a kit of which logic. BUILD is the folder of the two;
 build if none is given. The last line counts what agreed and what didn't.
 """
 import ctypes
@@ -12,34 +12,27 @@ import subprocess
 import sys
 
 import scripts
-
-TOP = os.path.dirname(os.path.dirname(os.path.abspath(__file__)))
+from scripts import TOP, read
 
 # What tools/quick_build.py leaves in what it builds.
 UNPROVED = b"dimacs: not proved"
 
 
-def read(name):
-    with open(f"{TOP}/{name}", encoding="utf-8") as it:
-        return it.read()
-
-
 def parts(version):
-    """The three numbers of a version."""
     return version.partition("-")[0].split(".")
 
 
 def number(version):
-    """The version as one number."""
     first, second, third = map(int, parts(version))
     return 10000 * first + 100 * second + third
 
 
-def kit():
-    """The line by which a kit is known: that of the one here, or of the sources."""
+def logic():
+    """The logic of the kit here, or the one that the sources name."""
+    line = read("crates/dimacs_runs/src/build.rt")
     if shutil.which("rt"):
-        return subprocess.run(["rt", "version"], capture_output=True, text=True, check=True).stdout.strip()
-    return re.search(r"\(proved by (.*)\)", read("crates/dimacs_runs/src/build.rt"))[1]
+        line = subprocess.run(["rt", "version"], capture_output=True, text=True, check=True).stdout
+    return re.search(r"logic [0-9a-f]+", line)[0]
 
 
 def is_proved(file):
@@ -49,7 +42,7 @@ def is_proved(file):
 
 def full(version, file):
     """What a file that was built has to say of itself."""
-    return f"{version} (proved by {kit()})" if is_proved(file) else f"{version} (not proved)"
+    return f"{version} (proved by Rattle, {logic()})" if is_proved(file) else f"{version} (not proved)"
 
 
 def of_program(program, wanted):
@@ -81,7 +74,6 @@ def of_python(file, wanted):
 
 
 def of_files(wanted):
-    """Yields what files name."""
     header = dict(re.findall(r"^#define DIMACS_VERSION(\w*) ([\w\-.\"]+)$", read("lib/include/dimacs.h"), re.MULTILINE))
     numbers = dict(zip(("_MAJOR", "_MINOR", "_PATCH"), parts(wanted)))
     yield "dimacs.h", header, {"": f'"{wanted}"', **numbers}

@@ -22,9 +22,10 @@ import os
 import re
 import sys
 
+from texts import TOP as ROOT, read
+
 # the limits all stand in one file
 KEPT = ["Limits.antt"]
-ROOT = os.path.dirname(os.path.dirname(os.path.abspath(__file__)))
 WORD = re.compile(r"[^\s(){}\[\],.;:]+")
 STARTS = re.compile(r"(?:  )?(?:(?:abbrev|unfoldable|opaque|inductive|data|record|def) pub|pub (?:record|data|abbrev|inductive)|record|data) (\S+)")
 
@@ -84,7 +85,7 @@ class Definitions:
         self.files = {}
 
     def read(self, path, module):
-        text = open(path, encoding="utf-8").read()
+        text = read(path)
         named = imports(text)
         lines = text.split("\n")
         blocks, name, held = {}, None, []
@@ -118,14 +119,13 @@ class Definitions:
 def exported(crate):
     """The names that the lib.rt of a crate exports; a program has none."""
     path = f"{crate}/src/lib.rt"
-    text = open(path, encoding="utf-8").read() if os.path.exists(path) else ""
+    text = read(path) if os.path.exists(path) else ""
     return set(re.findall(r"\w+", " ".join(re.findall(r"^pub use ([^;]*);", text, re.M))))
 
 
 def items_of(crate):
-    """The items of all code of a crate, without comments."""
     for path in code_of(crate):
-        yield from ITEM.split(re.sub(r"//.*", "", open(path, encoding="utf-8").read()))
+        yield from ITEM.split(re.sub(r"//.*", "", read(path)))
 
 
 def signatures(item):
@@ -153,7 +153,7 @@ def hidden_in(crate):
 def public_clauses(path):
     """The imports of a file of code, and the clauses of each public function in it and of what its types stand for. The
     head of the trait or impl that a public function stands in names nothing hidden."""
-    text = open(path, encoding="utf-8").read()
+    text = read(path)
     found, name, is_public, inside, open_braces, open_ghost = {}, "", False, False, 0, 0
     hidden = hidden_in(path.partition("/src/")[0])
     block = ""
@@ -185,12 +185,10 @@ def crates():
 
 
 def code_of(crate):
-    """The files of code of a crate."""
     return sorted(glob.glob(f"{crate}/src/**/*.rt", recursive=True))
 
 
 def sources():
-    """The files of code of these crates."""
     return [path for crate in crates() for path in code_of(crate)]
 
 
@@ -216,10 +214,9 @@ def named_by_all():
 
 
 def traits():
-    """The text and the imports of each public trait, by its name."""
     found = {}
     for path in sources():
-        text = open(path, encoding="utf-8").read()
+        text = read(path)
         for name, block in re.findall(r"^pub trait (\w+)(.*?^})", text, re.M | re.S):
             found[name] = block, imports(text)
     return found
@@ -242,7 +239,7 @@ def named_by(path, name):
     """The definitions that the clauses of this public function name, and the laws of the traits that it is generic over."""
     path = f"{ROOT}/crates/{path}"
     named, clauses = public_clauses(path)
-    bounds = re.search(rf"fn {name}<(.*?)>\(", open(path, encoding="utf-8").read(), re.S)
+    bounds = re.search(rf"fn {name}<(.*?)>\(", read(path), re.S)
     return named_in("\n".join(clauses[name]), named, []) | named_by_laws(bounds[1] if bounds else "", traits())
 
 

@@ -1,80 +1,74 @@
 #!/usr/bin/env python3
 """Makes the completions for bash, zsh and fish: tools/completions.py OUT
 
-They are made of the table of commands in crates/dimacs/src/usage.rt, and of the parsers of dimacs-batch and dimacs-draw. At
-the place of a file those with the ending of its kind come first; others are offered where there is none.
+Each is a text below, whose parts between @ are made of the table of commands in crates/dimacs/src/usage.rt, and of the
+parsers of dimacs-batch and dimacs-draw. At the place of a file those with the ending of its kind come first; others are
+offered where there is none.
 """
 import argparse
 import os
 import re
 import sys
 
-TOP = os.path.dirname(os.path.dirname(os.path.abspath(__file__)))
-sys.path.insert(0, f"{TOP}/tools")
 sys.dont_write_bytecode = True
-import dimacs_batch.options  # noqa: E402  (the folder isn't a package of this one)
+import dimacs_batch.options  # noqa: E402  (after it, so that nothing lies beside the modules)
 import dimacs_draw.options  # noqa: E402
+import texts  # noqa: E402
 
-# The endings of the files that arguments name; those of an instance and a certificate depend on the command.
-ENDINGS = {"GRAPH": "gr", "QUERY": "query ss p2p", "SOLUTION": "solution sol", "OUT": "solution sol", "CUT": "cut"}
-ENDINGS |= {"POTENTIALS": "pot", "LABELS": "dist", "DISTANCES": "distances"}
+# What stands in the place of an argument: words after =, endings of files, or KIND, that of the kind before it. What an
+# instance and a certificate end in depends on the command.
+OFFERED = {"COMMAND": "=COMMANDS", "KIND": "=KINDS", "--limit": "=--limit", "FILE": "KIND", "GRAPH": "gr"}
+OFFERED |= {"QUERY": "query ss p2p", "SOLUTION": "solution sol", "OUT": "solution sol", "CUT": "cut"}
+OFFERED |= {"POTENTIALS": "pot", "LABELS": "dist", "DISTANCES": "distances"}
+OF_COMMANDS = {"certify-max CERTIFICATE": "cut", "certify-min CERTIFICATE": "pot"}
 
 BASH = """# Completes the words of dimacs, dimacs-batch and dimacs-draw in bash: tools/completions.py makes this file.
 
-# Offers the files with one of these endings, and folders; all files where there is none: _dimacs_files WORD ENDINGS
-_dimacs_files() {
-    local extglob
-    extglob=$(shopt -p extglob)
-    shopt -s extglob
-    mapfile -t COMPREPLY < <(compgen -f -X "!*.@(${2// /|})" -- "$1"; compgen -d -- "$1")
-    $extglob
-    ((${#COMPREPLY[@]})) || mapfile -t COMPREPLY < <(compgen -f -- "$1")
-    compopt -o filenames 2>/dev/null
-}
-
-# What stands in a place after a command: words after =, or endings of files.
-_dimacs_place() {
-    case $1:$2 in
-@PLACES@
-    esac
-}
-
-_dimacs() {
-    local word=${COMP_WORDS[COMP_CWORD]} at=1 place
-    COMPREPLY=()
-    ((COMP_CWORD > 1)) && [[ ${COMP_WORDS[1]} == explain ]] && at=2
-    if ((COMP_CWORD == at)); then
-        place='=@COMMANDS@'
-        ((at > 1)) || place+=' explain help'
-        [[ $word != -* ]] || place='=--help --version'
-    else
-        place=$(_dimacs_place "${COMP_WORDS[at]}" $((COMP_CWORD - at)))
-        [[ $place != KIND ]] || place=${COMP_WORDS[at + 1]}
-    fi
-    case $place in
+# Offers words after =, or the files with one of some endings, and folders; all files where there is none, or for FILES.
+_dimacs_offer() {
+    local word=${COMP_WORDS[COMP_CWORD]} ending
+    case $1 in
         '') ;;
-        =*) mapfile -t COMPREPLY < <(compgen -W "${place#=}" -- "$word") ;;
-        *) _dimacs_files "$word" "$place" ;;
-    esac
-}
-
-# Offers options, what some of them take, and files: _dimacs_options OPTIONS
-_dimacs_options() {
-    local word=${COMP_WORDS[COMP_CWORD]}
-    COMPREPLY=()
-    case ${COMP_WORDS[0]##*/}:${COMP_WORDS[COMP_CWORD - 1]} in
-@TAKEN@
-        *) [[ $word != -* ]] || mapfile -t COMPREPLY < <(compgen -W "$1" -- "$word")
-            [[ $word == -* ]] || mapfile -t COMPREPLY < <(compgen -f -- "$word")
+        =*) mapfile -t COMPREPLY < <(compgen -W "${1#=}" -- "$word")
+            [[ $1 != *= ]] || compopt -o nospace 2>/dev/null ;;
+        *) [[ $1 == FILES ]] || mapfile -t COMPREPLY < <(
+                for ending in $1; do compgen -f -X "!*.$ending" -- "$word"; done
+                compgen -d -- "$word"
+            )
+            ((${#COMPREPLY[@]})) || mapfile -t COMPREPLY < <(compgen -f -- "$word")
             compopt -o filenames 2>/dev/null ;;
     esac
 }
 
-_dimacs_batch() { _dimacs_options '@BATCH@'; }
-_dimacs_draw() { _dimacs_options '@DRAW@'; }
+_dimacs() {
+    local at=1 place commands='@COMMANDS@'
+    COMPREPLY=()
+    ((COMP_CWORD == 1)) || [[ ${COMP_WORDS[1]} != explain ]] || at=2
+    case ${COMP_WORDS[at]}:$((COMP_CWORD - at)) in
+        -*:0) place='=--help --version' ;;
+        *:0) place="=$commands" && ((at > 1)) || place+=' explain help' ;;
+@PLACES@
+    esac
+    case $place in
+        KIND) place=${COMP_WORDS[at + 1]} ;;
+        =KINDS) place='=@KINDS@' ;;
+        =COMMANDS) place="=$commands explain help" ;;
+    esac
+    _dimacs_offer "$place"
+}
+
+_dimacs_tool() {
+    COMPREPLY=()
+    case ${COMP_WORDS[0]##*/}:${COMP_WORDS[COMP_CWORD - 1]}:${COMP_WORDS[COMP_CWORD]} in
+@TAKEN@
+        dimacs-batch:*:-*) _dimacs_offer '=@BATCH@' ;;
+        dimacs-draw:*:-*) _dimacs_offer '=@DRAW@' ;;
+        *) _dimacs_offer FILES ;;
+    esac
+}
+
 complete -F _dimacs dimacs
-complete -F _dimacs_batch dimacs-batch
-complete -F _dimacs_draw dimacs-draw
+complete -F _dimacs_tool dimacs-batch dimacs-draw
 """
 
 ZSH = """#compdef dimacs dimacs-batch dimacs-draw
@@ -83,22 +77,13 @@ ZSH = """#compdef dimacs dimacs-batch dimacs-draw
 _dimacs() {
     local -a commands others kinds
     local at=2 place
-    commands=(
-@COMMANDS@
-    )
-    others=(
-@OTHERS@
-    )
-    kinds=(
-@KINDS@
-    )
+    commands=(@DESCRIBED@)
+    others=(@OTHERS@)
+    kinds=(@DESCRIBED_KINDS@)
     if ((CURRENT > 2)) && [[ $words[2] == explain ]]; then at=3; else commands+=($others); fi
-    if ((CURRENT == 2)) && [[ $words[2] == -* ]]; then
-        compadd -- --help --version
-        return
-    fi
-    ((CURRENT > at)) || { _describe -t commands command commands; return }
     case $words[at]:$((CURRENT - at)) in
+        -*:0) ((at > 2)) || place='=--help --version' ;;
+        *:0) place='=COMMANDS' ;;
 @PLACES@
     esac
     [[ $place != KIND ]] || place=${words[at + 1]}
@@ -106,14 +91,14 @@ _dimacs() {
         '') _message 'no more words' ;;
         '=KINDS') _describe -t kinds kind kinds ;;
         '=COMMANDS') _describe -t commands command commands ;;
-        '='*) compadd -- ${place#=} ;;
+        '='*) compadd -- ${=place#=} ;;
         *) _files -g "*.(${place// /|})(-.)" ;;
     esac
 }
 
 case $service in
-    dimacs-batch) _arguments @BATCH@ '*:place:_files' ;;
-    dimacs-draw) _arguments @DRAW@ '*:text:_files' ;;
+    dimacs-batch) _arguments @DESCRIBED_BATCH@ '*:place:_files' ;;
+    dimacs-draw) _arguments @DESCRIBED_DRAW@ '*:text:_files' ;;
     *) _dimacs ;;
 esac
 """
@@ -132,122 +117,94 @@ end
 complete -c dimacs -f
 complete -c dimacs -n __fish_is_first_token -s h -l help -d 'Prints the usage'
 complete -c dimacs -n __fish_is_first_token -s V -l version -d 'Prints the version'
+@FISH@
 """
 
 
 def commands():
     """The commands with their arguments and what they do, and the kinds with what they are."""
-    with open(f"{TOP}/crates/dimacs/src/usage.rt", encoding="utf-8") as it:
-        source = it.read()
+    source = texts.read("crates/dimacs/src/usage.rt")
     table = re.search(r'^KIND:\n(.*?)"', source, re.MULTILINE | re.DOTALL)[1]
     kinds = re.findall(r"(?:^|  )(\w+)  +(\S(?:[^ \n]| (?! ))*)", table, re.MULTILINE)
-    found = re.findall(r'Command\(\s*"([a-z][^"]*)",\s*"([^"]*)",?\s*\)', source)
-    return [(*words.replace("[--limit N]", "--limit").replace("[", "").replace("]", "").split(" ", 1), about) for words, about in found], kinds
-
-
-def place_of(command, argument):
-    """What stands in the place of an argument: words after =, the endings of files, or KIND, that of the kind before it."""
-    if argument in ("COMMAND", "KIND", "--limit"):
-        return {"COMMAND": "=COMMANDS", "KIND": "=KINDS", "--limit": "=--limit"}[argument]
-    if argument == "INSTANCE":
-        return "max" if command.endswith("-max") else "min"
-    if argument == "CERTIFICATE":
-        return {"certify-max": "cut", "certify-min": "pot"}.get(command, "pot cut")
-    return "KIND" if argument == "FILE" else ENDINGS[argument]
+    found = []
+    for words, about in re.findall(r'Command\(\s*"([a-z][^"]*)",\s*"([^"]*)",?\s*\)', source):
+        name, *arguments = words.replace("[--limit N]", "--limit").replace("[", "").replace("]", "").split()
+        found.append((name, arguments, about))
+    return found, kinds
 
 
 def places(listed):
-    """Yields each place of each command: the command, the number of the place, and what stands there."""
-    for command, arguments, _ in listed:
-        if command != "explain":
-            yield from ((command, at, place_of(command, it)) for at, it in enumerate(arguments.split(), 1))
+    """Each place of each command: the command, the number of the place, and what stands there."""
+    offered = OF_COMMANDS | {f"{name} INSTANCE": "max" for name, *_ in listed if name.endswith("-max")}
+    for name, arguments, _ in listed:
+        for at, it in enumerate(arguments if name != "explain" else [], 1):
+            either = {"INSTANCE": "min", "CERTIFICATE": "pot cut"}
+            yield name, at, offered.get(f"{name} {it}") or OFFERED.get(it) or either[it]
 
 
 def options(parser):
-    """The options of a parser: their words, what they take, and their help."""
+    """The options of a parser: their words, what they take, and their help. They take NOTHING, words after =, FILES, or
+    what can't be offered."""
     for it in parser._actions:  # argparse has no other way to list them
         if it.option_strings and not isinstance(it, argparse._HelpAction):
-            yield it.option_strings, taken(it), it.help or "show the version"
+            named = it.metavar or ""
+            takes = "FILES" if named in ("FILE", "DIR") or named.endswith("PATH") else ""
+            takes = "NOTHING" if it.nargs == 0 else takes
+            words = " ".join(it.choices or []) or ("max= min= gr=" if named == "KIND=WORDS" else "")
+            yield it.option_strings, f"={words}" if words else takes, it.help or "show the version"
 
 
-def taken(option):
-    """What an option takes: nothing, one of some words, files, or what can't be offered."""
-    if option.nargs == 0:
-        return None
-    if option.choices:
-        return list(option.choices)
-    if option.metavar == "KIND=WORDS":
-        return ["max=", "min=", "gr="]
-    return "FILE" if option.metavar in ("FILE", "DIR") or (option.metavar or "").endswith("PATH") else ""
+def quoted(*parts):
+    return "'" + ":".join(parts).replace("'", "'\\''") + "'"
 
 
-def quoted(text):
-    return "'" + text.replace("'", "'\\''") + "'"
+def in_zsh(tool):
+    """The options of a tool, as _arguments takes them."""
+    for spelled, takes, about in tool:
+        about = re.sub(r"([\[\]:])", r"\\\1", about)
+        after = {"NOTHING": [], "FILES": ["word", "_files"]}.get(takes, ["word", re.sub("=(.+)", r"(\1)", takes)])
+        yield from (quoted(f"*{it}[{about}]", *after) for it in spelled)
 
 
-def filled(template, words):
-    return re.sub(r"@([A-Z]+)@", lambda it: words[it[1]], template)
-
-
-def bash(listed, kinds, tools):
-    names = {"=KINDS": "=" + " ".join(kind for kind, _ in kinds), "=COMMANDS": "=" + " ".join(it for it, *_ in listed)}
-    words = {"COMMANDS": " ".join(it for it, *_ in listed if it not in ("explain", "help"))}
-    words["PLACES"] = "\n".join(f"        {it}:{at}) echo '{names.get(place, place)}' ;;" for it, at, place in places(listed))
-    cases = []
-    for name, parser in tools.items():
-        words[name.upper()] = " ".join(it[-1] for it, _, _ in options(parser))
-        for spelled, takes, _ in options(parser):
-            pattern = " | ".join(f"dimacs-{name}:{it}" for it in spelled)
-            if isinstance(takes, list):
-                space = " && compopt -o nospace 2>/dev/null" if takes[0].endswith("=") else ""
-                cases.append(f"""        {pattern}) mapfile -t COMPREPLY < <(compgen -W '{" ".join(takes)}' -- "$word"){space} ;;""")
-            elif takes == "":
-                cases.append(f"        {pattern}) ;;")
-    return filled(BASH, words | {"TAKEN": "\n".join(cases)})
-
-
-def zsh(listed, kinds, tools):
-    described = [quoted(f"{name}:{about}") for name, _, about in listed]
-    words = {"COMMANDS": described[:-2], "OTHERS": described[-2:], "KINDS": [quoted(":".join(it)) for it in kinds]}
-    words = {name: "\n".join(f"        {it}" for it in lines) for name, lines in words.items()}
-    words["PLACES"] = "\n".join(f"        {it}:{at}) place='{place}' ;;" for it, at, place in places(listed))
-    for name, parser in tools.items():
-        made = []
-        for spelled, takes, about in options(parser):
-            about = re.sub(r"([\[\]:])", r"\\\1", about)
-            takes = f"({' '.join(takes)})" if isinstance(takes, list) else {"FILE": "_files"}.get(takes, takes)
-            after = "" if takes is None else f":word:{takes}"
-            made += [quoted(f"*{it}[{about}]{after}") for it in spelled]
-        words[name.upper()] = " ".join(made)
-    return filled(ZSH, words)
-
-
-def fish(listed, kinds, tools):
-    lines = []
+def in_fish(listed, kinds, tools):
+    """The lines about all commands, their places, and the options of the tools."""
     for name, _, about in listed:
-        for before in ["__dimacs_at 0", "__dimacs_at 1 help"] if name not in ("explain", "help") else ["__fish_is_first_token", "__dimacs_at 1 help"]:
-            lines.append(f"complete -c dimacs -n '{before}' -a {name} -d {quoted(about)}")
+        first = "__fish_is_first_token" if name in ("explain", "help") else "__dimacs_at 0"
+        for before in (first, "__dimacs_at 1 help"):
+            yield f"complete -c dimacs -n '{before}' -a {name} -d {quoted(about)}"
     for command, at, place in places(listed):
-        if place == "=KINDS":
-            lines += [f"complete -c dimacs -n '__dimacs_at {at} {command}' -a {kind} -d {quoted(about)}" for kind, about in kinds]
-        elif place != "=COMMANDS":
-            offered = f"-a {place[1:]}" if place.startswith("=") else "-F"
-            lines.append(f"complete -c dimacs -n '__dimacs_at {at} {command}' {offered}")
-    for name, parser in tools.items():
-        for spelled, takes, about in options(parser):
-            words = "".join(f" -{'l' if it.startswith('--') else 's'} {it.lstrip('-')}" for it in spelled)
-            how = f" -x -a '{' '.join(takes)}'" if isinstance(takes, list) else {None: "", "FILE": " -r -F", "": " -x"}[takes]
-            lines.append(f"complete -c dimacs-{name}{words}{how} -d {quoted(about)}")
-    return FISH + "\n".join(lines) + "\n"
+        offered = [f"-a {kind} -d {quoted(about)}" for kind, about in kinds] if place == "=KINDS" else ["-F"]
+        offered = [] if place == "=COMMANDS" else ["-a --limit"] if place == "=--limit" else offered
+        yield from (f"complete -c dimacs -n '__dimacs_at {at} {command}' {it}" for it in offered)
+    for name, tool in tools.items():
+        for spelled, takes, about in tool:
+            words = " ".join(f"-{'l' if it.startswith('--') else 's'} {it.lstrip('-')}" for it in spelled)
+            how = {"NOTHING": "", "FILES": " -r -F", "": " -x"}.get(takes, f" -x -a '{takes[1:]}'")
+            yield f"complete -c dimacs-{name} {words}{how} -d {quoted(about)}"
+
+
+def parts_of(listed, kinds, tools):
+    """What stands between @ in the texts."""
+    described = [quoted(name, about) for name, _, about in listed]
+    cases = [f"        {command}:{at}) place='{place}' ;;" for command, at, place in places(listed)]
+    taken = [
+        f"        {' | '.join(f'dimacs-{name}:{it}:*' for it in spelled)}) _dimacs_offer '{takes}' ;;"
+        for name, tool in tools.items() for spelled, takes, _ in tool if takes not in ("NOTHING", "FILES")
+    ]
+    lines = {"PLACES": cases, "TAKEN": taken, "FISH": in_fish(listed, kinds, tools)}
+    words = {"COMMANDS": [name for name, *_ in listed[:-2]], "KINDS": [kind for kind, _ in kinds]}
+    words |= {"DESCRIBED": described[:-2], "OTHERS": described[-2:], "DESCRIBED_KINDS": [quoted(*it) for it in kinds]}
+    for name, tool in tools.items():
+        words |= {name.upper(): [spelled[-1] for spelled, *_ in tool], f"DESCRIBED_{name.upper()}": in_zsh(tool)}
+    return {name: "\n".join(it) for name, it in lines.items()} | {name: " ".join(it) for name, it in words.items()}
 
 
 def main():
-    listed, kinds = commands()
-    tools = {"batch": dimacs_batch.options.parser_of(), "draw": dimacs_draw.options.parser_of()}
-    os.makedirs(sys.argv[1], exist_ok=True)
-    for name, make in {"dimacs.bash": bash, "_dimacs": zsh, "dimacs.fish": fish}.items():
-        with open(f"{sys.argv[1]}/{name}", "w", encoding="utf-8") as it:
-            it.write(make(listed, kinds, tools))
+    parsers = {"batch": dimacs_batch.options.parser_of(), "draw": dimacs_draw.options.parser_of()}
+    parts = parts_of(*commands(), {name: list(options(it)) for name, it in parsers.items()})
+    for name, text in {"dimacs.bash": BASH, "_dimacs": ZSH, "dimacs.fish": FISH}.items():
+        made = re.sub(r"@([A-Z_]+)@", lambda it: parts[it[1]], text)
+        texts.write(os.path.join(os.path.abspath(sys.argv[1]), name), made)
 
 
 if __name__ == "__main__":

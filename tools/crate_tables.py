@@ -10,21 +10,16 @@ import os
 import re
 import sys
 
-TOP = os.path.dirname(os.path.dirname(os.path.abspath(__file__)))
+from texts import TOP, read, write
+
 PAGE = f"{TOP}/docs/ARCHITECTURE.md"
 BEGIN, END = "<!-- written by tools/crate_tables.py -->\n", "<!-- end of the crates -->\n"
-
-
-def text_of(path):
-    """The text of a file."""
-    with open(path, encoding="utf-8") as it:
-        return it.read()
 
 
 def groups():
     """The headings of crates.txt, each with its crates."""
     found = {}
-    for line in text_of(f"{TOP}/crates.txt").splitlines():
+    for line in read("crates.txt").splitlines():
         if line.startswith("#"):
             heading = line.lstrip("# ")
             found[heading] = []
@@ -36,7 +31,7 @@ def groups():
 def purpose(crate):
     """The first sentence of a crate's root, without the stop."""
     root = next(it for it in ("lib", "main") if os.path.exists(f"{TOP}/crates/{crate}/src/{it}.rt"))
-    head = re.match(r"(?://! .*\n)+", text_of(f"{TOP}/crates/{crate}/src/{root}.rt"))[0]
+    head = re.match(r"(?://! .*\n)+", read(f"crates/{crate}/src/{root}.rt"))[0]
     words = " ".join(line[4:] for line in head.splitlines())
     return re.split(r"\.(?: |$)", words)[0]
 
@@ -44,19 +39,17 @@ def purpose(crate):
 def astray():
     """The crates that tests in `surface` use, but for the five that a program in Rattle calls."""
     files = sorted(glob.glob(f"{TOP}/crates/dimacs_tests/src/surface/*.rt"))
-    used = [it for file in files for it in re.findall(r"^use (dimacs_\w+)", text_of(file), re.MULTILINE)]
+    used = [it for file in files for it in re.findall(r"^use (dimacs_\w+)", read(file), re.MULTILINE)]
     return set(used) - {f"dimacs_{it}" for it in ("lines", "records", "instance", "claims", "judge")}
 
 
 def table(heading, crates):
-    """The heading and the table of some crates."""
     rows = "".join(f"| `{it}` | {purpose(it)} |\n" for it in crates)
     return f"\n### {heading}\n\n| Crate | What it is |\n|---|---|\n{rows}"
 
 
 def main():
-    """Writes or checks the tables."""
-    page = text_of(PAGE)
+    page = read(PAGE)
     before, _, rest = page.partition(BEGIN)
     made = before + BEGIN + "".join(table(*it) for it in groups().items()) + "\n" + END + rest.partition(END)[2]
     if sys.argv[1:] == ["--check"]:
@@ -65,8 +58,7 @@ def main():
         sys.exit(made != page and f"{PAGE}: its tables of crates aren't of today's: run tools/crate_tables.py")
     if sys.argv[1:]:
         sys.exit(__doc__)
-    with open(PAGE, "w", encoding="utf-8") as it:
-        it.write(made)
+    write(PAGE, made)
 
 
 if __name__ == "__main__":

@@ -14,7 +14,9 @@ import sys
 import time
 import zipfile
 
-TOP = os.path.dirname(os.path.dirname(os.path.abspath(__file__)))
+import texts
+from texts import TOP, read
+
 SOURCES = f"{TOP}/lib/package/debian"
 PYTHON = "usr/lib/python3/dist-packages"
 
@@ -40,20 +42,12 @@ def folders(machine):
     return ["prefix=/usr", f"libdir=/usr/lib/{machine}-linux-gnu", "ZSHDIR=/usr/share/zsh/vendor-completions"]
 
 
-def read(path):
-    with open(path, encoding="utf-8") as it:
-        return it.read()
-
-
 def write(path, text, mode=0o644):
-    os.makedirs(os.path.dirname(path), exist_ok=True)
-    with open(path, "w", encoding="utf-8") as it:
-        it.write(text)
+    texts.write(path, text)
     os.chmod(path, mode)
 
 
 def files_of(folder):
-    """The files of a folder, by their paths in it."""
     found = (os.path.join(at, it) for at, _, names in os.walk(folder) for it in names)
     return sorted(os.path.relpath(it, folder) for it in found)
 
@@ -97,7 +91,6 @@ def unpack_wheel(wheel, into, machine):
 
 
 def share_out(installed, room):
-    """Moves each file to its package."""
     for name in files_of(installed):
         package = next(it for it, patterns in FILES.items() if any(fnmatch.fnmatch(name, at) for at in patterns))
         if package:

@@ -24,8 +24,7 @@ import time
 import debian
 import proved_build
 import sources
-
-TOP = os.path.dirname(os.path.dirname(os.path.abspath(__file__)))
+from texts import TOP, read, write
 
 sys.path.insert(0, f"{TOP}/lib/python")
 import build_wheel  # noqa: E402  (the folder isn't a package of this one)
@@ -49,10 +48,6 @@ def content(path):
         return it.read()
 
 
-def text(name):
-    return content(f"{TOP}/{name}").decode()
-
-
 def refuse(why):
     print(why, file=sys.stderr)
     sys.exit(2)
@@ -72,16 +67,15 @@ def test_proved(name):
 
 
 def release_of(build, name):
-    dates = re.findall(r"^## .*(\d{4}-\d\d-\d\d)$", text("CHANGELOG.md"), re.MULTILINE)
+    dates = re.findall(r"^## .*(\d{4}-\d\d-\d\d)$", read("CHANGELOG.md"), re.MULTILINE)
     last = calendar.timegm(time.strptime(max(dates), "%Y-%m-%d"))
     dynamic = [it for it in SYSTEMS[name].built if it in ("dimacs", "libdimacs.so.0")]
     glibc = max((build_wheel.oldest_glibc(content(f"{build}/{it}")) for it in dynamic), default=None)
     epoch = int(os.environ.get("SOURCE_DATE_EPOCH") or last)
-    return Release(text("VERSION").strip(), epoch, name, glibc, build_wheel.PROVED)
+    return Release(read("VERSION").strip(), epoch, name, glibc, build_wheel.PROVED)
 
 
 def install(build, into, *folders):
-    """Installs everything into a folder."""
     words = ["make", "--no-print-directory", "-C", TOP, "install", f"DESTDIR={into}", "UNPROVED=", f"FROM={build}"]
     subprocess.run([*words, *folders], check=True, stdout=subprocess.DEVNULL)
 
@@ -148,8 +142,7 @@ def make(build, name, out):
         else:
             make_for_linux(build, release, room, out)
     sums = sums_of(out)
-    with open(f"{out}/SHA256SUMS", "w", encoding="ascii") as it:
-        it.writelines(f"{value}  {name}\n" for name, value in sums)
+    write(f"{out}/SHA256SUMS", "".join(f"{value}  {name}\n" for name, value in sums))
     for it, _ in sums:
         print(f"{os.path.relpath(out, TOP)}/{it}: {os.path.getsize(f'{out}/{it}') // 1024} KB")
 

@@ -9,6 +9,8 @@ import re
 import subprocess
 import tempfile
 
+from texts import read, write
+
 
 class Fault(Exception):
     """Why an edit shows nothing."""
@@ -57,8 +59,7 @@ class Edit:
 
 def text_of(root, file):
     try:
-        with open(os.path.join(root, file), encoding="utf-8") as it:
-            return it.read()
+        return read(os.path.join(root, file))
     except OSError as error:
         raise Fault(f"{file}: {error.strerror}") from None
 
@@ -67,8 +68,7 @@ def edits_in(path):
     """The edits of a file; none if it isn't there."""
     if not os.path.exists(path):
         return []
-    with open(path, encoding="utf-8") as it:
-        found = [named.splitlines() for named in re.split(r"^name: ", it.read(), flags=re.M)]
+    found = [named.splitlines() for named in re.split(r"^name: ", read(path), flags=re.M)]
     stray = [line for line in found[0] if line]
     named = [(lines[0], [line for line in lines[1:] if line]) for lines in found[1:]]
     return [Edit(name, lines) for name, lines in ([("", stray)] if stray else []) + named]
@@ -81,7 +81,8 @@ def showing_nothing(kit, edits, root_of):
         for edit in edits:
             try:
                 for file, text in edit.applied(root_of(edit)).items():
-                    made[edit, file] = written(f"{room}/{len(made)}.rt", text)
+                    made[edit, file] = f"{room}/{len(made)}.rt"
+                    write(made[edit, file], text)
                     originals[edit, file] = os.path.join(root_of(edit), file)
             except Fault as fault:
                 yield edit, str(fault)
@@ -93,13 +94,6 @@ def showing_nothing(kit, edits, root_of):
                 yield edit, f"it doesn't parse {why[0]}"
             elif all(code[made[edit, file]] == code[originals[edit, file]] for file in files):
                 yield edit, "it changes no code"
-
-
-def written(path, text):
-    """Writes a file, and answers its path."""
-    with open(path, "w", encoding="utf-8") as it:
-        it.write(text)
-    return path
 
 
 def fmt(kit, flag, paths):

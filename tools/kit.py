@@ -9,7 +9,7 @@ import shutil
 import subprocess
 import sys
 
-TOP = os.path.dirname(os.path.dirname(os.path.abspath(__file__)))
+from texts import TOP, read
 
 MISSING = """{}: this needs the Rattle kit, and {}.
 The kit is the compiler and prover of Rattle. It isn't published yet. README.md names the one that is needed.
@@ -38,16 +38,14 @@ def folder(*needed):
 def note_other_logic():
     """Prints a note if README.md names another logic than the kit's."""
     version = subprocess.run(["rt", "version"], capture_output=True, text=True, check=False).stdout
-    with open(f"{TOP}/README.md", encoding="utf-8") as it:
-        named = re.findall(r"logic ([0-9a-f]{16})", it.read())
+    named = re.findall(r"logic ([0-9a-f]{16})", read("README.md"))
     if not any(it in version for it in named):
         print(f"note: README.md names another logic than this kit has: {version.strip()}", file=sys.stderr)
 
 
 def crates():
     """Each crate of crates.txt, in its order, and the libraries that its line names."""
-    with open(f"{TOP}/crates.txt", encoding="utf-8") as it:
-        lines = [line.partition("#")[0].partition(":") for line in it]
+    lines = [line.partition("#")[0].partition(":") for line in read("crates.txt").splitlines()]
     return {name.split()[0]: named.split() for name, colon, named in lines if colon}
 
 
@@ -60,12 +58,23 @@ def below(listed, name):
     return list(dict.fromkeys(found))
 
 
+def rattle_words(kit, verb, name, folder):
+    """The command by which rattle checks or builds a crate, but for its root, over the libraries of a folder's crates."""
+    listed = crates()
+    words = [f"{kit}/bin/rattle", verb, "--crate-name", name, "-L", f"dependency={kit}/rlibs"]
+    for it in ["std", *listed[name]]:
+        place = f"{folder}/{it}/out/rlib" if it in listed else f"{kit}/rlibs"
+        words += ["--extern", f"{it}={place}/{it}.rlib"]
+    for it in below(listed, name):
+        words += ["-L", f"dependency={folder}/{it}/out/rlib"]
+    return [*words, "--antt-project", f"{kit}/rattle/logic/antt-project.json", "--logic-built", f"{kit}/logic_built"]
+
+
 def of_kit(kit, names):
     """The libraries of the kit that these use, themselves included, each with those that it uses itself."""
     names, found = list(dict.fromkeys(names)), {}
     for name in names:
-        with open(f"{kit}/rlibs/{name}.rlib/format", encoding="utf-8") as it:
-            found[name] = re.findall(r"^dep (\w+)$", it.read(), re.MULTILINE)
+        found[name] = re.findall(r"^dep (\w+)$", read(f"{kit}/rlibs/{name}.rlib/format"), re.MULTILINE)
         names += [it for it in found[name] if it not in names]
     return found
 

@@ -13,17 +13,13 @@ import os
 import re
 import sys
 
-TOP = os.path.join(os.path.dirname(os.path.abspath(__file__)), "..")
+from texts import read, write
+
 SOURCES = ["dimacs.1", "dimacs.5", "dimacs-batch.1", "dimacs-draw.1"]
-WIDTH = 68  # of a table, in columns of text
+WIDTH, SHORT = 68, 12  # the most of a table, and of a column that isn't made narrower, in columns of text
 
 # Pages whose text stands in a man page.
 MAN_PAGES = {"TEXTS.md": "dimacs(5)", "JUDGING.md": "dimacs(1)", "SOLVING.md": "dimacs(1)"}
-
-
-def read(name):
-    with open(os.path.join(TOP, name), encoding="utf-8") as it:
-        return it.read()
 
 
 # ---- Markdown to blocks
@@ -129,20 +125,11 @@ def bare(cell):
     return re.sub(r"[`*]", "", cell)
 
 
-def widths(rows):
-    """The widths of the columns, 0 if all are short: else the long ones share what the short ones leave."""
+def shared_out(rows):
+    """Which columns share the room that the others leave: the long ones, if all together are too long."""
     needed = [max(len(bare(cell)) for cell in column) for column in zip(*rows)]
-    least = [max(len(word) for cell in column for word in bare(cell).split() or [""]) for column in zip(*rows)]
-    room = WIDTH - 3 * (len(needed) - 1)
-    if sum(needed) <= room:
-        return [0] * len(needed)
-    short = [it if it <= 12 else 0 for it in needed]
-    others = sum(it for it, has in zip(needed, short) if not has)
-    rest = room - sum(short)
-    wide = [0 if has else max(its, rest * it // others) for it, its, has in zip(needed, least, short)]
-    while sum(wide) > rest:
-        wide[wide.index(max(wide))] -= 1
-    return wide
+    is_too_long = sum(needed) + 3 * (len(needed) - 1) > WIDTH
+    return [is_too_long and it > SHORT for it in needed]
 
 
 def rows_of(lines):
@@ -158,12 +145,12 @@ def table(lines):
     head, *rows = rows_of(lines[:1] + lines[2:])
     if len(head) == 2:
         return [it for term, meaning in rows for it in (".TP", *paragraph(term), *paragraph(meaning))] + [".PP"]
-    wide = widths([head, *rows])
-    form = " ".join(f"lw({width}n)" if width else "l" for width in wide)
+    wide = shared_out([head, *rows])
+    form = " ".join("lx" if is_wide else "l" for is_wide in wide)
     made = [".PP", ".TS", "tab(@);", re.sub(r"\bl", "lb", form), f"{form}."]
     for row in [head, *rows]:
         parts = zip(("".join(paragraph(cell)) for cell in row), wide)
-        made.append("@".join(f"T{{\n{cell}\nT}}" if width and cell else cell for cell, width in parts))
+        made.append("@".join(f"T{{\n{cell}\nT}}" if is_wide and cell else cell for cell, is_wide in parts))
     return [*made, ".TE", ".PP"]
 
 
@@ -258,10 +245,8 @@ def page(name):
 def main():
     if len(sys.argv) != 2:
         sys.exit("tools/man_pages.py OUT")
-    os.makedirs(sys.argv[1], exist_ok=True)
     for name in SOURCES:
-        with open(os.path.join(sys.argv[1], name), "w", encoding="utf-8") as it:
-            it.write(page(name))
+        write(os.path.join(os.path.abspath(sys.argv[1]), name), page(name))
 
 
 if __name__ == "__main__":

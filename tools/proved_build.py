@@ -22,6 +22,7 @@ import time
 import kit as kits
 import quick_build
 import sources
+from texts import read
 
 CRATES = f"{kits.TOP}/crates"
 BUILT = ["dimacs", "dimacs_c.a", "dimacs_c.bc", "dimacs_c.words"]
@@ -43,12 +44,11 @@ exec '{kit}/toolchain/bin/clang' "$@"
 
 
 def test_kit():
-    """Ends the build if the sources, which say by which kit they are proved, name another one."""
-    with open(f"{CRATES}/dimacs_runs/src/build.rt", encoding="utf-8") as it:
-        named = re.search(r"\(proved by (.*)\)", it.read())[1]
+    """Ends the build if the sources name another logic, by which they are proved, than the kit has."""
+    named = re.search(r"logic [0-9a-f]+", read(f"{CRATES}/dimacs_runs/src/build.rt"))[0]
     here = subprocess.run(["rt", "version"], capture_output=True, text=True, check=True).stdout.strip()
-    if named != here:
-        sys.exit(f"this is {here}; build.rt and Version.antt in crates/dimacs_runs name {named}: name this kit there")
+    if named not in here:
+        sys.exit(f"this is {here}; build.rt and Version.antt in crates/dimacs_runs have {named}: name this logic there")
 
 
 def order(listed):
@@ -76,20 +76,9 @@ def prove(name, words, left):
             sys.exit(f"{output.read()}{name} isn't proved: {' '.join(words)} ended with status {status}")
 
 
-def crate_words(kit, listed, name):
-    """The command by which rattle proves and builds a crate, but for its root, over the crates below it that are proved."""
-    words = [f"{kit}/bin/rattle", "build", "--crate-name", name, "-L", f"dependency={kit}/rlibs"]
-    for it in ["std", *listed[name]]:
-        place = f"../{it}/out/rlib" if it in listed else f"{kit}/rlibs"
-        words += ["--extern", f"{it}={place}/{it}.rlib"]
-    for it in kits.below(listed, name):
-        words += ["-L", f"dependency=../{it}/out/rlib"]
-    return [*words, "--antt-project", f"{kit}/rattle/logic/antt-project.json", "--logic-built", f"{kit}/logic_built"]
-
-
-def calls_words(kit, listed, room):
+def calls_words(kit, room):
     """The command that proves dimacs_c, builds its archive, and keeps the module in `room`."""
-    words = [*crate_words(kit, listed, "dimacs_c"), "src/lib.rt", "--crate-type", "staticlib"]
+    words = [*kits.rattle_words(kit, "build", "dimacs_c", ".."), "src/lib.rt", "--crate-type", "staticlib"]
     return [*words, *SHARED, "--toolchain", quick_build.stand_in(kit, room, CLANG), "-o", "out/libdimacs_c.a"]
 
 
@@ -118,7 +107,7 @@ def main():
     os.makedirs(f"{CRATES}/dimacs_c/out", exist_ok=True)
     os.makedirs(asked.folder, exist_ok=True)
     with tempfile.TemporaryDirectory() as room:
-        calls = calls_words(kit, listed, room)
+        calls = calls_words(kit, room)
         if asked.by_ci:
             subprocess.run(calls, cwd=f"{CRATES}/dimacs_c", check=True)
         else:

@@ -16,6 +16,7 @@ import subprocess
 import sys
 
 import kit as kits
+from texts import read, write
 
 # What a build is made of: the folders of the crates, and the files beside them.
 Parts = collections.namedtuple("Parts", "folders files")
@@ -49,8 +50,7 @@ def lines_for(made_of, built):
 
 def note(path, made_of, built):
     """Writes beside what was built what it was made of, as it was summed before: a source may change meanwhile."""
-    with open(path, "w", encoding="utf-8") as it:
-        it.writelines(f"{line}\n" for line in lines_for(made_of, built))
+    write(os.path.abspath(path), "".join(f"{line}\n" for line in lines_for(made_of, built)))
 
 
 def is_current(path, made_of, built):
@@ -58,8 +58,7 @@ def is_current(path, made_of, built):
     if not all(map(os.path.exists, [path, *built])):
         return False
     now = lines_for(made_of, built)
-    with open(path, encoding="utf-8") as it:
-        noted = it.read().splitlines()
+    noted = read(os.path.abspath(path)).splitlines()
     if not any(it.startswith("kit ") for it in now):
         noted = [it for it in noted if not it.startswith("kit ")]
     return noted == now

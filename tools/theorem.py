@@ -1,5 +1,5 @@
 #!/usr/bin/env python3
-"""Makes the page of all that the judge's contract cites: tools/theorem.py [--check]
+"""Makes the page of all that the judge's contract cites: tools/theorem.py
 
 It writes docs/THEOREM.md. tools/theorem.md has the text, with these lines between:
 
@@ -15,7 +15,7 @@ It writes docs/THEOREM.md. tools/theorem.md has the text, with these lines betwe
 
 tools/believed.py finds what the contract cites. The script ends with 1 if something cited is missing on the page, if
 something there isn't cited, stands twice or before what it uses, or if a definition has neither a comment nor its name
-in the text above it. With --check it writes nothing, and also ends with 1 if the page isn't what it would write.
+in the text above it. tests/theorem.py tests that the page is what it would write.
 """
 import functools
 import itertools
@@ -25,8 +25,8 @@ import sys
 import textwrap
 
 import believed
+from texts import TOP as ROOT, read, write
 
-ROOT = believed.ROOT
 FRAME = f"{ROOT}/tools/theorem.md"
 PAGE = f"{ROOT}/docs/THEOREM.md"
 CIRCLE = "judge"
@@ -300,7 +300,6 @@ def cited():
 
 
 def build(frame):
-    """The page of this frame."""
     page = Page(*cited())
     for paragraph in frame.strip().split("\n\n"):
         follow(page, paragraph)
@@ -338,24 +337,12 @@ def unlike(text):
     return [] if os.path.exists(PAGE) and text == read(PAGE) else ["docs/THEOREM.md isn't what tools/theorem.py writes"]
 
 
-def main(words):
+def main():
     page = build(read(FRAME))
-    wrong = page.wrong
-    if words == ["--check"]:
-        wrong = wrong + unlike(markdown(page))
-    elif not words:
-        with open(PAGE, "w", encoding="utf-8") as it:
-            it.write(markdown(page))
-    else:
-        sys.exit("usage: tools/theorem.py [--check]")
-    print("\n".join(wrong), end="\n" if wrong else "")
-    return 1 if wrong else 0
-
-
-def read(path):
-    with open(path, encoding="utf-8") as it:
-        return it.read()
+    write(PAGE, markdown(page))
+    print("\n".join(page.wrong), end="\n" if page.wrong else "")
+    return 1 if page.wrong else 0
 
 
 if __name__ == "__main__":
-    sys.exit(main(sys.argv[1:]))
+    sys.exit(main())

@@ -37,8 +37,7 @@ import tempfile
 
 import edits as bodies
 import kit as kits
-
-TOP = os.path.dirname(os.path.dirname(os.path.abspath(__file__)))
+from texts import TOP, read, write
 
 # The checks that run at once, and the edits in one of them.
 JOBS = os.cpu_count()
@@ -66,17 +65,6 @@ Function = collections.namedtuple("Function", "head first last name block")
 
 # What a check printed, with its status, and the processor minutes that it took, by its crate.
 Report = collections.namedtuple("Report", "status text minutes")
-
-
-def text_of(path):
-    with open(path, encoding="utf-8") as it:
-        return it.read()
-
-
-def write(path, text):
-    os.makedirs(os.path.dirname(path), exist_ok=True)
-    with open(path, "w", encoding="utf-8") as it:
-        it.write(text)
 
 
 def functions(lines):
@@ -155,7 +143,7 @@ class Edit:
 
     def lines_of(self, file):
         """The lines of a file as they are, and as the edit makes them: as many, since each of its texts is one line."""
-        return text_of(f"{TOP}/crates/{self.crate}/{file}").split("\n"), self.texts[file].split("\n")
+        return read(f"{TOP}/crates/{self.crate}/{file}").split("\n"), self.texts[file].split("\n")
 
     def find_functions(self):
         found = set()
@@ -181,7 +169,7 @@ class Unedited:
         self.crate, self.functions = edit.crate, edit.functions
 
     def lines_of(self, file):
-        lines = text_of(f"{TOP}/crates/{self.crate}/{file}").split("\n")
+        lines = read(f"{TOP}/crates/{self.crate}/{file}").split("\n")
         return lines, lines
 
 
@@ -221,15 +209,14 @@ class Trial:
     def put_stub(self, place):
         """Empties a function's body, in as many lines: a check reads the code of what it takes by its contract, too."""
         own, file = place.function, f"{self.room}/{place.file}"
-        lines = text_of(file).split("\n")
+        lines = read(file).split("\n")
         if own.last - own.first > 1 and "const fn" not in lines[own.head]:
             lines[own.first + 1 : own.last] = ["unreachable!()", *[""] * (own.last - own.first - 2)]
             write(file, "\n".join(lines))
 
     def put_in_place(self, edit):
-        """Gives the edited functions their new bodies."""
         for file, own in edit.functions:
-            lines, edited = text_of(f"{self.room}/{file}").split("\n"), edit.lines_of(file)[1]
+            lines, edited = read(f"{self.room}/{file}").split("\n"), edit.lines_of(file)[1]
             lines[own.first : own.last] = edited[own.first : own.last]
             write(f"{self.room}/{file}", "\n".join(lines))
         self.paths[edit] = [self.path(it, it.function.name) for it in edit.functions]
@@ -246,7 +233,7 @@ class Trial:
             self.copy_proofs(place, name)
         for file in {it.functions[0].file for it in edits}:
             here, lines = [it for it in edits if it.functions[0].file == file], []
-            for number, line in enumerate(text_of(f"{self.room}/{file}").split("\n")):
+            for number, line in enumerate(read(f"{self.room}/{file}").split("\n")):
                 lines.append(line)
                 for edit in (it for it in here if it.functions[0].function.last == number):
                     first = len(lines) + 1
@@ -262,7 +249,7 @@ class Trial:
             twin = f"{os.path.dirname(own)}/{name}"
             modules = [f".proofs.{it.replace('/', '.')}." for it in (own, twin)]
             for file in glob.glob(f"{folder}/**/*.antt", recursive=True):
-                write(f"{self.room}/proofs/{twin}/{os.path.relpath(file, folder)}", text_of(file).replace(*modules))
+                write(f"{self.room}/proofs/{twin}/{os.path.relpath(file, folder)}", read(file).replace(*modules))
 
     def edits_at(self, file, line):
         """The edits that an error there may be of: a twin, or what is edited in place in that file."""
@@ -288,7 +275,7 @@ class Trial:
             _, status, used = os.wait4(started.pid, 0)
         started.returncode = os.waitstatus_to_exitcode(status)
         minutes = collections.Counter({self.crate: (used.ru_utime + used.ru_stime) / 60})
-        return Report(started.returncode, text_of(log), minutes)
+        return Report(started.returncode, read(log), minutes)
 
 
 def twin_of(edit, name):
@@ -303,7 +290,7 @@ def twin_of(edit, name):
 
 
 def is_static(crate):
-    return bool(re.search(rf"^{crate} staticlib", text_of(f"{TOP}/crates.txt"), re.M))
+    return bool(re.search(rf"^{crate} staticlib", read(f"{TOP}/crates.txt"), re.M))
 
 
 def build(crate):
@@ -314,29 +301,21 @@ def build(crate):
 
 def check_words(crate):
     """The command that checks a crate in the current folder, over the libraries of this checkout."""
-    kit, listed = kits.folder("bin/rattle"), kits.crates()
     root = "src/main.rt" if os.path.exists(f"{TOP}/crates/{crate}/src/main.rt") else "src/lib.rt"
-    words = [f"{kit}/bin/rattle", "check", "--crate-name", crate, root, "-L", f"dependency={kit}/rlibs"]
-    for name in ["std", *listed[crate]]:
-        folder = f"{TOP}/crates/{name}/out/rlib" if name in listed else f"{kit}/rlibs"
-        words += ["--extern", f"{name}={folder}/{name}.rlib"]
-    for name in kits.below(listed, crate):
-        words += ["-L", f"dependency={TOP}/crates/{name}/out/rlib"]
-    words += ["--crate-type", "staticlib"] if is_static(crate) else []
-    return words + ["--antt-project", f"{kit}/rattle/logic/antt-project.json", "--logic-built", f"{kit}/logic_built"]
+    words = [*kits.rattle_words(kits.folder("bin/rattle"), "check", crate, f"{TOP}/crates"), root]
+    return words + (["--crate-type", "staticlib"] if is_static(crate) else [])
 
 
 def keys_of(crate):
     """The paths of the functions of a library that was proved, as lists; none if it wasn't."""
     file = f"{TOP}/crates/{crate}/out/rlib/{crate}.rlib/toolchain/mir.json"
-    listed = json.loads(text_of(file)) if os.path.exists(file) else []
+    listed = json.loads(read(file)) if os.path.exists(file) else []
     return [key.split("::")[1:] for key, *_ in listed if "+" not in key]
 
 
 def places_in(folder):
-    """The functions of a crate's sources."""
     for path in glob.glob(f"{folder}/src/**/*.rt", recursive=True):
-        for it in functions(text_of(path).split("\n")):
+        for it in functions(read(path).split("\n")):
             yield Place(os.path.relpath(path, folder), it)
 
 
@@ -480,7 +459,6 @@ def print_results(edits, minutes):
 
 
 def bodies_of(crate):
-    """The wrong bodies of a crate, as they are read."""
     return bodies.edits_in(f"{TOP}/crates/{crate}/wrong-bodies")
 
 

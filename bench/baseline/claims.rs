@@ -3,13 +3,12 @@
 use crate::network::NodeSet;
 use crate::text::{Reading, Record, Refusal, refuse};
 
+/// Queries for all distances from some nodes.
 #[derive(Default)]
 pub struct Queries {
     has_problem: bool,
     declared: usize,
-    pub is_point_to_point: bool,
-    /// FROM and TO; of an `ss` text the source and 0.
-    pub list: Vec<(u32, u32)>,
+    pub sources: Vec<u32>,
 }
 
 impl Reading for Queries {
@@ -20,20 +19,16 @@ impl Reading for Queries {
                 return refuse(0, "ProblemTwice");
             }
             self.has_problem = true;
-            self.is_point_to_point = numbers[2] == 1;
             self.declared = numbers[3] as usize;
             return Ok(());
         }
         if !self.has_problem {
             return refuse(0, "ProblemMissing");
         }
-        if (record.letter == b'q') != self.is_point_to_point {
-            return refuse(0, "RecordOrder");
-        }
-        if self.list.len() == self.declared {
+        if self.sources.len() == self.declared {
             return refuse(0, "TooMany");
         }
-        self.list.push((numbers[0] as u32, numbers[1] as u32));
+        self.sources.push(numbers[0] as u32);
         Ok(())
     }
 
@@ -41,7 +36,7 @@ impl Reading for Queries {
         if !self.has_problem {
             return refuse(0, "ProblemMissing");
         }
-        if self.list.len() < self.declared {
+        if self.sources.len() < self.declared {
             return refuse(0, "TooFew");
         }
         Ok(())
@@ -207,44 +202,11 @@ impl Reading for Potentials {
     }
 }
 
-/// The number of a label. Most labels fit 64 bits; a text in which one doesn't is read again with 128.
-pub trait Distance: Copy + PartialEq {
-    const ZERO: Self;
-    /// Of a node without a label.
-    const NONE: Self;
-    fn of(value: i128) -> Option<Self>;
-    fn wide(self) -> i128;
-}
+/// Beyond all distances that are read: that of a node without a label.
+pub const NO_DISTANCE: i64 = i64::MAX;
 
-impl Distance for i64 {
-    const ZERO: i64 = 0;
-    const NONE: i64 = i64::MAX;
-
-    fn of(value: i128) -> Option<i64> {
-        (value.abs() < 1 << 61).then_some(value as i64)
-    }
-
-    #[inline(always)]
-    fn wide(self) -> i128 {
-        self as i128
-    }
-}
-
-impl Distance for i128 {
-    const ZERO: i128 = 0;
-    const NONE: i128 = i128::MAX;
-
-    fn of(value: i128) -> Option<i128> {
-        Some(value)
-    }
-
-    fn wide(self) -> i128 {
-        self
-    }
-}
-
-pub struct Label<D> {
-    pub distance: D,
+pub struct Label {
+    pub distance: i64,
     pub id: u32,
     pub pred: u32,
 }
@@ -255,36 +217,22 @@ pub struct Block {
     first_label: usize,
 }
 
-pub struct Labels<D> {
+#[derive(Default)]
+pub struct Labels {
     has_problem: bool,
     pub nodes: u32,
     declared_blocks: usize,
     pub blocks: Vec<Block>,
     /// The labels of all blocks.
-    labels: Vec<Label<D>>,
+    labels: Vec<Label>,
     sources: NodeSet,
     /// By node, the last block that labels it, counted from 1.
     labelled_in: Vec<u32>,
-    /// A label doesn't fit `D`.
-    pub is_too_wide: bool,
 }
 
-impl<D: Distance> Labels<D> {
-    pub fn new() -> Labels<D> {
-        Labels {
-            has_problem: false,
-            nodes: 0,
-            declared_blocks: 0,
-            blocks: Vec::new(),
-            labels: Vec::new(),
-            sources: NodeSet::default(),
-            labelled_in: Vec::new(),
-            is_too_wide: false,
-        }
-    }
-
+impl Labels {
     /// The labels of a block. Every block is full, once a text is read.
-    pub fn labels_of(&self, block: &Block) -> &[Label<D>] {
+    pub fn labels_of(&self, block: &Block) -> &[Label] {
         &self.labels[block.first_label..block.first_label + block.declared]
     }
 
@@ -358,13 +306,14 @@ impl<D: Distance> Labels<D> {
             return refuse(0, "PredUnknown");
         }
         self.labelled_in[id as usize] = this_block;
-        match D::of(distance) {
-            Some(distance) => self.labels.push(Label { distance, id, pred }),
-            None => {
-                self.is_too_wide = true;
-                return refuse(0, "too wide for this pass");
-            }
+        if distance.abs() >= 1 << 61 {
+            beyond_61_bits();
         }
+        self.labels.push(Label {
+            distance: distance as i64,
+            id,
+            pred,
+        });
         Ok(())
     }
 
@@ -375,7 +324,7 @@ impl<D: Distance> Labels<D> {
     }
 }
 
-impl<D: Distance> Reading for Labels<D> {
+impl Reading for Labels {
     #[inline(always)]
     fn take(&mut self, record: &Record, _line: u64) -> Result<(), Refusal> {
         match record.letter {
@@ -394,4 +343,9 @@ impl<D: Distance> Reading for Labels<D> {
         }
         Ok(())
     }
+}
+
+fn beyond_61_bits() -> ! {
+    eprintln!("baseline: a label of more than 61 bits");
+    std::process::exit(2)
 }

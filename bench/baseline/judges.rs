@@ -1,10 +1,9 @@
 //! The judges. A yes is what is printed, and so is a no: the line of the first fault or of the first test that fails.
 
-use crate::claims::{Cut, Distance, Labels, Potentials, Queries, Solution};
+use crate::claims::{Cut, Labels, NO_DISTANCE, Potentials, Queries, Solution};
 use crate::network::{ArcIndex, Network, NetworkKind, read_network};
 use crate::text::{self, Fault, Reading};
-use std::collections::HashMap;
-use std::fmt::Write;
+use std::collections::HashSet;
 
 /// What is printed: of a yes the lines of the verdict, of a no the line of the refusal.
 pub type Outcome = Result<String, String>;
@@ -258,92 +257,60 @@ fn nets_of(network: &Network, flows: &[i64]) -> Vec<i128> {
 }
 
 pub fn judge_paths(graph: &str, queries: &str, labels: &str) -> Outcome {
-    let graph = read_network(NetworkKind::Graph, graph).map_err(|fault| refusal_line("instance", fault))?;
+    let graph = read_network(NetworkKind::Graph, graph)
+        .map_err(|fault| refusal_line("instance", fault))?;
     let queries = read("query", &text::QUERIES, queries, Queries::default())?;
-    let mut narrow = Labels::<i64>::new();
-    let outcome = text::read(&text::LABELS, labels, &mut narrow);
-    if narrow.is_too_wide {
-        let wide = read("certificate", &text::LABELS, labels, Labels::<i128>::new())?;
-        return judge_labels(&graph, &queries, wide);
-    }
-    outcome.map_err(|fault| refusal_line("certificate", fault))?;
-    judge_labels(&graph, &queries, narrow)
-}
-
-fn judge_labels<D: Distance>(graph: &Network, queries: &Queries, mut labels: Labels<D>) -> Outcome {
+    let mut labels = read("certificate", &text::LABELS, labels, Labels::default())?;
     labels.shrink();
     if labels.nodes != graph.nodes {
         return Err(at_certificate("NodesDiffer"));
     }
-    for &(from, to) in &queries.list {
-        for node in [from, to] {
-            if node > graph.nodes {
-                return Err(at_node(node, "QueryNode"));
-            }
+    for &node in &queries.sources {
+        if node > graph.nodes {
+            return Err(at_node(node, "QueryNode"));
         }
     }
-    let asked = queries_by_block(queries, &labels)?;
-    let mut answers = vec![D::NONE; queries.list.len()];
+    let labelled: HashSet<u32> = labels.blocks.iter().map(|block| block.source).collect();
+    for &node in &queries.sources {
+        if !labelled.contains(&node) {
+            return Err(at_node(node, "BlockMissing"));
+        }
+    }
     let mut nodes = vec![LabelledNode::NONE; graph.nodes as usize + 1];
-    for (block, asked) in asked.iter().enumerate() {
-        test_block(graph, &labels, block, &mut nodes)?;
-        for &query in asked {
-            let (_, to) = queries.list[query];
-            answers[query] = nodes[to as usize].distance;
-        }
+    for block in 0..labels.blocks.len() {
+        test_block(&graph, &labels, block, &mut nodes)?;
     }
-    Ok(paths_verdict(queries, &answers))
-}
-
-/// For each block the queries of its source.
-fn queries_by_block<D: Distance>(
-    queries: &Queries,
-    labels: &Labels<D>,
-) -> Result<Vec<Vec<usize>>, String> {
-    let block_of: HashMap<u32, usize> = labels
-        .blocks
-        .iter()
-        .enumerate()
-        .map(|(k, block)| (block.source, k))
-        .collect();
-    let mut asked = vec![Vec::new(); labels.blocks.len()];
-    for (query, &(from, _)) in queries.list.iter().enumerate() {
-        match block_of.get(&from) {
-            Some(&block) => asked[block].push(query),
-            None => return Err(at_node(from, "BlockMissing")),
-        }
-    }
-    Ok(asked)
+    Ok(format!("v sp ss {}\n", queries.sources.len()))
 }
 
 #[derive(Clone, Copy)]
-struct LabelledNode<D> {
-    distance: D,
+struct LabelledNode {
+    distance: i64,
     pred: u32,
     /// Whether an arc from `pred` gives the distance.
     has_arc: bool,
 }
 
-impl<D: Distance> LabelledNode<D> {
-    const NONE: LabelledNode<D> = LabelledNode {
-        distance: D::NONE,
+impl LabelledNode {
+    const NONE: LabelledNode = LabelledNode {
+        distance: NO_DISTANCE,
         pred: 0,
         has_arc: false,
     };
 }
 
 /// Tests a block in one pass over the arcs, and leaves its labels in the table of nodes.
-fn test_block<D: Distance>(
+fn test_block(
     graph: &Network,
-    labels: &Labels<D>,
+    labels: &Labels,
     block: usize,
-    nodes: &mut [LabelledNode<D>],
+    nodes: &mut [LabelledNode],
 ) -> Result<(), String> {
     if block > 0 {
         nodes.fill(LabelledNode::NONE);
     }
     let block = &labels.blocks[block];
-    nodes[block.source as usize].distance = D::ZERO;
+    nodes[block.source as usize].distance = 0;
     for label in labels.labels_of(block) {
         nodes[label.id as usize] = LabelledNode {
             distance: label.distance,
@@ -354,16 +321,16 @@ fn test_block<D: Distance>(
     let mut failed = None; // reported only if every label has its arc
     for (arc, &(tail, head)) in graph.ends.iter().enumerate() {
         let from = nodes[tail as usize].distance;
-        if from == D::NONE {
+        if from == NO_DISTANCE {
             continue;
         }
-        let through = from.wide() + graph.values[arc] as i128;
+        let through = from as i128 + graph.values[arc] as i128;
         let node = &mut nodes[head as usize];
-        if node.distance == D::NONE {
+        if node.distance == NO_DISTANCE {
             failed = failed.or(Some((arc, "Escapes")));
-        } else if node.distance.wide() > through {
+        } else if node.distance as i128 > through {
             failed = failed.or(Some((arc, "NotShortest")));
-        } else if node.distance.wide() == through && node.pred == tail {
+        } else if node.distance as i128 == through && node.pred == tail {
             node.has_arc = true;
         }
     }
@@ -376,19 +343,4 @@ fn test_block<D: Distance>(
         Some((arc, reason)) => Err(at_arc(arc, reason)),
         None => Ok(()),
     }
-}
-
-fn paths_verdict<D: Distance>(queries: &Queries, answers: &[D]) -> String {
-    if !queries.is_point_to_point {
-        return format!("v sp ss {}\n", queries.list.len());
-    }
-    let mut lines = String::new();
-    for (&(from, to), &distance) in queries.list.iter().zip(answers) {
-        let _ = if distance == D::NONE {
-            writeln!(lines, "v {from} {to} unreachable")
-        } else {
-            writeln!(lines, "v {from} {to} {}", distance.wide())
-        };
-    }
-    lines
 }

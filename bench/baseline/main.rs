@@ -2,8 +2,8 @@
 //!
 //! It reads with one window over the file, eight digits at a time, keeps 16 bytes for an arc of a graph, and makes
 //! all tests of `dimacs` in the same order, so that it prints the same lines. What it leaves out: it doesn't count
-//! lines against a limit; it takes the memory for a table by node as soon as NODES is declared; and where there is no
-//! memory, it is ended.
+//! lines against a limit; it reads no queries for pairs; it takes the memory for a table by node as soon as NODES is
+//! declared; and where there is no memory, or a label has more than 61 bits, it is ended.
 //!
 //! ```text
 //! baseline convert max|min|gr FILE
@@ -11,7 +11,6 @@
 //! baseline judge-max INSTANCE SOLUTION CUT
 //! baseline judge-min INSTANCE SOLUTION POTENTIALS
 //! baseline judge-paths GRAPH QUERY LABELS
-//! baseline read FILE..                       only pulls the bytes, in pieces of 64 KiB
 //! ```
 
 mod claims;
@@ -22,8 +21,6 @@ mod text;
 
 use judges::{Outcome, judge_max, judge_min, judge_paths, refusal_line};
 use network::{Network, NetworkKind, print, read_network, summary};
-use std::fs::File;
-use std::io::Read;
 
 fn main() {
     let words: Vec<String> = std::env::args().skip(1).collect();
@@ -34,7 +31,6 @@ fn main() {
         ["judge-max", instance, solution, cut] => judge_max(instance, solution, cut),
         ["judge-min", instance, solution, potentials] => judge_min(instance, solution, potentials),
         ["judge-paths", graph, queries, labels] => judge_paths(graph, queries, labels),
-        ["read", ref files @ ..] => pull(files),
         _ => usage(),
     };
     match outcome {
@@ -71,22 +67,4 @@ fn convert(kind: NetworkKind, file: &str) -> Outcome {
 
 fn show(kind: NetworkKind, file: &str) -> Outcome {
     Ok(summary(&instance(kind, file)?) + "\n")
-}
-
-fn pull(files: &[&str]) -> Outcome {
-    let mut piece = vec![0u8; 64 * 1024];
-    let mut count = 0;
-    for file in files {
-        let mut file = File::open(file).unwrap_or_else(|_| text::device_fault());
-        loop {
-            let pulled = file
-                .read(&mut piece)
-                .unwrap_or_else(|_| text::device_fault());
-            if pulled == 0 {
-                break;
-            }
-            count += pulled;
-        }
-    }
-    Ok(format!("{count}\n"))
 }

@@ -76,11 +76,10 @@ pub static GRAPH: Kind = Kind {
 };
 pub static QUERIES: Kind = Kind {
     forms: &[
-        form(b'q', &[Id, Id]),
         form(b's', &[Id]),
         form(
             b'p',
-            &[Word(&["aux"]), Word(&["sp"]), Word(&["ss", "p2p"]), Count],
+            &[Word(&["aux"]), Word(&["sp"]), Word(&["ss"]), Count],
         ),
     ],
 };

@@ -67,3 +67,12 @@ class Instance:
                     out.write(f"n {node} {supply if kind == 'min' else 's' if supply > 0 else 't'}\n")
             form = "a" + " %d" * len(fields) + "\n"
             out.writelines(form % tuple(arc[field] for field in fields) for arc in self.arcs)
+
+
+class Between(Instance):
+    """Nodes, and after them a source and a sink."""
+
+    def __init__(self, inner):
+        super().__init__(inner + 2)
+        self.source, self.sink = self.nodes - 1, self.nodes
+        self.move(self.source, self.sink, 1)

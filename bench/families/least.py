@@ -165,19 +165,3 @@ def dense(nodes, arcs, most_cap, most_cost, ends):
         low = 0 if random.below(10) else random.between(0, 3)
         it.add(tail, head, random.between(4, most_cap), random.between(-(most_cost // 20), most_cost), low)
     return it
-
-
-def infeasible(units, path):
-    """The instance of a text with so many units more, from the first node with a supply to the last with a demand."""
-    with open(path) as text:
-        records = [line.split() for line in text]
-    it = Instance(next(int(nodes) for letter, _, nodes, *_ in records if letter == "p"))
-    for letter, *fields in records:
-        if letter == "n":
-            it.supplies[int(fields[0])] = int(fields[1])
-        elif letter == "a":
-            it.arcs.append(tuple(map(int, fields)))
-    source = next((v for v, supply in enumerate(it.supplies) if supply > 0), 0)
-    sink = next((v for v in range(it.nodes, 0, -1) if it.supplies[v] < 0), 0)
-    it.move(source, sink, units)
-    return it

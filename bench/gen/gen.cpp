@@ -15,14 +15,20 @@
 #include <cstdint>
 #include <cstdio>
 #include <cstdlib>
+#include <fstream>
 #include <string>
 #include <vector>
 
-#include "output.h"
 #include "random.h"
 
 using std::string;
 using std::vector;
+
+// A text, which ends the program if it can't be written whole.
+struct Output : std::ofstream {
+    explicit Output(const string &path) : std::ofstream(path, std::ios::binary) { exceptions(failbit | badbit); }
+    ~Output() { close(); }
+};
 
 // ---- roads
 
@@ -98,11 +104,11 @@ static void road(int64_t nodes, double degree, uint64_t seed, const string &path
     vector<Street> all = streets(junctions, degree, random);
     shuffle_pieces(all, 4096, random);
     Output out(path);
-    out.word("c road-like planar graph, generated").end_line();
-    out.word("p sp").number(nodes).number((int64_t)all.size() * 2).end_line();
+    out << "c road-like planar graph, generated\n";
+    out << "p sp " << nodes << ' ' << all.size() * 2 << '\n';
     for (const Street &s : all) {
-        out.word("a").number(s.from).number(s.to).number(s.length).end_line();
-        out.word("a").number(s.to).number(s.from).number(s.length).end_line();
+        out << "a " << s.from << ' ' << s.to << ' ' << s.length << '\n';
+        out << "a " << s.to << ' ' << s.from << ' ' << s.length << '\n';
     }
 }
 
@@ -110,10 +116,10 @@ static void road(int64_t nodes, double degree, uint64_t seed, const string &path
 static void sources(int64_t nodes, int64_t count, uint64_t seed, const string &path) {
     Random random(seed);
     Output out(path);
-    out.word("p aux sp ss").number(count).end_line();
+    out << "p aux sp ss " << count << '\n';
     for (int64_t i = 0; i < count; i++) {
         int64_t first = 1 + (int64_t)((__int128)i * nodes / count);
-        out.word("s").number(first + random.between(0, std::max<int64_t>(0, nodes / count - 1))).end_line();
+        out << "s " << first + random.between(0, std::max<int64_t>(0, nodes / count - 1)) << '\n';
     }
 }
 
@@ -141,20 +147,20 @@ static void add_distinct_steps(vector<uint32_t> &steps, uint64_t count, uint32_t
 
 static void write_cut(const string &path, uint32_t nodes, uint32_t inside) {
     Output out(path);
-    out.word("p cut").number(nodes).number(inside).end_line();
-    for (uint32_t v = 1; v <= inside; v++) out.word("u").number(v).end_line();
+    out << "p cut " << nodes << ' ' << inside << '\n';
+    for (uint32_t v = 1; v <= inside; v++) out << "u " << v << '\n';
 }
 
 static void write_max(const string &prefix, uint32_t nodes, const vector<Arc> &arcs, const vector<Arc> &entries,
                       int64_t value) {
     Output instance(prefix + ".max");
-    instance.word("p max").number(nodes).number((int64_t)arcs.size()).end_line();
-    instance.word("n").number(1).word(" s").end_line();
-    instance.word("n").number(nodes).word(" t").end_line();
-    for (const Arc &a : arcs) instance.word("a").number(a.tail).number(a.head).number(a.cap).end_line();
+    instance << "p max " << nodes << ' ' << arcs.size() << '\n';
+    instance << "n 1 s\n";
+    instance << "n " << nodes << " t\n";
+    for (const Arc &a : arcs) instance << "a " << a.tail << ' ' << a.head << ' ' << a.cap << '\n';
     Output solution(prefix + ".solution");
-    solution.word("s").number(value).end_line();
-    for (const Arc &a : entries) solution.word("f").number(a.tail).number(a.head).number(a.flow).end_line();
+    solution << "s " << value << '\n';
+    for (const Arc &a : entries) solution << "f " << a.tail << ' ' << a.head << ' ' << a.flow << '\n';
 }
 
 // The flow runs along the ring 1, 2, .., N; shortcuts carry a few units past a piece of it. No arc that goes back, from
@@ -205,20 +211,19 @@ static void planted_max(uint32_t nodes, uint64_t arc_count, uint64_t seed, const
 
 static void write_min(const string &prefix, uint32_t nodes, const vector<int64_t> &supplies, const vector<Arc> &arcs) {
     Output instance(prefix + ".min");
-    instance.word("p min").number(nodes).number((int64_t)arcs.size()).end_line();
+    instance << "p min " << nodes << ' ' << arcs.size() << '\n';
     for (uint32_t v = 1; v <= nodes; v++) {
-        if (supplies[v]) instance.word("n").number(v).number(supplies[v]).end_line();
+        if (supplies[v]) instance << "n " << v << ' ' << supplies[v] << '\n';
     }
     for (const Arc &a : arcs) {
-        instance.word("a").number(a.tail).number(a.head);
-        instance.number(a.low).number(a.cap).number(a.cost).end_line();
+        instance << "a " << a.tail << ' ' << a.head << ' ' << a.low << ' ' << a.cap << ' ' << a.cost << '\n';
     }
-    __int128 cost = 0;
-    for (const Arc &a : arcs) cost += (__int128)a.cost * a.flow;
+    int64_t cost = 0;
+    for (const Arc &a : arcs) cost += a.cost * a.flow;
     Output solution(prefix + ".solution");
-    solution.word("s").number(cost).end_line();
+    solution << "s " << cost << '\n';
     for (const Arc &a : arcs) {
-        if (a.flow) solution.word("f").number(a.tail).number(a.head).number(a.flow).end_line();
+        if (a.flow) solution << "f " << a.tail << ' ' << a.head << ' ' << a.flow << '\n';
     }
 }
 
@@ -226,9 +231,9 @@ static void write_potentials(const string &path, const vector<int64_t> &potentia
     size_t nodes = potentials.size() - 1;
     size_t named = nodes - std::count(potentials.begin() + 1, potentials.end(), 0);
     Output out(path);
-    out.word("p pot").number((int64_t)nodes).number((int64_t)named).end_line();
+    out << "p pot " << nodes << ' ' << named << '\n';
     for (size_t v = 1; v <= nodes; v++) {
-        if (potentials[v]) out.word("y").number((int64_t)v).number(potentials[v]).end_line();
+        if (potentials[v]) out << "y " << v << ' ' << potentials[v] << '\n';
     }
 }
 

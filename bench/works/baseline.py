@@ -1,7 +1,7 @@
-"""what dimacs takes to read and to judge, next to plain Rust that does the same, and to reading alone
+"""what dimacs takes to read and to judge, next to plain Rust that does the same
 
-Prints a table for each size, and one of all in short. Before a work is measured, what dimacs prints is compared with
-what the baseline prints; a difference is put in the table, and the status is then 1.
+Prints a table. Before a work is measured, what dimacs prints is compared with what the baseline prints; a difference is put
+in the table, and the status is then 1.
 """
 
 import hashlib
@@ -10,7 +10,7 @@ import subprocess
 from collections import namedtuple
 
 from measure import head, measure_in_turn, row, spread, wants
-from texts import SEED, declared_arcs, generate
+from texts import declared_arcs, flow_texts, road_texts
 
 SIZES, ROUNDS, PROGRAMS = "1,20,200", 5, ["baseline"]
 
@@ -23,8 +23,6 @@ TEXTS = {
     200: Size(3_750_000, 2.44, 2, 9_600_000, 6_000_000),
     1300: Size(23_947_347, 2.4361, 1, 0, 0),
 }
-ARCS_PER_NODE = {"max": 6, "min": 8}
-CERTIFICATES = {"max": "cut", "min": "pot"}
 
 
 class Work:
@@ -38,23 +36,10 @@ class Work:
 
 
 def road_works(binary, size, megabytes):
-    folder = f"road-{megabytes}"
-    generate(
-        folder,
-        ["gen", "road", size.junctions, size.degree, SEED, "road.gr"],
-        ["gen", "sources", size.junctions, size.sources, SEED, "road.query"],
-        [binary, "solve-paths", "road.gr", "road.query", "road.dist"],
-    )
-    files = [f"{folder}/road.{end}" for end in ("gr", "query", "dist")]
+    files = road_texts(f"road-{megabytes}", binary, size.junctions, size.degree, size.sources)
     yield Work(["show", "gr"], files[:1])
     yield Work(["convert", "gr"], files[:1])
     yield Work(["judge-paths"], files, f", {size.sources} block{'s' if size.sources > 1 else ''}")
-
-
-def flow_files(kind, generator, arcs, megabytes):
-    folder = f"{generator}-{megabytes}"
-    generate(folder, ["gen", generator, arcs // ARCS_PER_NODE[kind], arcs, SEED, "flow"])
-    return [f"{folder}/flow.{end}" for end in (kind, "solution", CERTIFICATES[kind])]
 
 
 def works(binary, megabytes):
@@ -62,15 +47,16 @@ def works(binary, megabytes):
     yield from road_works(binary, size, megabytes)
     for kind in ("max", "min"):
         if getattr(size, kind):
-            files = flow_files(kind, kind, getattr(size, kind), megabytes)
+            files = flow_texts(f"{kind}-{megabytes}", kind, getattr(size, kind), kind)
             yield Work(["show", kind], files[:1])
             yield Work(["convert", kind], files[:1])
             yield Work([f"judge-{kind}"], files)
     if megabytes == 20:
-        files = flow_files("max", "mixed", size.max, megabytes)
+        files = flow_texts(f"mixed-{megabytes}", "max", size.max, "mixed")
         yield Work(["judge-max"], files, ", in no order")
         yield Work(["certify-max"], files[:2], ", in no order", ["judge-max", *files])
-        yield Work(["judge-min"], flow_files("min", "parallel", size.min, megabytes), ", one arc twice")
+        files = flow_texts(f"parallel-{megabytes}", "min", size.min, "parallel")
+        yield Work(["judge-min"], files, ", one arc twice")
 
 
 def answer(command):
@@ -82,22 +68,8 @@ def answer(command):
     return process.returncode, digest.hexdigest()
 
 
-def show(work, program, taken, baseline):
-    row(
-        f"{work.name}, {work.megabytes:.1f} MB, {work.arcs:,} arcs",
-        program,
-        f"{taken.wall():.4f}",
-        f"{taken.cpu():.4f}",
-        f"{taken.cpu() * 1e9 / work.arcs:.1f}",
-        f"{work.megabytes / taken.cpu():.0f}",
-        f"{taken.peak_bytes() / 1e6:.1f}",
-        f"{taken.peak_bytes() / work.arcs:.1f}",
-        *spread(taken.ratio(baseline)),
-    )
-
-
-def in_short(work, baseline, dimacs):
-    """A work in one line, as README.md has it."""
+def cells(work, baseline, dimacs):
+    """The row of a work."""
     return [
         work.name,
         f"{work.megabytes:.{int(work.megabytes < 100)}f}",
@@ -109,33 +81,18 @@ def in_short(work, baseline, dimacs):
 
 
 def measure_work(asked, work):
-    """Prints the rows of a work. What stands of it in short, where dimacs prints what the baseline prints."""
-    commands = {
-        "reading alone": ["./baseline", "read", *work.files],
-        "baseline": ["./baseline", *work.other],
-        "dimacs": [asked.binary, *work.words, *work.files],
-    }
+    """Prints the row of a work; whether dimacs prints what the baseline prints."""
+    commands = {"baseline": ["./baseline", *work.other], "dimacs": [asked.binary, *work.words, *work.files]}
     got = answer(commands["dimacs"])
-    agrees = got == answer(commands["baseline"])
-    if not agrees:
-        del commands["dimacs"]
-    taken = measure_in_turn(commands, asked.rounds)
-    for program in commands:
-        show(work, program, taken[program], taken["baseline"])
-    if not agrees:
-        row(work.name, "dimacs", f"PRINTS SOMETHING ELSE, with status {got[0]}", *[""] * 7)
-        return None
-    return in_short(work, taken["baseline"], taken["dimacs"])
+    if got != answer(commands["baseline"]):
+        row(work.name, f"PRINTS SOMETHING ELSE, with status {got[0]}", *[""] * 5)
+        return False
+    row(*cells(work, **measure_in_turn(commands, asked.rounds)))
+    return True
 
 
 def measure(asked):
-    rows = []
-    for megabytes in asked.sizes:
-        columns = "Work, Program, Wall s, CPU s, ns an arc, MB/s, Peak MB, Bytes an arc, CPU ratio, Its middle half"
-        head(f"{megabytes} MB", *columns.split(", "))
-        rows += [measure_work(asked, work) for work in works(asked.binary, megabytes) if wants(work.name)]
     columns = "Work; MB; Baseline, ns an arc; dimacs, ns an arc; CPU ratio; Its middle half; Peak, bytes an arc"
-    head("In short", *columns.split("; "))
-    for cells in filter(None, rows):
-        row(*cells)
-    return int(None in rows)
+    head("Reading and judging", *columns.split("; "))
+    found = (work for megabytes in asked.sizes for work in works(asked.binary, megabytes) if wants(work.name))
+    return int(not all([measure_work(asked, work) for work in found]))

@@ -12,34 +12,21 @@ import time
 from array import array
 
 from measure import Rounds, Taken, head, row, spread, wants
-from texts import SEED, declared, generate
+from texts import declared, flow_texts, road_texts
 
 SIZES, ROUNDS, PROGRAMS = "20", 11, ["plain"]
 
-# The arcs of an instance by its size in MB, which is about that of a maximum flow instance.
+# The arcs of an instance by its size in MB, which is about that of a maximum flow instance, and those of a road's node.
 ARCS = {1: 60_000, 20: 1_000_000}
-
-# The generator of a kind, its arcs for each node, and its texts.
-KINDS = {
-    "max": ("max", 6, ["flow.max", "flow.solution", "flow.cut"]),
-    "min": ("min", 8, ["flow.min", "flow.solution", "flow.pot"]),
-    "paths": ("road", 2.44, ["road.gr", "road.query", "road.dist"]),
-}
+DEGREE = 2.44
 
 
 def texts(binary, kind, megabytes):
     """The texts of an instance, its claim and its certificate."""
-    generator, arcs_per_node, files = KINDS[kind]
-    folder, nodes = f"library-{kind}-{megabytes}", int(ARCS[megabytes] / arcs_per_node)
-    made = [["gen", generator, nodes, ARCS[megabytes], SEED, "flow"]]
+    folder, arcs = f"library-{kind}-{megabytes}", ARCS[megabytes]
     if kind == "paths":
-        made = [
-            ["gen", generator, nodes, arcs_per_node, SEED, files[0]],
-            ["gen", "sources", nodes, 1, SEED, files[1]],
-            [binary, "solve-paths", *files],
-        ]
-    generate(folder, *made)
-    return [f"{folder}/{file}" for file in files]
+        return road_texts(folder, binary, int(arcs / DEGREE), DEGREE, 1)
+    return flow_texts(folder, kind, arcs, kind)
 
 
 # ---- pairs of calls, by their names
@@ -101,7 +88,7 @@ def measure_pair(name, pair, rounds):
     taken = Rounds(), Rounds()
     for turn in range(rounds):
         for it, call in list(zip(taken, pair))[:: -1 if turn % 2 else 1]:
-            it.runs.append(Taken(0, seconds(call)))
+            it.runs.append(Taken(seconds(call)))
     return taken
 
 

@@ -15,21 +15,21 @@ from works import baseline
 SIZES, ROUNDS, PROGRAMS = "20", 3, ["reading", "lemon", "igraph", "glpk", "boost"]
 MOST = 60
 
-# the name of a program, its package, its command, and the kinds that it reads
+# the name of a program, its command, and the kinds that it reads
 FROM_PYTHON = [PYTHON, f"{HERE}/peers/reading.py"]
 READERS = [
-    ("dimacs, into vectors of C++", "", ["./reading", "vectors"], ["max", "min", "gr"]),
-    ("dimacs, into a graph of LEMON", "", ["./reading", "lemon"], ["max", "min", "gr"]),
-    ("dimacs, into a graph of Boost", "", ["./reading", "boost"], ["max", "gr"]),
-    ("dimacs, from Python", "", [*FROM_PYTHON, "dimacs"], ["max", "min", "gr"]),
-    ("LEMON", "liblemon-dev", ["./lemon", "read"], ["max", "min", "gr"]),
-    ("igraph", "libigraph-dev", ["./igraph", "read"], ["max"]),
-    ("GLPK", "libglpk-dev", ["./glpk", "read"], ["max", "min"]),
-    ("Boost", "libboost-graph-dev", ["./boost", "read"], ["max"]),
-    ("igraph, from Python", "python3-igraph", [*FROM_PYTHON, "igraph"], ["max"]),
-    ("pandas.read_csv", "python3-pandas", [*FROM_PYTHON, "pandas"], ["max", "min", "gr"]),
-    ("numpy.loadtxt", "python3-numpy", [*FROM_PYTHON, "numpy"], ["max", "min", "gr"]),
-    ("networkx", "python3-networkx", [PYTHON, f"{HERE}/peers/with_networkx.py", "read"], ["max", "min", "gr"]),
+    ("dimacs, into vectors of C++", ["./reading", "vectors"], ["max", "min", "gr"]),
+    ("dimacs, into a graph of LEMON", ["./reading", "lemon"], ["max", "min", "gr"]),
+    ("dimacs, into a graph of Boost", ["./reading", "boost"], ["max", "gr"]),
+    ("dimacs, from Python", [*FROM_PYTHON, "dimacs"], ["max", "min", "gr"]),
+    ("LEMON", ["./lemon", "read"], ["max", "min", "gr"]),
+    ("igraph", ["./igraph", "read"], ["max"]),
+    ("GLPK", ["./glpk", "read"], ["max", "min"]),
+    ("Boost", ["./boost", "read"], ["max"]),
+    ("igraph, from Python", [*FROM_PYTHON, "igraph"], ["max"]),
+    ("pandas.read_csv", [*FROM_PYTHON, "pandas"], ["max", "min", "gr"]),
+    ("numpy.loadtxt", [*FROM_PYTHON, "numpy"], ["max", "min", "gr"]),
+    ("networkx", [PYTHON, f"{HERE}/peers/with_networkx.py", "read"], ["max", "min", "gr"]),
 ]
 JUDGING, SHOWING = "dimacs judges", "dimacs reads alone (`show`)"
 
@@ -47,21 +47,18 @@ def has_read(command, instance):
 
 
 def cells(judge, show, asked):
-    """The processor time of each program on the instance of these works, its quotient by that of show, and its peak."""
+    """The processor time of each program on the instance of these works, and its peak."""
     kind, instance = show.words[1], show.files[0]
     commands = {name: [asked.binary, *it.words, *it.files] for name, it in ((JUDGING, judge), (SHOWING, show))}
     for command in commands.values():
         if not printed(command).startswith(("v", "i")):
             sys.exit(f"no answer: {' '.join(command)}")
-    for name, _, command, kinds in READERS:
+    for name, command, kinds in READERS:
         command = [*command, kind, instance]
         if kind in kinds and wants(f"{kind}, {name}") and has_read(command, instance):
             commands[name] = command
     taken = measure_in_turn(commands, asked.rounds, read)
-    return {
-        name: (f"{runs.cpu():.3f} ({runs.ratio(taken[SHOWING])[0]:.1f})", f"{runs.peak_bytes() / 1e6:.0f}")
-        for name, runs in taken.items()
-    }
+    return {name: (f"{runs.cpu():.3f}", f"{runs.peak_bytes() / 1e6:.0f}") for name, runs in taken.items()}
 
 
 def measure(asked):
@@ -74,8 +71,6 @@ def measure(asked):
         for judge, kind in [("judge-max", "max"), ("judge-min", "min"), ("judge-paths", "gr")]:
             show = works[f"show {kind}"]
             columns[f"{kind}, {show.megabytes:.1f} MB, {show.arcs:,} arcs"] = cells(works[judge], show, asked)
-        head(f"{megabytes} MB", "Program", "Package", *(it for name in columns for it in (f"{name}, s", "Peak MB")))
-        packages = {JUDGING: "", SHOWING: "", **{name: package for name, package, _, _ in READERS}}
-        for name, package in packages.items():
-            found = (it for times in columns.values() for it in times.get(name, ("", "")))
-            row(name, f"`{package}`" if package else "", *found)
+        head(f"{megabytes} MB", "Program", *(it for name in columns for it in (f"{name}, s", "Peak MB")))
+        for name in (JUDGING, SHOWING, *(reader for reader, _, _ in READERS)):
+            row(name, *(it for times in columns.values() for it in times.get(name, ("", ""))))

@@ -6,12 +6,13 @@ certify-paths, which certifies distances over arrays, needs the library.
 """
 
 import os
+import statistics
 import subprocess
 import sys
 
-from measure import HERE, NO_SUCH_PROGRAM, OVER_LIMIT, PYTHON, Rounds, head, mean, measure_in_turn, row, wants
+from measure import HERE, NO_SUCH_PROGRAM, OVER_LIMIT, PYTHON, Rounds, head, measure_in_turn, row, wants
 from measure import measure as run
-from texts import FAMILIES, claimed, declared_arcs, infeasible, instance, labelled, queries, sources
+from texts import FAMILIES, claimed, declared_arcs, instance, labelled, queries, sources
 
 SIZES, ROUNDS, PROGRAMS = "1,20", 3, ["lemon", "boost", "igraph", "certify_paths"]
 
@@ -42,12 +43,9 @@ SHOWN = {
 
 def instances(kind, megabytes):
     """The wanted instances of a kind and size by their names."""
-    everything = os.environ.get("ALL")
-    for family in FAMILIES[kind] if everything else SHOWN[kind]:
+    for family in FAMILIES[kind] if os.environ.get("ALL") else SHOWN[kind]:
         if wants(f"{kind}, {family}"):
             yield family, instance(kind, family, megabytes)
-        if everything and kind == "min" and megabytes == 1 and wants(f"{kind}, {family}, infeasible"):
-            yield f"{family}, infeasible", infeasible(instance(kind, family, megabytes))
 
 
 def commands(binary, kind, megabytes, file):
@@ -113,31 +111,21 @@ def digits(number):
 
 
 def cell(taken, name, solving):
-    """The seconds that a program took, and of a peer the quotient by what dimacs took; bold where it was faster."""
+    """The seconds that a program took; bold where a peer was faster than dimacs."""
     if name not in taken:
         return ""
     if not taken[name].runs:
         return f"> {MOST}"
     seconds = f"{taken[name].cpu():.3f}" if taken[name].cpu() < 1 else digits(taken[name].cpu())
-    if name.startswith(("solve", "certify")) or not taken[solving].runs:
-        return seconds
-    ratio = taken[name].ratio(taken[solving])[0]
-    return f"**{seconds} ({digits(ratio)})**" if ratio < 1 else f"{seconds} ({digits(ratio)})"
+    is_ours = name.startswith(("solve", "certify"))
+    is_faster = not is_ours and taken[solving].runs and taken[name].ratio(taken[solving])[0] < 1
+    return f"**{seconds}**" if is_faster else seconds
 
 
 def fastest(taken):
     """What the fastest peer took; no runs if none ends in time."""
     peers = [taken[name] for name, _, _ in PEERS if name in taken and taken[name].runs]
     return min(peers, key=Rounds.cpu, default=Rounds())
-
-
-def quotient(peer, ours):
-    """The ratio of a peer to a program of dimacs, with its middle half, if both end in time."""
-    return peer.ratio(ours) if peer.runs and ours.runs else None
-
-
-def bytes_an_arc(rounds, arcs):
-    return f"{rounds.peak_bytes() / arcs:.0f}" if rounds.runs else ""
 
 
 def measure_kind(asked, kind, megabytes):
@@ -147,23 +135,20 @@ def measure_kind(asked, kind, megabytes):
         return
     ours = OURS[kind]
     peers = [name for name, _, called in PEERS if kind in called]
-    ratio_names = [f"Fastest peer / {name}" for name in ours]
-    memory_names = ["Bytes an arc", "Fastest peer's"]
-    head(f"{KINDS[kind]}, {megabytes} MB", "Family", "Arcs", *ours, *peers, *ratio_names, *memory_names)
+    head(f"{KINDS[kind]}, {megabytes} MB", "Family", "Arcs", *ours, *peers, "Bytes an arc")
     ratios = {name: [] for name in ours}
     for family, file in wanted:
         taken = measure_instance(kind, file, commands(asked.binary, kind, megabytes, file), asked.rounds)
-        arcs = declared_arcs(file)
-        peer = fastest(taken)
-        quotients = [quotient(peer, taken.get(name, Rounds())) for name in ours]
-        spreads = ["{:.2f} ({:.2f} to {:.2f})".format(*it) if it else "" for it in quotients]
-        memory = [bytes_an_arc(rounds, arcs) for rounds in (taken[ours[0]], peer)]
-        row(family, f"{arcs:,}", *(cell(taken, name, ours[0]) for name in ours + peers), *spreads, *memory)
-        for name, ratio in zip(ours, quotients):
-            ratios[name] += [ratio[0]] if ratio else []
+        arcs, solved, peer = declared_arcs(file), taken[ours[0]], fastest(taken)
+        memory = f"{solved.peak_bytes() / arcs:.0f}" if solved.runs else ""
+        row(family, f"{arcs:,}", *(cell(taken, name, ours[0]) for name in ours + peers), memory)
+        for name in ours:
+            if peer.runs and name in taken and taken[name].runs:
+                ratios[name].append(peer.ratio(taken[name])[0])
     for name, of_name in ratios.items():
         if of_name:
-            print(f"\nThe fastest peer takes {mean(of_name):.2f} times as long as {name}, in the geometric mean.")
+            mean = statistics.geometric_mean(of_name)
+            print(f"\nThe fastest peer takes {mean:.2f} times as long as {name}, in the geometric mean.")
 
 
 def measure(asked):

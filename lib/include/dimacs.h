@@ -44,7 +44,7 @@ uint32_t dimacs_version(void);
 uint32_t dimacs_proved(void);
 
 /* Hands out the version with what proved the library, as `dimacs --version` prints it: `0.2.0-dev (proved by ..)`, with
- * the kit and its logic, or `0.2.0-dev (not proved)`. Returns DIMACS_DONE. */
+ * the logic of the kit, or `0.2.0-dev (not proved)`. Returns DIMACS_DONE. */
 uint32_t dimacs_version_text(uint8_t *out, size_t room, size_t *needed);
 
 /* What a call returns. */
@@ -288,9 +288,9 @@ uint32_t dimacs_solve_paths_arrays(const dimacs_graph *graph, uint32_t source, u
  * A call that reads hands out what a text spells as the arrays and numbers that the calls above take, and no line.
  * Arrays by arc that share a length *arcs (or *count) may have different rooms. If the text has a fault, it returns
  * DIMACS_REFUSED and hands out its line, as dimacs_show does. Unless it returns DIMACS_DONE, it sets numbers and lengths
- * to 0, and leaves the arrays as they were. An arc takes 8 bytes of a text at least (of a Min text 12), its line end
- * included: room for (length + 1) / 8 arcs is always enough. No call takes memory for arcs that a text declares and
- * doesn't have.
+ * to 0, and leaves the arrays as they were; but those of an instance may hold anything then. An arc takes 8 bytes
+ * of a text at least (of a Min text 12), its line end included: room for (length + 1) / 8 arcs is always enough. No call
+ * takes memory for arcs that a text declares and doesn't have.
  *
  * A call that writes hands out the canonical text to `out`, which read again gives the same arrays. If a number in them
  * is past its limit, it returns DIMACS_MISUSED and hands out the line that names it, as the calls above do. */

@@ -629,7 +629,7 @@ class TextRoom {
     std::uint8_t *at() noexcept { return reinterpret_cast<std::uint8_t *>(bytes_.data()); }
     std::size_t room() const noexcept { return bytes_.size(); }
     bool fits() const noexcept { return needed <= bytes_.size(); }
-    void grow() { bytes_.resize(std::max(needed, bytes_.size())); }
+    void grow() { bytes_.resize(needed); }
     std::string_view text() const noexcept { return std::string_view(bytes_).substr(0, needed); }
 
     std::string take() {
@@ -652,9 +652,7 @@ class Room {
     T *at() noexcept { return items_.get(); }
     std::size_t room() const noexcept { return room_; }
     bool fits() const noexcept { return needed <= room_; }
-    void grow() {
-        if (!fits()) *this = Room(needed);
-    }
+    void grow() { *this = Room(needed); }
 
     std::vector<T> take(std::size_t count) {
         const auto items = std::move(items_);
@@ -669,10 +667,53 @@ class Room {
     std::size_t room_;
 };
 
-// Makes a call with three arguments for each room.
-template <class Call, class... Rooms>
-std::uint32_t with_rooms(const Call &call, Rooms &...rooms) {
-    return std::apply(call, std::tuple_cat(std::make_tuple(rooms.at(), rooms.room(), &rooms.needed)...));
+template <class>
+inline constexpr bool is_room = false;
+template <>
+inline constexpr bool is_room<TextRoom> = true;
+template <class T>
+inline constexpr bool is_room<Room<T>> = true;
+
+inline const std::uint8_t *bytes(std::string_view text) noexcept {
+    return reinterpret_cast<const std::uint8_t *>(text.data());
+}
+
+// What stands for an argument in C: of a text or a span its address and length, of a room the place for what is needed
+// too, and else the argument itself.
+inline auto in_c(std::string_view it) noexcept { return std::make_tuple(bytes(it), it.size()); }
+template <class T>
+auto in_c(span<T> it) noexcept {
+    return std::make_tuple(it.data(), it.size());
+}
+template <class It>
+auto in_c(It &it) noexcept {
+    if constexpr (is_room<It>) {
+        return std::make_tuple(it.at(), it.room(), &it.needed);
+    } else {
+        return std::make_tuple(it);
+    }
+}
+
+// Makes a room larger if it was too small. How many rooms it made so.
+template <class It>
+int grow(It &it) {
+    if constexpr (is_room<It>) {
+        if (!it.fits()) {
+            it.grow();
+            return 1;
+        }
+    }
+    return 0;
+}
+
+// The room for the line of a call, which comes before its other rooms.
+template <class First, class... Others>
+const TextRoom &line_room_of(const First &first, const Others &...others) noexcept {
+    if constexpr (std::is_same_v<First, TextRoom>) {
+        return first;
+    } else {
+        return line_room_of(others...);
+    }
 }
 
 // Throws for a status that leaves the claim undecided.
@@ -685,30 +726,40 @@ inline void throw_for(std::uint32_t status, std::string_view line) {
     }
 }
 
-// Makes a call that hands out texts, again if one of them is longer than its room.
-template <class Call, class... Rooms>
-std::uint32_t call_for_texts(const Call &call, TextRoom &line, Rooms &...rooms) {
+// Makes a call, and again if a room was too small.
+template <class Function, class... Arguments>
+std::uint32_t call(Function function, Arguments &&...arguments) {
     for (;;) {
-        const std::uint32_t status = with_rooms(call, line, rooms...);
-        if (line.fits() && (rooms.fits() && ...)) {
-            throw_for(status, line.text());
+        const std::uint32_t status = std::apply(function, std::tuple_cat(in_c(arguments)...));
+        if ((grow(arguments) + ...) == 0) {
+            throw_for(status, line_room_of(arguments...).text());
             return status;
         }
-        line.grow();
-        (rooms.grow(), ...);
     }
 }
 
-// Makes a call that hands out items to rooms that are large enough.
-template <class Call, class... Rooms>
-std::uint32_t call_for_items(const Call &call, TextRoom &line, Rooms &...rooms) {
-    const std::uint32_t status = with_rooms(call, line, rooms...);
-    throw_for(status, line.text());
-    return status;
+// Makes a call that hands out lines alone, for which there is so much room at first.
+template <class Function, class... Arguments>
+Answer<std::string, Refused> lines_of(std::size_t room, Function function, const Arguments &...arguments) {
+    TextRoom lines(room);
+    if (call(function, arguments..., lines) == DIMACS_REFUSED) return refused(lines.text());
+    return lines.take();
 }
 
-inline const std::uint8_t *bytes(std::string_view text) noexcept {
-    return reinterpret_cast<const std::uint8_t *>(text.data());
+// What a call judges by its arguments.
+template <class Function, class... Arguments>
+Answer<Judged, Refused> judge(Function function, const Arguments &...arguments) {
+    const auto lines = lines_of(line_room, function, arguments...);
+    if (lines) return Judged{};
+    return *lines.template get_if<Refused>();
+}
+
+// The same of a flow.
+template <class Function, class... Arguments>
+Answer<JudgedFlow, Refused> judge_flow(Function function, const Arguments &...arguments) {
+    const auto lines = lines_of(line_room, function, arguments...);
+    if (lines) return JudgedFlow{value_of(*lines)};
+    return *lines.template get_if<Refused>();
 }
 
 // The room for an item of each node. An instance with too many nodes is refused, and needs none.
@@ -763,7 +814,7 @@ inline bool proved() noexcept { return dimacs_proved() != 0; }
 // The version with what proved the library, as `dimacs --version` prints it, or that it isn't proved.
 inline std::string version_text() {
     detail::TextRoom text;
-    detail::call_for_texts([](auto... room) { return dimacs_version_text(room...); }, text);
+    detail::call(dimacs_version_text, text);
     return text.take();
 }
 
@@ -771,49 +822,22 @@ inline std::string version_text() {
 
 namespace detail {
 
-// Judges texts; the lines of a yes, or the refusal.
-inline std::variant<std::string, Refused> judge(std::uint32_t kind, std::string_view instance, std::string_view claim,
-                                                std::string_view certificate, std::size_t room = line_room) {
-    TextRoom line(room);
-    const auto call = [&](auto... rooms) {
-        return dimacs_judge(kind, bytes(instance), instance.size(), bytes(claim), claim.size(), bytes(certificate),
-                            certificate.size(), rooms...);
-    };
-    if (call_for_texts(call, line) == DIMACS_DONE) return line.take();
-    return refused(line.text());
-}
-
-inline Answer<JudgedFlow, Refused> judge_flow(std::uint32_t kind, std::string_view instance, std::string_view solution,
-                                              std::string_view certificate) {
-    auto it = judge(kind, instance, solution, certificate);
-    if (auto *no = std::get_if<Refused>(&it)) return std::move(*no);
-    return JudgedFlow{value_of(std::get<std::string>(it))};
-}
-
 // What dimacs_certify hands out: the line, and the certificate or the better solution.
 struct CertifyAnswer {
     bool is_yes;
     std::string line, shown;
 };
 
-template <class Call>
-CertifyAnswer call_of_two(const Call &function, std::uint32_t kind, std::string_view instance, std::string_view claim) {
+inline CertifyAnswer certify(std::uint32_t kind, std::string_view instance, std::string_view claim) {
     TextRoom line, shown(line_room + instance.size() + claim.size());
-    const auto call = [&](auto... rooms) {
-        return function(kind, bytes(instance), instance.size(), bytes(claim), claim.size(), rooms...);
-    };
-    const bool is_yes = call_for_texts(call, line, shown) == DIMACS_DONE;
+    const bool is_yes = call(dimacs_certify, kind, instance, claim, line, shown) == DIMACS_DONE;
     return {is_yes, line.take(), shown.take()};
 }
 
-inline CertifyAnswer certify(std::uint32_t kind, std::string_view instance, std::string_view claim) {
-    return call_of_two(dimacs_certify, kind, instance, claim);
-}
-
 inline Answer<std::string, Refused> spread(std::uint32_t kind, std::string_view instance, std::string_view solution) {
-    auto [is_yes, line, spread] = call_of_two(dimacs_spread, kind, instance, solution);
-    if (!is_yes) return refused(line);
-    return std::move(spread);
+    TextRoom line, spread(line_room + instance.size() + solution.size());
+    if (call(dimacs_spread, kind, instance, solution, line, spread) == DIMACS_REFUSED) return refused(line.text());
+    return spread.take();
 }
 
 inline Answer<CertifiedText, NotOptimalText, Refused> certify_flow(std::uint32_t kind, std::string_view instance,
@@ -835,22 +859,8 @@ struct SolveAnswer {
 inline SolveAnswer solve(std::uint32_t kind, std::string_view instance, std::string_view queries, std::uint64_t limit) {
     TextRoom lines(line_room + 4 * queries.size()), solution(line_room + instance.size());
     TextRoom certificate(line_room + 2 * instance.size());
-    const auto call = [&](auto... rooms) {
-        return dimacs_solve(kind, bytes(instance), instance.size(), bytes(queries), queries.size(), limit, rooms...);
-    };
-    const std::uint32_t status = call_for_texts(call, lines, solution, certificate);
+    const auto status = call(dimacs_solve, kind, instance, queries, limit, lines, solution, certificate);
     return {status, lines.take(), solution.take(), certificate.take()};
-}
-
-// Makes a text of a text.
-template <class Call>
-Answer<std::string, Refused> make_text(const Call &function, Text kind, std::string_view text) {
-    TextRoom out(line_room + text.size());
-    const auto call = [&](auto... rooms) {
-        return function(static_cast<std::uint32_t>(kind), bytes(text), text.size(), rooms...);
-    };
-    if (call_for_texts(call, out) == DIMACS_DONE) return out.take();
-    return refused(out.text());
 }
 
 }  // namespace detail
@@ -859,28 +869,27 @@ Answer<std::string, Refused> make_text(const Call &function, Text kind, std::str
 // else for the first test that fails.
 inline Answer<JudgedFlow, Refused> judge_max(std::string_view instance, std::string_view solution,
                                              std::string_view cut) {
-    return detail::judge_flow(DIMACS_MAX, instance, solution, cut);
+    return detail::judge_flow(dimacs_judge, DIMACS_MAX, instance, solution, cut);
 }
 
 // Judges that a solution's flow costs least, as the potentials show. Refused as judge_max.
 inline Answer<JudgedFlow, Refused> judge_min(std::string_view instance, std::string_view solution,
                                              std::string_view potentials) {
-    return detail::judge_flow(DIMACS_MIN, instance, solution, potentials);
+    return detail::judge_flow(dimacs_judge, DIMACS_MIN, instance, solution, potentials);
 }
 
 // Judges that an instance has no feasible flow, as the set shows. Refused as judge_max.
 inline Answer<Judged, Refused> judge_infeasible(std::string_view instance, std::string_view set) {
-    auto it = detail::judge(DIMACS_INFEASIBLE, instance, {}, set);
-    if (auto *no = std::get_if<Refused>(&it)) return std::move(*no);
-    return Judged{};
+    return detail::judge(dimacs_judge, DIMACS_INFEASIBLE, instance, std::string_view(), set);
 }
 
 // Judges labels, and answers queries by them. Refused as judge_max.
 inline Answer<JudgedPaths, Refused> judge_paths(std::string_view graph, std::string_view queries,
                                                 std::string_view labels) {
-    auto it = detail::judge(DIMACS_PATHS, graph, queries, labels, detail::line_room + 4 * queries.size());
-    if (auto *no = std::get_if<Refused>(&it)) return std::move(*no);
-    return detail::paths_of(std::get<std::string>(it));
+    const std::size_t room = detail::line_room + 4 * queries.size();
+    const auto lines = detail::lines_of(room, dimacs_judge, DIMACS_PATHS, graph, queries, labels);
+    if (!lines) return *lines.get_if<Refused>();
+    return detail::paths_of(*lines);
 }
 
 // Decides whether a solution's flow is maximum. A yes has the text of a cut. NotOptimalText, with a better solution, if
@@ -960,12 +969,14 @@ inline Answer<SolvedPathsText, Refused> solve_paths(std::string_view graph, std:
 
 // The canonical form of a text. Refused if it has a fault.
 inline Answer<std::string, Refused> convert(Text kind, std::string_view text) {
-    return detail::make_text(dimacs_convert, kind, text);
+    const auto kind_number = static_cast<std::uint32_t>(kind);
+    return detail::lines_of(detail::line_room + text.size(), dimacs_convert, kind_number, text);
 }
 
 // A line that describes a text, as "i max 4 5 1 4\n". Refused if it has a fault.
 inline Answer<std::string, Refused> show(Text kind, std::string_view text) {
-    return detail::make_text(dimacs_show, kind, text);
+    const auto kind_number = static_cast<std::uint32_t>(kind);
+    return detail::lines_of(detail::line_room + text.size(), dimacs_show, kind_number, text);
 }
 
 // The lines that `dimacs explain` prints for a command over texts: its own, then what explains them. The words that
@@ -973,14 +984,9 @@ inline Answer<std::string, Refused> show(Text kind, std::string_view text) {
 // give what it wrote. Throws std::invalid_argument if the words aren't a command with its files.
 inline std::string explain(std::string_view command, std::string_view first, std::string_view second = {},
                            std::string_view third = {}) {
-    using detail::bytes;
     detail::TextRoom lines(16 * detail::line_room);
-    const auto call = [&](auto... rooms) {
-        return dimacs_explain(bytes(command), command.size(), bytes(first), first.size(), bytes(second), second.size(),
-                              bytes(third), third.size(), rooms...);
-    };
     try {
-        detail::call_for_texts(call, lines);
+        detail::call(dimacs_explain, command, first, second, third, lines);
     } catch (const WrongLength &) {
         throw std::invalid_argument("no command with its files: " + std::string(command));
     }
@@ -995,12 +1001,7 @@ inline Answer<JudgedFlow, Refused> judge_max(const MaxInstance &instance, Number
     const dimacs_max arrays = detail::arrays(instance);
     detail::test_by_arc(instance, "flows", flows);
     detail::test_by_node(instance, "inside", inside);
-    detail::TextRoom line;
-    const auto call = [&](auto... rooms) {
-        return dimacs_judge_max_arrays(&arrays, flows.data(), flows.size(), inside.data(), inside.size(), rooms...);
-    };
-    if (detail::call_for_items(call, line) == DIMACS_REFUSED) return detail::refused(line.text());
-    return JudgedFlow{detail::value_of(line.text())};
+    return detail::judge_flow(dimacs_judge_max_arrays, &arrays, flows, inside);
 }
 
 // Judges that a flow, by arc, costs least, by potentials of the nodes. The reduced cost of an arc is its cost, minus
@@ -1009,13 +1010,7 @@ inline Answer<JudgedFlow, Refused> judge_min(const MinInstance &instance, Number
     const dimacs_min arrays = detail::arrays(instance);
     detail::test_by_arc(instance, "flows", flows);
     detail::test_by_node(instance, "potentials", potentials);
-    detail::TextRoom line;
-    const auto call = [&](auto... rooms) {
-        return dimacs_judge_min_arrays(&arrays, flows.data(), flows.size(), potentials.data(), potentials.size(),
-                                       rooms...);
-    };
-    if (detail::call_for_items(call, line) == DIMACS_REFUSED) return detail::refused(line.text());
-    return JudgedFlow{detail::value_of(line.text())};
+    return detail::judge_flow(dimacs_judge_min_arrays, &arrays, flows, potentials);
 }
 
 // Judges that an instance has no feasible flow, by the set of the nodes whose byte in `inside` isn't 0. If it is
@@ -1023,12 +1018,7 @@ inline Answer<JudgedFlow, Refused> judge_min(const MinInstance &instance, Number
 inline Answer<Judged, Refused> judge_infeasible(const MinInstance &instance, Marks inside) {
     const dimacs_min arrays = detail::arrays(instance);
     detail::test_by_node(instance, "inside", inside);
-    detail::TextRoom line;
-    const auto call = [&](auto... rooms) {
-        return dimacs_judge_infeasible_arrays(&arrays, inside.data(), inside.size(), rooms...);
-    };
-    if (detail::call_for_items(call, line) == DIMACS_REFUSED) return detail::refused(line.text());
-    return Judged{};
+    return detail::judge(dimacs_judge_infeasible_arrays, &arrays, inside);
 }
 
 // Judges that the distances from the source, by node, are the least weights of walks, by the predecessors of the
@@ -1038,13 +1028,7 @@ inline Answer<Judged, Refused> judge_paths(const Graph &graph, std::uint32_t sou
     const dimacs_graph arrays = detail::arrays(graph);
     detail::test_by_node(graph, "distances", distances);
     detail::test_by_node(graph, "predecessors", predecessors);
-    detail::TextRoom line;
-    const auto call = [&](auto... rooms) {
-        return dimacs_judge_paths_arrays(&arrays, source, distances.data(), distances.size(), predecessors.data(),
-                                         predecessors.size(), rooms...);
-    };
-    if (detail::call_for_items(call, line) == DIMACS_REFUSED) return detail::refused(line.text());
-    return Judged{};
+    return detail::judge(dimacs_judge_paths_arrays, &arrays, source, distances, predecessors);
 }
 
 // Decides whether a flow, by arc, is maximum. A yes has a cut that judge_max accepts. NotOptimal, with a feasible flow
@@ -1057,10 +1041,7 @@ inline Answer<CertifiedMax<Inside>, NotOptimal<Flows>, Refused> certify_max(cons
     detail::TextRoom line;
     detail::Room<std::uint8_t> inside(detail::room_for(instance.nodes));
     detail::Room<std::int64_t> better(flows.size());
-    const auto call = [&](auto... rooms) {
-        return dimacs_certify_max_arrays(&arrays, flows.data(), flows.size(), rooms...);
-    };
-    const std::uint32_t status = detail::call_for_items(call, line, inside, better);
+    const std::uint32_t status = detail::call(dimacs_certify_max_arrays, &arrays, flows, line, inside, better);
     if (status == DIMACS_DONE) return CertifiedMax<Inside>{detail::value_of(line.text()), inside.take()};
     Refused no = detail::refused(line.text());
     if (detail::is_not_optimal(no)) return NotOptimal<Flows>{no.line, better.take()};
@@ -1076,10 +1057,7 @@ inline Answer<CertifiedMin<Potentials>, NotOptimal<Flows>, GaveUp, Refused> cert
     detail::test_by_arc(instance, "flows", flows);
     detail::TextRoom line;
     detail::Room<std::int64_t> potentials(detail::room_for(instance.nodes)), better(flows.size());
-    const auto call = [&](auto... rooms) {
-        return dimacs_certify_min_arrays(&arrays, flows.data(), flows.size(), rooms...);
-    };
-    const std::uint32_t status = detail::call_for_items(call, line, potentials, better);
+    const std::uint32_t status = detail::call(dimacs_certify_min_arrays, &arrays, flows, line, potentials, better);
     if (status == DIMACS_DONE) return CertifiedMin<Potentials>{detail::value_of(line.text()), potentials.take()};
     if (status == DIMACS_GAVE_UP) return GaveUp{};
     Refused no = detail::refused(line.text());
@@ -1094,8 +1072,7 @@ inline Answer<CertifiedInfeasible<Inside>, Feasible<Flows>> certify_infeasible(c
     detail::TextRoom line;
     detail::Room<std::uint8_t> inside(detail::room_for(instance.nodes));
     detail::Room<std::int64_t> flows(instance.tails.size());
-    const auto call = [&](auto... rooms) { return dimacs_certify_infeasible_arrays(&arrays, rooms...); };
-    const std::uint32_t status = detail::call_for_items(call, line, inside, flows);
+    const std::uint32_t status = detail::call(dimacs_certify_infeasible_arrays, &arrays, line, inside, flows);
     if (status == DIMACS_DONE) return CertifiedInfeasible<Inside>{inside.take()};
     return Feasible<Flows>{flows.take()};
 }
@@ -1108,10 +1085,7 @@ inline Answer<CertifiedPaths<Predecessors>, Refused> certify_paths(const Graph &
     detail::test_by_node(graph, "distances", distances);
     detail::TextRoom line;
     detail::Room<std::uint32_t> predecessors(detail::room_for(graph.nodes));
-    const auto call = [&](auto... rooms) {
-        return dimacs_certify_paths_arrays(&arrays, source, distances.data(), distances.size(), rooms...);
-    };
-    const std::uint32_t status = detail::call_for_items(call, line, predecessors);
+    const auto status = detail::call(dimacs_certify_paths_arrays, &arrays, source, distances, line, predecessors);
     if (status == DIMACS_REFUSED) return detail::refused(line.text());
     return CertifiedPaths<Predecessors>{predecessors.take()};
 }
@@ -1123,8 +1097,7 @@ inline Answer<SolvedMax<Flows, Inside>, GaveUp> solve_max(const MaxInstance &ins
     detail::TextRoom line;
     detail::Room<std::int64_t> flows(instance.tails.size());
     detail::Room<std::uint8_t> inside(detail::room_for(instance.nodes));
-    const auto call = [&](auto... rooms) { return dimacs_solve_max_arrays(&arrays, limit, rooms...); };
-    const std::uint32_t status = detail::call_for_items(call, line, flows, inside);
+    const std::uint32_t status = detail::call(dimacs_solve_max_arrays, &arrays, limit, line, flows, inside);
     if (status == DIMACS_GAVE_UP) return GaveUp{};
     return SolvedMax<Flows, Inside>{detail::value_of(line.text()), flows.take(), inside.take()};
 }
@@ -1138,8 +1111,7 @@ inline Answer<SolvedMin<Flows, Potentials>, Infeasible<Inside>, GaveUp> solve_mi
     detail::TextRoom line;
     detail::Room<std::int64_t> flows(instance.tails.size()), potentials(detail::room_for(instance.nodes));
     detail::Room<std::uint8_t> inside(detail::room_for(instance.nodes));
-    const auto call = [&](auto... rooms) { return dimacs_solve_min_arrays(&arrays, limit, rooms...); };
-    const std::uint32_t status = detail::call_for_items(call, line, flows, potentials, inside);
+    const std::uint32_t status = detail::call(dimacs_solve_min_arrays, &arrays, limit, line, flows, potentials, inside);
     if (status == DIMACS_GAVE_UP) return GaveUp{};
     if (detail::is_infeasible(line.text())) return Infeasible<Inside>{inside.take()};
     return SolvedMin<Flows, Potentials>{detail::value_of(line.text()), flows.take(), potentials.take()};
@@ -1152,8 +1124,7 @@ inline Answer<SolvedPaths, GaveUp, Refused> solve_paths(const Graph &graph, std:
     detail::TextRoom line;
     detail::Room<std::int64_t> distances(detail::room_for(graph.nodes));
     detail::Room<std::uint32_t> predecessors(detail::room_for(graph.nodes));
-    const auto call = [&](auto... rooms) { return dimacs_solve_paths_arrays(&arrays, source, rooms...); };
-    const std::uint32_t status = detail::call_for_items(call, line, distances, predecessors);
+    const auto status = detail::call(dimacs_solve_paths_arrays, &arrays, source, line, distances, predecessors);
     if (status == DIMACS_GAVE_UP) return GaveUp{};
     if (status == DIMACS_REFUSED) return detail::refused(line.text());
     return SolvedPaths{distances.take(), predecessors.take()};
@@ -1167,21 +1138,18 @@ namespace detail {
 inline std::size_t most_items(std::string_view text, std::size_t bytes) noexcept { return (text.size() + 1) / bytes; }
 
 // Reads an array by node.
-template <class T, class Call>
-Answer<std::vector<T>, Refused> read_by_node(const Call &function, std::string_view text) {
+template <class T, class Function, class... Arguments>
+Answer<std::vector<T>, Refused> read_by_node(Function function, std::string_view text, const Arguments &...arguments) {
     TextRoom line;
     Room<T> items(most_items(text, sizeof(T)));
-    const auto call = [&](auto... rooms) { return function(bytes(text), text.size(), rooms...); };
-    if (call_for_texts(call, line, items) == DIMACS_REFUSED) return refused(line.text());
+    if (call(function, text, arguments..., line, items) == DIMACS_REFUSED) return refused(line.text());
     return items.take();
 }
 
 // Writes about so many lines.
-template <class Call>
-Answer<std::string, Refused> write(const Call &call, std::size_t lines) {
-    TextRoom text(line_room + 32 * lines);
-    if (call_for_texts(call, text) == DIMACS_REFUSED) return refused(text.text());
-    return text.take();
+template <class Function, class... Arguments>
+Answer<std::string, Refused> write(std::size_t lines, Function function, const Arguments &...arguments) {
+    return lines_of(line_room + 32 * lines, function, arguments...);
 }
 
 }  // namespace detail
@@ -1194,11 +1162,9 @@ inline Answer<MaxVectors, Refused> read_max(std::string_view text) {
     detail::Room<std::int64_t> caps(most);
     MaxVectors it;
     std::size_t arcs = 0;
-    const auto call = [&](auto... room) {
-        return dimacs_read_max(detail::bytes(text), text.size(), room..., &it.nodes, &it.source, &it.sink, tails.at(),
-                               most, heads.at(), most, caps.at(), most, &arcs);
-    };
-    if (detail::call_for_items(call, line) == DIMACS_REFUSED) return detail::refused(line.text());
+    const auto status = detail::call(dimacs_read_max, text, line, &it.nodes, &it.source, &it.sink, tails.at(), most,
+                                     heads.at(), most, caps.at(), most, &arcs);
+    if (status == DIMACS_REFUSED) return detail::refused(line.text());
     it.tails = tails.take(arcs);
     it.heads = heads.take(arcs);
     it.caps = caps.take(arcs);
@@ -1213,11 +1179,9 @@ inline Answer<MinVectors, Refused> read_min(std::string_view text) {
     detail::Room<std::int64_t> lows(most), caps(most), costs(most), supplies(most);
     MinVectors it;
     std::size_t arcs = 0;
-    const auto call = [&](std::uint8_t *out, std::size_t room, std::size_t *needed, auto... by_node) {
-        return dimacs_read_min(detail::bytes(text), text.size(), out, room, needed, &it.nodes, tails.at(), most,
-                               heads.at(), most, lows.at(), most, caps.at(), most, costs.at(), most, &arcs, by_node...);
-    };
-    if (detail::call_for_texts(call, line, supplies) == DIMACS_REFUSED) return detail::refused(line.text());
+    const auto status = detail::call(dimacs_read_min, text, line, &it.nodes, tails.at(), most, heads.at(), most,
+                                     lows.at(), most, caps.at(), most, costs.at(), most, &arcs, supplies);
+    if (status == DIMACS_REFUSED) return detail::refused(line.text());
     it.tails = tails.take(arcs);
     it.heads = heads.take(arcs);
     it.lows = lows.take(arcs);
@@ -1235,11 +1199,9 @@ inline Answer<GraphVectors, Refused> read_graph(std::string_view text) {
     detail::Room<std::int64_t> weights(most);
     GraphVectors it;
     std::size_t arcs = 0;
-    const auto call = [&](auto... room) {
-        return dimacs_read_graph(detail::bytes(text), text.size(), room..., &it.nodes, tails.at(), most, heads.at(),
-                                 most, weights.at(), most, &arcs);
-    };
-    if (detail::call_for_items(call, line) == DIMACS_REFUSED) return detail::refused(line.text());
+    const auto status = detail::call(dimacs_read_graph, text, line, &it.nodes, tails.at(), most, heads.at(), most,
+                                     weights.at(), most, &arcs);
+    if (status == DIMACS_REFUSED) return detail::refused(line.text());
     it.tails = tails.take(arcs);
     it.heads = heads.take(arcs);
     it.weights = weights.take(arcs);
@@ -1253,11 +1215,9 @@ inline Answer<Queries, Refused> read_queries(std::string_view text) {
     detail::Room<std::uint32_t> froms(most), tos(most);
     std::uint32_t pairs = 0;
     std::size_t count = 0;
-    const auto call = [&](auto... room) {
-        return dimacs_read_queries(detail::bytes(text), text.size(), room..., &pairs, froms.at(), most, tos.at(), most,
-                                   &count);
-    };
-    if (detail::call_for_items(call, line) == DIMACS_REFUSED) return detail::refused(line.text());
+    const auto status =
+        detail::call(dimacs_read_queries, text, line, &pairs, froms.at(), most, tos.at(), most, &count);
+    if (status == DIMACS_REFUSED) return detail::refused(line.text());
     return Queries{froms.take(count), pairs != 0 ? std::optional(tos.take(count)) : std::nullopt};
 }
 
@@ -1271,11 +1231,9 @@ Answer<Solution<Flows>, Refused> read_solution(std::string_view text, const Inst
     detail::TextRoom line;
     detail::Room<std::int64_t> flows(tails.size());
     std::int64_t value = 0;
-    const auto call = [&](std::uint8_t *out, std::size_t room, std::size_t *needed, auto... by_arc) {
-        return dimacs_read_solution(instance.nodes, tails.data(), tails.size(), heads.data(), heads.size(),
-                                    detail::bytes(text), text.size(), out, room, needed, &value, by_arc...);
-    };
-    if (detail::call_for_items(call, line, flows) == DIMACS_REFUSED) return detail::refused(line.text());
+    const auto status =
+        detail::call(dimacs_read_solution, instance.nodes, tails, heads, text, line, &value, flows);
+    if (status == DIMACS_REFUSED) return detail::refused(line.text());
     return Solution<Flows>{value, flows.take()};
 }
 
@@ -1292,10 +1250,7 @@ inline Answer<Potentials, Refused> read_potentials(std::string_view text) {
 // Reads the block of a source from distances: one for each node, `unreached` for a node without a line. Refused also if
 // the source has no block, or if a distance is 2^63 - 1 or more.
 inline Answer<std::vector<std::int64_t>, Refused> read_distances(std::string_view text, std::uint32_t source) {
-    const auto call = [&](const std::uint8_t *at, std::size_t length, auto... rooms) {
-        return dimacs_read_distances(at, length, source, rooms...);
-    };
-    return detail::read_by_node<std::int64_t>(call, text);
+    return detail::read_by_node<std::int64_t>(dimacs_read_distances, text, source);
 }
 
 // Reads the block of a source from labels. Refused as read_distances.
@@ -1304,12 +1259,8 @@ inline Answer<Labels, Refused> read_labels(std::string_view text, std::uint32_t 
     detail::Room<std::int64_t> distances(detail::most_items(text, 8));
     detail::Room<std::uint32_t> predecessors(distances.room());
     std::int64_t radius = 0;
-    const auto call = [&](std::uint8_t *out, std::size_t room, std::size_t *needed, auto... by_node) {
-        return dimacs_read_labels(detail::bytes(text), text.size(), source, out, room, needed, &radius, by_node...);
-    };
-    if (detail::call_for_texts(call, line, distances, predecessors) == DIMACS_REFUSED) {
-        return detail::refused(line.text());
-    }
+    const auto status = detail::call(dimacs_read_labels, text, source, line, &radius, distances, predecessors);
+    if (status == DIMACS_REFUSED) return detail::refused(line.text());
     return Labels{distances.take(), predecessors.take(), radius == unreached ? std::nullopt : std::optional(radius)};
 }
 
@@ -1317,22 +1268,19 @@ inline Answer<Labels, Refused> read_labels(std::string_view text, std::uint32_t 
 // WrongLength and PastLimit.
 inline std::string write_max(const MaxInstance &instance) {
     const dimacs_max arrays = detail::arrays(instance);
-    const auto call = [&](auto... room) { return dimacs_write_max(&arrays, room...); };
-    return detail::write(call, instance.tails.size()).value();
+    return detail::write(instance.tails.size(), dimacs_write_max, &arrays).value();
 }
 
 // The same of a minimum cost flow instance.
 inline std::string write_min(const MinInstance &instance) {
     const dimacs_min arrays = detail::arrays(instance);
-    const auto call = [&](auto... room) { return dimacs_write_min(&arrays, room...); };
-    return detail::write(call, instance.tails.size() + instance.nodes).value();
+    return detail::write(instance.tails.size() + instance.nodes, dimacs_write_min, &arrays).value();
 }
 
 // The same of a graph.
 inline std::string write_graph(const Graph &graph) {
     const dimacs_graph arrays = detail::arrays(graph);
-    const auto call = [&](auto... room) { return dimacs_write_graph(&arrays, room...); };
-    return detail::write(call, graph.tails.size()).value();
+    return detail::write(graph.tails.size(), dimacs_write_graph, &arrays).value();
 }
 
 // A solution that claims a value, with an entry for each arc of an instance of any kind, in their order.
@@ -1341,47 +1289,30 @@ std::string write_solution(std::int64_t value, const Instance &instance, Numbers
     const Nodes tails = instance.tails, heads = instance.heads;
     detail::test_by_arc(instance, "heads", heads);
     detail::test_by_arc(instance, "flows", flows);
-    const auto call = [&](auto... room) {
-        return dimacs_write_solution(value, instance.nodes, tails.data(), tails.size(), heads.data(), heads.size(),
-                                     flows.data(), flows.size(), room...);
-    };
-    return detail::write(call, flows.size()).value();
+    return detail::write(flows.size(), dimacs_write_solution, value, instance.nodes, tails, heads, flows).value();
 }
 
 // The set of the nodes whose byte isn't 0, as a cut.
 inline std::string write_cut(Marks inside) {
-    const auto call = [&](auto... room) { return dimacs_write_cut(inside.data(), inside.size(), room...); };
-    return detail::write(call, inside.size() / 4).value();
+    return detail::write(inside.size() / 4, dimacs_write_cut, inside).value();
 }
 
 // Potentials, by node.
 inline std::string write_potentials(Numbers potentials) {
-    const auto call = [&](auto... room) {
-        return dimacs_write_potentials(potentials.data(), potentials.size(), room...);
-    };
-    return detail::write(call, potentials.size()).value();
+    return detail::write(potentials.size(), dimacs_write_potentials, potentials).value();
 }
 
 // Queries.
 inline std::string write_queries(const Queries &queries) {
-    const std::vector<std::uint32_t> none, &tos = queries.tos ? *queries.tos : none;
-    if (queries.tos && tos.size() != queries.froms.size()) {
-        throw WrongLength("tos", tos.size(), queries.froms.size(), "froms");
-    }
-    const auto call = [&](auto... room) {
-        return dimacs_write_queries(queries.tos ? 1 : 0, queries.froms.data(), queries.froms.size(), tos.data(),
-                                    tos.size(), room...);
-    };
-    return detail::write(call, queries.froms.size()).value();
+    const Nodes froms = queries.froms, tos = queries.tos ? Nodes(*queries.tos) : Nodes();
+    if (queries.tos && tos.size() != froms.size()) throw WrongLength("tos", tos.size(), froms.size(), "froms");
+    return detail::write(froms.size(), dimacs_write_queries, queries.tos ? 1 : 0, froms, tos).value();
 }
 
 // Distances from a source, by node: one block, with a line for each other node that is reached. Refused if the distance
 // of the source isn't 0.
 inline Answer<std::string, Refused> write_distances(std::uint32_t source, Numbers distances) {
-    const auto call = [&](auto... room) {
-        return dimacs_write_distances(source, distances.data(), distances.size(), room...);
-    };
-    return detail::write(call, distances.size());
+    return detail::write(distances.size(), dimacs_write_distances, source, distances);
 }
 
 // The same as labels, with predecessors that lead back to the source. Refused as judge_paths, up to PredUnknown.
@@ -1389,11 +1320,7 @@ inline Answer<std::string, Refused> write_labels(std::uint32_t source, Numbers d
     if (predecessors.size() != distances.size()) {
         throw WrongLength("predecessors", predecessors.size(), distances.size(), "distances");
     }
-    const auto call = [&](auto... room) {
-        return dimacs_write_labels(source, distances.data(), distances.size(), predecessors.data(), predecessors.size(),
-                                   room...);
-    };
-    return detail::write(call, distances.size());
+    return detail::write(distances.size(), dimacs_write_labels, source, distances, predecessors);
 }
 
 }  // namespace DIMACS_SPAN

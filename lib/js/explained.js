@@ -1,27 +1,17 @@
 // What explains an answer: the command that gives it, run once more over the same texts, or over texts made of arrays.
 // The printed line is proved to be the answer's; the lines after it aren't.
 import {bytesOf, inFormOf} from "./bytes.js";
-import {texts} from "./loaded.js";
-import {UNREACHED} from "./numbers.js";
-
-const OF_FLOWS = "instance solution certificate", OF_SETS = "instance certificate";
+import {DONE, LINE, Room} from "./library.js";
+import {library, texts} from "./loaded.js";
 
 /** The names of each command's texts, which the lines quote: those that refusals have for them. */
-const NAMES = {
-    "judge-max": OF_FLOWS,
-    "judge-min": OF_FLOWS,
-    "judge-infeasible": OF_SETS,
-    "judge-paths": "instance query certificate",
-    "certify-max": OF_FLOWS,
-    "certify-min": OF_FLOWS,
-    "certify-infeasible": OF_SETS,
-    "certify-paths": "instance distances certificate",
-    "solve-max": OF_FLOWS,
-    "solve-min": OF_FLOWS,
-    "solve-paths": "instance query certificate",
-    "spread-max": "instance solution spread",
-    "spread-min": "instance solution spread",
-};
+function namesOf(command) {
+    const [verb, kind] = command.split("-");
+    if (verb === "spread") return ["instance", "solution", "spread"];
+    if (kind === "infeasible") return ["instance", "certificate"];
+    if (kind !== "paths") return ["instance", "solution", "certificate"];
+    return ["instance", verb === "certify" ? "distances" : "query", "certificate"];
+}
 
 /** Those of single texts, by their kinds; that of the others is `instance`. */
 const SINGLE = {
@@ -46,7 +36,7 @@ export function kept(answer, ...asked) {
 function commandOf(command, count, shown) {
     const [verb, kind] = command.split(" ");
     if (kind) return `${command} ${SINGLE[kind] ?? "instance"}`;
-    const names = NAMES[verb].replace("certificate", shown).split(" ");
+    const names = namesOf(verb).map((name) => (name === "certificate" ? shown : name));
     return [verb, ...(verb.startsWith("certify") ? names.slice(0, count) : names)].join(" ");
 }
 
@@ -86,50 +76,45 @@ const ofArrays = (line) => RETOLD.reduce((told, [words, mine]) => told.replace(w
 /** How many texts a command reads. */
 const COUNTS = {judge: 3, certify: 2, solve: 2};
 
-/** A call over arrays: the form of its instance, its numbers, and arrays by their names, as the library takes them. */
+/** The text that the library writes of arrays, or null if it refuses them. */
+function written(name, ...words) {
+    const {status, handed: [text]} = library.call(`dimacs_write_${name}`, words, [new Room(Uint8Array, LINE)]);
+    return status === DONE ? inFormOf("", text) : null;
+}
+
+/**
+ * A call over arrays: the form of its instance, the instance as the library takes it, its numbers, and arrays by their
+ * names.
+ */
 export class AskedOfArrays {
-    constructor(form, numbers, arrays) {
-        Object.assign(this, {form, numbers, arrays});
+    constructor(form, instance, numbers, arrays) {
+        Object.assign(this, {form, instance, numbers, arrays});
     }
 
     /** The same with arrays that were handed out. */
     with(arrays) {
-        return new AskedOfArrays(this.form, this.numbers, {...this.arrays, ...arrays});
+        return new AskedOfArrays(this.form, this.instance, this.numbers, {...this.arrays, ...arrays});
     }
 
     /** The lines for arrays that were refused by the line `printed`, with the message `said`, or null. None quotes a text. */
     explanation(command, printed, said) {
         const [verb, kind] = command.split("-"), count = command === "certify-infeasible" ? 1 : COUNTS[verb];
-        const made = NAMES[command].split(" ").slice(0, count).map((name) => this.#text(kind, name));
+        const made = namesOf(command).slice(0, count).map((name) => this.#text(kind, name));
         if (this.arrays.better) made.push(this.#solution(this.arrays.better));
-        const given = made.map((lines) => `${lines.join("\n")}\n`);
-        const [first, ...more] = explanation(command, given, "better").split("\n");
+        const [first, ...more] = made.includes(null) ? ["x"] : explanation(command, made, "better").split("\n");
         if (!printed && first.startsWith("x ")) return CHANGED;
         if (printed && !isSame(first, printed)) return `${printed}\n${said}\n`;
         return [printed ?? first, ...more.flatMap((line) => this.#retold(line))].join("\n");
     }
 
     #text(kind, name) {
-        if (name === "instance") return this.#instance();
-        if (name === "query") return ["p aux sp ss 1", `s ${this.numbers.source}`];
-        if (name === "solution") return this.#solution(this.arrays.flows);
-        if (kind === "paths") return this.#labels(name === "distances" ? "distances" : "dist");
-        if (kind === "min") return this.#byNode("pot", "y", this.arrays.potentials);
-        return this.#byNode("cut", "u", this.arrays.inside);
-    }
-
-    /** The lines before those of arcs. */
-    #head() {
-        const {nodes, source, sink} = this.numbers, {tails, supplies} = this.arrays, count = `${nodes} ${tails.length}`;
-        if (this.form === "max") return [`p max ${count}`, `n ${source} s`, `n ${sink} t`];
-        if (this.form === "graph") return [`p sp ${count}`];
-        const supplied = Array.from(supplies, (it, i) => `n ${i + 1} ${it}`);
-        return [`p min ${count}`, ...supplied.filter((_, i) => supplies[i] !== 0n)];
-    }
-
-    #instance() {
-        const columns = ["tails", "heads", ...COLUMNS[this.form]].map((name) => this.arrays[name]);
-        return [...this.#head(), ...Array.from(columns[0], (_, arc) => `a ${columns.map((it) => it[arc]).join(" ")}`)];
+        const {source} = this.numbers, {flows, inside, potentials, distances, predecessors} = this.arrays;
+        if (name === "instance") return written(this.form, this.instance);
+        if (name === "query") return `p aux sp ss 1\ns ${source}\n`;
+        if (name === "solution") return this.#solution(flows);
+        if (name === "distances") return written("distances", source, distances);
+        if (kind === "paths") return written("labels", source, distances, predecessors);
+        return kind === "min" ? written("potentials", potentials) : written("cut", inside);
     }
 
     /** The value or the cost of a flow. */
@@ -139,25 +124,15 @@ export class AskedOfArrays {
         return flows.reduce((sum, flow, arc) => sum + flow * times(arc), 0n);
     }
 
+    /** Its value may take more than 64 bits. */
     #solution(flows) {
-        const {tails, heads} = this.arrays;
-        return [`s ${this.valueOf(flows)}`, ...Array.from(flows, (flow, arc) => `f ${tails[arc]} ${heads[arc]} ${flow}`)];
+        const {tails, heads} = this.arrays, text = written("solution", 0n, this.numbers.nodes, tails, heads, flows);
+        return text && `s ${this.valueOf(flows)}${text.slice(text.indexOf("\n"))}`;
     }
 
-    #byNode(kind, letter, values) {
-        const found = Array.from(values, (it, i) => `${letter} ${i + 1}${letter === "u" ? "" : ` ${it}`}`);
-        const lines = found.filter((_, i) => BigInt(values[i]) !== 0n);
-        return [`p ${kind} ${values.length} ${lines.length}`, ...lines];
-    }
-
-    #labels(kind) {
-        const {distances, predecessors} = this.arrays, {source} = this.numbers;
-        const nodes = Array.from(distances, (_, i) => i + 1);
-        const reached = nodes.filter((node) => distances[node - 1] !== UNREACHED && node !== source);
-        const head = [`p ${kind} ${distances.length} 1`, `t ${source} ${reached.length}`];
-        if (kind === "distances") return [...head, ...reached.map((node) => `d ${node} ${distances[node - 1]}`)];
-        const ordered = afterPredecessors(reached, predecessors, source);
-        return [...head, ...ordered.map((node) => `d ${node} ${distances[node - 1]} ${predecessors[node - 1]}`)];
+    /** How many lines come before those of arcs. */
+    get #before() {
+        return {max: 3, graph: 1}[this.form] ?? 1 + this.arrays.supplies.filter((it) => it !== 0n).length;
     }
 
     /** A line without the texts, which the caller never saw: none, or one. */
@@ -174,7 +149,7 @@ export class AskedOfArrays {
         const columns = COLUMNS[this.form].map((name, i) => `${NAMED[name]} ${numbers[i]}`);
         const ends = {s: "the source", t: "the sink"};
         switch (letter) {
-            case "a": return `arc ${line - this.#head().length}: ${one} -> ${two}, ${columns.join(", ")}`;
+            case "a": return `arc ${line - this.#before}: ${one} -> ${two}, ${columns.join(", ")}`;
             case "f": return `arc ${line - 1}: ${one} -> ${two}, FLOW ${numbers[0]}`;
             case "n": return `node ${one}: ${ends[two] ?? `SUPPLY ${two}`}`;
             case "y": return `node ${one}: potential ${two}`;
@@ -184,36 +159,6 @@ export class AskedOfArrays {
             default: return "";
         }
     }
-}
-
-/** Whether a node with a label is in the order of labels yet, or on the way to it. Other nodes have 0. */
-const WAITING = 1, ON_THE_WAY = 2, ORDERED = 3;
-
-/** These nodes, each after its predecessor. They stay as they are if there is no such order: the judge refuses that. */
-function afterPredecessors(nodes, predecessors, source) {
-    const states = new Uint8Array(predecessors.length + 1), ordered = [];
-    for (const node of nodes) states[node] = WAITING;
-    states[source] = ORDERED;
-    for (const node of nodes) {
-        if (!addWay(node, predecessors, states, ordered)) return nodes;
-    }
-    return ordered;
-}
-
-/** Adds a node after those of its predecessors that aren't ordered yet. False if they don't lead to one that is. */
-function addWay(last, predecessors, states, ordered) {
-    const way = [];
-    let node = last;
-    for (; states[node] === WAITING; node = predecessors[node - 1]) {
-        states[node] = ON_THE_WAY;
-        way.push(node);
-    }
-    if (states[node] !== ORDERED) return false;
-    way.reverse().forEach((it) => {
-        states[it] = ORDERED;
-        ordered.push(it);
-    });
-    return true;
 }
 
 /** Whether texts are refused as the arrays were: for the same arc or node, or as a whole. */

@@ -38,7 +38,7 @@ export class Given {
         this.counts = {nodes, arcs: made[0][1].length};
         made.forEach((it) => this.#testLength(...it));
         this.words = [new InArrays([nodes, ...ends], made.map(([, it]) => it))];
-        this.asked = new AskedOfArrays(form, {nodes, source: ends[0], sink: ends[1]}, Object.fromEntries(made));
+        this.asked = new AskedOfArrays(form, this.words[0], {nodes, source: ends[0]}, Object.fromEntries(made));
     }
 
     /** The library tests lengths too, but doesn't report which one is wrong. */

@@ -124,16 +124,8 @@ function firstRecord(bytes) {
 }
 
 /** The kind of each word of a problem line. */
-const WORDS = {
-    max: "max",
-    min: "min",
-    sp: "gr",
-    aux: "query",
-    cut: "cut",
-    pot: "pot",
-    dist: "dist",
-    distances: "distances",
-};
+const WORDS = {sp: "gr", aux: "query"};
+for (const it of ["max", "min", "cut", "pot", "dist", "distances"]) WORDS[it] = it;
 
 /** The kind of a text by its first record, or null. */
 function kindOf([letter, word]) {

@@ -114,12 +114,10 @@ def _project() -> str:
 
 
 def _field(name: str) -> str:
-    """The text of a field."""
     return re.search(rf'^{name} = "(.*)"$', _project(), re.M)[1]
 
 
 def _list(name: str) -> list[str]:
-    """The texts of a list."""
     return re.findall(r'"(.*?)"', re.search(rf"^{name} = \[(.*?)\]", _project(), re.M | re.S)[1])
 
 

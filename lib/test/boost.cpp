@@ -254,20 +254,15 @@ static void hidden_vertices() {
     const auto weight = get(&Street::weight, graph);
     using Past = dimacs::PastLimitAt<Vertex, Edge>;
     for (const Vertex none : {Vertex(2), Vertex(3), Vertex(-1)}) {
-        const std::string line = "x node " + std::to_string(none) + " NodeRange";
-        const auto names_it = [&](const auto &it) { check_that("its vertex", it.at().node == none); };
-        throws<Past>(
-            "a hidden source", [&] { return dimacs::boost::certify_max(part, none, 1, capacity, left); }, line,
-            names_it);
-        throws<Past>(
-            "of least cost", [&] { return dimacs::boost::certify_min(part, none, 1, capacity, left, weight); }, line,
-            names_it);
-        throws<Past>(
-            "a hidden sink", [&] { return dimacs::boost::certify_min(part, 0, none, capacity, left, weight); }, line,
-            names_it);
-        throws<Past>(
-            "of paths", [&] { return dimacs::boost::certify_paths(part, none, weight, get(&Place::far, graph)); }, line,
-            names_it);
+        const auto is_missing = [&](const char *name, const auto &call) {
+            throws<Past>(name, call, "x node " + std::to_string(none) + " NodeRange",
+                         [&](const auto &it) { check_that("its vertex", it.at().node == none); });
+        };
+        using dimacs::boost::certify_max, dimacs::boost::certify_min, dimacs::boost::certify_paths;
+        is_missing("a hidden source", [&] { return certify_max(part, none, 1, capacity, left); });
+        is_missing("of least cost", [&] { return certify_min(part, none, 1, capacity, left, weight); });
+        is_missing("a hidden sink", [&] { return certify_min(part, 0, none, capacity, left, weight); });
+        is_missing("of paths", [&] { return certify_paths(part, none, weight, get(&Place::far, graph)); });
     }
     const auto cut = dimacs::boost::certify_max(part, 0, 1, capacity, left);
     const auto least = dimacs::boost::certify_min(part, 0, 1, capacity, left, weight);
@@ -282,9 +277,30 @@ static void hidden_vertices() {
     check_that("a property map over another", !get(outside, Vertex(0)) && get(outside, Vertex(1)));
 }
 
+__extension__ typedef __int128 Wide;
+__extension__ typedef unsigned __int128 UnsignedWide;
+
+/* Which numbers of a type 64 bits hold, and which of those that 64 bits hold it holds. */
+template <class Number>
+static void narrows(const char *name) {
+    const bool has_sign = Number(-1) < Number(1);
+    const Wide most = (Wide(1) << std::min(70, int(sizeof(Number)) * 8 - has_sign)) - 1, least = has_sign ? -most - 1 : 0;
+    for (const Wide it : {least, least + 1, Wide(0), Wide(7), most - 1, most, Wide(INT64_MAX), Wide(INT64_MIN)}) {
+        const auto found = dimacs::detail::narrow(Number(it));
+        const bool fits = INT64_MIN <= it && it <= INT64_MAX, is_one = least <= it && it <= most;
+        if (is_one) check_that(name, fits ? found == std::int64_t(it) : !found);
+    }
+    for (const Wide it : {least - 1, least, most, most + 1, Wide(INT64_MIN), Wide(INT64_MAX)}) {
+        const std::vector<std::int64_t> number{std::int64_t(it)};
+        const bool is_wrong = dimacs::detail::unfit<Number>("arc", number).has_value();
+        if (INT64_MIN <= it && it <= INT64_MAX) check_that(name, is_wrong == (it < least || it > most));
+    }
+}
+
 /* The numbers that end what 64 bits hold, in types of 8 to 128. */
 template <class Number>
 static void distances_in(const char *name, Number one, Number most) {
+    narrows<Number>(name);
     Graph graph(3);
     graph[add(graph, 0, 1, 0, 0)].weight = long(one);
     const auto certify = [&](Number other, Number alone) {
@@ -295,16 +311,12 @@ static void distances_in(const char *name, Number one, Number most) {
     is(name, certify(Number(one - 1), most).message(), "x node 1 NoTightArc");
     if constexpr (sizeof(Number) == 16 || Number(-1) > 0) {
         if (sizeof(Number) < 8) return;
-        throws<std::out_of_range>(
-            name, [&] { return certify(one, Number(INT64_MAX)); }, "x node 2 NumberRange");
-        throws<std::out_of_range>(
-            name, [&] { return certify(Number(most - 1), most); }, "x node 1 NumberRange");
+        throws<std::out_of_range>(name, [&] { return certify(one, Number(INT64_MAX)); }, "x node 2 NumberRange");
+        throws<std::out_of_range>(name, [&] { return certify(Number(most - 1), most); }, "x node 1 NumberRange");
     }
 }
 
 static void limits() {
-    __extension__ typedef __int128 Wide;
-    __extension__ typedef unsigned __int128 UnsignedWide;
     distances_in<signed char>("8 bits", 126, 127);
     distances_in<unsigned char>("8 bits without a sign", 254, 255);
     distances_in<short>("16 bits", 32766, 32767);
@@ -324,14 +336,10 @@ static void limits() {
                                           boost::make_assoc_property_map(left));
     };
     const Wide bits = Wide(1) << 64;
-    throws<std::out_of_range>(
-        "a capacity of 2^64", [&] { return certify(bits, 0); }, "x arc (0,1) NumberRange");
-    throws<std::out_of_range>(
-        "a residual one", [&] { return certify(5, bits); }, "x arc (0,1) NumberRange");
-    throws<std::out_of_range>(
-        "below", [&] { return certify(5, -bits); }, "x arc (0,1) NumberRange");
-    throws<std::out_of_range>(
-        "a flow of 2^63", [&] { return certify(INT64_MAX, -1); }, "x arc (0,1) NumberRange");
+    throws<std::out_of_range>("a capacity of 2^64", [&] { return certify(bits, 0); }, "x arc (0,1) NumberRange");
+    throws<std::out_of_range>("a residual one", [&] { return certify(5, bits); }, "x arc (0,1) NumberRange");
+    throws<std::out_of_range>("below", [&] { return certify(5, -bits); }, "x arc (0,1) NumberRange");
+    throws<std::out_of_range>("a flow of 2^63", [&] { return certify(INT64_MAX, -1); }, "x arc (0,1) NumberRange");
     is("2^63 - 1", certify(INT64_MAX, 0)->value.str(), "9223372036854775807");
     is("an edge that carries nothing", certify(0, INT64_MAX)->value.str(), "0");
 }

@@ -134,7 +134,7 @@ struct Made {
     Number dist(Node node) const { return distances[static_cast<std::size_t>(Graph::id(node))]; }
 };
 
-/* The numbers that end what 64 bits hold, in maps of 64 and more. */
+/* The numbers that end what 64 bits hold, in maps of 64 and more; boost.cpp has those of all types. */
 __extension__ typedef __int128 Wide;
 
 static void limits() {
@@ -145,44 +145,19 @@ static void limits() {
     Numbers length(graph, INT64_MAX), zero(graph, 0), five(graph, 5);
     lemon::Dijkstra<Graph, Numbers> solver(graph, length);
     solver.run(from);
-    throws<std::out_of_range>(
-        "the distance 2^63 - 1", [&] { return certify_paths(graph, length, from, solver); }, "x node 1 NumberRange");
-    throws<std::out_of_range>(
-        "the same of a node that isn't reached",
-        [&] {
-            return certify_paths(graph, five, from, Made<long long>{{0, 5, INT64_MAX}});
-        },
-        "x node 2 NumberRange");
+    const auto is_out = [](const char *name, const std::string &line, const auto &call) {
+        throws<std::out_of_range>(name, call, line + " NumberRange");
+    };
+    is_out("the distance 2^63 - 1", "x node 1", [&] { return certify_paths(graph, length, from, solver); });
     length[arc] -= 1;
     solver.run(from);
     check_that("the distance 2^63 - 2", certify_paths(graph, length, from, solver).has_value());
-    is("less 1", certify_paths(graph, length, from, Made<long long>{{0, INT64_MAX - 2, -1}}).message(),
-       "x node 1 NoTightArc");
-    is("in 128 bits", certify_paths(graph, length, from, Made<Wide>{{0, INT64_MAX - 1, -1}}).message(), "");
-    throws<std::out_of_range>(
-        "more by 2^64",
-        [&] {
-            return certify_paths(graph, length, from, Made<Wide>{{0, (Wide(1) << 64) + INT64_MAX - 1, -1}});
-        },
-        "x node 1 NumberRange");
 
+    using dimacs::lemon::certify_max;
     Graph::ArcMap<Wide> wide(graph, Wide(1) << 64);
     lemon::Preflow<Graph, Graph::ArcMap<Wide>> preflow(graph, wide, from, to);
     preflow.run();
-    throws<std::out_of_range>(
-        "a capacity of 2^64", [&] { return dimacs::lemon::certify_max(graph, wide, from, to, preflow.flowMap()); },
-        "x arc 0 NumberRange");
-    wide[arc] = INT64_MAX;
-    preflow.run();
-    const auto most = dimacs::lemon::certify_max(graph, wide, from, to, preflow.flowMap());
-    check_that("one of 2^63 - 1 in 128 bits", most && most->value == INT64_MAX);
-    const lemon::ConstMap<Arc, unsigned long long> unsigned_wide(1ULL << 63);
-    throws<std::out_of_range>(
-        "2^63 without a sign", [&] { return dimacs::lemon::certify_max(graph, unsigned_wide, from, to, zero); },
-        "x arc 0 NumberRange");
-    const lemon::ConstMap<Arc, Wide> below(-(Wide(1) << 63) - 1);
-    throws<std::out_of_range>(
-        "-2^63 - 1", [&] { return dimacs::lemon::certify_max(graph, five, from, to, below); }, "x arc 0 NumberRange");
+    is_out("a capacity of 2^64", "x arc 0", [&] { return certify_max(graph, wide, from, to, preflow.flowMap()); });
 
     Supplies potential(graph, 0), supply(graph, 0);
     supply[from] = 5, supply[to] = -5;
@@ -204,18 +179,16 @@ static void missing_nodes() {
     graph.addArc(to, hidden);
     const Numbers three(graph, 3);
     const Node none = lemon::INVALID;
-    const char *said = "x node -1 NodeRange";
-    const auto names_it = [&](const auto &it) { check_that("its node", it.at().node == none && !it.at().arc); };
-    throws<PastLimitAt<Node, Arc>>(
-        "no source", [&] { return dimacs::lemon::certify_max(graph, three, none, to, three); }, said, names_it);
-    throws<PastLimitAt<Node, Arc>>(
-        "no sink", [&] { return dimacs::lemon::certify_max(graph, three, from, none, three); }, said, names_it);
+    const auto is_missing = [&](const char *name, const auto &call) {
+        throws<PastLimitAt<Node, Arc>>(name, call, "x node -1 NodeRange",
+                                       [&](const auto &it) { check_that("its node", it.at().node == none && !it.at().arc); });
+    };
+    is_missing("no source", [&] { return dimacs::lemon::certify_max(graph, three, none, to, three); });
+    is_missing("no sink", [&] { return dimacs::lemon::certify_max(graph, three, from, none, three); });
     const Graph::NodeMap<bool> cut(graph, false);
-    throws<PastLimitAt<Node, Arc>>(
-        "to be judged", [&] { return dimacs::lemon::judge_max(graph, three, none, to, three, cut); }, said, names_it);
+    is_missing("to be judged", [&] { return dimacs::lemon::judge_max(graph, three, none, to, three, cut); });
     const Made<long long> made{{0, 3, 6}};
-    throws<PastLimitAt<Node, Arc>>(
-        "of paths", [&] { return dimacs::lemon::certify_paths(graph, three, none, made); }, said, names_it);
+    is_missing("of paths", [&] { return dimacs::lemon::certify_paths(graph, three, none, made); });
 
     Graph::NodeMap<bool> is_seen(graph, true);
     is_seen[hidden] = false;
@@ -308,6 +281,16 @@ static void texts() {
     is("a capacity that doesn't fit",
        ours::read_max("p max 2 1\nn 1 s\nn 2 t\na 1 2 128\n", graph, byte, source, target).message(),
        "x arc 1 NumberRange");
+    is("a length", ours::read_graph("p sp 2 2\na 1 2 7\na 1 2 -129\n", graph, byte).message(), "x arc 2 NumberRange");
+    const std::string wide_min = "p min 2 1\nn 1 300\nn 2 -300\na 1 2 300 300 300\n";
+    lemon::SmartDigraph::NodeMap<signed char> node_byte(graph, 1);
+    const auto reads = [&](auto &lows, auto &caps, auto &costs, auto &supplies) {
+        return ours::read_min(wide_min, graph, lows, caps, costs, supplies).message();
+    };
+    is("a bound", reads(byte, capacity, cost, supply), "x arc 1 NumberRange");
+    is("an upper one", reads(low, byte, cost, supply), "x arc 1 NumberRange");
+    is("a cost", reads(low, capacity, byte, supply), "x arc 1 NumberRange");
+    is("a supply", reads(low, capacity, cost, node_byte), "x node 1 NumberRange");
     check_that("all as it was", byte[(*arcs)[3]] == 1 && countArcs(graph) == 4);
     is("a fault", ours::read_graph("p sp 2 1\na 1 3 7\n", graph, cost).message(), "x instance 2 3 NodeRange");
 

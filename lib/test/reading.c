@@ -1,5 +1,5 @@
-/* The calls that read texts into arrays and write arrays as texts: what they hand out, with room and without, and what
- * they refuse. */
+/* The calls that read texts into arrays and write arrays as texts, beside what the tests of dimacs.hpp and of the crate
+ * show: what they hand out without enough room, what they refuse, and the ends of 64 bits. */
 #include "check.h"
 #include "dimacs.h"
 
@@ -8,6 +8,7 @@
 
 static uint8_t out[400];
 static size_t needed;
+#define OUT out, sizeof out, &needed
 
 /* What a call reads, and arrays that are filled with marks before it. */
 static uint32_t nodes, source, sink, tails[MOST], heads[MOST];
@@ -25,30 +26,29 @@ static void mark(void) {
 }
 
 /* The call comes before what it hands out is looked at. */
-#define CHECK(name, call, wanted, text)                                                                                     \
-    do {                                                                                                                    \
-        uint32_t status = call;                                                                                             \
-        check(name, status, out, needed, wanted, text);                                                                     \
+#define CHECK(name, call, wanted, text)                                         \
+    do {                                                                        \
+        uint32_t status = call;                                                 \
+        check(name, status, out, needed, wanted, text);                         \
     } while (0)
 
 static const uint8_t *bytes(const char *text) { return (const uint8_t *)text; }
 
 static uint32_t read_max(const char *text, size_t room) {
     mark();
-    return dimacs_read_max(bytes(text), strlen(text), out, sizeof out, &needed, &nodes, &source, &sink, tails, room, heads,
+    return dimacs_read_max(bytes(text), strlen(text), OUT, &nodes, &source, &sink, tails, room, heads,
                            room, caps, room, &arcs);
 }
 
 static uint32_t read_min(const char *text, size_t room, size_t nodes_room) {
     mark();
-    return dimacs_read_min(bytes(text), strlen(text), out, sizeof out, &needed, &nodes, tails, room, heads, room, lows, room,
+    return dimacs_read_min(bytes(text), strlen(text), OUT, &nodes, tails, room, heads, room, lows, room,
                            caps, room, costs, room, &arcs, supplies, nodes_room, &supplies_needed);
 }
 
 static uint32_t read_graph(const char *text, size_t room) {
     mark();
-    return dimacs_read_graph(bytes(text), strlen(text), out, sizeof out, &needed, &nodes, tails, room, heads, room, costs,
-                             room, &arcs);
+    return dimacs_read_graph(bytes(text), strlen(text), OUT, &nodes, tails, room, heads, room, costs, room, &arcs);
 }
 
 /* The first items are these, and the next one is as it was. */
@@ -70,78 +70,58 @@ static int are_numbers(const int64_t *found, size_t count, const int64_t *wanted
 #define GRAPH_TEXT "p sp 3 2\na 1 2 -9223372036854775808\na 3 3 9223372036854775807\n"
 
 static void reads_max(void) {
-    CHECK("a maximum flow instance", read_max(MAX_TEXT, MOST), 0, "");
-    check_that("its numbers", nodes == 4 && source == 1 && sink == 4 && arcs == 3);
-    check_that("its arcs", are_nodes(tails, 3, NODES(1, 2, 1)) && are_nodes(heads, 3, NODES(2, 4, 4)) &&
-                               are_numbers(caps, 3, NUMBERS(LAST, 5, 0)));
     CHECK("room for two arcs", read_max(MAX_TEXT, 2), 0, "");
-    check_that("two arcs", arcs == 3 && are_nodes(tails, 2, NODES(1, 2)) && are_nodes(heads, 2, NODES(2, 4)) &&
-                               are_numbers(caps, 2, NUMBERS(LAST, 5)));
-    needed = 99;
-    uint32_t status = dimacs_read_max(bytes(MAX_TEXT), strlen(MAX_TEXT), NULL, 0, &needed, &nodes, &source, &sink, NULL, 0,
-                                      NULL, 0, NULL, 0, &arcs);
-    check("no room", status, out, needed, 0, "");
-    check_that("the number of arcs", arcs == 3 && nodes == 4);
-    CHECK("no arcs", read_max("p max 2 0\nn 1 s\nn 2 t\n", MOST), 0, "");
-    check_that("none", arcs == 0 && nodes == 2 && are_nodes(tails, 0, NULL));
-    CHECK("a capacity below 0", read_max("p max 2 1\nn 1 s\nn 2 t\na 1 2 -1\n", MOST), 1, "x instance 4 4 BoundOrder\n");
+    check_that("two arcs of three", nodes == 4 && source == 1 && sink == 4 && arcs == 3);
+    check_that("their numbers", are_nodes(tails, 2, NODES(1, 2)) && are_nodes(heads, 2, NODES(2, 4)) &&
+                                    are_numbers(caps, 2, NUMBERS(LAST, 5)));
+    uint32_t status = dimacs_read_max(bytes(MAX_TEXT), strlen(MAX_TEXT), NULL, 0, &needed, &nodes, &source, &sink, NULL,
+                                      0, NULL, 0, NULL, 0, &arcs);
+    check_that("no room", status == 0 && needed == 0 && arcs == 3 && nodes == 4);
+    CHECK("a capacity below 0", read_max("p max 2 1\nn 1 s\nn 2 t\na 1 2 -1\n", MOST), 1,
+          "x instance 4 4 BoundOrder\n");
     check_that("nothing", arcs == 0 && nodes == 0 && source == 0 && sink == 0 && are_nodes(tails, 0, NULL) &&
                               are_nodes(heads, 0, NULL) && are_numbers(caps, 0, NULL));
-    CHECK("past 64 bits", read_max("p max 2 1\nn 1 s\nn 2 t\na 1 2 9223372036854775808\n", MOST), 1,
-          "x instance 4 4 NumberRange\n");
-    CHECK("many arcs that aren't there", read_max("p max 2 268435456\nn 1 s\nn 2 t\n", MOST), 1, "x instance 4 0 TooFew\n");
-    CHECK("an empty text", read_max("", MOST), 1, "x instance 1 0 ProblemMissing\n");
 }
 
 static void reads_min(void) {
-    CHECK("a minimum cost flow instance", read_min(MIN_TEXT, MOST, MOST), 0, "");
-    check_that("its numbers", nodes == 3 && arcs == 2 && supplies_needed == 3);
-    check_that("its ends", are_nodes(tails, 2, NODES(1, 2)) && are_nodes(heads, 2, NODES(2, 3)));
-    check_that("its bounds and costs", are_numbers(lows, 2, NUMBERS(0, 1)) && are_numbers(caps, 2, NUMBERS(LAST, 5)) &&
-                                           are_numbers(costs, 2, NUMBERS(INT64_MIN, 7)));
-    check_that("its supplies", are_numbers(supplies, 3, NUMBERS(4, 0, -4)));
     CHECK("room for an arc and two nodes", read_min(MIN_TEXT, 1, 2), 0, "");
     check_that("an arc and two nodes", arcs == 2 && supplies_needed == 3 && are_numbers(lows, 1, NUMBERS(0)) &&
+                                           are_numbers(caps, 1, NUMBERS(LAST)) &&
+                                           are_numbers(costs, 1, NUMBERS(INT64_MIN)) &&
                                            are_numbers(supplies, 2, NUMBERS(4, 0)));
     CHECK("a node twice", read_min("p min 3 0\nn 3 1\nn 3 1\n", MOST, MOST), 1, "x instance 3 2 NodeTwice\n");
-    check_that("nothing", arcs == 0 && nodes == 0 && supplies_needed == 0 && are_numbers(supplies, 0, NULL));
-    CHECK("a capacity below the lower bound", read_min("p min 2 1\na 1 2 3 2 0\n", MOST, MOST), 1,
-          "x instance 2 5 BoundOrder\n");
 }
 
 static void reads_graphs(void) {
     CHECK("a graph", read_graph(GRAPH_TEXT, MOST), 0, "");
-    check_that("its arcs", nodes == 3 && arcs == 2 && are_nodes(tails, 2, NODES(1, 3)) && are_nodes(heads, 2, NODES(2, 3)) &&
-                               are_numbers(costs, 2, NUMBERS(INT64_MIN, LAST)));
+    check_that("its weights", nodes == 3 && arcs == 2 && are_numbers(costs, 2, NUMBERS(INT64_MIN, LAST)));
     CHECK("the word of another kind", read_graph("p max 4 5\n", MOST), 1, "x instance 1 2 BadWord\n");
-    check_that("nothing", arcs == 0 && nodes == 0);
-    CHECK("an end above the nodes", read_graph("p sp 3 1\na 1 4 1\n", MOST), 1, "x instance 2 3 NodeRange\n");
 }
 
 /* Each instance read, and written again. */
 static void writes_instances(void) {
     read_max(MAX_TEXT, MOST);
     dimacs_max max = {nodes, source, sink, {tails, arcs}, {heads, arcs}, {caps, arcs}};
-    CHECK("a maximum flow instance", dimacs_write_max(&max, out, sizeof out, &needed), 0,
+    CHECK("a maximum flow instance", dimacs_write_max(&max, OUT), 0,
           "p max 4 3\nn 1 s\nn 4 t\na 1 2 9223372036854775807\na 2 4 5\na 1 4 0\n");
     memset(out, '?', sizeof out);
     check_that("room for 5 bytes",
                dimacs_write_max(&max, out, 5, &needed) == 0 && needed == 64 && !memcmp(out, "p max?", 6));
     max.sink = 1;
-    CHECK("source and sink are one", dimacs_write_max(&max, out, sizeof out, &needed), 2, "x node 1 NodeTwice\n");
+    CHECK("source and sink are one", dimacs_write_max(&max, OUT), 2, "x node 1 NodeTwice\n");
     max.caps.length = 2;
-    CHECK("fewer capacities", dimacs_write_max(&max, out, sizeof out, &needed), 2, "");
+    CHECK("fewer capacities", dimacs_write_max(&max, OUT), 2, "");
     read_min(MIN_TEXT, MOST, MOST);
     dimacs_min min = {nodes, {tails, arcs}, {heads, arcs}, {lows, arcs}, {caps, arcs}, {costs, arcs}, {supplies, 3}};
-    CHECK("a minimum cost flow instance", dimacs_write_min(&min, out, sizeof out, &needed), 0,
+    CHECK("a minimum cost flow instance", dimacs_write_min(&min, OUT), 0,
           "p min 3 2\nn 1 4\nn 3 -4\na 1 2 0 9223372036854775807 -9223372036854775808\na 2 3 1 5 7\n");
     lows[1] = -1;
-    CHECK("a lower bound below 0", dimacs_write_min(&min, out, sizeof out, &needed), 2, "x arc 2 BoundOrder\n");
+    CHECK("a lower bound below 0", dimacs_write_min(&min, OUT), 2, "x arc 2 BoundOrder\n");
     read_graph(GRAPH_TEXT, MOST);
     dimacs_graph graph = {nodes, {tails, arcs}, {heads, arcs}, {costs, arcs}};
-    CHECK("a graph", dimacs_write_graph(&graph, out, sizeof out, &needed), 0, GRAPH_TEXT);
+    CHECK("a graph", dimacs_write_graph(&graph, OUT), 0, GRAPH_TEXT);
     heads[0] = 0;
-    CHECK("head 0", dimacs_write_graph(&graph, out, sizeof out, &needed), 2, "x arc 1 NodeRange\n");
+    CHECK("head 0", dimacs_write_graph(&graph, OUT), 2, "x arc 1 NodeRange\n");
 }
 
 /* ---- solutions ---- */
@@ -151,33 +131,20 @@ static const uint32_t some_tails[] = {1, 2, 1}, some_heads[] = {2, 3, 2};
 
 static uint32_t read_solution(const char *text, size_t room) {
     mark();
-    return dimacs_read_solution(3, some_tails, 3, some_heads, 3, bytes(text), strlen(text), out, sizeof out, &needed, &value,
+    return dimacs_read_solution(3, some_tails, 3, some_heads, 3, bytes(text), strlen(text), OUT, &value,
                                 flows, room, &flows_needed);
 }
 
 static void reads_solutions(void) {
-    CHECK("a solution", read_solution("s 7\nf 1 2 3\nf 2 3 -7\nf 1 2 4\n", MOST), 0, "");
-    check_that("its flow", value == 7 && flows_needed == 3 && are_numbers(flows, 3, NUMBERS(3, -7, 4)));
-    CHECK("in another order", read_solution("f 2 3 7\nf 1 2 3\ns -9223372036854775808\n", 2), 0, "");
+    CHECK("in another order", read_solution("f 2 3 -7\nf 1 2 3\ns -9223372036854775808\n", 2), 0, "");
     check_that("an arc without an entry carries 0",
-               value == INT64_MIN && flows_needed == 3 && are_numbers(flows, 2, NUMBERS(3, 7)));
+               value == INT64_MIN && flows_needed == 3 && are_numbers(flows, 2, NUMBERS(3, -7)));
     CHECK("an arc that isn't there", read_solution("s 0\nf 1 2 1\nf 2 1 1\nf 1 2 1\nf 1 2 1\n", MOST), 1,
           "x solution 3 0 UnknownArc\n");
     check_that("nothing", value == 0 && flows_needed == 0 && are_numbers(flows, 0, NULL));
-    CHECK("an entry too many", read_solution("s 0\nf 1 2 1\n\nf 1 2 1\nf 1 2 1\n", MOST), 1, "x solution 5 0 ArcTwice\n");
-    CHECK("a value past 64 bits", read_solution("f 1 2 1\ns 9223372036854775808\n", MOST), 1,
-          "x solution 2 2 NumberRange\n");
-    CHECK("an entry before the value", read_solution("s 9223372036854775808\nf 3 1 1\n", MOST), 1,
-          "x solution 2 0 UnknownArc\n");
-    CHECK("a fault of the text before both", read_solution("s 9223372036854775808\nf 3 1 1\nf\n", MOST), 1,
-          "x solution 3 0 FieldCount\n");
-    CHECK("no value", read_solution("f 1 2 1\n", MOST), 1, "x solution 2 0 SolutionMissing\n");
-    uint32_t status = dimacs_read_solution(3, some_tails, 3, some_heads, 2, bytes("s 0\n"), 4, out, sizeof out, &needed,
+    uint32_t status = dimacs_read_solution(3, some_tails, 3, some_heads, 2, bytes("s 0\n"), 4, OUT,
                                            &value, flows, MOST, &flows_needed);
     check("fewer heads", status, out, needed, 2, "");
-    status = dimacs_read_solution(2, some_tails, 3, some_heads, 3, bytes("s 0\n"), 4, out, sizeof out, &needed, &value,
-                                  flows, MOST, &flows_needed);
-    check("an end above the nodes", status, out, needed, 2, "x arc 2 NodeRange\n");
 }
 
 static uint32_t write_solution(int64_t claimed, size_t count) {
@@ -188,9 +155,7 @@ static uint32_t write_solution(int64_t claimed, size_t count) {
 static void writes_solutions(void) {
     CHECK("a solution", write_solution(-5, 3), 0, "s -5\nf 1 2 3\nf 2 3 -9223372036854775808\nf 1 2 0\n");
     CHECK("fewer amounts", write_solution(0, 2), 2, "");
-    CHECK("more amounts", write_solution(0, 4), 2, "");
-    CHECK("no arcs", dimacs_write_solution(LAST, 0, NULL, 0, NULL, 0, NULL, 0, out, sizeof out, &needed), 0,
-          "s 9223372036854775807\n");
+    CHECK("no arcs", dimacs_write_solution(LAST, 0, NULL, 0, NULL, 0, NULL, 0, OUT), 0, "s 9223372036854775807\n");
 }
 
 /* ---- sets, potentials, queries, distances and labels ---- */
@@ -202,84 +167,60 @@ static uint32_t pairs;
 static uint32_t read_cut(const char *text, size_t room) {
     memset(inside, 77, MOST);
     inside_needed = needed = 99;
-    return dimacs_read_cut(bytes(text), strlen(text), out, sizeof out, &needed, inside, room, &inside_needed);
+    return dimacs_read_cut(bytes(text), strlen(text), OUT, inside, room, &inside_needed);
 }
 
 static void reads_and_writes_sets(void) {
-    CHECK("a set", read_cut("p cut 5 2\nu 4\nu 1\n", MOST), 0, "");
-    check_that("its bytes", inside_needed == 5 && !memcmp(inside, "\1\0\0\1\0M", 6));
     CHECK("room for two bytes", read_cut("p cut 5 2\nu 4\nu 1\n", 2), 0, "");
     check_that("two bytes", inside_needed == 5 && !memcmp(inside, "\1\0M", 3));
     CHECK("a node twice", read_cut("p cut 5 2\nu 4\nu 4\n", MOST), 1, "x certificate 3 2 NodeTwice\n");
-    check_that("nothing", inside_needed == 0 && inside[0] == 77);
-    CHECK("any byte but 0 is inside", dimacs_write_cut(bytes("\0\377\1\0"), 4, out, sizeof out, &needed), 0,
-          "p cut 4 2\nu 2\nu 3\n");
-    CHECK("no nodes", dimacs_write_cut(NULL, 0, out, sizeof out, &needed), 0, "p cut 0 0\n");
+    CHECK("any byte but 0 is inside", dimacs_write_cut(bytes("\0\377\1\0"), 4, OUT), 0, "p cut 4 2\nu 2\nu 3\n");
+    CHECK("no nodes", dimacs_write_cut(NULL, 0, OUT), 0, "p cut 0 0\n");
 }
 
 static uint32_t read_potentials(const char *text, size_t room) {
     mark();
-    return dimacs_read_potentials(bytes(text), strlen(text), out, sizeof out, &needed, supplies, room, &supplies_needed);
+    return dimacs_read_potentials(bytes(text), strlen(text), OUT, supplies, room, &supplies_needed);
 }
 
 static void reads_and_writes_potentials(void) {
     const char *text = "p pot 4 2\ny 4 -9223372036854775808\ny 2 9223372036854775807\n";
-    CHECK("potentials", read_potentials(text, MOST), 0, "");
-    check_that("one for each node", supplies_needed == 4 && are_numbers(supplies, 4, NUMBERS(0, LAST, 0, INT64_MIN)));
     CHECK("room for two", read_potentials(text, 2), 0, "");
     check_that("two", supplies_needed == 4 && are_numbers(supplies, 2, NUMBERS(0, LAST)));
     CHECK("past 64 bits", read_potentials("p pot 4 2\ny 4 -9223372036854775809\ny 3 9223372036854775808\n", MOST), 1,
           "x node 3 NumberRange\n");
     check_that("nothing", supplies_needed == 0 && are_numbers(supplies, 0, NULL));
-    CHECK("a fault before", read_potentials("p pot 4 2\ny 4 -9223372036854775809\ny 5 1\n", MOST), 1,
-          "x certificate 3 2 NodeRange\n");
-    uint32_t status = dimacs_write_potentials(NUMBERS(0, INT64_MIN, 3), 3, out, sizeof out, &needed);
-    check("written", status, out, needed, 0, "p pot 3 2\ny 2 -9223372036854775808\ny 3 3\n");
+    CHECK("written", dimacs_write_potentials(NUMBERS(0, INT64_MIN, 3), 3, OUT), 0,
+          "p pot 3 2\ny 2 -9223372036854775808\ny 3 3\n");
 }
 
 static uint32_t read_queries(const char *text, size_t room) {
     mark();
     pairs = 77;
     count_needed = 99;
-    return dimacs_read_queries(bytes(text), strlen(text), out, sizeof out, &needed, &pairs, tails, room, heads, room,
-                               &count_needed);
+    return dimacs_read_queries(bytes(text), strlen(text), OUT, &pairs, tails, room, heads, room, &count_needed);
 }
 
 static void reads_queries(void) {
     CHECK("sources", read_queries("p aux sp ss 2\ns 3\ns 1\n", MOST), 0, "");
-    check_that("their nodes",
-               pairs == 0 && count_needed == 2 && are_nodes(tails, 2, NODES(3, 1)) && are_nodes(heads, 0, NULL));
-    CHECK("pairs", read_queries("p aux sp p2p 2\nq 3 1\nq 2 2\n", MOST), 0, "");
-    check_that("their nodes",
-               pairs == 1 && count_needed == 2 && are_nodes(tails, 2, NODES(3, 2)) && are_nodes(heads, 2, NODES(1, 2)));
+    check_that("without other ends", pairs == 0 && count_needed == 2 && are_nodes(heads, 0, NULL));
     CHECK("room for one", read_queries("p aux sp p2p 2\nq 3 1\nq 2 2\n", 1), 0, "");
-    check_that("one pair", count_needed == 2 && are_nodes(tails, 1, NODES(3)) && are_nodes(heads, 1, NODES(1)));
+    check_that("one pair", pairs == 1 && count_needed == 2 && are_nodes(tails, 1, NODES(3)) &&
+                               are_nodes(heads, 1, NODES(1)));
     CHECK("a query of the other kind", read_queries("p aux sp ss 1\nq 3 1\n", MOST), 1, "x query 2 0 RecordOrder\n");
-    check_that("nothing", pairs == 0 && count_needed == 0 && are_nodes(tails, 0, NULL));
 }
 
 static void writes_queries(void) {
-    CHECK("sources", dimacs_write_queries(0, NODES(3, 1), 2, NULL, 0, out, sizeof out, &needed), 0,
-          "p aux sp ss 2\ns 3\ns 1\n");
-    CHECK("pairs", dimacs_write_queries(7, NODES(3, 2), 2, NODES(134217728, 2), 2, out, sizeof out, &needed), 0,
+    CHECK("pairs", dimacs_write_queries(7, NODES(3, 2), 2, NODES(134217728, 2), 2, OUT), 0,
           "p aux sp p2p 2\nq 3 134217728\nq 2 2\n");
-    CHECK("no pairs", dimacs_write_queries(1, NULL, 0, NULL, 0, out, sizeof out, &needed), 0, "p aux sp p2p 0\n");
-    CHECK("sources with an item of `tos`", dimacs_write_queries(0, NODES(3, 1), 2, NODES(1), 1, out, sizeof out, &needed),
-          2, "");
-    CHECK("fewer `tos`", dimacs_write_queries(1, NODES(3, 1), 2, NODES(1), 1, out, sizeof out, &needed), 2, "");
-    CHECK("more `tos`", dimacs_write_queries(1, NODES(3), 1, NODES(1, 2), 2, out, sizeof out, &needed), 2, "");
-    CHECK("node 0", dimacs_write_queries(0, NODES(3, 0), 2, NULL, 0, out, sizeof out, &needed), 2,
-          "x node 0 NumberRange\n");
-    CHECK("TO comes before the next FROM",
-          dimacs_write_queries(1, NODES(3, 0), 2, NODES(134217729, 1), 2, out, sizeof out, &needed), 2,
-          "x node 134217729 NumberRange\n");
-    CHECK("FROM comes before its TO", dimacs_write_queries(1, NODES(0), 1, NODES(134217729), 1, out, sizeof out, &needed),
-          2, "x node 0 NumberRange\n");
+    CHECK("no pairs", dimacs_write_queries(1, NULL, 0, NULL, 0, OUT), 0, "p aux sp p2p 0\n");
+    CHECK("fewer `tos`", dimacs_write_queries(1, NODES(3, 1), 2, NODES(1), 1, OUT), 2, "");
+    CHECK("node 0", dimacs_write_queries(0, NODES(3, 0), 2, NULL, 0, OUT), 2, "x node 0 NumberRange\n");
 }
 
 static uint32_t read_distances(const char *text, uint32_t from, size_t room) {
     mark();
-    return dimacs_read_distances(bytes(text), strlen(text), from, out, sizeof out, &needed, costs, room, &supplies_needed);
+    return dimacs_read_distances(bytes(text), strlen(text), from, OUT, costs, room, &supplies_needed);
 }
 
 /* In the second block the distance of node 1 fits, and those of the others don't. */
@@ -288,31 +229,19 @@ static uint32_t read_distances(const char *text, uint32_t from, size_t room) {
 
 static void reads_distances(void) {
     CHECK("distances", read_distances(BLOCKS, 2, MOST), 0, "");
-    check_that("one for each node", supplies_needed == 4 && are_numbers(costs, 4, NUMBERS(LAST - 1, 0, DIMACS_UNREACHED, -7)));
-    CHECK("room for one", read_distances(BLOCKS, 2, 1), 0, "");
-    check_that("one", supplies_needed == 4 && are_numbers(costs, 1, NUMBERS(LAST - 1)));
-    CHECK("a block without lines", read_distances(BLOCKS, 4, MOST), 0, "");
-    check_that("the source alone is reached", are_numbers(costs, 4, NUMBERS(LAST, LAST, LAST, 0)));
+    check_that("one for each node",
+               supplies_needed == 4 && are_numbers(costs, 4, NUMBERS(LAST - 1, 0, DIMACS_UNREACHED, -7)));
     CHECK("the distance that stands for none", read_distances(BLOCKS, 3, MOST), 1, "x node 4 NumberRange\n");
     check_that("nothing", supplies_needed == 0 && are_numbers(costs, 0, NULL));
-    CHECK("a source without a block", read_distances(BLOCKS, 1, MOST), 1, "x node 1 BlockMissing\n");
-    CHECK("a source that is no node", read_distances(BLOCKS, 0, MOST), 1, "x node 0 BlockMissing\n");
     CHECK("many nodes without a line", read_distances("p distances 134217728 1\nt 134217728 0\n", 134217728, 2), 0, "");
-    check_that("two", supplies_needed == 134217728 && are_numbers(costs, 2, NUMBERS(LAST, LAST)));
-    CHECK("a fault", read_distances("p distances 4 1\nt 2 1\nd 2 1\n", 1, MOST), 1, "x distances 3 2 NodeTwice\n");
-}
-
-static uint32_t write_distances(uint32_t from, const int64_t *some, size_t count) {
-    return dimacs_write_distances(from, some, count, out, sizeof out, &needed);
+    check_that("room for two", supplies_needed == 134217728 && are_numbers(costs, 2, NUMBERS(LAST, LAST)));
 }
 
 static void writes_distances(void) {
-    CHECK("distances", write_distances(2, NUMBERS(LAST - 1, 0, LAST, INT64_MIN), 4), 0,
+    CHECK("distances", dimacs_write_distances(2, NUMBERS(LAST - 1, 0, LAST, INT64_MIN), 4, OUT), 0,
           "p distances 4 1\nt 2 2\nd 1 9223372036854775806\nd 4 -9223372036854775808\n");
-    CHECK("the source isn't at 0", write_distances(2, NUMBERS(0, 1), 2), 1, "x node 2 NotShortest\n");
-    CHECK("the source isn't reached", write_distances(2, NUMBERS(0, LAST), 2), 1, "x node 2 NotShortest\n");
-    CHECK("the source is no node", write_distances(3, NUMBERS(0, 0), 2), 2, "x node 3 NodeRange\n");
-    CHECK("no nodes", write_distances(0, NULL, 0), 2, "x node 0 NodeRange\n");
+    CHECK("the source isn't at 0", dimacs_write_distances(2, NUMBERS(0, 1), 2, OUT), 1, "x node 2 NotShortest\n");
+    CHECK("the source is no node", dimacs_write_distances(3, NUMBERS(0, 0), 2, OUT), 2, "x node 3 NodeRange\n");
 }
 
 static int64_t radius;
@@ -321,7 +250,7 @@ static uint32_t read_labels(const char *text, uint32_t from, size_t room) {
     mark();
     radius = 77;
     count_needed = 99;
-    return dimacs_read_labels(bytes(text), strlen(text), from, out, sizeof out, &needed, &radius, costs, room,
+    return dimacs_read_labels(bytes(text), strlen(text), from, OUT, &radius, costs, room,
                               &supplies_needed, tails, room, &count_needed);
 }
 
@@ -334,31 +263,23 @@ static void reads_labels(void) {
                radius == DIMACS_UNREACHED && supplies_needed == 4 && count_needed == 4 &&
                    are_numbers(costs, 4, NUMBERS(LAST - 1, 0, LAST, -7)) && are_nodes(tails, 4, NODES(4, 0, 0, 2)));
     CHECK("room for three", read_labels(LABELS, 3, 3), 0, "");
-    check_that("three, and a radius", radius == LAST - 1 && count_needed == 4 && are_numbers(costs, 3, NUMBERS(LAST, 5, 0)) &&
+    check_that("three, and a radius", radius == LAST - 1 && count_needed == 4 &&
+                                          are_numbers(costs, 3, NUMBERS(LAST, 5, 0)) &&
                                           are_nodes(tails, 3, NODES(0, 3, 0)));
     CHECK("a radius that stands for none", read_labels(LABELS, 4, MOST), 1, "x node 4 NumberRange\n");
     check_that("nothing", radius == 0 && supplies_needed == 0 && count_needed == 0 && are_numbers(costs, 0, NULL) &&
                               are_nodes(tails, 0, NULL));
-    CHECK("a distance past 64 bits", read_labels("p dist 3 1\nt 1 2\nd 2 1 1\nd 3 -9223372036854775809 1\n", 1, MOST), 1,
-          "x node 3 NumberRange\n");
-    CHECK("a source without a block", read_labels(LABELS, 1, MOST), 1, "x node 1 BlockMissing\n");
-    CHECK("a fault", read_labels("p dist 3 1\nt 1 1\nd 2 1 3\n", 1, MOST), 1, "x certificate 3 0 PredUnknown\n");
-}
-
-static uint32_t write_labels(uint32_t from, const int64_t *some, size_t count, const uint32_t *preds, size_t preds_count) {
-    return dimacs_write_labels(from, some, count, preds, preds_count, out, sizeof out, &needed);
 }
 
 static void writes_labels(void) {
-    CHECK("labels", write_labels(2, NUMBERS(5, 0, LAST, -7), 4, NODES(4, 0, 0, 2), 4), 0,
+    const uint32_t before[] = {4, 0, 0, 2};
+    CHECK("labels", dimacs_write_labels(2, NUMBERS(5, 0, LAST, -7), 4, before, 4, OUT), 0,
           "p dist 4 1\nt 2 2\nd 4 -7 2\nd 1 5 4\n");
-    CHECK("fewer predecessors", write_labels(2, NUMBERS(5, 0), 2, NODES(2), 1), 2, "");
-    CHECK("the source is no node", write_labels(3, NUMBERS(1, 1), 2, NODES(9, 9), 2), 2, "x node 3 NodeRange\n");
-    CHECK("the source isn't at 0", write_labels(2, NUMBERS(5, 1), 2, NODES(9, 0), 2), 1, "x node 2 NotShortest\n");
-    CHECK("a predecessor that is no node", write_labels(2, NUMBERS(5, 0), 2, NODES(3, 0), 2), 1, "x node 1 NodeRange\n");
-    CHECK("a predecessor of a node that isn't reached", write_labels(2, NUMBERS(LAST, 0), 2, NODES(2, 0), 2), 1,
-          "x node 1 NodeRange\n");
-    CHECK("a cycle", write_labels(1, NUMBERS(0, 1, 1), 3, NODES(0, 3, 2), 3), 1, "x node 2 PredUnknown\n");
+    CHECK("fewer predecessors", dimacs_write_labels(2, NUMBERS(5, 0), 2, before, 1, OUT), 2, "");
+    CHECK("the source isn't at 0", dimacs_write_labels(2, NUMBERS(5, 1), 2, NODES(9, 0), 2, OUT), 1,
+          "x node 2 NotShortest\n");
+    CHECK("a cycle", dimacs_write_labels(1, NUMBERS(0, 1, 1), 3, NODES(0, 3, 2), 3, OUT), 1,
+          "x node 2 PredUnknown\n");
 }
 
 int main(void) {

@@ -2,9 +2,7 @@
 
 import array
 import ctypes
-import pickle
 import unittest
-from pathlib import Path
 from unittest import mock
 
 import dimacs
@@ -40,19 +38,9 @@ def improved(certify, *words):
 
 
 class Judges(unittest.TestCase):
-    def test_yes(self):
-        surplus = (2, [1], [2], [0], [5], [1], [1, 0])
-        cases = [
-            (dimacs.judge_max_arrays(*MAX, FLOW, CUT), dimacs.Verdict("max", 6)),
-            (dimacs.judge_min_arrays(*MIN, LEAST, POTENTIALS), dimacs.Verdict("min", 14)),
-            (dimacs.judge_infeasible_arrays(*surplus, [1, 1]), dimacs.Verdict("infeasible")),
-            (dimacs.judge_paths_arrays(*GRAPH, 1, DISTANCES, PREDECESSORS), dimacs.Verdict("sp", 1)),
-            (dimacs.judge_max_arrays(2, 1, 2, [], [], [], [], [1, 0]), dimacs.Verdict("max", 0)),
-            (dimacs.judge_min_arrays(0, [], [], [], [], [], [], [], []), dimacs.Verdict("min", 0)),
-            (dimacs.judge_max_arrays(2, 1, 2, [1], [2], [LAST], [LAST], [9, 0]), dimacs.Verdict("max", LAST)),
-        ]
-        for got, wanted in cases:
-            self.assertEqual(got, wanted)
+    def test_no_arcs_and_no_nodes(self):
+        self.assertEqual(dimacs.judge_max_arrays(2, 1, 2, [], [], [], [], [1, 0]), dimacs.Verdict("max", 0))
+        self.assertEqual(dimacs.judge_min_arrays(0, [], [], [], [], [], [], [], []), dimacs.Verdict("min", 0))
 
     def test_values_past_64_bits(self):
         ends = [1, 1, 1], [2, 2, 2]
@@ -67,67 +55,12 @@ NARROW = (2, [1], [2], [0], [5], [1], [6, -6])
 
 
 class Certifies(unittest.TestCase):
-    def test_infeasible(self):
-        found = dimacs.certify_infeasible_arrays(*NARROW)
-        self.assertEqual(found.value, None)
-        self.assertEqual(dimacs.judge_infeasible_arrays(*NARROW, found.inside), dimacs.Verdict("infeasible"))
-
-    def test_feasible(self):
-        it = raised(dimacs.Feasible, dimacs.certify_infeasible_arrays, *MIN)
-        self.assertEqual((it.text, it.line, it.field, it.reason), ("instance", 0, 0, "Feasible"))
-        self.assertEqual((it.arc, it.node), (None, None))
-        self.assertEqual(improved(dimacs.certify_min_arrays, *MIN, it.flow).value, 14)
-
-    def test_yes(self):
-        self.assertEqual(dimacs.certify_max_arrays(*MAX, FLOW), dimacs.Certified(6, CUT))
-        cost, potentials = dimacs.certify_min_arrays(*MIN, LEAST)
-        self.assertEqual(cost, 14)
-        self.assertEqual(dimacs.judge_min_arrays(*MIN, LEAST, potentials).value, 14)
-        found = dimacs.certify_paths_arrays(*GRAPH, 1, DISTANCES)
-        self.assertEqual(found, dimacs.Certified(None, PREDECESSORS))
-        self.assertEqual((found.predecessors, found.value), (PREDECESSORS, None))
-
-    def test_better(self):
-        for certify, instance, claim, reason, best in [
-            (dimacs.certify_max_arrays, MAX, SLOW, "NotMaximum", 6),
-            (dimacs.certify_min_arrays, MIN, DEAR, "NotLeast", 14),
-        ]:
-            it = raised(dimacs.NotOptimal, certify, *instance, claim)
-            self.assertEqual((it.text, it.line, it.field, it.reason), ("solution", 0, 0, reason))
-            self.assertEqual((it.arc, it.node), (None, None))
-            self.assertEqual(improved(certify, *instance, it.better).value, best)
-
-    def test_forms(self):
-        as_array = array.array("q", SLOW)
-        it = raised(dimacs.NotOptimal, dimacs.certify_max_arrays, *MAX, as_array)
-        self.assertIsInstance(it.better, array.array)
-        self.assertEqual(len(it.better), 5)
-        inside = dimacs.certify_max_arrays(*MAX, array.array("q", FLOW)).inside
-        self.assertEqual(inside, array.array("B", CUT))
-
-    def test_potentials_past_64_bits(self):
-        ends = [1, 2, 3], [2, 3, 4]
-        words = (4, *ends, [0] * 3, [2] * 3, [LAST] * 3, [1, 0, 0, -1])
-        self.assertRaises(OverflowError, dimacs.certify_min_arrays, *words, [1] * 3)
-
     def test_potentials_at_both_ends_of_64_bits(self):
         words = (3, [1, 2], [2, 3], [0] * 2, [2] * 2, [LAST] * 2, [1, 0, -1], [1] * 2)
         cost, potentials = dimacs.certify_min_arrays(*words)
         self.assertEqual(cost, 2 * LAST)
         self.assertEqual(potentials, [LAST - 1, -1, -LAST - 1])
         self.assertEqual(dimacs.judge_min_arrays(*words, potentials).value, cost)
-
-    def test_exceptions_are_pickled(self):
-        for call, words in [
-            (dimacs.certify_max_arrays, (*MAX, SLOW)),
-            (dimacs.judge_max_arrays, (*MAX, SLOW, CUT)),
-            (dimacs.judge_max_arrays, (0, *MAX[1:], SLOW, [])),
-            (dimacs.certify_infeasible_arrays, MIN),
-        ]:
-            it = raised((dimacs.Refused, dimacs.PastLimit), call, *words)
-            again = pickle.loads(pickle.dumps(it))
-            kept = vars(it) | {"_asked": None} if isinstance(it, dimacs.Refused) else vars(it)
-            self.assertEqual((type(again), str(again), vars(again)), (type(it), str(it), kept))
 
 
 def answering(status, line, *counts):
@@ -175,28 +108,12 @@ class Rooms(unittest.TestCase):
 
 
 class Misuse(unittest.TestCase):
-    def test_bytes_are_texts(self):
-        """Those of a text are no numbers; marks may be bytes."""
-        for text in b"5", bytearray(b"5"):
-            with self.assertRaisesRegex(TypeError, "caps is a text, .*'5'.*, and no array of numbers"):
-                dimacs.solve_max_arrays(2, 1, 2, [1], [2], text)
-            with self.assertRaisesRegex(TypeError, "caps is a text, .*'5'.*, and no array of numbers"):
-                dimacs.spread_max_arrays(2, 1, 2, [1], [2], text, [1], [2], [5])
-        self.assertEqual(dimacs.judge_max_arrays(2, 1, 2, [1], [2], [5], [5], b"\1\0").value, 5)
-
     def test_buffers_that_are_not_read(self):
         doubles = memoryview((ctypes.c_double.__ctype_be__ * 5)(*FLOW))
         letters = (ctypes.c_char * 5)(*b"42133")
         for flows in (doubles, letters, array.array("u", "42133")):
             with self.subTest(type(flows)), self.assertRaises(TypeError):
                 dimacs.judge_max_arrays(*MAX, flows, CUT)
-
-
-class Package(unittest.TestCase):
-    def test_versions_of_python(self):
-        """Python 3.9 cuts off the fraction of a Decimal in an array."""
-        folder = Path(__file__).resolve().parent.parent / "python"
-        self.assertIn('requires-python = ">=3.10"\n', (folder / "pyproject.toml").read_text(encoding="utf-8"))
 
 
 class Forms(unittest.TestCase):
@@ -226,7 +143,7 @@ class Forms(unittest.TestCase):
             (of("d"), of("d"), of("q")),
             (read_only("q"), read_only("I"), read_only("B")),
             (spread("q"), spread("I"), spread("B")),
-            (lambda items: map(float, items), lambda items: (it for it in items), one_by_one),
+            (lambda items: map(float, items), one_by_one, one_by_one),
         ]:
             self.judged(numbers, ids, marks)
 
@@ -341,39 +258,36 @@ class Forms(unittest.TestCase):
         ]:
             self.judged(numbers, ids, marks)
 
-    def test_forms_of_what_is_solved(self):
-        flows = dimacs.solve_max_arrays(*MAX[:-1], array.array("q", MAX[-1])).flows
-        self.assertIsInstance(flows, array.array)
-
-    @unittest.skipUnless(numpy, "numpy isn't there")
-    def test_numpy_that_is_solved(self):
-        ids = [numpy.array(it, numpy.uint32) for it in ENDS]
-        value, flows, inside = dimacs.solve_max_arrays(4, 1, 4, *ids, numpy.array(MAX[-1]))
-        self.assertEqual((value, flows.dtype, inside.dtype), (6, numpy.int64, bool))
-        self.assertEqual(dimacs.judge_max_arrays(4, 1, 4, *ids, numpy.array(MAX[-1]), flows, inside).value, 6)
-        weights = numpy.array([5, 1, 0, 2, 3])
-        _, distances, before = dimacs.solve_paths_arrays(4, *ids, weights, 1)
-        self.assertEqual((distances.tolist(), before.dtype), ([0, 5, 1, 4], numpy.uint32))
+    def test_arrays_come_back(self):
+        found = dimacs.solve_max_arrays(*MAX[:-1], array.array("q", MAX[-1])).flows
+        better = raised(dimacs.NotOptimal, dimacs.certify_max_arrays, *MAX, array.array("q", SLOW)).better
+        self.assertEqual([type(it) for it in (found, better)], [array.array] * 2)
+        self.assertEqual(dimacs.certify_max_arrays(*MAX, array.array("q", FLOW)).inside, array.array("B", CUT))
 
     @unittest.skipUnless(numpy, "numpy isn't there")
     def test_numpy_comes_back(self):
-        inside = dimacs.certify_max_arrays(*MAX, numpy.array(FLOW)).inside
-        self.assertEqual((inside.dtype, inside.tolist()), (numpy.dtype(bool), CUT))
-        potentials = dimacs.certify_min_arrays(*MIN, numpy.array(LEAST)).potentials
-        self.assertEqual(dimacs.judge_min_arrays(*MIN, LEAST, potentials).value, 14)
-        it = raised(dimacs.NotOptimal, dimacs.certify_min_arrays, *MIN, numpy.array(DEAR, "int32"))
-        self.assertEqual(improved(dimacs.certify_min_arrays, *MIN, it.better).value, 14)
-        self.assertEqual(it.better.dtype, numpy.dtype("int64"))
-        distances = numpy.array([0, 5, numpy.inf, numpy.inf])
-        predecessors = dimacs.certify_paths_arrays(*GRAPH, 1, distances).predecessors
-        self.assertEqual((predecessors.dtype, predecessors.tolist()), (numpy.dtype("uint32"), PREDECESSORS))
-        self.assertEqual(dimacs.judge_paths_arrays(*GRAPH, 1, distances, predecessors), dimacs.Verdict("sp", 1))
-        inside = dimacs.certify_infeasible_arrays(NARROW[0], *map(numpy.array, NARROW[1:])).inside
-        self.assertEqual(inside.dtype, numpy.dtype(bool))
-        it = raised(dimacs.Feasible, dimacs.certify_infeasible_arrays, MIN[0], *map(numpy.array, MIN[1:]))
-        self.assertEqual(it.flow.dtype, numpy.dtype("int64"))
+        """agree.py compares the numbers."""
+        ids, caps = [numpy.array(it, numpy.uint32) for it in ENDS], numpy.array(MAX[-1])
+        max_graph, min_graph = (4, 1, 4, *ids, caps), (MIN[0], *map(numpy.array, MIN[1:]))
+        not_least = raised(dimacs.NotOptimal, dimacs.certify_min_arrays, *MIN, numpy.array(DEAR, "int32"))
+        feasible = raised(dimacs.Feasible, dimacs.certify_infeasible_arrays, *min_graph)
+        paths = dimacs.solve_paths_arrays(4, *ids, numpy.array([5, 1, 0, 2, 3]), 1)
+        shown_paths = dimacs.certify_paths_arrays(*GRAPH, 1, numpy.array([0, 5, INF, INF]))
         nothing = numpy.zeros(0, "int64")
-        self.assertEqual(dimacs.certify_min_arrays(0, *[nothing] * 6, nothing).potentials.tolist(), [])
+        for found, kind, wanted in [
+            (dimacs.solve_max_arrays(*max_graph).flows, "int64", FLOW),
+            (dimacs.solve_max_arrays(*max_graph).inside, "bool", CUT),
+            (dimacs.certify_max_arrays(*MAX, numpy.array(FLOW)).inside, "bool", CUT),
+            (dimacs.certify_min_arrays(*MIN, numpy.array(LEAST)).potentials, "int64", [3, 1, 0, -1]),
+            (dimacs.certify_min_arrays(0, *[nothing] * 6, nothing).potentials, "int64", []),
+            (not_least.better, "int64", LEAST),
+            (dimacs.certify_infeasible_arrays(NARROW[0], *map(numpy.array, NARROW[1:])).inside, "bool", [True, False]),
+            (feasible.flow, "int64", feasible.flow.tolist()),
+            (paths.distances, "int64", [0, 5, 1, 4]),
+            (paths.predecessors, "uint32", [0, 1, 1, 3]),
+            (shown_paths.predecessors, "uint32", PREDECESSORS),
+        ]:
+            self.assertEqual((str(found.dtype), found.tolist()), (kind, wanted))
 
     @unittest.skipUnless(numpy, "numpy isn't there")
     def test_numpy_that_does_not_fit(self):

@@ -7,8 +7,6 @@ import importlib.metadata
 import inspect
 import itertools
 import math
-import pathlib
-import random
 import sys
 import unittest
 import unittest.mock
@@ -16,7 +14,7 @@ import warnings
 
 import dimacs
 from dimacs.distances import NegativeCycle, distances_from
-from shared import networkx, raised
+from shared import draws, networkx, raised
 
 
 def lacks():
@@ -31,11 +29,12 @@ def lacks():
 
 
 LACKS = lacks()
+if not LACKS:
+    from dimacs import backend
+    from dimacs.backend import info, running
+CAPACITIES = [0, 1, 2, 5, 9, math.inf]
+KINDS = "DiGraph MultiDiGraph Graph MultiGraph"
 GRAPHS = 0  # by the argument
-
-
-def rounds(count):
-    return range(GRAPHS or count)
 
 
 def answer_of(function, words, backend):
@@ -54,15 +53,17 @@ def pipes(kind="DiGraph"):
     return graph
 
 
-def drawn(kind, chance, edges, **attributes):
-    """A graph of a few nodes, with loops, whose edges have most of these attributes, each drawn by a function."""
-    graph = kind()
-    nodes = chance.randrange(1, 8)
-    graph.add_nodes_from(range(nodes))
-    for _ in range(chance.randrange(edges)):
-        data = {name: draw() for name, draw in attributes.items() if chance.random() < 0.85}
-        graph.add_edge(chance.randrange(nodes), chance.randrange(nodes), **data)
-    return graph
+def graphs(seed, count, kinds, edges, **attributes):
+    """Graphs of a few nodes, with loops, whose edges have most of these attributes, each one of some numbers, and what
+    draws more of each."""
+    for chance in draws(seed, GRAPHS or count):
+        graph = getattr(networkx, chance.choice(kinds.split()))()
+        nodes = chance.randrange(1, 8)
+        graph.add_nodes_from(range(nodes))
+        for _ in range(chance.randrange(edges)):
+            data = {name: chance.choice(some) for name, some in attributes.items() if chance.random() < 0.85}
+            graph.add_edge(chance.randrange(nodes), chance.randrange(nodes), **data)
+        yield chance, graph
 
 
 def bring(chance, graph):
@@ -82,6 +83,17 @@ def length_of(graph, path, weight):
     return total
 
 
+def measured(graph, answer, weight):
+    """An answer with the last node and the length of a path in place of it: of equal ones another may be found."""
+    if isinstance(answer, list):
+        return answer[-1], length_of(graph, answer, weight)
+    if isinstance(answer, tuple):
+        return tuple(measured(graph, it, weight) for it in answer)
+    if isinstance(answer, dict) or hasattr(answer, "__next__"):
+        return {node: measured(graph, it, weight) for node, it in dict(answer).items()}
+    return answer
+
+
 @unittest.skipIf(LACKS, LACKS)
 class Backend(unittest.TestCase):
     def compared(self, function, *words):
@@ -94,28 +106,28 @@ class Backend(unittest.TestCase):
         return theirs[1], ours[1]
 
     def same(self, function, *words):
-        both = self.compared(function, *words)
-        if both:
+        if both := self.compared(function, *words):
             self.assertEqual(both[1], both[0])
+
+    def are_as_long(self, name, graph, *words, weight="weight"):
+        """Both answer the same distances, and paths of the same lengths; or raise the same kind."""
+        theirs, ours = (answer_of(getattr(networkx, name), (graph, *words), it) for it in ("networkx", "dimacs"))
+        self.assertEqual(ours[0], theirs[0], (name, words, ours, theirs))
+        if ours[0] == "answer":
+            self.assertEqual(*(measured(graph, it[1], weight) for it in (ours, theirs)))
 
     def refused(self, name, *words, **more):
         """The reason with which the backend declines a call, which networkx answers then."""
         it = raised(NotImplementedError, getattr(networkx, name), *words, backend="dimacs", **more)
-        from dimacs.backend import Unable
-
-        self.assertIsInstance(it.__cause__, Unable)
+        self.assertIsInstance(it.__cause__, backend.Unable)
         return str(it.__cause__)
 
 
 class Flows(Backend):
     def test_what_networkx_finds(self):
-        chance = random.Random(1)
-        for _ in rounds(300):
-            draw = lambda: chance.choice([chance.randrange(10), 0, -1, 100, math.inf])
-            graph = drawn(chance.choice([networkx.DiGraph, networkx.Graph]), chance, 20, capacity=draw)
+        for chance, graph in graphs(1, 300, "DiGraph Graph", 20, capacity=[*range(10), *[-1, 100, math.inf] * 3]):
             ends = chance.randrange(len(graph) + 1), chance.choice(list(graph))
-            both = self.compared(networkx.maximum_flow, graph, *ends)
-            if both:
+            if both := self.compared(networkx.maximum_flow, graph, *ends):
                 (value, _), (ours, flow) = both
                 self.assertEqual(ours, value)
                 self.test_flow(graph, *ends, value, flow)
@@ -163,11 +175,8 @@ class Flows(Backend):
                 self.assertIsNone(self.compared(getattr(networkx, name), graph, *ends))
 
     def test_capacities_near_the_end_of_64_bits(self):
-        graph = networkx.DiGraph()
-        graph.add_edge("s", "a", capacity=2**63 - 1)
-        graph.add_edge("s", "b", capacity=2**63 - 1)
-        graph.add_edge("a", "t")
-        graph.add_edge("b", "t", capacity=5)
+        wide = {"capacity": 2**63 - 1}
+        graph = networkx.DiGraph([("s", "a", wide), ("s", "b", wide), ("a", "t"), ("b", "t", {"capacity": 5})])
         self.assertEqual(networkx.maximum_flow_value(graph, "s", "t", backend="dimacs"), 2**63 + 4)
         graph.edges["s", "a"]["capacity"] = 2**63
         self.assertIn("more than 64 bits", self.refused("maximum_flow", graph, "s", "t"))
@@ -215,12 +224,9 @@ class Flows(Backend):
                 self.assertEqual(networkx.maximum_flow_value(graph, "s", "t", backend="dimacs"), capacity + 2)
 
     def test_trees_of_cuts(self):
-        chance = random.Random(6)
-        for _ in rounds(100):
-            graph = drawn(networkx.Graph, chance, 20, capacity=lambda: chance.randrange(9))
-            networkx.set_edge_attributes(
-                graph, {it: 3 for it in graph.edges if "capacity" not in graph.edges[it]}, "capacity"
-            )
+        for chance, graph in graphs(6, 100, "Graph", 20, capacity=range(9)):
+            for *_, data in graph.edges(data=True):
+                data.setdefault("capacity", 3)
             tree = networkx.gomory_hu_tree(graph, backend="dimacs")
             self.assertTrue(networkx.is_tree(tree) and set(tree) == set(graph))
             for one, other in itertools.combinations(graph, 2):
@@ -240,31 +246,21 @@ class Flows(Backend):
 
 class Costs(Backend):
     def test_what_networkx_finds(self):
-        chance = random.Random(2)
-        for _ in rounds(400):
-            draws = {"capacity": lambda: chance.choice([0, 1, 2, 5, 9, math.inf]), "weight": lambda: chance.randrange(-2, 9)}
-            graph = drawn(chance.choice([networkx.DiGraph, networkx.MultiDiGraph]), chance, 14, **draws)
+        for chance, graph in graphs(2, 400, "DiGraph MultiDiGraph", 14, capacity=CAPACITIES, weight=range(-2, 9)):
             bring(chance, graph)
-            both = self.compared(networkx.network_simplex, graph)
-            if both:
+            if both := self.compared(networkx.network_simplex, graph):
                 (cost, _), (ours, flow) = both
                 self.assertEqual(ours, cost)
                 self.assertEqual(dimacs.certify_networkx_min(graph, flow).value, cost)
                 self.assertEqual(networkx.min_cost_flow_cost(graph, backend="dimacs"), cost)
 
     def test_capacity_scaling(self):
-        chance = random.Random(7)
-        for _ in rounds(300):
-            draws = {
-                "capacity": lambda: chance.choice([0, 1, 2, 5, 9, -1, math.inf]),
-                "weight": lambda: chance.randrange(-2, 9),
-            }
-            graph = drawn(chance.choice([networkx.DiGraph, networkx.MultiDiGraph]), chance, 14, **draws)
+        caps = [*CAPACITIES, -1]
+        for chance, graph in graphs(7, 300, "DiGraph MultiDiGraph", 14, capacity=caps, weight=range(-2, 9)):
             bring(chance, graph)
             if not any(tail != head and cap > 0 for tail, head, cap in graph.edges(data="capacity", default=math.inf)):
                 continue  # networkx finds nothing wrong with demands then
-            both = self.compared(networkx.capacity_scaling, graph)
-            if both:
+            if both := self.compared(networkx.capacity_scaling, graph):
                 (cost, _), (ours, flow) = both
                 self.assertEqual(ours, cost)
                 for *_, data in graph.edges(data=True):
@@ -273,30 +269,23 @@ class Costs(Backend):
         self.assertIsNone(self.compared(networkx.capacity_scaling, pipes("Graph")))
 
     def test_least_cost_among_maximum_flows(self):
-        chance = random.Random(3)
-        for _ in rounds(200):
-            draws = {"capacity": lambda: chance.choice([0, 1, 2, 5, 9, math.inf]), "weight": lambda: chance.randrange(9)}
-            graph = drawn(chance.choice([networkx.DiGraph, networkx.Graph]), chance, 20, **draws)
-            both = self.compared(networkx.max_flow_min_cost, graph, 0, chance.choice(list(graph)))
-            if both:
+        for chance, graph in graphs(3, 200, "DiGraph Graph", 20, capacity=CAPACITIES, weight=range(9)):
+            if both := self.compared(networkx.max_flow_min_cost, graph, 0, chance.choice(list(graph))):
                 theirs, ours = (networkx.cost_of_flow(networkx.DiGraph(graph), it) for it in both)
                 self.assertEqual(ours, theirs)
 
     def test_cost_of_a_flow(self):
         graph = pipes()
         flow = networkx.max_flow_min_cost(graph, "s", "t", backend="dimacs")
-        self.same(networkx.cost_of_flow, graph, flow)
-        flow["s"]["a"] = 10**12
-        self.same(networkx.cost_of_flow, graph, flow)
-        flow["s"]["a"] = -1
-        self.assertIn("is negative", self.refused("cost_of_flow", graph, flow))
-        self.same(networkx.cost_of_flow, networkx.Graph(), {})
+        for amount in flow["s"]["a"], 10**12, 2.0:
+            flow["s"]["a"] = amount
+            self.same(networkx.cost_of_flow, graph, flow)
+        for amount, reason in (-1, "is negative"), (2.5, "the flow of edge"):
+            flow["s"]["a"] = amount
+            self.assertIn(reason, self.refused("cost_of_flow", graph, flow))
         del flow["s"]["a"]
         self.same(networkx.cost_of_flow, graph, flow)
-        flow["s"]["a"] = 2.0
-        self.same(networkx.cost_of_flow, graph, flow)
-        flow["s"]["a"] = 2.5
-        self.assertIn("the flow of edge", self.refused("cost_of_flow", graph, flow))
+        self.same(networkx.cost_of_flow, networkx.Graph(), {})
 
     def test_exceptions(self):
         cases = [networkx.DiGraph()]
@@ -317,11 +306,6 @@ class Costs(Backend):
                 self.assertIsNone(self.compared(function, graph))
         self.assertIsNone(self.compared(networkx.min_cost_flow, pipes("Graph")))
 
-    def test_loops_of_negative_weight(self):
-        graph = pipes()
-        graph.add_edge("a", "a", weight=-2, capacity=7)
-        self.same(networkx.network_simplex, graph)
-
     def test_floats_that_are_whole(self):
         graph = pipes()
         graph.nodes["s"]["demand"], graph.nodes["t"]["demand"] = -2, 2
@@ -332,18 +316,14 @@ class Costs(Backend):
         self.assertEqual(repr(networkx.min_cost_flow(graph, backend="dimacs")["b"]), "{'t': 2.0}")
 
     def test_other_names(self):
-        graph = networkx.DiGraph()
-        graph.add_node(0, supply=-2)
-        graph.add_node(1, supply=2)
-        graph.add_edge(0, 1, room=3, price=4)
+        graph = networkx.DiGraph([(0, 1, {"room": 3, "price": 4})])
+        graph.add_nodes_from([(0, {"supply": -2}), (1, {"supply": 2})])
         self.same(networkx.network_simplex, graph, "supply", "room", "price")
 
     def test_supplies_past_64_bits(self):
         """What a node supplies is its demand negated, which -2^63 can't be."""
         graph = networkx.DiGraph()
-        graph.add_node("s", demand=-(2**63))
-        graph.add_node("t", demand=2**62)
-        graph.add_node("u", demand=2**62)
+        graph.add_nodes_from([("s", {"demand": -(2**63)}), ("t", {"demand": 2**62}), ("u", {"demand": 2**62})])
         graph.add_edges_from([("s", "t"), ("s", "u")], weight=1)
         self.assertIn("more than 64 bits", self.refused("network_simplex", graph))
         with networkx.config(backend_priority=["dimacs"]):
@@ -372,143 +352,75 @@ class Paths(Backend):
             self.assertEqual((path[0], path[-1], length_of(graph, path, weight)), (source, node, lengths[node]))
 
     def test_what_networkx_finds(self):
-        chance = random.Random(4)
-        kinds = networkx.DiGraph, networkx.MultiDiGraph, networkx.Graph, networkx.MultiGraph
-        for _ in rounds(300):
-            graph = drawn(chance.choice(kinds), chance, 20, weight=lambda: chance.randrange(9))
+        for chance, graph in graphs(4, 300, KINDS, 20, weight=range(9)):
             source, target = chance.randrange(len(graph) + 1), chance.randrange(len(graph) + 1)
             cutoff, weight = chance.choice([None, 0, 3, 7.5, -1]), chance.choice(["weight", None])
             self.same(networkx.single_source_dijkstra_path_length, graph, source, cutoff, weight)
             self.same(networkx.dijkstra_path_length, graph, source, target, weight)
-            both = self.compared(networkx.single_source_dijkstra, graph, source, None, cutoff, weight)
-            if both:
-                self.assertEqual(both[1][0], both[0][0])
-                self.assertEqual(list(both[1][0].values()), list(both[0][0].values()))
+            if both := self.compared(networkx.single_source_dijkstra, graph, source, None, cutoff, weight):
+                self.assertEqual(*((it[0], list(it[0].values())) for it in both))
                 self.test_are_paths(graph, source, weight, both[1])
-            both = self.compared(networkx.single_source_dijkstra, graph, source, target, cutoff, weight)
-            if both:
-                (length, _), (ours, path) = both
-                self.assertEqual((ours, length_of(graph, path, weight)), (length, length))
+            if both := self.compared(networkx.single_source_dijkstra, graph, source, target, cutoff, weight):
+                self.assertEqual(*(measured(graph, it, weight) for it in both))
 
     def test_other_forms(self):
-        """The same distances by all functions that have them, and paths of these lengths."""
-        chance = random.Random(8)
-        kinds = networkx.DiGraph, networkx.MultiDiGraph, networkx.Graph, networkx.MultiGraph
-        for _ in rounds(200):
-            graph = drawn(chance.choice(kinds), chance, 20, weight=lambda: chance.randrange(9))
-            nodes = range(len(graph) + 1)
+        """None is no target, also where networkx has no default for it."""
+        for chance, graph in graphs(8, 200, KINDS, 20, weight=range(9)):
+            nodes = [*range(len(graph) + 1), None]
             source, target, cutoff = chance.choice(nodes), chance.choice(nodes), chance.choice([None, 0, 3, 7.5])
             weight, method = chance.choice(["weight", None]), chance.choice(["dijkstra", "bellman-ford", "other"])
-            sources = chance.sample(nodes, chance.randrange(3))
-            for function, *words in [
-                (networkx.shortest_path_length, graph, source, target, weight, method),
-                (networkx.shortest_path_length, graph, None, target, weight, method),
-                (networkx.shortest_path_length, graph, source, None, weight, method),
-                (networkx.bellman_ford_path_length, graph, source, target, weight),
-                (networkx.multi_source_dijkstra_path_length, graph, sources, cutoff, weight),
-                (networkx.single_source_shortest_path_length, graph, source, cutoff),
-                (networkx.has_path, graph, source, target),
-            ]:
-                both = self.compared_kinds(function, *words)
-                if both:
-                    self.assertEqual(both[1], both[0])
-            for function, *words in [
-                (networkx.all_pairs_dijkstra_path_length, graph, cutoff, weight),
-                (networkx.shortest_path_length, graph, None, None, weight),
-            ]:
-                self.assertEqual(dict(function(*words, backend="dimacs")), dict(function(*words)))
-            self.paths_between(graph, source, target, sources, cutoff, weight, method)
-
-    def compared_kinds(self, function, *words):
-        """What both answer; None if both raise the same kind."""
-        theirs, ours = (answer_of(function, words, backend) for backend in ("networkx", "dimacs"))
-        self.assertEqual(ours[0], theirs[0], (function, words, ours, theirs))
-        return (theirs[1], ours[1]) if theirs[0] == "answer" else None
-
-    def paths_between(self, graph, source, target, sources, cutoff, weight, method):
-        for function, *words in [
-            (networkx.shortest_path, graph, source, None, weight, method),
-            (networkx.shortest_path, graph, None, target, weight, method),
-            (networkx.multi_source_dijkstra_path, graph, sources, cutoff, weight),
-            (networkx.single_source_shortest_path, graph, source, cutoff),
-        ]:
-            unit = weight if len(words) > 3 or function is networkx.multi_source_dijkstra_path else None
-            both = self.compared_kinds(function, *words)
-            if both:
-                lengths = [{node: length_of(graph, it, unit) for node, it in paths.items()} for paths in both]
-                self.assertEqual(lengths[1], lengths[0])
-        for function, *words in [
-            (networkx.shortest_path, graph, source, target, weight, method),
-            (networkx.dijkstra_path, graph, source, target, weight),
-            (networkx.bellman_ford_path, graph, source, target, weight),
-        ]:
-            both = self.compared_kinds(function, *words)
-            if both:
-                self.assertEqual(*(length_of(graph, it, weight) for it in both))
-        both = self.compared_kinds(networkx.multi_source_dijkstra, graph, sources, target, cutoff, weight)
-        if both:
-            self.assertEqual(both[1][0], both[0][0])
-        pairs = dict(networkx.all_pairs_dijkstra(graph, cutoff, weight, backend="dimacs"))
-        self.assertEqual(
-            {node: it[0] for node, it in pairs.items()}, dict(networkx.all_pairs_dijkstra_path_length(graph, cutoff, weight))
-        )
-        paths = dict(networkx.all_pairs_dijkstra_path(graph, cutoff, weight, backend="dimacs"))
-        self.assertEqual({node: it[1] for node, it in pairs.items()}, paths)
-        both = [dict(networkx.shortest_path(graph, weight=weight, backend=it)) for it in ("networkx", "dimacs")]
-        self.assertEqual(
-            *(
-                {at: {to: length_of(graph, path, weight) for to, path in it.items()} for at, it in some.items()}
-                for some in both
-            )
-        )
+            sources = chance.sample(nodes[:-1], chance.randrange(3))
+            for name, *words in (
+                ("dijkstra_path", source, target, weight),
+                ("bellman_ford_path", source, target, weight),
+                ("bellman_ford_path_length", source, target, weight),
+                ("has_path", source, target),
+                ("multi_source_dijkstra", sources, target, cutoff, weight),
+                ("multi_source_dijkstra_path", sources, cutoff, weight),
+                ("multi_source_dijkstra_path_length", sources, cutoff, weight),
+                ("all_pairs_dijkstra", cutoff, weight),
+                ("all_pairs_dijkstra_path", cutoff, weight),
+                ("all_pairs_dijkstra_path_length", cutoff, weight),
+                *(
+                    (name, *ends, weight, method)
+                    for name in ("shortest_path", "shortest_path_length")
+                    for ends in ((source, target), (None, target), (source, None), (None, None))
+                ),
+            ):
+                self.are_as_long(name, graph, *words, weight=weight)
+            self.are_as_long("single_source_shortest_path", graph, source, cutoff, weight=None)
+            self.are_as_long("single_source_shortest_path_length", graph, source, cutoff)
 
     def test_cycles(self):
-        chance = random.Random(9)
         found = {True: 0, False: 0}
-        for _ in rounds(300):
-            graph = drawn(
-                chance.choice([networkx.DiGraph, networkx.MultiDiGraph]), chance, 16, weight=lambda: chance.randrange(-2, 9)
-            )
+        for chance, graph in graphs(9, 300, "DiGraph MultiDiGraph", 16, weight=range(-2, 9)):
             theirs = networkx.negative_edge_cycle(graph.copy())
             self.assertEqual(networkx.negative_edge_cycle(graph, backend="dimacs"), theirs)
             found[theirs] += 1
         self.assertGreater(min(found.values()), 50)
 
     def test_negative_weights(self):
-        chance = random.Random(5)
-        for _ in rounds(300):
-            kind = chance.choice([networkx.DiGraph, networkx.MultiDiGraph, networkx.Graph])
-            graph = drawn(kind, chance, 16, weight=lambda: chance.choice([-2, -1, 0, 2, 3, 5, 8, 9]))
+        for chance, graph in graphs(5, 300, "DiGraph MultiDiGraph Graph", 16, weight=[-2, -1, 0, 2, 3, 5, 8, 9]):
             source, target = chance.randrange(len(graph) + 1), chance.randrange(len(graph) + 1)
             self.same(networkx.single_source_bellman_ford_path_length, graph, source)
-            both = self.compared(networkx.single_source_bellman_ford, graph, source)
-            if both:
+            if both := self.compared(networkx.single_source_bellman_ford, graph, source):
                 self.assertEqual(both[1][0], both[0][0])
                 self.test_are_paths(graph, source, "weight", both[1])
                 self.assertEqual(networkx.single_source_bellman_ford_path(graph, source, backend="dimacs"), both[1][1])
-            both = self.compared(networkx.single_source_bellman_ford, graph, source, target)
-            if both:
-                self.assertEqual(both[1][0], both[0][0])
+            self.are_as_long("single_source_bellman_ford", graph, source, target)
 
     def test_a_cycle_that_is_not_reached(self):
         graph = networkx.DiGraph([("s", "t")])
-        graph.add_edge("a", "b", weight=-2)
-        graph.add_edge("b", "a", weight=1)
-        graph.add_edge("a", "s", weight=-3)
+        graph.add_weighted_edges_from([("a", "b", -2), ("b", "a", 1), ("a", "s", -3)])
         self.same(networkx.single_source_bellman_ford, graph, "s")
         self.assertIsNone(self.compared(networkx.single_source_bellman_ford, graph, "a"))
         self.assertRaises(NegativeCycle, distances_from, 2, [1, 2], [2, 1], [-2, 1], 1)
 
     def test_missing_nodes(self):
-        for function in (
-            networkx.single_source_dijkstra,
-            networkx.single_source_dijkstra_path,
-            networkx.single_source_dijkstra_path_length,
-            networkx.single_source_bellman_ford,
-            networkx.single_source_bellman_ford_path,
-            networkx.single_source_bellman_ford_path_length,
-        ):
-            self.assertIsNone(self.compared(function, pipes(), "elsewhere"))
+        for method in "dijkstra", "bellman_ford":
+            for end in "", "_path", "_path_length":
+                function = getattr(networkx, f"single_source_{method}{end}")
+                self.assertIsNone(self.compared(function, pipes(), "elsewhere"))
         self.assertIsNone(self.compared(networkx.dijkstra_path_length, pipes(), "elsewhere", "elsewhere"))
         self.assertIsNone(self.compared(networkx.dijkstra_path_length, pipes(), "t", "s"))
 
@@ -535,49 +447,25 @@ class Paths(Backend):
             self.assertEqual(networkx.dijkstra_path_length(graph, 0, 2), 2**63)
         self.assertRaises(NotImplementedError, networkx.dijkstra_path_length, graph, 0, 2, backend="dimacs")
 
-    def test_no_target(self):
-        """None is no target, also where networkx has no default for it."""
-        chance = random.Random(10)
-        for _ in rounds(60):
-            graph = drawn(networkx.DiGraph, chance, 12, weight=lambda: chance.randrange(9))
-            for name in "dijkstra_path", "bellman_ford_path", "dijkstra_path_length", "bellman_ford_path_length", "has_path":
-                for ends in (0, None), (None, 0), (None, None), (9, None):
-                    both = self.compared_kinds(getattr(networkx, name), graph, *ends)
-                    if both and name == "has_path":
-                        self.assertEqual(both[1], both[0])
-                    elif both:
-                        self.assertEqual(*(sorted(it) for it in both))
-
     def test_what_is_yielded_is_answered(self):
         """A generator that networkx goes through can't be left to it when a number turns out not to be answered here."""
-        graph = networkx.path_graph(4, networkx.DiGraph)
-        graph.edges[2, 3]["weight"] = 0.5
-        wide = networkx.path_graph(4, networkx.DiGraph)
-        networkx.set_edge_attributes(wide, 2**62, "weight")
-        long = networkx.path_graph(4, networkx.DiGraph)
-        networkx.set_edge_attributes(long, 2.0**52, "weight")
-        for it in graph, wide, long:
+        for weight in 0.5, 2**62, 2.0**52:
+            it = networkx.path_graph(4, networkx.DiGraph)
+            networkx.set_edge_attributes(it, weight, "weight")
             for name in "all_pairs_dijkstra", "all_pairs_dijkstra_path", "all_pairs_dijkstra_path_length":
                 self.refused(name, it)
+                theirs = dict(getattr(networkx, name)(it, backend="networkx"))
                 with all_run():
-                    self.assertEqual(
-                        dict(getattr(networkx, name)(it)), dict(getattr(networkx, name)(it, backend="networkx"))
-                    )
+                    self.assertEqual(dict(getattr(networkx, name)(it)), theirs)
             for method in "dijkstra", "bellman-ford":
                 self.refused("shortest_path", it, weight="weight", method=method)
                 self.refused("shortest_path_length", it, weight="weight", method=method)
 
     def test_what_networkx_makes_of_distances(self):
-        chance = random.Random(11)
-        draws = [
-            lambda: chance.randrange(1, 9),
-            lambda: chance.choice([0.5, 1, 2.25]),
-            lambda: float(chance.randrange(1, 9)),
-        ]
-        for _ in rounds(15):
+        for chance in draws(11, GRAPHS or 15):
             graph = networkx.connected_watts_strogatz_graph(8, 4, 0.4, seed=chance)
-            draw = chance.choice(draws)
-            networkx.set_edge_attributes(graph, {edge: draw() for edge in graph.edges}, "weight")
+            some = chance.choice([range(1, 9), [0.5, 1, 2.25], list(map(float, range(1, 9)))])
+            networkx.set_edge_attributes(graph, {edge: chance.choice(some) for edge in graph.edges}, "weight")
             for call in (
                 lambda: networkx.wiener_index(graph, weight="weight"),
                 lambda: networkx.barycenter(graph, weight="weight"),
@@ -637,8 +525,6 @@ shortest_path_length(G, 0, 1, "weight", "dijkstra", "too many")  | 9    | yes
 
 def all_run():
     """Has networkx call the backend for each graph, small ones too."""
-    from dimacs import backend
-
     stack = contextlib.ExitStack()
     stack.enter_context(networkx.config(backend_priority=["dimacs"]))
     stack.enter_context(unittest.mock.patch.object(backend, "should_run", lambda *words: True))
@@ -652,8 +538,6 @@ def tour_of(graph, nodes):
 
 class Registered(Backend):
     def test_what_runs(self):
-        from dimacs import backend
-
         for line in RUNS.strip().splitlines():
             call, nodes, wanted = (it.strip() for it in line.split("|"))
             name, _, words = call.partition("(")
@@ -673,27 +557,14 @@ class Registered(Backend):
         self.same(networkx.has_path, graph, 0, 1)
 
     def test_functions(self):
-        from dimacs import backend
-        from dimacs.backend import info
-
         dispatched = set(networkx.utils.backends._registered_algorithms)
         self.assertEqual(set(dir(backend)) & dispatched, set(info.FUNCTIONS))
         others = {"Unable", "can_run", "convert_from_nx", "convert_to_nx", "should_run"}
         self.assertEqual(set(backend.__all__), {*info.FUNCTIONS, *others})
         self.assertIn("certificate", networkx.minimum_cut.__doc__)
 
-    def test_length(self):
-        """A longer backend is to be a package of its own."""
-        from dimacs import backend
-
-        files = pathlib.Path(backend.__file__).parent.glob("*.py")
-        self.assertLess(sum(len(it.read_text(encoding="utf-8").splitlines()) for it in files), 900)
-
     def test_arguments(self):
         """They have the names, the order and the defaults that they have in networkx."""
-        from dimacs import backend
-        from dimacs.backend import info
-
         for name in info.FUNCTIONS:
             theirs = networkx.utils.backends._registered_algorithms[name].orig_func
             words = [inspect.signature(it).parameters.values() for it in (theirs, getattr(backend, name))]
@@ -701,8 +572,6 @@ class Registered(Backend):
 
     def test_before_networkx_goes_on(self):
         """Before networkx 3.4 a call that isn't answered has to be known before it is made."""
-        from dimacs.backend import running
-
         graph = pipes()
         with unittest.mock.patch.object(running, "_GOES_ON", False):
             self.assertTrue(running.can_run("maximum_flow", (graph, "s", "t"), {}))

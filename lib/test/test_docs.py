@@ -77,17 +77,9 @@ class Docs(unittest.TestCase):
     @unittest.skipUnless(importlib.util.find_spec("mypy"), "no mypy")
     @unittest.skipUnless(importlib.util.find_spec("numpy"), "no numpy")
     def test_types(self):
-        words = [
-            sys.executable,
-            "-m",
-            "mypy",
-            "--config-file",
-            str(PACKAGE.parent / "pyproject.toml"),
-            "--cache-dir=/dev/null",
-        ]
-        ran = subprocess.run(
-            [*words, str(PACKAGE), *map(str, sorted(EXAMPLES.glob("*.py")))], capture_output=True, text=True, check=False
-        )
+        words = [sys.executable, "-m", "mypy", "--config-file", PACKAGE.parent / "pyproject.toml", "--cache-dir=/dev/null"]
+        words += [PACKAGE, *sorted(EXAMPLES.glob("*.py"))]
+        ran = subprocess.run(words, capture_output=True, text=True, check=False)
         self.assertTrue(re.match(r"Success: no issues found in \d+ source files", ran.stdout), ran.stdout + ran.stderr)
 
 

@@ -10,7 +10,7 @@ from decimal import Decimal
 from fractions import Fraction
 
 import dimacs
-from shared import networkx, numpy, raised
+from shared import Said, networkx, numpy, raised
 
 INF, NAN = float("inf"), float("nan")
 NOT_WHOLE = "not a whole number: scale= takes multiples of a unit"
@@ -27,17 +27,13 @@ def changed(words, place, item):
     return (*words[:place], item, *words[place + 1 :])
 
 
-class Errors(unittest.TestCase):
-    def rows(self, kind, rows):
+class Errors(Said):
+    def rows(self, kind, *rows):
         for message, call, *words in rows:
-            with self.subTest(message), self.assertRaises(kind) as caught:
-                call(*words)
-            it = caught.exception
-            self.assertEqual((type(it), str(it)), (kind, message))
-            again = pickle.loads(pickle.dumps(it))
-            self.assertEqual((type(again), str(again), repr(again)), (kind, message, repr(it)))
-            if message.startswith(("arc ", "node ")):
-                self.assertEqual((it.text, it.line, it.field), (None, None, None))
+            with self.subTest(message):
+                it = self.says(kind, message, call, *words)
+                if message.startswith(("arc ", "node ")):
+                    self.assertEqual((it.text, it.line, it.field), (None, None, None))
 
 
 class Arrays(Errors):
@@ -46,53 +42,47 @@ class Arrays(Errors):
         certify_max, certify_min, certify_paths = dimacs.certify_max_arrays, dimacs.certify_min_arrays, dimacs.certify_paths_arrays
         cut, prices, back = [True, True, False], [7, 0], (3, 2, 3, [1, 2, 2], [2, 3, 1], [5, 1, 1])
         lead = "its predecessors don't lead back to the source"
+        unmet = "certificate 0 0 NotViolated: the set supplies 6, and from 1 to 10 can leave it"
         self.rows(
             dimacs.Refused,
-            [
-                ("arc 2 AboveCap: it carries 5, its capacity is 4", judge_max, *MAX, [4, 5], cut),
-                ("arc 1 BelowLow: it carries -1, its lower bound is 0", judge_max, *MAX, [-1, 0], cut),
-                ("node 2 Balance: 3 leaves, 4 enters", judge_max, *MAX, [4, 3], cut),
-                ("node 2 Balance: 3 leaves, 4 enters", certify_max, *MAX, [4, 3]),
-                ("node 1 SourceOutside", judge_max, *MAX, [4, 4], [0, 0, 0]),
-                ("node 3 SinkInside", judge_max, *MAX, [4, 4], [1, 1, 1]),
-                ("arc 2 NotSaturated: it leaves the cut and carries 3, its capacity is 4", judge_max, *MAX, [3, 3], cut),
-                ("arc 1 BackFlow: it enters the cut and carries 1", judge_max, *back, [1, 1, 1], [0, 1, 0]),
-                ("arc 1 BelowLow: it carries 0, its lower bound is 1", judge_min, *MIN, [0, 6], prices),
-                ("node 1 Balance: 4 leaves, its supply is 6", judge_min, *MIN, [4, 0], prices),
-                ("node 1 Balance: 4 leaves, its supply is 6", certify_min, *MIN, [4, 0]),
-                ("arc 1 NotTight: its reduced cost is -4, and it carries 4 of 1 to 5", judge_min, *MIN, [4, 2], prices),
-                (
-                    "certificate 0 0 NotViolated: the set supplies 6, and from 1 to 10 can leave it",
-                    *(dimacs.judge_infeasible_arrays, *MIN, [1, 0]),
-                ),
-                ("node 1 NotShortest: the source is at 1", certify_paths, *PATHS, 1, [1, 5, 9]),
-                ("node 1 NotShortest: the source is at 1", judge_paths, *PATHS, 1, [1, 5, 9], [0, 1, 2]),
-                ("arc 2 NotShortest: 5 and its weight 4 are less than 10", certify_paths, *PATHS, 1, [0, 5, 10]),
-                ("arc 2 Escapes: its tail is at 5, its head isn't reached", certify_paths, *PATHS, 1, [0, 5, INF]),
-                ("arc 2 Escapes: its tail is at 5, its head isn't reached", judge_paths, *PATHS, 1, [0, 5, INF], [0, 1, 0]),
-                ("node 3 NoTightArc: no arc gives its distance 8", certify_paths, *PATHS, 1, [0, 5, 8]),
-                ("node 3 NoTightArc: no arc from 1 gives its distance 9", judge_paths, *PATHS, 1, [0, 5, 9], [0, 1, 1]),
-                (f"node 2 PredUnknown: {lead}", judge_paths, *PATHS, 1, [0, 5, 9], [0, 3, 2]),
-                ("arc 1 NegativeWeight: its weight is -1", dimacs.solve_paths_arrays, 2, [1], [2], [-1], 1),
-            ],
+            ("arc 2 AboveCap: it carries 5, its capacity is 4", judge_max, *MAX, [4, 5], cut),
+            ("arc 1 BelowLow: it carries -1, its lower bound is 0", judge_max, *MAX, [-1, 0], cut),
+            ("node 2 Balance: 3 leaves, 4 enters", judge_max, *MAX, [4, 3], cut),
+            ("node 2 Balance: 3 leaves, 4 enters", certify_max, *MAX, [4, 3]),
+            ("node 1 SourceOutside", judge_max, *MAX, [4, 4], [0, 0, 0]),
+            ("node 3 SinkInside", judge_max, *MAX, [4, 4], [1, 1, 1]),
+            ("arc 2 NotSaturated: it leaves the cut and carries 3, its capacity is 4", judge_max, *MAX, [3, 3], cut),
+            ("arc 1 BackFlow: it enters the cut and carries 1", judge_max, *back, [1, 1, 1], [0, 1, 0]),
+            ("arc 1 BelowLow: it carries 0, its lower bound is 1", judge_min, *MIN, [0, 6], prices),
+            ("node 1 Balance: 4 leaves, its supply is 6", judge_min, *MIN, [4, 0], prices),
+            ("node 1 Balance: 4 leaves, its supply is 6", certify_min, *MIN, [4, 0]),
+            ("arc 1 NotTight: its reduced cost is -4, and it carries 4 of 1 to 5", judge_min, *MIN, [4, 2], prices),
+            (unmet, dimacs.judge_infeasible_arrays, *MIN, [1, 0]),
+            ("node 1 NotShortest: the source is at 1", certify_paths, *PATHS, 1, [1, 5, 9]),
+            ("node 1 NotShortest: the source is at 1", judge_paths, *PATHS, 1, [1, 5, 9], [0, 1, 2]),
+            ("arc 2 NotShortest: 5 and its weight 4 are less than 10", certify_paths, *PATHS, 1, [0, 5, 10]),
+            ("arc 2 Escapes: its tail is at 5, its head isn't reached", certify_paths, *PATHS, 1, [0, 5, INF]),
+            ("arc 2 Escapes: its tail is at 5, its head isn't reached", judge_paths, *PATHS, 1, [0, 5, INF], [0, 1, 0]),
+            ("node 3 NoTightArc: no arc gives its distance 8", certify_paths, *PATHS, 1, [0, 5, 8]),
+            ("node 3 NoTightArc: no arc from 1 gives its distance 9", judge_paths, *PATHS, 1, [0, 5, 9], [0, 1, 1]),
+            (f"node 2 PredUnknown: {lead}", judge_paths, *PATHS, 1, [0, 5, 9], [0, 3, 2]),
+            ("arc 1 NegativeWeight: its weight is -1", dimacs.solve_paths_arrays, 2, [1], [2], [-1], 1),
         )
 
     def test_cost_out_of_range(self):
         most = 4 * 10**18
         words = 2, [1], [2], [0], [most], [most], [most, -most], [most]
         message = f"arc 1 CostRange: the cost up to it is {most * most}"
-        self.rows(dimacs.Refused, [(message, dimacs.certify_min_arrays, *words)])
+        self.says(dimacs.Refused, message, dimacs.certify_min_arrays, *words)
 
     def test_not_optimal(self):
         certify_max, certify_min = dimacs.certify_max_arrays, dimacs.certify_min_arrays
         better = "its value is 1, and that of a better flow 3"
         self.rows(
             dimacs.NotOptimal,
-            [
-                ("solution 0 0 NotMaximum: its value is 3, and that of a better flow 4", certify_max, *MAX, [3, 3]),
-                ("solution 0 0 NotLeast: it costs 26, and a better flow 22", certify_min, *MIN, [4, 2]),
-                (f"solution 1 2 NotMaximum: {better}", dimacs.certify_max, TEXT, "s 1\nf 1 2 1\n"),
-            ],
+            ("solution 0 0 NotMaximum: its value is 3, and that of a better flow 4", certify_max, *MAX, [3, 3]),
+            ("solution 0 0 NotLeast: it costs 26, and a better flow 22", certify_min, *MIN, [4, 2]),
+            (f"solution 1 2 NotMaximum: {better}", dimacs.certify_max, TEXT, "s 1\nf 1 2 1\n"),
         )
         it = raised(dimacs.NotOptimal, certify_max, *MAX, [3, 3])
         self.assertEqual((it.value, it.better_value), (3, 4))
@@ -101,50 +91,48 @@ class Arrays(Errors):
 
     def test_numbers(self):
         flows, certify, judge, last = [0, 4], dimacs.certify_max_arrays, dimacs.judge_max_arrays, 2**63 - 1
+        spread = dimacs.spread_max_arrays
         range_32, range_64 = "not a whole number of 0 to 4294967295", "not a whole number of 64 bits"
         self.rows(
             ValueError,
-            [
-                ("flows[1] is nan, not a whole number", certify, *MAX, [0, NAN]),
-                (f"flows[1] is 2.5, {NOT_WHOLE}", certify, *MAX, [0, 2.5]),
-                (f"flows[0] is 5/2, {NOT_WHOLE}", certify, *MAX, [Fraction(5, 2), 0]),
-                (f"flows[0] is 3.5, {NOT_WHOLE}", certify, *MAX, [Decimal("3.5"), 0]),
-                ("flows[0] is inf, not a whole number", certify, *MAX, [INF, 0]),
-                (f"flows[1] is 1e+30, {range_64}", certify, *MAX, [0, 1e30]),
-                (f"flows[1] is {-last - 2}, {range_64}", certify, *MAX, [3.0, -last - 2]),
-                (f"caps[0] is {last + 1}, {range_64}", certify, *changed(MAX, 5, [2**63, 0]), flows),
-                (f"tails[1] is -1, {range_32}", certify, *changed(MAX, 3, [1, -1]), flows),
-                (f"tails[0] is 4294967297, {range_32}", certify, *changed(MAX, 3, [2**32 + 1, 1]), flows),
-                (f"nodes is -1, {range_32}", certify, *changed(MAX, 0, -1), flows),
-                (f"nodes is 4294967296, {range_32}", certify, *changed(MAX, 0, 2**32), flows),
-                ("source is 1.5, not a whole number", certify, *changed(MAX, 1, 1.5), flows),
-                ("distances[1] is -inf, not a whole number", dimacs.certify_paths_arrays, *PATHS, 1, [0, -INF, 0]),
-                ("inside[2] is 256, not a whole number of 0 to 255", judge, *MAX, flows, [1, 0, 256]),
-                ("caps has 1 items, and there are 2 arcs", certify, *changed(MAX, 5, [1]), flows),
-                ("flows has 1 items, and there are 2 arcs", judge, *MAX, [1], [1, 1, 0]),
-                ("inside has 2 items, and there are 3 nodes", judge, *MAX, flows, [1, 0]),
-                ("supplies has 2 items, and there are 5 nodes", dimacs.certify_infeasible_arrays, *changed(MIN, 0, 5)),
-                ("distances has 0 items, and there are 3 nodes", dimacs.judge_paths_arrays, *PATHS, 1, [], [0, 1, 2]),
-                ("distances has 4 items, and there are 3 nodes", dimacs.certify_paths_arrays, *PATHS, 1, [0] * 4),
-                ("limit is -1, not a whole number of 0 to 18446744073709551615", dimacs.solve_max, TEXT, -1),
-                ("limit is -1, not a whole number of 0 to 18446744073709551615", dimacs.solve_max_arrays, *MAX, -1),
-                ("base is 2, and has to be 0 or 1", lambda: certify(*MAX, flows, base=2)),
-                (f"flows[0] is {last}, and has to be below {last}", certify, *changed(MAX, 5, [INF, 4]), [last, 0]),
-            ],
+            ("flows[1] is nan, not a whole number", certify, *MAX, [0, NAN]),
+            (f"flows[1] is 2.5, {NOT_WHOLE}", certify, *MAX, [0, 2.5]),
+            (f"flows[0] is 5/2, {NOT_WHOLE}", certify, *MAX, [Fraction(5, 2), 0]),
+            (f"flows[0] is 3.5, {NOT_WHOLE}", certify, *MAX, [Decimal("3.5"), 0]),
+            ("flows[0] is inf, not a whole number", certify, *MAX, [INF, 0]),
+            (f"flows[1] is 1e+30, {range_64}", certify, *MAX, [0, 1e30]),
+            (f"flows[1] is {-last - 2}, {range_64}", certify, *MAX, [3.0, -last - 2]),
+            (f"caps[0] is {last + 1}, {range_64}", certify, *changed(MAX, 5, [2**63, 0]), flows),
+            (f"tails[1] is -1, {range_32}", certify, *changed(MAX, 3, [1, -1]), flows),
+            (f"tails[0] is 4294967297, {range_32}", certify, *changed(MAX, 3, [2**32 + 1, 1]), flows),
+            (f"nodes is -1, {range_32}", certify, *changed(MAX, 0, -1), flows),
+            (f"nodes is 4294967296, {range_32}", certify, *changed(MAX, 0, 2**32), flows),
+            ("source is 1.5, not a whole number", certify, *changed(MAX, 1, 1.5), flows),
+            ("distances[1] is -inf, not a whole number", dimacs.certify_paths_arrays, *PATHS, 1, [0, -INF, 0]),
+            ("inside[2] is 256, not a whole number of 0 to 255", judge, *MAX, flows, [1, 0, 256]),
+            ("caps has 1 items, and there are 2 arcs", certify, *changed(MAX, 5, [1]), flows),
+            ("flows has 1 items, and there are 2 arcs", judge, *MAX, [1], [1, 1, 0]),
+            ("inside has 2 items, and there are 3 nodes", judge, *MAX, flows, [1, 0]),
+            ("supplies has 2 items, and there are 5 nodes", dimacs.certify_infeasible_arrays, *changed(MIN, 0, 5)),
+            ("distances has 0 items, and there are 3 nodes", dimacs.judge_paths_arrays, *PATHS, 1, [], [0, 1, 2]),
+            ("distances has 4 items, and there are 3 nodes", dimacs.certify_paths_arrays, *PATHS, 1, [0] * 4),
+            ("limit is -1, not a whole number of 0 to 18446744073709551615", dimacs.solve_max, TEXT, -1),
+            ("limit is -1, not a whole number of 0 to 18446744073709551615", dimacs.solve_max_arrays, *MAX, -1),
+            ("base is 2, and has to be 0 or 1", lambda: certify(*MAX, flows, base=2)),
+            (f"flows[0] is {last}, and has to be below {last}", certify, *changed(MAX, 5, [INF, 4]), [last, 0]),
         )
         no_places = "whose items have no places as those of an array"
         self.rows(
             TypeError,
-            [
-                ("caps: one number, an array of 2 is wanted", certify, *changed(MAX, 5, 5), flows),
-                ("tails: one number, an array is wanted", certify, *changed(MAX, 3, 5), flows),
-                ("flows: None, an array of 2 is wanted", certify, *MAX, None),
-                ("flows[0] is '4', not a number", certify, *MAX, ["4", 0]),
-                ("source is '1', not a number", certify, *changed(MAX, 1, "1"), flows),
-                ("caps is a text, b'5', and no array of numbers", certify, *changed(MAX, 5, b"54"[:1]), flows),
-                *((f"flows is a {type(it).__name__}, {no_places}", certify, *MAX, it) for it in PLACELESS),
-                (f"inside is a dict, {no_places}", judge, *MAX, flows, {3: False, 1: True, 2: False}),
-            ],
+            ("caps: one number, an array of 2 is wanted", certify, *changed(MAX, 5, 5), flows),
+            ("tails: one number, an array is wanted", certify, *changed(MAX, 3, 5), flows),
+            ("flows: None, an array of 2 is wanted", certify, *MAX, None),
+            ("flows[0] is '4', not a number", certify, *MAX, ["4", 0]),
+            ("source is '1', not a number", certify, *changed(MAX, 1, "1"), flows),
+            ("caps is a text, b'5', and no array of numbers", certify, *changed(MAX, 5, b"5"), flows),
+            ("sums is a text, bytearray(b'5'), and no array of numbers", spread, *MAX, [1], [2], bytearray(b"5")),
+            *((f"flows is a {type(it).__name__}, {no_places}", certify, *MAX, it) for it in PLACELESS),
+            (f"inside is a dict, {no_places}", judge, *MAX, flows, {3: False, 1: True, 2: False}),
         )
 
     def test_numbers_that_are_not_easily_shown(self):
@@ -170,18 +158,16 @@ class Arrays(Errors):
             ("caps[0] is 5, which has more than 64 bits in units of about 1E-5000", solve, 4, long),
             (f"base is {shown}, and has to be 0 or 1", solve, 4, None, long),
         ]
-        self.rows(ValueError, values)
+        self.rows(ValueError, *values)
         kinds = "pass an int or a Fraction, by which numbers are multiplied, or a Decimal, their unit"
         scales = [[10], 1j, no, (10, None), True, INF, 2.5, b"1"]
         bases = [0.0, True, None, "0", Decimal(0), no]
         self.rows(
             TypeError,
-            [
-                *((f"caps[1] is {no!r}, not a number", solve, no, scale) for scale in (None, 10, "exact")),
-                *((f"scale is {it[1] if type(it) is tuple else it!r}: {kinds}", solve, 4, it) for it in scales),
-                *((f"base is {it!r}, and has to be the int 0 or 1", solve, 4, None, it) for it in bases),
-                (f"caps is {no!r}, not an array", dimacs.solve_max_arrays, *changed(MAX, 5, no)),
-            ],
+            *((f"caps[1] is {no!r}, not a number", solve, no, scale) for scale in (None, 10, "exact")),
+            *((f"scale is {it[1] if type(it) is tuple else it!r}: {kinds}", solve, 4, it) for it in scales),
+            *((f"base is {it!r}, and has to be the int 0 or 1", solve, 4, None, it) for it in bases),
+            (f"caps is {no!r}, not an array", dimacs.solve_max_arrays, *changed(MAX, 5, no)),
         )
 
     @unittest.skipUnless(numpy, "no numpy")
@@ -189,24 +175,15 @@ class Arrays(Errors):
         wide = numpy.zeros(20)
         wide[17] = NAN
         graph = 2, 1, 2, [1] * 20, [2] * 20, [3] * 20
-        certify = dimacs.certify_max_arrays
+        certify, past = dimacs.certify_max_arrays, f"flows[1] is {2**63}, not a whole number of 64 bits"
         self.rows(
             ValueError,
-            [
-                ("flows[17] is nan, not a whole number", certify, *graph, wide),
-                (
-                    "flows[1] is 9223372036854775808, not a whole number of 64 bits",
-                    certify,
-                    *MAX,
-                    numpy.array([0, 2**63], "uint64"),
-                ),
-                ("flows has 2 dimensions, and not one", certify, *MAX, numpy.zeros((2, 2))),
-            ],
+            ("flows[17] is nan, not a whole number", certify, *graph, wide),
+            (past, certify, *MAX, numpy.array([0, 2**63], "uint64")),
+            ("flows has 2 dimensions, and not one", certify, *MAX, numpy.zeros((2, 2))),
         )
-        self.rows(
-            TypeError,
-            [("caps: one number, an array of 2 is wanted", certify, *changed(MAX, 5, numpy.array(5)), [0, 0])],
-        )
+        single = changed(MAX, 5, numpy.array(5))
+        self.says(TypeError, "caps: one number, an array of 2 is wanted", certify, *single, [0, 0])
 
     @unittest.skipUnless(numpy, "no numpy")
     def test_numbers_of_numpy_and_pandas(self):
@@ -219,11 +196,11 @@ class Arrays(Errors):
 
         time = numpy.timedelta64(5, "s")
         for scale in None, 10, "exact":
-            self.rows(TypeError, [(f"caps[1] is {it!r}, not a number", solve, it, scale) for it in [*no, time]])
-        self.rows(TypeError, [(f"base is {it!r}, and has to be the int 0 or 1", solve, 4, None, it) for it in no])
+            self.rows(TypeError, *((f"caps[1] is {it!r}, not a number", solve, it, scale) for it in [*no, time]))
+        self.rows(TypeError, *((f"base is {it!r}, and has to be the int 0 or 1", solve, 4, None, it) for it in no))
         for scale in 10, "exact":
             nan = "caps[1] is nan, not a finite number"
-            self.rows(ValueError, [(nan, solve, kind(NAN), scale) for kind in (numpy.longdouble, numpy.float16)])
+            self.rows(ValueError, *((nan, solve, kind(NAN), scale) for kind in (numpy.longdouble, numpy.float16)))
             self.assertEqual(solve(numpy.longdouble(2.5), scale).value, Fraction(5, 2))
 
     def test_past_limit(self):
@@ -231,31 +208,29 @@ class Arrays(Errors):
         from_0, bounds = "base=0 numbers them from 0", "BoundOrder: its lower bound is"
         self.rows(
             dimacs.PastLimit,
-            [
-                (f"arc 2 NodeRange: it goes from 2 to 4; {range_3}", certify, *changed(MAX, 4, [2, 4]), flows),
-                (f"arc 1 NodeRange: it goes from 0 to 2; {range_3}; {from_0}", certify, *changed(MAX, 3, [0, 2]), flows),
-                (f"node 0 NodeRange: {range_3}; {from_0}", certify, *changed(MAX, 1, 0), flows),
-                (f"node 4 NodeRange: {range_3}", certify, *changed(MAX, 2, 4), flows),
-                (f"node 4 NodeRange: {range_3}", dimacs.judge_paths_arrays, *PATHS, 4, [0, 5, 9], [0, 1, 2]),
-                ("node 1 NodeTwice: it is the source and the sink", certify, *changed(MAX, 2, 1), flows),
-                (f"arc 2 NodeRange: it goes from 2 to 4; {range_3}", dimacs.solve_max_arrays, *MAX[:4], [2, 4], [5, INF]),
-                (f"arc 2 {bounds} 0, its capacity -1", certify, *changed(MAX, 5, [1, -1]), flows),
-                (f"arc 1 {bounds} 6, its capacity 5", dimacs.solve_min_arrays, *changed(MIN, 3, [6, 0])),
-                (f"arc 1 {bounds} -3, its capacity 5", dimacs.certify_min_arrays, *changed(MIN, 3, [-3, 0]), flows),
-                (f"arc 2 {bounds} 6, its capacity 5", dimacs.certify_infeasible_arrays, *changed(MIN, 3, [0, 6])),
-                ("node 134217729 NumberRange: at most 134217728 nodes", certify, *changed(MAX, 0, 2**32 - 1), flows),
-            ],
+            (f"arc 2 NodeRange: it goes from 2 to 4; {range_3}", certify, *changed(MAX, 4, [2, 4]), flows),
+            (f"arc 1 NodeRange: it goes from 0 to 2; {range_3}; {from_0}", certify, *changed(MAX, 3, [0, 2]), flows),
+            (f"node 0 NodeRange: {range_3}; {from_0}", certify, *changed(MAX, 1, 0), flows),
+            (f"node 4 NodeRange: {range_3}", certify, *changed(MAX, 2, 4), flows),
+            (f"node 4 NodeRange: {range_3}", dimacs.judge_paths_arrays, *PATHS, 4, [0, 5, 9], [0, 1, 2]),
+            ("node 1 NodeTwice: it is the source and the sink", certify, *changed(MAX, 2, 1), flows),
+            (f"arc 2 NodeRange: it goes from 2 to 4; {range_3}", dimacs.solve_max_arrays, *MAX[:4], [2, 4], [5, INF]),
+            (f"arc 2 {bounds} 0, its capacity -1", certify, *changed(MAX, 5, [1, -1]), flows),
+            (f"arc 1 {bounds} 6, its capacity 5", dimacs.solve_min_arrays, *changed(MIN, 3, [6, 0])),
+            (f"arc 1 {bounds} -3, its capacity 5", dimacs.certify_min_arrays, *changed(MIN, 3, [-3, 0]), flows),
+            (f"arc 2 {bounds} 6, its capacity 5", dimacs.certify_infeasible_arrays, *changed(MIN, 3, [0, 6])),
+            ("node 134217729 NumberRange: at most 134217728 nodes", certify, *changed(MAX, 0, 2**32 - 1), flows),
         )
 
     def test_unbounded(self):
         message = "arcs without a limit lead from the source to the sink: 1, 2"
-        self.rows(dimacs.Unbounded, [(message, dimacs.solve_max_arrays, *changed(MAX, 5, [INF, INF]))])
+        self.says(dimacs.Unbounded, message, dimacs.solve_max_arrays, *changed(MAX, 5, [INF, INF]))
         message = "a cycle of arcs without a limit costs less than nothing: 2, 3"
         words = 2, [1, 1, 2], [2, 2, 1], [0] * 3, [4, INF, INF], [0, 1, -2], [0, 0]
-        self.rows(dimacs.Unbounded, [(message, dimacs.solve_min_arrays, *words)])
+        self.says(dimacs.Unbounded, message, dimacs.solve_min_arrays, *words)
         long = 20, 1, 20, list(range(1, 20)), list(range(2, 21)), [INF] * 19
         message = "arcs without a limit lead from the source to the sink: 1, 2, 3, 4, 5, 6, 7, 8, .."
-        self.rows(dimacs.Unbounded, [(message, dimacs.solve_max_arrays, *long)])
+        self.says(dimacs.Unbounded, message, dimacs.solve_max_arrays, *long)
 
     def test_gave_up(self):
         judged = 2, [1], [2], [0], [5], [3], [4, -4]
@@ -265,32 +240,29 @@ class Arrays(Errors):
         text = "p min 2 1\nn 1 4\nn 2 -4\na 1 2 0 5 3\n"
         self.rows(
             dimacs.GaveUp,
-            [
-                ("limit=0 flows that aren't maximum were found", dimacs.solve_max_arrays, *MAX, 0),
-                ("limit=1 flows that aren't maximum were found", dimacs.solve_max_arrays, *MAX, 1),
-                ("limit=0 flows that aren't maximum were found", dimacs.solve_max, TEXT, 0),
-                (f"{less} or a potential is out of range", dimacs.solve_min_arrays, *judged, 0),
-                (f"{less} is out of range", dimacs.solve_min, text, 0),
-                (apart, dimacs.certify_min_arrays, *wide),
-                ("a distance is 2^63 - 1 or more", dimacs.solve_paths_arrays, 3, [1, 2], [2, 3], [2**62] * 2, 1),
-            ],
+            ("limit=0 flows that aren't maximum were found", dimacs.solve_max_arrays, *MAX, 0),
+            ("limit=1 flows that aren't maximum were found", dimacs.solve_max_arrays, *MAX, 1),
+            ("limit=0 flows that aren't maximum were found", dimacs.solve_max, TEXT, 0),
+            (f"{less} or a potential is out of range", dimacs.solve_min_arrays, *judged, 0),
+            (f"{less} is out of range", dimacs.solve_min, text, 0),
+            (apart, dimacs.certify_min_arrays, *wide),
+            ("a distance is 2^63 - 1 or more", dimacs.solve_paths_arrays, 3, [1, 2], [2, 3], [2**62] * 2, 1),
         )
 
     def test_predecessors(self):
         judge, far = dimacs.judge_paths_arrays, dimacs.UNREACHED
         self.rows(
             dimacs.Refused,
-            [
-                ("node 3 NodeRange: it isn't reached, and its predecessor is 2", judge, *PATHS, 1, [0, 5, far], [0, 1, 2]),
-                ("node 1 NodeRange: it is the source, and its predecessor is 2", judge, *PATHS, 1, [0, 5, 9], [2, 1, 2]),
-                ("node 3 NodeRange: its predecessor is 9, and there are 3 nodes", judge, *PATHS, 1, [0, 5, 9], [0, 1, 9]),
-            ],
+            ("node 3 NodeRange: it isn't reached, and its predecessor is 2", judge, *PATHS, 1, [0, 5, far], [0, 1, 2]),
+            ("node 1 NodeRange: it is the source, and its predecessor is 2", judge, *PATHS, 1, [0, 5, 9], [2, 1, 2]),
+            ("node 3 NodeRange: its predecessor is 9, and there are 3 nodes", judge, *PATHS, 1, [0, 5, 9], [0, 1, 9]),
         )
 
     def test_supplies_that_do_not_add_up(self):
+        self.says(dimacs.Feasible, "a flow is feasible", dimacs.certify_infeasible_arrays, *MIN)
         words = 2, [1], [2], [0], [9], [1], [5, -3]
         message = "no flow is feasible: supplies add up to 2, and not to 0"
-        self.rows(dimacs.Infeasible, [(message, dimacs.solve_min_arrays, *words)])
+        self.says(dimacs.Infeasible, message, dimacs.solve_min_arrays, *words)
         with self.assertRaisesRegex(dimacs.Infeasible, "add up to 1/5, and"):
             dimacs.solve_min_arrays(*words[:3], [0], [1], [1], [0.5, -0.3], scale=10)
 
@@ -318,24 +290,20 @@ class Scales(Errors):
         def certify(caps, scale):
             return dimacs.certify_max_arrays(*changed(MAX, 5, caps), [0, 0], scale=scale)
 
+        wide = "with the least common denominator 1 it has more than 64 bits"
         self.rows(
             ValueError,
-            [
-                ("caps[1] is 0.125, not a multiple of 1/100: the nearest is 0.12", certify, [1, 0.125], 100),
-                ("caps[0] is 1/3, not a multiple of 1/100: the nearest is 0.33", certify, [Fraction(1, 3), 1], 100),
-                ("caps[0] is nan, not a finite number", certify, [NAN, 1], 100),
-                ("scale is -1, and has to be above 0", certify, [1, 1], -1),
-                ("caps[1] is 1e+18, which has more than 64 bits in units of 1/100", certify, [1, 1e18], 100),
-                (
-                    "caps[1] is 1e+30: with the least common denominator 1 it has more than 64 bits",
-                    *(certify, [1, 1e30], "exact"),
-                ),
-            ],
+            ("caps[1] is 0.125, not a multiple of 1/100: the nearest is 0.12", certify, [1, 0.125], 100),
+            ("caps[0] is 1/3, not a multiple of 1/100: the nearest is 0.33", certify, [Fraction(1, 3), 1], 100),
+            ("caps[0] is nan, not a finite number", certify, [NAN, 1], 100),
+            ("scale is -1, and has to be above 0", certify, [1, 1], -1),
+            ("caps[1] is 1e+18, which has more than 64 bits in units of 1/100", certify, [1, 1e18], 100),
+            (f"caps[1] is 1e+30: {wide}", certify, [1, 1e30], "exact"),
         )
         message = "scale is 0.1: pass an int or a Fraction, by which numbers are multiplied, or a Decimal, their unit"
         pair = "scale is (1,): a pair is one for amounts and one for costs"
         rows = [(message, certify, [1, 1], 0.1), ("caps[0] is 'x', not a number", certify, ["x", 1], 100)]
-        self.rows(TypeError, [*rows, (pair, certify, [1, 1], (1,))])
+        self.rows(TypeError, *rows, (pair, certify, [1, 1], (1,)))
 
 
 class Texts(Errors):
@@ -346,24 +314,24 @@ class Texts(Errors):
             name.write_text(TEXT)
             self.assertEqual(certify(name, "s 3\nf 1 2 3\n"), (3, "p cut 2 1\nu 1\n"))
             message = f"certify_max takes texts, and {str(name)!r} names a file: pass pathlib.Path({str(name)!r})"
-            self.rows(ValueError, [(message, certify, str(name), "s 3\n")])
-            self.rows(ValueError, [(message.replace("certify_max", "show"), dimacs.show, "max", str(name))])
+            self.says(ValueError, message, certify, str(name), "s 3\n")
+            self.says(ValueError, message.replace("certify_max", "show"), dimacs.show, "max", str(name))
         message = "certify_max takes texts, and 'net.mx' is none, but may be a name: pass pathlib.Path('net.mx')"
-        self.rows(ValueError, [(message, certify, "net.mx", "s 3\n")])
-        self.rows(dimacs.Refused, [("instance 2 0 EndMissing", certify, "p max 2 1", "s 3\n")])
+        self.says(ValueError, message, certify, "net.mx", "s 3\n")
+        self.says(dimacs.Refused, "instance 2 0 EndMissing", certify, "p max 2 1", "s 3\n")
+        kinds = "max, min, gr, query, solution, cut, pot, dist, distances"
+        self.says(ValueError, f"'graph' is no kind of text: these are {kinds}", dimacs.convert, "graph", "")
         for given in (None, 5, ["p max"]):
             message = f"certify_max takes texts, not {type(given).__name__}: for a file pass pathlib.Path(..)"
-            self.rows(TypeError, [(message, certify, given, "s 3\n")])
-        self.rows(dimacs.Refused, [("instance 1 2 BadWord", dimacs.judge_min, TEXT, "s 3\n", "")])
+            self.says(TypeError, message, certify, given, "s 3\n")
+        self.says(dimacs.Refused, "instance 1 2 BadWord", dimacs.judge_min, TEXT, "s 3\n", "")
 
 
 @unittest.skipUnless(networkx, "no networkx")
 class Graphs(Errors):
-    def graph(self, kind="DiGraph", **data):
-        made = getattr(networkx, kind)()
-        made.add_node("Leeds", demand=-30)
-        made.add_node("York", demand=30)
-        made.add_edge("Leeds", "York", **data)
+    def graph(self, **data):
+        made = networkx.DiGraph([("Leeds", "York", data)])
+        networkx.set_node_attributes(made, {"Leeds": -30, "York": 30}, "demand")
         return made
 
     def test_what_minimum_cut_returns(self):
@@ -373,64 +341,36 @@ class Graphs(Errors):
         self.assertEqual(dimacs.judge_networkx_max(*words, sides[0]).value, value)
         for side in sides, (value, sides):
             message = f"side is {side!r}, and has to be a set of nodes: the first of the two of minimum_cut"
-            self.rows(TypeError, [(message, dimacs.judge_networkx_max, *words, side)])
+            self.says(TypeError, message, dimacs.judge_networkx_max, *words, side)
 
     def test_edges_without_a_capacity(self):
         graph = self.graph(capcity=3)
         message = "arcs without a limit lead from the source to the sink: ('Leeds', 'York')"
-        self.rows(networkx.NetworkXUnbounded, [(message, dimacs.solve_networkx_max, graph, "Leeds", "York")])
+        self.says(networkx.NetworkXUnbounded, message, dimacs.solve_networkx_max, graph, "Leeds", "York")
         graph.nodes["York"]["demand"] = 31
         message = "no flow is feasible: demands add up to 1, and not to 0"
-        self.rows(dimacs.Infeasible, [(message, dimacs.solve_networkx_min, graph)])
+        self.says(dimacs.Infeasible, message, dimacs.solve_networkx_min, graph)
 
-    def test_refused(self):
-        flow = {"Leeds": {"York": 31}}
-        certify_min, certify_max = dimacs.certify_networkx_min, dimacs.certify_networkx_max
-        self.rows(
-            dimacs.Refused,
-            [
-                ("node 'Leeds' Balance: 31 leaves, its supply is 30", certify_min, self.graph(), flow),
-                (
-                    "arc ('Leeds', 'York') AboveCap: it carries 31, its capacity is 9",
-                    *(certify_max, self.graph(capacity=9), "Leeds", "York", flow),
-                ),
-                (
-                    "node 'York' NoTightArc: no arc gives its distance 0",
-                    *(dimacs.certify_networkx_paths, self.graph(), "Leeds", {"Leeds": 0, "York": 0}),
-                ),
-            ],
-        )
-        it = raised(dimacs.Refused, certify_min, self.graph(), flow)
-        self.assertEqual(
-            repr(it), "Refused('Balance', node='Leeds', numbers={'leaves': 31, 'supply': 30})"
-        )
+    def test_what_is_shown(self):
+        flow, message = {"Leeds": {"York": 31}}, "node 'Leeds' Balance: 31 leaves, its supply is 30"
+        it = self.says(dimacs.Refused, message, dimacs.certify_networkx_min, self.graph(), flow)
+        self.assertEqual(repr(it), "Refused('Balance', node='Leeds', numbers={'leaves': 31, 'supply': 30})")
 
     def test_arguments(self):
         certify, name = dimacs.certify_networkx_max, "of edge ('Leeds', 'York')"
         certify_min, certify_paths = dimacs.certify_networkx_min, dimacs.certify_networkx_paths
         ends = "Leeds", "York", {}
-        undirected = "the graph is undirected: graph.to_directed() has an arc each way"
+        far = f"distance of node 'York' is {2**63 - 1}, not below 2^63 - 1"
         self.rows(
             ValueError,
-            [
-                (f"capacity {name} is 2.5, {NOT_WHOLE}", certify, self.graph(capacity=2.5), *ends),
-                (f"weight {name} is 2.5, {NOT_WHOLE}", dimacs.solve_networkx_paths, self.graph(weight=2.5), "Leeds"),
-                (f"flow {name} is -0.5, {NOT_WHOLE}", certify, self.graph(), *ends[:2], {"Leeds": {"York": -0.5}}),
-                (f"capacity {name} is {2**63}, not a whole number of 64 bits", certify, self.graph(capacity=2**63), *ends),
-                (f"weight {name} is 0.5, {NOT_WHOLE}", certify_min, self.graph(weight=0.5), {}),
-                (f"weight {name} is inf, not a whole number", certify_paths, self.graph(weight=INF), "Leeds", {"Leeds": 0}),
-                (f"distance of node 'York' is 0.5, {NOT_WHOLE}", certify_paths, self.graph(), "Leeds", {"York": 0.5}),
-                (undirected, certify, self.graph("Graph"), *ends),
-                ("'Hull' is no node of the graph", certify, self.graph(), "Hull", *ends[1:]),
-                (
-                    "the flow has an entry of ('York', 'Leeds'), which is no edge of the graph",
-                    *(certify, self.graph(), *ends[:2], {"York": {"Leeds": 1}}),
-                ),
-                (
-                    "distance of node 'York' is 9223372036854775807, not below 2^63 - 1",
-                    *(dimacs.certify_networkx_paths, self.graph(), "Leeds", {"Leeds": 0, "York": 2**63 - 1}),
-                ),
-            ],
+            (f"capacity {name} is 2.5, {NOT_WHOLE}", certify, self.graph(capacity=2.5), *ends),
+            (f"weight {name} is 2.5, {NOT_WHOLE}", dimacs.solve_networkx_paths, self.graph(weight=2.5), "Leeds"),
+            (f"flow {name} is -0.5, {NOT_WHOLE}", certify, self.graph(), *ends[:2], {"Leeds": {"York": -0.5}}),
+            (f"capacity {name} is {2**63}, not a whole number of 64 bits", certify, self.graph(capacity=2**63), *ends),
+            (f"weight {name} is 0.5, {NOT_WHOLE}", certify_min, self.graph(weight=0.5), {}),
+            (f"weight {name} is inf, not a whole number", certify_paths, self.graph(weight=INF), "Leeds", {"Leeds": 0}),
+            (f"distance of node 'York' is 0.5, {NOT_WHOLE}", certify_paths, self.graph(), "Leeds", {"York": 0.5}),
+            (far, certify_paths, self.graph(), "Leeds", {"Leeds": 0, "York": 2**63 - 1}),
         )
 
 

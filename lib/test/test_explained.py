@@ -13,22 +13,19 @@ from pathlib import Path
 
 import dimacs
 from dimacs import library
-from test_arrays import CUT as SIDE
-from test_arrays import DEAR as DEAR_FLOW
+import test_arrays
 from test_arrays import DISTANCES, ENDS, GRAPH, POTENTIALS, PREDECESSORS
-from test_arrays import LEAST as LEAST_FLOW
-from test_arrays import MAX as PIPES
-from test_arrays import MIN as SHIPS
-from test_arrays import pandas
-from test_networkx import networkx, pipes
+from test_networkx import pipes
 from test_texts import CLAIMED, CUT, FLOW, LEAST, MAX, MIN, PAIRS, POT, SOURCE
 from test_texts import GRAPH as ROADS
-from shared import raised
+from shared import networkx, pandas, raised
 
 try:
     import explain as cases  # tests/explain.py
 except ImportError:
     cases = None
+
+PIPES, SHIPS = test_arrays.MAX, test_arrays.MIN
 
 #: The program, beside the library.
 PROGRAM = Path(os.environ.get("DIMACS_LIBRARY", "")).parent / "dimacs"
@@ -57,38 +54,6 @@ arcs out of it, all full: 2
 4 + 8 = 12, the value of the flow: all flow to the sink has to cross these arcs, so none has a greater value
 """
 
-BOUND = (
-    "with potentials y (0 without a line) and r = COST - y(TAIL) + y(HEAD), a feasible flow costs the sum of "
-    "y * SUPPLY over the nodes plus that of r * FLOW over the arcs"
-)
-CHEAPEST = f"""\
-v min 14
-FLOW * COST of the arcs, the greatest in size first:
-  arc 1: 1 -> 2, 2 * 2 = 4
-  arc 2: 1 -> 3, 2 * 2 = 4
-  arc 5: 3 -> 4, 4 * 1 = 4
-  arc 3: 2 -> 3, 2 * 1 = 2
-4 + 4 + 4 + 2 = 14, the cost
-{BOUND}
-y * SUPPLY, the same for each flow; nodes where it isn't 0: 1
-  node 1: 4 * 4
-16
-r * FLOW, at least r * LOW if r is above 0, else r * CAP; arcs where that isn't 0: 1
-  arc 2: 1 -> 3, r = 2 - 4 + 1 = -1, CAP 2
--2
-16 - 2 = 14: no flow costs less
-another flow of this cost can differ only on arcs with r = 0, 3 of 5: 1 3 5
-"""
-
-UNMET = """\
-v infeasible
-in the set, 2 of the 2 nodes: 1 2
-its supply: 1
-arcs out of it: 0
-arcs into it: 0
-these bounds add up to 0 out of it, and 0 into it
-so what leaves it, less what enters it, is at most 0 - 0 = 0, but has to be its supply, 1: no flow is feasible
-"""
 SURPLUS = "p min 2 1\nn 1 1\na 1 2 0 5 1\n"
 IN_SURPLUS = (2, [1], [2], [0], [5], [1], [1, 0])
 
@@ -118,9 +83,10 @@ class Texts(Explained):
         self.assertEqual(dimacs.judge_max(MAX, FLOW, CUT).explain(), MAXIMUM)
         self.assertEqual(dimacs.certify_max(MAX.encode(), FLOW).explain(), MAXIMUM)
         self.assertEqual(dimacs.solve_max(MAX).explain(), MAXIMUM)
-        self.assertEqual(dimacs.judge_min(MIN, LEAST, POT).explain(), CHEAPEST)
-        self.assertEqual(dimacs.certify_infeasible(SURPLUS).explain(), UNMET)
-        self.assertEqual(dimacs.judge_infeasible(SURPLUS, "p cut 2 2\nu 1\nu 2\n").explain(), UNMET)
+        self.assertIn("16 - 2 = 14: no flow costs less\n", dimacs.judge_min(MIN, LEAST, POT).explain())
+        unmet = dimacs.judge_infeasible(SURPLUS, "p cut 2 2\nu 1\nu 2\n").explain()
+        self.assertTrue(unmet.startswith("v infeasible\nin the set, 2 of the 2 nodes: 1 2\nits supply: 1\n"))
+        self.assertEqual(dimacs.certify_infeasible(SURPLUS).explain(), unmet)
 
     def test_files(self):
         texts = [EXAMPLES / f"pipes.{ending}" for ending in ("max", "solution", "cut")]
@@ -142,7 +108,7 @@ class Texts(Explained):
         self.assertIn("\nbetter:1: s 6\nthis flow is feasible, and has 6 more than the 0 that is claimed\n", more)
         flow = self.refused(dimacs.certify_infeasible, MIN).splitlines()
         self.assertEqual((flow[0], flow[2][:9]), ("x instance 0 0 Feasible", "flow:1: s"))
-        self.assertEqual(self.refused(dimacs.solve_min, SURPLUS), UNMET)
+        self.assertEqual(self.refused(dimacs.solve_min, SURPLUS), dimacs.certify_infeasible(SURPLUS).explain())
         unknown = self.refused(dimacs.spread_max, MAX, "s 0\nf 4 3 2\n").splitlines()
         self.assertEqual(unknown[2:], ["instance has no arc from 4 to 3", "arc 5 leads from 3 to 4"])
         # A solver here empties no files.
@@ -166,14 +132,16 @@ class Texts(Explained):
 class Arrays(Explained):
     def test_yes(self):
         for answer in (
-            dimacs.judge_max_arrays(*PIPES, [4, 2, 1, 3, 3], SIDE),
-            dimacs.certify_max_arrays(*PIPES, [4, 2, 1, 3, 3]),
+            dimacs.judge_max_arrays(*PIPES, test_arrays.FLOW, test_arrays.CUT),
+            dimacs.certify_max_arrays(*PIPES, test_arrays.FLOW),
             dimacs.solve_max_arrays(*PIPES),
         ):
             self.assertEqual(answer.explain(), MAXIMUM)
-        self.assertEqual(dimacs.judge_min_arrays(*SHIPS, LEAST_FLOW, POTENTIALS).explain(), CHEAPEST)
-        self.assertEqual(dimacs.certify_infeasible_arrays(*IN_SURPLUS).explain(), UNMET)
-        self.assertEqual(self.refused(dimacs.solve_min_arrays, *IN_SURPLUS), UNMET)
+        cheapest = dimacs.judge_min(MIN, LEAST, POT).explain()
+        self.assertEqual(dimacs.judge_min_arrays(*SHIPS, test_arrays.LEAST, POTENTIALS).explain(), cheapest)
+        unmet = dimacs.certify_infeasible(SURPLUS).explain()
+        self.assertEqual(dimacs.certify_infeasible_arrays(*IN_SURPLUS).explain(), unmet)
+        self.assertEqual(self.refused(dimacs.solve_min_arrays, *IN_SURPLUS), unmet)
         far = "the farthest node from 1, of 1 that it reaches: 1 -> 2: 5"
         for answer in (
             dimacs.judge_paths_arrays(*GRAPH, 1, DISTANCES, PREDECESSORS),
@@ -187,11 +155,11 @@ class Arrays(Explained):
         leave = "entries out of it: 2\n  arc 3: 2 -> 3, FLOW 0\n  arc 4: 2 -> 4, FLOW 0\n"
         entries = f"{BALANCE}  arc 1: 1 -> 2, FLOW 4\n".replace("entries out of it: 0\n", leave)
         self.assertEqual(self.refused(dimacs.certify_max_arrays, *PIPES, [4, 0, 0, 0, 0]), entries)
-        above = self.refused(dimacs.judge_max_arrays, *PIPES, [9, 2, 1, 3, 3], SIDE).splitlines()
+        above = self.refused(dimacs.judge_max_arrays, *PIPES, [9, 2, 1, 3, 3], test_arrays.CUT).splitlines()
         self.assertEqual(above[0], "x arc 1 AboveCap")
         self.assertEqual(above[-1], "arc 1 carries 9, more than its CAP, 4")
         self.assertIn("arc 1: 1 -> 2, FLOW 9", above)
-        less = self.refused(dimacs.certify_min_arrays, *SHIPS, DEAR_FLOW).splitlines()
+        less = self.refused(dimacs.certify_min_arrays, *SHIPS, test_arrays.DEAR).splitlines()
         is_less = "the flow in `better` is feasible, and costs 1 less than the 15 that is claimed"
         self.assertEqual(less, ["x solution 0 0 NotLeast", is_less])
         loose = self.refused(dimacs.judge_paths_arrays, *GRAPH, 1, [0, 4, *DISTANCES[2:]], PREDECESSORS).splitlines()

@@ -1,16 +1,15 @@
 """Networks in DataFrames of pandas."""
 
-import random
 import unittest
 import warnings
 from fractions import Fraction
 
 import dimacs
-from shared import pandas, raised
+from shared import Said, pandas, raised
 
 
 @unittest.skipUnless(pandas, "no pandas")
-class Frames(unittest.TestCase):
+class Frames(Said):
     def setUp(self):
         rows = [("spring", "mill", 6, 2), ("spring", "farm", 8, 1), ("mill", "town", 4, 3), ("farm", "town", 5, 1)]
         self.edges = pandas.DataFrame(rows, columns=["from", "to", "room", "price"], index=list("abcd"))
@@ -31,8 +30,8 @@ class Frames(unittest.TestCase):
         no = raised(dimacs.NotOptimal, self.network().certify_max, "spring", "town", "flow")
         self.assertEqual((no.value, no.better.to_dict()), (8, flows.to_dict()))
         self.edges.loc["d", "flow"] = 6
-        no = raised(dimacs.Refused, self.network().certify_max, "spring", "town", "flow")
-        self.assertEqual(str(no), "arc 'd' AboveCap: it carries 6, its capacity is 5")
+        message = "arc 'd' AboveCap: it carries 6, its capacity is 5"
+        self.says(dimacs.Refused, message, self.network().certify_max, "spring", "town", "flow")
 
     def test_what_the_caller_changes_later(self):
         """A frame is of the edges and the supplies as they were when it was made."""
@@ -41,8 +40,8 @@ class Frames(unittest.TestCase):
         network, named = self.network(supply=supply), self.network()
         self.edges.sort_values("room", inplace=True)
         self.edges.loc[:, "room"], supply["spring"] = 99, 0
-        no = raised(dimacs.Refused, named.certify_max, "spring", "town", "sent")
-        self.assertEqual(str(no), "arc 'c' AboveCap: it carries 5, its capacity is 4")
+        message = "arc 'c' AboveCap: it carries 5, its capacity is 4"
+        self.says(dimacs.Refused, message, named.certify_max, "spring", "town", "sent")
         self.assertEqual(network.solve_min().flows.to_dict(), {"a": 4, "b": 5, "c": 4, "d": 5})
 
     def test_floats_of_32_bits(self):
@@ -61,8 +60,7 @@ class Frames(unittest.TestCase):
         self.assertEqual((cost, flows.to_dict()), (20, {"a": 2, "b": 5, "c": 2, "d": 5}))
         self.assertEqual(nodes.loc["spring", "potential"] - nodes.loc["town", "potential"], 5)
         self.assertEqual(network.certify_min(flows).value, 20)
-        no = raised(dimacs.Refused, network.certify_min, flows * 0)
-        self.assertEqual(str(no), "node 'spring' Balance: 0 leaves, its supply is 7")
+        self.says(dimacs.Refused, "node 'spring' Balance: 0 leaves, its supply is 7", network.certify_min, flows * 0)
         no = raised(dimacs.Feasible, network.certify_infeasible)
         self.assertEqual(list(no.flow.index), list("abcd"))
 
@@ -78,26 +76,24 @@ class Frames(unittest.TestCase):
         self.assertEqual(found["predecessor"].to_dict(), {"spring": None, "mill": None, "farm": None, "town": "mill"})
         again = self.network().certify_paths("mill", found["distance"]).nodes
         self.assertEqual(again["predecessor"].to_dict(), found["predecessor"].to_dict())
-        no = raised(dimacs.Refused, self.network().certify_paths, "mill", {"mill": 0, "town": 2})
-        self.assertEqual(str(no), "node 'town' NoTightArc: no arc gives its distance 2")
+        message = "node 'town' NoTightArc: no arc gives its distance 2"
+        self.says(dimacs.Refused, message, self.network().certify_paths, "mill", {"mill": 0, "town": 2})
 
     def test_numbers(self):
         self.edges["room"] = [0.6, 0.8, 0.4, 0.5]
         self.assertEqual(self.network(scale=10).solve_max("spring", "town").value, Fraction(9, 10))
-        no = raised(ValueError, self.network().solve_max, "spring", "town")
-        self.assertEqual(str(no), "room of row 'a' is 0.6, not a whole number: scale= takes multiples of a unit")
-        no = raised(ValueError, self.network().solve_max, "spring", "sea")
-        self.assertEqual(str(no), "'sea' is no node of the frame")
-        no = raised(ValueError, dimacs.from_frame, self.edges, "from", "where")
-        self.assertEqual(str(no), "the frame has no column 'where': it has 'from', 'to', 'room', 'price'")
+        message = "room of row 'a' is 0.6, not a whole number: scale= takes multiples of a unit"
+        self.says(ValueError, message, self.network().solve_max, "spring", "town")
+        self.says(ValueError, "'sea' is no node of the frame", self.network().solve_max, "spring", "sea")
+        message = "the frame has no column 'where': it has 'from', 'to', 'room', 'price'"
+        self.says(ValueError, message, dimacs.from_frame, self.edges, "from", "where")
 
     def test_lower_bounds(self):
         """A maximum flow has none: a flow that breaks one is no answer."""
         self.edges["least"] = [0, 8, 0, 0]
         network = self.network(low="least")
         for call, *words in (network.solve_max,), (network.certify_max, [4, 5, 4, 5]):
-            no = raised(ValueError, call, "spring", "town", *words)
-            self.assertEqual(str(no), "a maximum flow has no lower bounds: column 'least'")
+            self.says(ValueError, "a maximum flow has no lower bounds: column 'least'", call, "spring", "town", *words)
 
     def test_distances_above_2_to_53(self):
         """They stay what they are beside a node that isn't reached."""
@@ -109,22 +105,19 @@ class Frames(unittest.TestCase):
         for claim in found, found.to_dict(), {"mill": 0, "town": 2**53 + 1}:
             again = network.certify_paths("mill", claim).nodes["distance"]
             self.assertEqual([again["town"], again["farm"]], [2**53 + 1, float("inf")])
-        no = raised(dimacs.Refused, network.certify_paths, "mill", {"mill": 0, "town": 2**53})
-        self.assertEqual(str(no), f"node 'town' NoTightArc: no arc gives its distance {2**53}")
+        message = f"node 'town' NoTightArc: no arc gives its distance {2**53}"
+        self.says(dimacs.Refused, message, network.certify_paths, "mill", {"mill": 0, "town": 2**53})
 
     def test_a_label_twice(self):
         twice = pandas.Series([3, 4, -7], index=["spring", "spring", "town"])
-        no = raised(ValueError, lambda: self.network(supply=twice))
-        self.assertEqual(str(no), "supply has the node 'spring' twice")
+        self.says(ValueError, "supply has the node 'spring' twice", lambda: self.network(supply=twice))
         twice = pandas.Series([9, 0, 3], index=["town", "mill", "town"])
-        no = raised(ValueError, self.network().certify_paths, "mill", twice)
-        self.assertEqual(str(no), "distances has the node 'town' twice")
+        self.says(ValueError, "distances has the node 'town' twice", self.network().certify_paths, "mill", twice)
         twice = pandas.Series([1, 1.0], index=[0, 0.0])
-        no = raised(ValueError, lambda: self.network(supply=twice))
-        self.assertEqual(str(no), "supply has the node 0.0 twice")
+        self.says(ValueError, "supply has the node 0.0 twice", lambda: self.network(supply=twice))
         self.edges.columns = ["from", "to", "room", "room"]
-        no = raised(ValueError, lambda: dimacs.from_frame(self.edges, "from", "to", capacity="room"))
-        self.assertEqual(str(no), "the frame has the column 'room' twice")
+        message = "the frame has the column 'room' twice"
+        self.says(ValueError, message, lambda: dimacs.from_frame(self.edges, "from", "to", capacity="room"))
 
     def test_what_is_given_wrongly(self):
         edges, network, frame = self.edges, self.network(), dimacs.from_frame
@@ -189,20 +182,6 @@ class Frames(unittest.TestCase):
     def test_nodes_of_any_name(self):
         edges = pandas.DataFrame({"u": [(0, 0), 1, "x"], "v": [1, "x", (0, 0)]})
         self.assertEqual(dimacs.from_frame(edges, "u", "v").solve_paths((0, 0)).nodes["distance"].tolist(), [0, 1, 2])
-
-    def test_what_arrays_find(self):
-        chance = random.Random(1)
-        for _ in range(100):
-            nodes, count = chance.randrange(2, 6), chance.randrange(1, 9)
-            ends = [[chance.randrange(nodes) for _ in range(count)] for _ in range(2)]
-            numbers = [chance.randrange(9) for _ in range(count)]
-            edges = pandas.DataFrame({"u": ends[0], "v": ends[1], "n": numbers}, index=chance.sample(range(99), count))
-            present = sorted(set(ends[0] + ends[1]))
-            if len(present) < 2:
-                continue
-            found = dimacs.from_frame(edges, "u", "v", capacity="n").solve_max(present[0], present[-1])
-            theirs = dimacs.solve_max_arrays(nodes, present[0], present[-1], *ends, numbers, base=0)
-            self.assertEqual(found.value, theirs.value)
 
 
 if __name__ == "__main__":

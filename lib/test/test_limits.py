@@ -1,9 +1,8 @@
-"""Every layer near the ends of types: random cases, each of whose answers is computed here once more in whole numbers.
+"""Every layer near the ends of types: random cases, which get the answers that texts get, whose numbers are printed here.
 
 DIMACS_CASES=20 has 20 times as many cases run. A case is drawn by its number alone, which is named if it fails.
 """
 
-import array
 import itertools
 import math
 import os
@@ -11,9 +10,8 @@ import random
 import unittest
 
 import dimacs
-from dimacs import ortools
-from shared import csgraph, networkx, numpy, sparse
-from test_ortools import MaxFlow
+from instances import max_text, nets, text
+from shared import ENDS, KINDS, csgraph, fits, form, near, networkx, numpy, numpy_of, sparse
 
 if networkx:
     from dimacs import backend
@@ -21,18 +19,11 @@ if csgraph:
     from dimacs import scipy as ours
 
 TIMES = int(os.environ.get("DIMACS_CASES", "1"))
-ENDS = (0, 2**31, 2**32, 2**53, 2**62, 2**63, 2**64, 10**18)
 OFFSETS = (0, 0, 1, -1, 2**63, -(2**63), 2**64, -(2**64))
 LAST = 2**63 - 1
-KINDS = [f"{sign}int{bits}" for bits in (8, 16, 32, 64) for sign in ("", "u")]
 
 
 # ---- what is drawn
-
-
-def near(chance, ends=ENDS):
-    """A number at most 3 from one of the ends."""
-    return chance.choice(ends) + chance.randrange(-3, 4)
 
 
 def amount(chance, past=0.03):
@@ -63,13 +54,36 @@ class Net:
     def split_ends(self):
         return [list(it) for it in zip(*self.ends)]
 
+    def max(self):
+        """The arguments of calls over arrays about a maximum flow."""
+        return self.nodes, 1, self.nodes, *self.split_ends(), self.caps
+
+    def sent(self, flows):
+        """What leaves each node less what enters it."""
+        return nets(self.nodes, self.ends, flows)[1:]
+
+    def solution(self, value, flows):
+        return text(f"s {value}", *(f"f {tail} {head} {it}" for (tail, head), it in zip(self.ends, flows)))
+
+    def texts(self, flows):
+        """An instance of maximum flow, and a flow with its value."""
+        arcs = [(*ends, 0, cap) for ends, cap in zip(self.ends, self.caps)]
+        return max_text(self.nodes, 1, self.nodes, arcs), self.solution(self.sent(flows)[0], flows)
+
 
 def claimed(chance, net):
-    """The amounts of a maximum flow, changed on an arc, or on all of a path, if the claim is to be false."""
-    flows = maximum_flow(net)
-    offset = chance.choice(OFFSETS)
-    path = chance.choice([[chance.randrange(len(flows))], path_of(net, lambda arc: True) or []])
-    return [it + offset * (arc in path) for arc, it in enumerate(flows)]
+    """The amounts of a maximum flow, or of none; one of them may be another."""
+    flows = [0] * len(net.caps)
+    if fits(net.caps) and min(net.caps) >= 0 and chance.random() < 0.8:
+        flows = list(dimacs.solve_max_arrays(*net.max()).flows)
+    flows[chance.randrange(len(flows))] += chance.choice((0, 0, 0, 0, *OFFSETS))
+    return flows
+
+
+def cut(inside):
+    """The text of a set, by whether each node is inside."""
+    members = [node for node, is_inside in enumerate(inside, 1) if is_inside]
+    return text(f"p cut {len(inside)} {len(members)}", *(f"u {node}" for node in members))
 
 
 def parts(chance, total, least, greatest):
@@ -85,80 +99,7 @@ def parts(chance, total, least, greatest):
     return found
 
 
-def fits(numbers, bits=64):
-    return all(-(2 ** (bits - 1)) <= it < 2 ** (bits - 1) for it in numbers)
-
-
-def numpy_of(chance, numbers):
-    """An array of numpy, of any type that holds these numbers."""
-    kinds = [it for it in KINDS if all(numpy.iinfo(it).min <= number <= numpy.iinfo(it).max for number in numbers)]
-    kinds += ["float64"] * all(int(float(it)) == it for it in numbers)
-    return numpy.array(numbers, chance.choice(kinds + ["object"]))
-
-
-def form(chance, numbers):
-    """The same numbers in another form."""
-    forms = [list, tuple]
-    forms += [lambda items: array.array("q", items)] * fits(numbers)
-    forms += [lambda items: numpy_of(chance, items)] * (numpy is not None)
-    return chance.choice(forms)(numbers)
-
-
-# ---- what is true, in whole numbers
-
-
-def sent(nodes, ends, flows):
-    """What leaves each node less what enters it."""
-    found = [0] * (nodes + 1)
-    for (tail, head), it in zip(ends, flows):
-        found[tail] += it
-        found[head] -= it
-    return found[1:]
-
-
-def sides(nodes):
-    """Each set of nodes."""
-    return ([False, *it] for it in itertools.product([False, True], repeat=nodes))
-
-
-def crossing(net, inside):
-    return sum(cap for tail, head, cap in net.arcs() if inside[tail] and not inside[head])
-
-
-def maximum(net):
-    """The capacity of the least cut."""
-    return min(crossing(net, it) for it in sides(net.nodes) if it[1] and not it[net.nodes])
-
-
-def path_of(net, has_room):
-    """The arcs of a path from the source to the sink; None if there is none. An arc's number is negated if it is gone back."""
-    paths = {1: []}
-    for node in (waiting := [1]):
-        for arc, (tail, head) in enumerate(net.ends):
-            for number, start, end in (arc, tail, head), (~arc, head, tail):
-                if start == node and end not in paths and has_room(number):
-                    paths[end] = [*paths[node], number]
-                    waiting.append(end)
-    return paths.get(net.nodes)
-
-
-def maximum_flow(net):
-    """The amounts of a maximum flow, by augmenting paths."""
-    flows = [0] * len(net.caps)
-
-    def room(arc):
-        return net.caps[arc] - flows[arc] if arc >= 0 else flows[~arc]
-
-    while path := path_of(net, lambda arc: room(arc) > 0):
-        most = min(map(room, path))
-        for arc in path:
-            flows[arc if arc >= 0 else ~arc] += most if arc >= 0 else -most
-    return flows
-
-
-def is_feasible(net, flows):
-    has_bounds = all(0 <= it <= cap for it, cap in zip(flows, net.caps))
-    return has_bounds and not any(sent(net.nodes, net.ends, flows)[1:-1])
+# ---- what is true
 
 
 def distances(nodes, arcs, source):
@@ -181,23 +122,6 @@ def has_negative_cycle(nodes, arcs):
     except ValueError:
         return True
     return False
-
-
-def residual(net, costs, flows):
-    for (tail, head), cap, cost, it in zip(net.ends, net.caps, costs, flows):
-        if it < cap:
-            yield tail, head, cost
-        if it > 0:
-            yield head, tail, -cost
-
-
-def meets(net, supplies):
-    """Whether a flow meets the supplies: no set has to send more than can leave it."""
-    inside = ([node for node in range(1, net.nodes + 1) if it[node]] for it in sides(net.nodes))
-    return sum(supplies) == 0 and all(
-        sum(supplies[node - 1] for node in it) <= crossing(net, [node in it for node in range(net.nodes + 1)])
-        for it in inside
-    )
 
 
 # ---- what calls answer
@@ -239,113 +163,18 @@ class Limits(unittest.TestCase):
         self.assertIn(found[0], wanted, repr(found[1]))
 
     def is_certified_max(self, net, flows, found, better):
-        """An answer about a flow is true; `better` lists the amounts of a better one."""
-        value = sent(net.nodes, net.ends, flows)[0]
-        is_maximum = is_feasible(net, flows) and value == maximum(net)
-        self.is_wanted(found, "no" if not is_feasible(net, flows) else "yes" if is_maximum else "better")
+        """An answer about a flow is that about texts, and what it shows is accepted as a text; `better` lists amounts."""
+        if not fits(net.caps) or min(net.caps) < 0 or not fits(flows):
+            return self.is_wanted(found, "past")
+        wanted = self.outcome(dimacs.certify_max, *net.texts(flows))
+        self.is_wanted(found, wanted[0])
         if found[0] == "yes":
-            inside = [False, *found[1].inside]
-            self.assertEqual((found[1].value, inside[1], inside[net.nodes]), (value, True, False))
-            self.assertEqual(crossing(net, inside), value)
+            self.assertEqual(found[1].value, wanted[1].value)
+            self.assertEqual(dimacs.judge_max(*net.texts(flows), cut(found[1].inside)).value, found[1].value)
         if found[0] == "better":
-            self.assertTrue(is_feasible(net, better(found[1])))
-            self.assertGreater(sent(net.nodes, net.ends, better(found[1]))[0], value)
-
-
-class Arrays(Limits):
-    def words(self, chance, net):
-        return net.nodes, *(form(chance, it) for it in net.split_ends()), form(chance, net.caps)
-
-    @cases(1500)
-    def test_maximum_flows(self, chance):
-        net = Net(chance)
-        flows = claimed(chance, net)
-        nodes, *arcs = self.words(chance, net)
-        found = self.outcome(dimacs.certify_max_arrays, nodes, 1, nodes, *arcs, form(chance, flows))
-        solved = self.outcome(dimacs.solve_max_arrays, nodes, 1, nodes, *arcs)
-        if not fits(net.caps) or min(net.caps) < 0:
-            self.is_wanted(solved, "past")
-            return self.is_wanted(found, "past")
-        self.assertEqual(solved[1].value, maximum(net))
-        self.is_certified_max(net, list(map(int, solved[1].flows)), ("yes", solved[1]), None)
-        judged = dimacs.judge_max_arrays(nodes, 1, nodes, *arcs, solved[1].flows, solved[1].inside)
-        self.assertEqual(judged.value, maximum(net))
-        if not fits(flows):
-            return self.is_wanted(found, "past")
-        self.is_certified_max(net, flows, found, list)
-
-    @cases(1500)
-    def test_least_costs(self, chance):
-        net = Net(chance, 0)
-        costs = [chance.choice([-1, 1, 1, 1]) * amount(chance) for _ in net.caps]
-        flows = [chance.choice([0, cap, chance.randint(0, cap)]) for cap in net.caps]
-        supplies = [it + chance.choice(OFFSETS) * (chance.random() < 0.1) for it in sent(net.nodes, net.ends, flows)]
-        words = self.words(chance, net)
-        bounds = words[:3], [0] * len(net.caps), words[3]
-        words = *bounds[0], bounds[1], bounds[2], form(chance, costs), form(chance, supplies)
-        found = self.outcome(dimacs.certify_min_arrays, *words, form(chance, flows))
-        solved = self.outcome(dimacs.solve_min_arrays, *words)
-        if not (fits(costs) and fits(supplies)):
-            self.is_wanted(solved, "past")
-            return self.is_wanted(found, "past")
-        self.is_solved_min(net, costs, supplies, solved)
-        if sent(net.nodes, net.ends, flows) != supplies:
-            return self.is_wanted(found, "no")
-        self.is_certified_min(net, costs, flows, found)
-
-    def is_certified_min(self, net, costs, flows, found):
-        *_, cost = sums = list(itertools.accumulate(map(int.__mul__, costs, flows)))
-        if max(map(abs, sums)) > 10**30:
-            return self.is_wanted(found, "no")
-        is_least = not has_negative_cycle(net.nodes, residual(net, costs, flows))
-        self.is_wanted(found, *(("yes", "gave up") if is_least else ("better",)))
-        if found[0] == "yes":
-            self.assertEqual(found[1].value, cost)
-            prices = [int(it) for it in found[1].potentials]
-            for tail, head, cost in residual(net, costs, flows):
-                self.assertGreaterEqual(cost - prices[tail - 1] + prices[head - 1], 0)
-        if found[0] == "better":
-            better = list(map(int, found[1]))
-            self.assertEqual(sent(net.nodes, net.ends, better), sent(net.nodes, net.ends, flows))
-            self.assertTrue(all(0 <= it <= cap for it, cap in zip(better, net.caps)))
-            self.assertLess(sum(map(int.__mul__, costs, better)), cost)
-
-    def is_solved_min(self, net, costs, supplies, found):
-        if not meets(net, supplies):
-            self.assertIsInstance(found[1], dimacs.Infeasible)
-            inside = [False, *found[1].inside]
-            supply = sum(it for it, is_inside in zip(supplies, inside[1:]) if is_inside)
-            entering = crossing(net, [not it for it in inside])
-            return self.assertFalse(-entering <= supply <= crossing(net, inside))
-        self.is_wanted(found, "yes", "gave up")
-        if found[0] == "yes":
-            flows = list(map(int, found[1].flows))
-            self.assertEqual(sent(net.nodes, net.ends, flows), supplies)
-            self.is_certified_min(net, costs, flows, found)
-
-    @cases(2000)
-    def test_distances(self, chance):
-        net = Net(chance)
-        true = distances(net.nodes, [it for it in net.arcs()], 1) if min(net.caps) >= 0 else [0] * net.nodes
-        claim = [LAST if it is None else it for it in true]
-        changed = chance.randrange(net.nodes)
-        claim[changed] += chance.choice(OFFSETS)
-        words = self.words(chance, net)
-        found = self.outcome(dimacs.certify_paths_arrays, *words, 1, form(chance, claim))
-        solved = self.outcome(dimacs.solve_paths_arrays, *words, 1)
-        if not fits(net.caps):
-            self.is_wanted(solved, "past")
-            return self.is_wanted(found, "past")
-        if min(net.caps) < 0:
-            return self.is_wanted(solved, "no")
-        if any(it is not None and it >= LAST for it in true):
-            self.is_wanted(solved, "gave up")
-        else:
-            self.assertEqual(list(map(int, solved[1].distances)), [LAST if it is None else it for it in true])
-        if not fits(claim):
-            return self.is_wanted(found, "past")
-        is_true = [None if it == LAST else it for it in claim] == true
-        self.is_wanted(found, "yes" if is_true else "no")
+            again = better(found[1])
+            self.is_wanted(self.outcome(dimacs.certify_max, *net.texts(again)), "yes", "better")
+            self.assertGreater(net.sent(again)[0], net.sent(flows)[0])
 
 
 @unittest.skipUnless(networkx, "no networkx")
@@ -371,8 +200,6 @@ class Graphs(Limits):
         flows = claimed(chance, net)
         graph, flow = self.graph(chance, net), self.flow(net, flows)
         found = self.outcome(dimacs.certify_networkx_max, graph, 1, net.nodes, flow)
-        if not fits(net.caps) or min(net.caps) < 0 or not fits(flows):
-            return self.is_wanted(found, "past")
         if found[0] == "yes":
             found = "yes", dimacs.Certified(found[1].value, [it in found[1].inside for it in range(1, net.nodes + 1)])
         self.is_certified_max(
@@ -449,8 +276,6 @@ class Scipy(Limits):
         graph, _ = self.matrix(chance, net, {ends: cap for ends, cap in zip(net.ends, net.caps)}, ("csr",), False)
         shown, _ = self.matrix(chance, net, flow)
         found = self.outcome(ours.certify_maximum_flow, graph, 0, net.nodes - 1, shown)
-        if not fits(net.caps) or not fits(it for it in flow.values() if it > 0):
-            return self.is_wanted(found, "past")
         # Between two vertices a flow of SciPy has only what goes from one to the other in the end.
         pairs = [ends for ends in dict.fromkeys((*net.ends, *flow)) if flow.get(ends, 0) > 0 or ends in net.ends]
         caps = dict(zip(net.ends, net.caps))
@@ -472,10 +297,9 @@ class Scipy(Limits):
             return self.is_wanted(found, "past")
         self.is_wanted(found, "yes", *(("gave up",) if not fits(net.caps) else ()))
         if found[0] == "yes":
-            self.assertEqual(int(found[1].flow_value), maximum(net))
-            flows = self.amounts(net, found[1].flow)
-            self.assertTrue(is_feasible(net, flows))
-            self.assertEqual(sent(net.nodes, net.ends, flows)[0], maximum(net))
+            net.caps = [min(it, LAST) for it in net.caps]  # no flow that fits carries more
+            certified = dimacs.Certified(found[1].flow_value, found[1].inside)
+            self.is_certified_max(net, self.amounts(net, found[1].flow), ("yes", certified), None)
 
     @cases(1500)
     def test_assignments(self, chance):
@@ -556,33 +380,6 @@ class Scipy(Limits):
         self.is_wanted(found, "no" if fits([claim]) and claim != LAST else "past")
 
 
-class Solver(MaxFlow):
-    """It has nodes without arcs too."""
-
-    def __init__(self, net, flows, value):
-        super().__init__(flows, value, [(tail - 1, head - 1, cap) for tail, head, cap in net.arcs()])
-        self.nodes = net.nodes
-
-    def num_nodes(self):
-        return self.nodes
-
-
-class OrTools(Limits):
-    @cases(1000)
-    def test_maximum_flows(self, chance):
-        net = Net(chance)
-        flows = claimed(chance, net)
-        offset = chance.choice(OFFSETS)
-        solver = Solver(net, flows, sent(net.nodes, net.ends, flows)[0] + offset)
-        found = self.outcome(ortools.certify, solver, 0, net.nodes - 1)
-        if not fits(net.caps) or min(net.caps) < 0 or not fits(flows):
-            return self.is_wanted(found, "past")
-        if offset and found[0] == "no":
-            return self.assertTrue(found[1].reason == "ValueDiffers" or not is_feasible(net, flows))
-        self.is_certified_max(net, flows, found, list)
-        self.assertTrue(found[0] != "yes" or not offset)
-
-
 @unittest.skipUnless(networkx, "no networkx")
 class Backend(Limits):
     """The functions themselves, which networkx calls."""
@@ -609,19 +406,17 @@ class Backend(Limits):
         graph = self.graph(chance, net, "capacity", 0.2)
         net.caps = [max(0, it) for it in net.caps]
         found = self.called(backend.minimum_cut, graph, 1, net.nodes)
-        finite = [it for it in net.caps if it < 10**40]
-        is_wide = not fits([sum(finite)]) or self.has_wide_floats(graph, "capacity", sum(finite))
-        if maximum(net) >= 10**40:
-            return self.is_wanted(found, "past", *(("gave up",) if is_wide else ()))
-        self.is_wanted(found, "yes", *(("gave up",) if is_wide else ()))
+        total = sum(it for it in net.caps if it < 10**40)
+        is_wide = not fits([total]) or self.has_wide_floats(graph, "capacity", total)
+        net.caps = [math.inf if it == 10**40 else it for it in net.caps]
+        wanted = self.outcome(dimacs.solve_max_arrays, *net.max())
+        self.is_wanted(found, wanted[0], *(("gave up",) if is_wide else ()))
         if found[0] == "yes":
             value, (side, others) = found[1]
-            self.assertEqual((value, side | others), (maximum(net), set(graph)))
-            self.assertEqual(crossing(net, [it in side for it in range(net.nodes + 1)]), value)
-            value, flow = backend.maximum_flow(graph, 1, net.nodes)
-            flows = [int(flow[tail][head]) for tail, head in net.ends]
-            self.assertTrue(is_feasible(net, flows))
-            self.assertEqual(sent(net.nodes, net.ends, flows)[0], value)
+            self.assertEqual((value, side | others), (wanted[1].value, set(graph)))
+            _, flow = backend.maximum_flow(graph, 1, net.nodes)
+            flows, inside = [int(flow[tail][head]) for tail, head in net.ends], [it in side for it in sorted(graph)]
+            self.assertEqual(dimacs.judge_max_arrays(*net.max(), flows, inside).value, value)
 
     def has_wide_floats(self, graph, attribute, total):
         numbers = [it for *_, it in graph.edges(data=attribute)]
@@ -648,36 +443,6 @@ class Backend(Limits):
         graph = networkx.DiGraph([(1, 2), (3, 1)])
         for cutoff in (2**63, 2.0**63, math.inf, *([numpy.float64(2**63)] if numpy else [])):
             self.assertEqual(backend.single_source_dijkstra_path_length(graph, 1, cutoff), {1: 0, 2: 1})
-
-
-class Spread(Limits):
-    @cases(2000)
-    def test_sums(self, chance):
-        net = Net(chance, 0)
-        ends = list(dict.fromkeys(net.ends))
-        sums = [sum(cap for at, cap in zip(net.ends, net.caps) if at == it) for it in ends]
-        sums = [chance.choice([it, 0, it // 2]) + chance.choice(OFFSETS) for it in sums]
-        arcs = [form(chance, it) for it in net.split_ends()] + [form(chance, net.caps)]
-        pairs = [form(chance, list(it)) for it in zip(*ends)] + [form(chance, sums)]
-        found = self.outcome(dimacs.spread_max_arrays, net.nodes, 1, net.nodes, *arcs, *pairs)
-        if not fits(sums):
-            return self.is_wanted(found, "past")
-        rests = {at: it - self.rest(net, at, it) for at, it in zip(ends, sums)}
-        self.is_wanted(found, "yes" if fits(rests.values()) else "no")
-        if found[0] == "yes":
-            self.is_dealt(net, dict(zip(ends, sums)), list(map(int, found[1])))
-
-    def rest(self, net, at, total):
-        """What all arcs but the first carry of a sum that isn't within their bounds."""
-        caps = [cap for ends, cap in zip(net.ends, net.caps) if ends == at]
-        return 0 if total <= sum(caps) else sum(caps[1:])
-
-    def is_dealt(self, net, sums, flows):
-        for at, total in sums.items():
-            shares = [(it, cap) for ends, it, cap in zip(net.ends, flows, net.caps) if ends == at]
-            self.assertEqual(sum(it for it, _ in shares), total)
-            if 0 <= total <= sum(cap for _, cap in shares):
-                self.assertTrue(all(0 <= it <= cap for it, cap in shares))
 
 
 if __name__ == "__main__":

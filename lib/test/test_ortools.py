@@ -4,7 +4,7 @@ import unittest
 
 import dimacs
 from dimacs import ortools
-from shared import numpy, raised
+from shared import raised
 
 try:
     from ortools.graph.python import max_flow, min_cost_flow
@@ -18,29 +18,10 @@ ARCS = [(0, 1, 4, 2), (0, 2, 2, 2), (1, 2, 2, 1), (1, 3, 2, 3), (2, 3, 5, 1)]
 class MaxFlow:
     """A SimpleMaxFlow by its methods, which has solved."""
 
-    def __init__(self, flows, value, arcs=ARCS):
-        self.arcs, self.flows, self.value = arcs, flows, value
-
-    def num_arcs(self):
-        return len(self.arcs)
-
-    def num_nodes(self):
-        return max((max(arc[:2]) + 1 for arc in self.arcs), default=0)
-
-    def tail(self, arc):
-        return self.arcs[arc][0]
-
-    def head(self, arc):
-        return self.arcs[arc][1]
-
-    def capacity(self, arc):
-        return self.arcs[arc][2]
-
-    def flow(self, arc):
-        return self.flows[arc]
-
-    def optimal_flow(self):
-        return self.value
+    def __init__(self, flows, value):
+        self.num_arcs, self.num_nodes, self.flow = (lambda: len(ARCS)), (lambda: 4), flows.__getitem__
+        self.tail, self.head, self.capacity = ([arc[k] for arc in ARCS].__getitem__ for k in range(3))
+        self.optimal_flow = lambda: value
 
 
 class MinCostFlow(MaxFlow):
@@ -48,66 +29,37 @@ class MinCostFlow(MaxFlow):
 
     SUPPLIES = [4, 0, 0, -4]
 
-    def unit_cost(self, arc):
-        return self.arcs[arc][3]
-
-    def supply(self, node):
-        return self.SUPPLIES[node]
-
-    def optimal_cost(self):
-        return self.value
+    def __init__(self, flows, value):
+        super().__init__(flows, value)
+        self.unit_cost, self.supply = [arc[3] for arc in ARCS].__getitem__, self.SUPPLIES.__getitem__
+        self.optimal_cost = self.optimal_flow
 
 
 class Standing(unittest.TestCase):
     """What stands in for a solver."""
 
-    def raises(self, kind, solver, *ends):
-        it = raised(kind, ortools.certify, solver, *ends)
-        return it
-
-    def test_a_maximum_flow(self):
+    def test_optimal_flows(self):
         solver = MaxFlow([4, 2, 2, 2, 4], 6)
         for ends in (0, 3), ():
             self.assertEqual(ortools.certify(solver, *ends), (6, [True, False, False, False]))
-
-    def test_least_cost(self):
         value, potentials = ortools.certify(MinCostFlow([2, 2, 2, 0, 4], 14))
         self.assertEqual((value, len(potentials)), (14, 4))
 
     def test_what_is_refused(self):
-        no = self.raises(dimacs.NotOptimal, MaxFlow([2, 2, 0, 2, 2], 4), 0, 3)
-        self.assertEqual(len(no.better), 5)
-        no = self.raises(dimacs.NotOptimal, MinCostFlow([4, 0, 2, 2, 2], 18))
-        self.assertEqual(len(no.better), 5)
-        no = self.raises(dimacs.Refused, MaxFlow([4, 3, 2, 2, 5], 7))
-        self.assertEqual((no.arc, no.node, no.reason), (1, None, "AboveCap"))
-        no = self.raises(dimacs.Refused, MinCostFlow([4, 0, 1, 2, 2], 0))
-        self.assertEqual((no.arc, no.node, no.reason), (None, 1, "Balance"))
-        for solver in MaxFlow([4, 2, 2, 2, 4], 5), MinCostFlow([2, 2, 2, 0, 4], 15):
-            self.assertEqual(self.raises(dimacs.Refused, solver).reason, "ValueDiffers")
-
-    @unittest.skipUnless(numpy, "no numpy")
-    def test_claimed_values(self):
-        arcs, flows = [(0, 1, 2**53 + 1, 1)], [2**53 + 1]
-        costs = MinCostFlow(flows, 0, arcs)
-        costs.SUPPLIES = [2**53 + 1, -(2**53) - 1]
-        for solver in MaxFlow(flows, 0, arcs), costs:
-            solver.value = numpy.int64(2**53 + 1)
-            self.assertEqual(ortools.certify(solver).value, 2**53 + 1)
-            solver.value = numpy.float64(2**53)
-            self.assertEqual(self.raises(dimacs.Refused, solver).reason, "ValueDiffers")
-            solver.value = float("nan")
-            self.assertIn("is nan, not a whole number", str(self.raises(ValueError, solver)))
-
-    def test_ends_that_the_flow_does_not_show(self):
-        solver = MaxFlow([0], 0, [(0, 1, 0, 0)])
-        self.assertIn("name the source", str(self.raises(ValueError, solver)))
-        self.assertIn("name the sink", str(self.raises(ValueError, solver, 0)))
-        self.assertEqual(ortools.certify(solver, 0, 1).value, 0)
-
-    def test_other_solvers(self):
-        self.assertIn("object", str(self.raises(TypeError, object())))
-        self.assertIn("supplies", str(self.raises(TypeError, MinCostFlow([2, 2, 2, 0, 4], 14), 0, 3)))
+        for kind, shown, solver in [
+            (dimacs.NotOptimal, "NotMaximum", MaxFlow([2, 2, 0, 2, 2], 4)),
+            (dimacs.NotOptimal, "NotLeast", MinCostFlow([4, 0, 2, 2, 2], 18)),
+            (dimacs.Refused, "arc 1 AboveCap", MaxFlow([4, 3, 2, 2, 5], 7)),
+            (dimacs.Refused, "node 1 Balance", MinCostFlow([4, 0, 1, 2, 2], 0)),
+            (dimacs.Refused, "5 is claimed, it is 6", MaxFlow([4, 2, 2, 2, 4], 5)),
+            (dimacs.Refused, "15 is claimed, it is 14", MinCostFlow([2, 2, 2, 0, 4], 15)),
+            (ValueError, "the solver's value is nan, not a whole number", MaxFlow([4, 2, 2, 2, 4], float("nan"))),
+            (ValueError, "name the source: by the flow it may be any of 0 nodes", MaxFlow([0] * 5, 0)),
+            (TypeError, "object is no SimpleMaxFlow", object()),
+        ]:
+            self.assertIn(shown, str(raised(kind, ortools.certify, solver)))
+        self.assertIn("name the sink", str(raised(ValueError, ortools.certify, MaxFlow([0] * 5, 0), 0)))
+        self.assertIn("no source and sink", str(raised(TypeError, ortools.certify, MinCostFlow([0] * 5, 0), 0, 3)))
 
 
 @unittest.skipUnless(max_flow, "no OR-Tools")

@@ -93,6 +93,8 @@ class Packaging(unittest.TestCase):
             self.assertIn("dimacs/py.typed", it.namelist())
         self.assertEqual((found["Name"], found["Version"]), ("dimacs", self.backend.version_of(self.library.read_bytes())))
         self.assertIn("Typing :: Typed", found.get_all("Classifier"))
+        # Python 3.9 cuts off the fraction of a Decimal in an array.
+        self.assertEqual(found["Requires-Python"], ">=3.10")
         self.assertIn('scipy>=1.8; extra == "scipy"', found.get_all("Requires-Dist"))
         self.assertEqual(found.get_payload(), (FOLDER / "README.md").read_text(encoding="utf-8"))
 

@@ -2,14 +2,13 @@
 
 import array
 import math
-import random
 import unittest
 from decimal import Decimal
 from fractions import Fraction
 
 import dimacs
 from dimacs.scales import Scale
-from shared import networkx, numpy, raised
+from shared import Said, draws, networkx, numpy, raised
 
 INF = math.inf
 
@@ -23,9 +22,8 @@ def multiples(number, factor, count=6):
 class Floats(unittest.TestCase):
     def test_the_multiple_that_a_float_stands_for(self):
         """The only one that is this float; the float itself by a factor of 1; none otherwise."""
-        chance = random.Random(1)
         taken = 0
-        for _ in range(20_000):
+        for chance in draws(1, 20_000):
             factor = chance.choice([1, 3, 7, 10, 100, 1000, 10**6, 2**20, Fraction(1, 3), Fraction(5, 7)])
             most = chance.choice([9, 10**4, 10**9, 2**52, 2**53, 10**18])
             number = float(chance.randrange(-most, most) / Fraction(factor))
@@ -83,8 +81,7 @@ class Floats(unittest.TestCase):
     @unittest.skipUnless(numpy, "no numpy")
     def test_long_doubles(self):
         """Each that is read from a decimal stands for it, and its neighbours for nothing."""
-        chance = random.Random(2)
-        for _ in range(300):
+        for chance in draws(2, 300):
             digits = chance.randrange(1, 18)
             most = chance.choice([99, 10**9, 10 ** (numpy.finfo(numpy.longdouble).precision - 1)])
             multiple = chance.randrange(-most, most)
@@ -97,46 +94,26 @@ class Floats(unittest.TestCase):
                 Scale.of(10).whole(number, lambda: "it")
 
 
-def best(nodes, source, sink, ends, caps):
-    """The capacity of the least cut, in fractions."""
-    found = INF
-    for number in range(2**nodes):
-        inside = [number >> node & 1 for node in range(nodes)]
-        if inside[source] and not inside[sink]:
-            found = min(found, sum(cap for (tail, head), cap in zip(ends, caps) if inside[tail] and not inside[head]))
-    return found
-
-
 class Flows(unittest.TestCase):
-    def drawn(self, chance):
-        nodes = chance.randrange(2, 5)
-        ends = [(chance.randrange(nodes), chance.randrange(nodes)) for _ in range(chance.randrange(1, 7))]
-        return nodes, ends, [list(it) for it in zip(*ends)]
-
-    def test_what_fractions_say(self):
-        chance = random.Random(2)
-        for _ in range(1000):
-            nodes, ends, split = self.drawn(chance)
+    def test_what_whole_numbers_get(self):
+        """A value of so many units, where the numbers of units get it."""
+        for chance in draws(2, 1000):
+            nodes, count = chance.randrange(2, 5), chance.randrange(1, 7)
+            ends = [[chance.randrange(nodes) for _ in range(count)] for _ in range(2)]
             factor = chance.choice([1, 10, 100, 8, Decimal("0.05"), "exact"])
-            unit = (
-                Fraction(1, 8)
-                if factor == "exact"
-                else Fraction(factor)
-                if isinstance(factor, Decimal)
-                else Fraction(1, factor)
-            )
-            exact = [chance.randrange(60) * unit for _ in ends]
-            caps = [chance.choice([float, Fraction])(it) for it in exact]
+            unit = Fraction(1, 8) if factor == "exact" else 1 / Scale.of(factor).factor
+            whole = [chance.randrange(60) for _ in range(count)]
+            caps = [chance.choice([float, Fraction])(it * unit) for it in whole]
             form = numpy.array if numpy and all(isinstance(it, float) for it in caps) else list
-            found = dimacs.solve_max_arrays(nodes, 0, nodes - 1, *split, form(caps), scale=factor, base=0)
-            self.assertEqual(found.value, best(nodes, 0, nodes - 1, ends, exact))
-            self.assertTrue(all(0 <= it <= cap for it, cap in zip(found.flows, exact)))
-            again = dimacs.certify_max_arrays(nodes, 0, nodes - 1, *split, caps, list(found.flows), scale=factor, base=0)
+            words, how = (nodes, 0, nodes - 1, *ends, form(caps)), {"scale": factor, "base": 0}
+            found, wanted = dimacs.solve_max_arrays(*words, **how), dimacs.solve_max_arrays(*words[:-1], whole, base=0)
+            self.assertEqual(found.value, wanted.value * unit)
+            self.assertEqual([it / unit for it in map(Fraction, found.flows)], wanted.flows)
+            again = dimacs.certify_max_arrays(*words, list(found.flows), **how)
             self.assertEqual((again.value, again.inside), (found.value, list(found.inside)))
-            if any(found.flows):
-                with self.assertRaises(dimacs.Refused) as no:
-                    dimacs.certify_max_arrays(nodes, 0, nodes - 1, *split, caps, [0] * len(ends), scale=factor, base=0)
-                self.assertEqual((no.exception.value, no.exception.better_value > 0), (0, True)) if found.value else None
+            if found.value:
+                no = raised(dimacs.NotOptimal, dimacs.certify_max_arrays, *words, [0] * count, **how)
+                self.assertEqual((no.value, no.better_value > 0), (0, True))
 
     def test_costs(self):
         words = [0, 0], [1, 1], [0, 0], [2.5, 9], [0.03, 0.07], [4.5, -4.5]
@@ -148,20 +125,16 @@ class Flows(unittest.TestCase):
         self.assertEqual((no.value, no.better), (Fraction(235, 1000), flows))
 
     def test_distances(self):
-        found = dimacs.solve_paths_arrays(4, [0, 1], [1, 2], [0.5, 0.25], 0, scale="exact", base=0)
-        self.assertEqual(found, (None, [0, Fraction(1, 2), Fraction(3, 4), INF], [-1, 0, 1, -1]))
-        claim = [0, 0.5, 0.75, INF]
-        self.assertEqual(
-            dimacs.certify_paths_arrays(4, [0, 1], [1, 2], [0.5, 0.25], 0, claim, scale=4, base=0).predecessors,
-            [-1, 0, 1, -1],
-        )
+        graph, before = (4, [0, 1], [1, 2], [0.5, 0.25], 0), [-1, 0, 1, -1]
+        found = dimacs.solve_paths_arrays(*graph, scale="exact", base=0)
+        self.assertEqual(found, (None, [0, Fraction(1, 2), Fraction(3, 4), INF], before))
+        certified = dimacs.certify_paths_arrays(*graph, [0, 0.5, 0.75, INF], scale=4, base=0)
+        self.assertEqual(certified.predecessors, before)
 
     @unittest.skipUnless(networkx, "no networkx")
     def test_graphs(self):
-        graph = networkx.DiGraph()
-        graph.add_node("a", demand=-1.5)
-        graph.add_node("b", demand=1.5)
-        graph.add_edge("a", "b", capacity=2.5, weight=Decimal("0.1"))
+        graph = networkx.DiGraph([("a", "b", {"capacity": 2.5, "weight": Decimal("0.1")})])
+        networkx.set_node_attributes(graph, {"a": -1.5, "b": 1.5}, "demand")
         cost, flow, _ = dimacs.solve_networkx_min(graph, scale=10)
         self.assertEqual((cost, flow["a"]["b"]), (Fraction(15, 100), Fraction(3, 2)))
         self.assertEqual(dimacs.certify_networkx_min(graph, flow, scale=10).value, cost)
@@ -177,8 +150,7 @@ class Graphs(unittest.TestCase):
         graph.add_nodes_from(range(nodes), demand=0)
         for _ in range(chance.randrange(1, 9)):
             data = {"capacity": chance.choice([INF, chance.randrange(12)]), "weight": chance.randrange(-1, 12)}
-            tail, head = chance.randrange(nodes), chance.randrange(nodes)
-            graph.add_edge(tail, head, **data)
+            graph.add_edge(chance.randrange(nodes), chance.randrange(nodes), **data)
         for tail, head, data in graph.edges(data=True):
             amount = chance.randrange(min(data["capacity"], 2) + 1)
             graph.nodes[tail]["demand"] -= amount
@@ -189,9 +161,8 @@ class Graphs(unittest.TestCase):
         return graph, scaled
 
     def test_what_networkx_finds(self):
-        chance = random.Random(6)
         kinds = {"yes": 0, "unbounded": 0}
-        for _ in range(400):
+        for chance in draws(6, 400):
             unit = chance.choice([1, 4, 10])
             whole, graph = self.drawn(chance, unit)
             scale = chance.choice([unit, Decimal(1) / unit, 2 * unit, "exact" if unit != 10 else unit])
@@ -209,48 +180,41 @@ class Graphs(unittest.TestCase):
         self.assertGreater(min(kinds.values()), 5, kinds)
 
 
-class Limitless(unittest.TestCase):
+class Limitless(Said):
     """Capacities of inf."""
 
     def test_what_is_best(self):
         """As with a capacity that no answer reaches, or infinite."""
-        chance = random.Random(3)
         kinds = {"yes": 0, "unbounded": 0}
-        for _ in range(1500):
-            nodes = chance.randrange(2, 5)
-            ends = [(chance.randrange(nodes), chance.randrange(nodes)) for _ in range(chance.randrange(1, 7))]
-            caps = [chance.choice([INF, chance.randrange(9)]) for _ in ends]
-            split = [list(it) for it in zip(*ends)]
-            given = chance.choice([list(caps), array.array("d", caps)])
-            wanted = best(nodes, 0, nodes - 1, ends, caps)
+        for chance in draws(3, 1500):
+            nodes, count = chance.randrange(2, 5), chance.randrange(1, 7)
+            ends = [[chance.randrange(nodes) for _ in range(count)] for _ in range(2)]
+            caps = [chance.choice([INF, chance.randrange(9)]) for _ in range(count)]
+            graph, given = (nodes, 0, nodes - 1, *ends), chance.choice([list(caps), array.array("d", caps)])
+            wanted = dimacs.solve_max_arrays(*graph, [min(it, 100) for it in caps], base=0).value
             try:
-                value, flows, inside = dimacs.solve_max_arrays(nodes, 0, nodes - 1, *split, given, base=0)
+                value, flows, inside = dimacs.solve_max_arrays(*graph, given, base=0)
             except dimacs.Unbounded:
                 kinds["unbounded"] += 1
-                self.assertEqual(wanted, INF)
+                self.assertGreaterEqual(wanted, 100)
                 continue
             kinds["yes"] += 1
             self.assertEqual(value, wanted)
-            words = nodes, 0, nodes - 1, *split, given, list(map(int, flows))
+            words = *graph, given, list(map(int, flows))
             self.assertEqual(dimacs.certify_max_arrays(*words, base=0).value, wanted)
             self.assertEqual(dimacs.judge_max_arrays(*words, inside, base=0).value, wanted)
         self.assertGreater(min(kinds.values()), 200, kinds)
 
     def test_least_costs(self):
-        words = 3, [1, 2, 1], [2, 3, 3]
-        cost, flows, _ = dimacs.solve_min_arrays(*words, [0] * 3, [INF, INF, 2], [1, 1, 1], [5, 0, -5])
-        self.assertEqual((cost, flows), (8, [3, 3, 2]))
-        no = raised(dimacs.Infeasible, dimacs.solve_min_arrays, *words, [0] * 3, [INF, 1, 2], [1, 1, 1], [5, 0, -5])
-        self.assertEqual(
-            dimacs.judge_infeasible_arrays(*words, [0] * 3, [INF, 1, 2], [1] * 3, [5, 0, -5], no.inside).kind,
-            "infeasible",
-        )
+        ends, more = (3, [1, 2, 1], [2, 3, 3], [0] * 3), ([1] * 3, [5, 0, -5])
+        self.assertEqual(dimacs.solve_min_arrays(*ends, [INF, INF, 2], *more)[:2], (8, [3, 3, 2]))
+        no = raised(dimacs.Infeasible, dimacs.solve_min_arrays, *ends, [INF, 1, 2], *more)
+        self.assertTrue(dimacs.judge_infeasible_arrays(*ends, [INF, 1, 2], *more, no.inside))
 
     def test_what_costs_least(self):
         """As with a great capacity, unless a greater one makes it cheaper."""
-        chance = random.Random(5)
         kinds = {"yes": 0, "unbounded": 0, "infeasible": 0}
-        for _ in range(1500):
+        for chance in draws(5, 1500):
             nodes, count = chance.randrange(2, 5), chance.randrange(1, 7)
             ends = [[chance.randrange(nodes) for _ in range(count)] for _ in range(2)]
             caps = [chance.choice([INF, chance.randrange(4)]) for _ in range(count)]
@@ -301,20 +265,15 @@ class Limitless(unittest.TestCase):
         """It is violated by less than 2^63, and not by an arc without a limit."""
         supplies = [2**63 - 1, 2**62, -(2**63) + 1, -(2**62)]
         words = 4, [1, 2], [3, 3], [0, 0], [INF, INF], [0, 0], supplies
-        with self.assertRaises(dimacs.Refused) as no:
-            dimacs.judge_infeasible_arrays(2, [1], [2], [0], [INF], [0], [2**63 - 1, -(2**63) + 1], [1, 0])
-        self.assertEqual(no.exception.reason, "NotViolated")
-        no = raised(dimacs.Refused, dimacs.judge_infeasible_arrays, *words, [1, 1, 0, 0])
-        self.assertEqual(
-            str(no),
-            f"certificate 0 0 NotViolated: the set supplies {2**63 - 1 + 2**62}, and from 0 to inf can leave it",
-        )
+        two = 2, [1], [2], [0], [INF], [0], [2**63 - 1, -(2**63) + 1]
+        for supply, claim in (2**63 - 1, (*two, [1, 0])), (2**63 - 1 + 2**62, (*words, [1, 1, 0, 0])):
+            message = f"certificate 0 0 NotViolated: the set supplies {supply}, and from 0 to inf can leave it"
+            self.says(dimacs.Refused, message, dimacs.judge_infeasible_arrays, *claim)
 
 
-class FromZero(unittest.TestCase):
+class FromZero(Said):
     def test_the_same_by_both(self):
-        chance = random.Random(4)
-        for _ in range(300):
+        for chance in draws(4, 300):
             nodes = chance.randrange(2, 6)
             arcs = [[chance.randrange(nodes) for _ in range(6)] for _ in range(2)]
             shifted = [[it + 1 for it in some] for some in arcs]
@@ -328,12 +287,12 @@ class FromZero(unittest.TestCase):
             self.assertTrue(dimacs.judge_paths_arrays(*words, base=0))
 
     def test_refusals(self):
-        no = raised(dimacs.Refused, dimacs.certify_max_arrays, 2, 0, 1, [0, 0], [1, 1], [3, 3], [3, 4], base=0)
-        self.assertEqual(str(no), "arc 1 AboveCap: it carries 4, its capacity is 3")
-        no = raised(dimacs.PastLimit, dimacs.certify_max_arrays, 2, 0, 2, [0], [1], [3], [3], base=0)
-        self.assertEqual(str(no), "node 2 NodeRange: nodes are numbered from 0, and there are 2")
-        with self.assertRaisesRegex(dimacs.Refused, "node 1 NodeRange: its predecessor is 2, and there are 2 nodes"):
-            dimacs.judge_paths_arrays(2, [0], [1], [3], 0, [0, 3], [-1, 2], base=0)
+        message = "arc 1 AboveCap: it carries 4, its capacity is 3"
+        self.says(dimacs.Refused, message, dimacs.certify_max_arrays, 2, 0, 1, [0, 0], [1, 1], [3, 3], [3, 4], base=0)
+        message = "node 2 NodeRange: nodes are numbered from 0, and there are 2"
+        self.says(dimacs.PastLimit, message, dimacs.certify_max_arrays, 2, 0, 2, [0], [1], [3], [3], base=0)
+        message = "node 1 NodeRange: its predecessor is 2, and there are 2 nodes"
+        self.says(dimacs.Refused, message, dimacs.judge_paths_arrays, 2, [0], [1], [3], 0, [0, 3], [-1, 2], base=0)
 
 
 if __name__ == "__main__":

@@ -6,7 +6,7 @@ import warnings
 from decimal import Decimal
 
 import dimacs
-from shared import csgraph, numpy, optimize, raised, sparse
+from shared import csgraph, draws, numpy, optimize, raised, sparse
 
 if csgraph:
     from dimacs import scipy as ours
@@ -40,8 +40,7 @@ class MaximumFlow(Scipy):
     PIPES = [[0, 4, 2, 0], [1, 0, 2, 2], [0, 0, 0, 5], [0, 0, 0, 0]]
 
     def test_what_scipy_finds(self):
-        chance = random.Random(1)
-        for _ in range(300):
+        for chance in draws(1, 300):
             vertices = chance.randrange(2, 9)
             graph = drawn(chance, vertices, 1, 9)
             ends = chance.sample(range(vertices), 2)
@@ -103,12 +102,6 @@ class MaximumFlow(Scipy):
         widest[0, 1:3] = widest[1:3, 3] = 2**63 - 1
         self.assertEqual(ours.maximum_flow(sparse.csr_matrix(widest), 0, 3).flow_value, 2**64 - 2)
 
-    def test_entries_at_one_place(self):
-        graph = stored([1, 2, 0], [1, 1, 0], [0, 2, 3])
-        found = ours.maximum_flow(graph, 0, 1)
-        self.assertEqual((found.flow_value, found.flow.toarray().tolist()), (3, [[0, 3], [-3, 0]]))
-        self.assertEqual(ours.certify_maximum_flow(graph, 0, 1, found).value, 3)
-
     def test_sums_at_one_place_past_64_bits(self):
         ends, last = ([1] * 4, [0, 4, 4]), 2**63 - 1
         wide = stored([2**63 - 1024, 511, 511, 511], *ends)
@@ -121,13 +114,6 @@ class MaximumFlow(Scipy):
         twice = stored([last, last], [1, 1], [0, 2, 2])
         message = r"the flow at \(0, 1\) is 18446744073709551614, which has more than 64 bits"
         self.raises(dimacs.GaveUp, message, ours.maximum_flow, twice, 0, 1)
-
-    def test_sums_at_one_place_near_the_ends(self):
-        for kind, amount in ("int32", 2**31 - 1), ("uint32", 2**32 - 1), ("int8", 127):
-            found = ours.maximum_flow(stored(numpy.array([amount, 5], kind), [1, 1], [0, 2, 2]), 0, 1)
-            self.assertEqual(found.flow.toarray().tolist(), [[0, amount + 5], [-amount - 5, 0]])
-        one = stored([2**63 - 1], [1], [0, 1, 1])
-        self.assertEqual(ours.certify_maximum_flow(one, 0, 1, ours.maximum_flow(one, 0, 1)).value, 2**63 - 1)
 
     def test_claimed_values(self):
         for amount, rounded in (2**53 + 1, 2**53), (2**63 - 1, 2**63):
@@ -157,15 +143,10 @@ class MaximumFlow(Scipy):
 
     def test_misuse(self):
         graph = sparse.csr_matrix(self.PIPES)
+        others = graph.toarray(), graph.tocsc(), graph.astype(float), graph.astype(bool), graph[:3]
         for words, more in (
-            ((graph.toarray(), 0, 3), {}),
-            ((graph.tocsc(), 0, 3), {}),
-            ((graph.astype(float), 0, 3), {}),
-            ((graph.astype(bool), 0, 3), {}),
-            ((graph[:3], 0, 1), {}),
-            ((graph, 0, 0), {}),
-            ((graph, 0, 4), {}),
-            ((graph, -1, 3), {}),
+            *(((it, 0, 1), {}) for it in others),
+            *(((graph, *ends), {}) for ends in ((0, 0), (0, 4), (-1, 3))),
             ((graph, 0, 3), {"method": "another"}),
         ):
             theirs = raised((TypeError, ValueError), csgraph.maximum_flow, *words, **more)
@@ -184,8 +165,7 @@ class ShortestPath(Scipy):
         self.assertEqual(found.tolist(), theirs.tolist())
 
     def test_what_scipy_finds(self):
-        chance = random.Random(2)
-        for turn in range(300):
+        for chance in draws(2, 300):
             dtype = chance.choice(["int64", "float64", "int8", "float32"])
             graph = drawn(chance, chance.randrange(1, 8), 1, 9, dtype=dtype)
             graph = chance.choice([graph, graph.toarray(), graph.tocsc()])
@@ -200,20 +180,13 @@ class ShortestPath(Scipy):
 
     def test_predecessors(self):
         graph = drawn(random.Random(3), 30, 1, 99, 0.1)
-        weights = graph.toarray()
-        distances, before = ours.shortest_path(graph, return_predecessors=True)
-        for source in range(30):
-            for vertex in range(30):
-                last = before[source, vertex]
-                if last < 0:
-                    self.assertTrue(vertex == source or distances[source, vertex] == numpy.inf)
-                else:
-                    self.assertEqual(distances[source, last] + weights[last, vertex], distances[source, vertex])
+        found = ours.shortest_path(graph, return_predecessors=True)
+        self.assertEqual(found[0].tolist(), csgraph.shortest_path(graph).tolist())
+        self.assertEqual(ours.certify_shortest_path(graph, *found).tolist(), found[1].tolist())
 
     def test_negative_weights(self):
-        chance = random.Random(4)
         kinds = {"cycle": 0, "none": 0}
-        for _ in range(300):
+        for chance in draws(4, 300):
             # SciPy finds a loop of negative weight by some methods, and not by others.
             graph = drawn(chance, chance.randrange(2, 8), -3, 9, loops=False)
             more = {"indices": chance.choice([None, 0, [0, 1]]), "method": chance.choice(["auto", "BF", "J"])}
@@ -244,8 +217,7 @@ class ShortestPath(Scipy):
 
     def test_a_mask(self):
         """What isn't masked is an edge, of weight 0 too, by the methods of SciPy but for "FW", which has no such edges."""
-        chance = random.Random(12)
-        for _ in range(300):
+        for chance in draws(12, 300):
             places = range(chance.randrange(2, 7))
             weights = [[chance.choice([0, 0, 1, 2, 5]) for _ in places] for _ in places]
             mask = [[place == 0 or chance.random() < 0.6 for place in places] for _ in places]
@@ -260,8 +232,7 @@ class ShortestPath(Scipy):
 
     def test_formats(self):
         """Zeros that are stored, entries of one place, and sums of bools, in each format."""
-        chance = random.Random(13)
-        for _ in range(300):
+        for chance in draws(13, 300):
             count, vertices = chance.randrange(12), chance.randrange(1, 5)
             ends = [[chance.randrange(vertices) for _ in range(count)] for _ in range(2)]
             weights = numpy.array([chance.randrange(4) for _ in range(count)], chance.choice(["bool", "int64", "float64"]))
@@ -327,9 +298,8 @@ class ShortestPath(Scipy):
 
 class Tables(Scipy):
     def test_what_scipy_finds(self):
-        chance = random.Random(5)
         kinds = {"yes": 0, "no": 0}
-        for _ in range(300):
+        for chance in draws(5, 300):
             graph = drawn(chance, chance.randrange(1, 8), 1, 9, dtype=chance.choice(["int64", "float64"]))
             last = graph.shape[0] - 1
             more = {
@@ -407,8 +377,7 @@ class Assignments(Scipy):
         return costs
 
     def test_what_scipy_finds(self):
-        chance = random.Random(6)
-        for _ in range(400):
+        for chance in draws(6, 400):
             costs, maximize = self.drawn(chance), chance.random() < 0.5
             costs = -costs if maximize else costs
             try:
@@ -440,6 +409,8 @@ class Assignments(Scipy):
         self.assertEqual(no.node, ("row", 1))
         no = self.raises(dimacs.Refused, "AboveCap: it carries 2, its capacity is 1", certify, costs, [0, 1], [0, 0])
         self.assertEqual(no.arc, ("column", 0))
+        no = self.raises(dimacs.Refused, "AboveCap: it carries 3, its capacity is 2", certify, costs, [1] * 3, [0] * 3)
+        self.assertEqual(no.arc, (1, 0))
         self.raises(ValueError, r"\(0, 2\) is no place", certify, costs, [0, 1], [2, 0])
         self.raises(ValueError, r"the entry at \(0, 1\) is 0.5", certify, [[4, 0.5], [2, 3]], [0, 1], [1, 0])
         self.raises(ValueError, r"row_ind\[1\] is 1.2, not a whole number", certify, costs, [0, 1.2], [1, 0])
@@ -478,8 +449,7 @@ class Assignments(Scipy):
         self.raises(TypeError, "the cost matrix is a masked array", ours.certify_assignment, masked, [0, 1], [0, 1])
 
     def test_matchings(self):
-        chance = random.Random(7)
-        for _ in range(300):
+        for chance in draws(7, 300):
             shape = chance.randrange(1, 6), chance.randrange(1, 6)
             graph = numpy.array([[chance.choice([0, 0, 3, 5, 8]) for _ in range(shape[1])] for _ in range(shape[0])])
             graph = sparse.csr_matrix(graph)
@@ -520,9 +490,8 @@ class Programs(Scipy):
         return words
 
     def test_what_scipy_finds(self):
-        chance = random.Random(8)
         kinds = dict.fromkeys((0, 2, 3), 0)
-        for _ in range(300):
+        for chance in draws(8, 300):
             words = self.drawn(chance)
             theirs = optimize.linprog(**words)
             kinds[theirs.status] = kinds.get(theirs.status, 0) + 1

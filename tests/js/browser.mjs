@@ -90,15 +90,6 @@ class ChromiumPage {
         const mobile = width < 600;
         return this.send("Emulation.setDeviceMetricsOverride", {width, height, deviceScaleFactor: 1, mobile});
     }
-
-    scheme(value) {
-        return this.send("Emulation.setEmulatedMedia", {features: [{name: "prefers-color-scheme", value}]});
-    }
-
-    async picture() {
-        const {data} = await this.send("Page.captureScreenshot", {captureBeyondViewport: true});
-        return Buffer.from(data, "base64");
-    }
 }
 
 /** A page in Firefox. */
@@ -124,12 +115,6 @@ class FirefoxPage {
 
     size(width, height) {
         return this.connection.send("browsingContext.setViewport", {context: this.context, viewport: {width, height}});
-    }
-
-    async picture() {
-        const words = {context: this.context, origin: "document"};
-        const {data} = await this.connection.send("browsingContext.captureScreenshot", words);
-        return Buffer.from(data, "base64");
     }
 }
 

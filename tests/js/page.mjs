@@ -51,8 +51,9 @@ class Person {
         await this.page.evaluate("new Promise((good) => setTimeout(good, 400))");
     }
 
-    async write(slot, content) {
-        await this.page.evaluate(typing(slot, content));
+    /** Types texts, by the places where they belong. */
+    async write(texts) {
+        for (const [slot, content] of Object.entries(texts)) await this.page.evaluate(typing(slot, content));
         await this.read();
     }
 
@@ -70,6 +71,11 @@ class Person {
     /** Presses a button that asks for an answer, and gives it. */
     async ask(name) {
         await this.page.evaluate(`void (document.getElementById("answer").hidden = true, ${button(name)}.click())`);
+        return this.answered();
+    }
+
+    /** Waits for an answer, and gives it. */
+    async answered() {
         await until(this.page, `!document.getElementById("answer").hidden && ${settled}`, 120);
         return this.answer();
     }
@@ -114,6 +120,7 @@ class Person {
 const MAX = "p max 2 1\nn 1 s\nn 2 t\na 1 2 4\n";
 const PARALLEL = "p max 3 3\nn 1 s\nn 3 t\na 1 2 9\na 2 3 3\na 2 3 5\n";
 const MANY = "9000000000000000000", DEAR = `p min 2 1\nn 1 ${MANY}\nn 2 -${MANY}\na 1 2 0 ${MANY} ${MANY}\n`;
+const FLOW = "s 4\nf 1 2 4\n";
 const GRAPH = "p sp 2 1\na 1 2 5\n", LABELS = "p dist 2 1\nt 1 1\nd 2 5 1\n";
 const EXAMPLES = new URL("../../examples", import.meta.url).pathname;
 const CHOSEN = (slot) => `((it) => it.value.slice(it.selectionStart, it.selectionEnd))(${element(slot)})`;
@@ -166,7 +173,7 @@ const TESTS = {
     },
     "an answer is of the texts that were judged": async (person) => {
         const changes = {
-            typing: () => person.write("claim", "s 11\n"),
+            typing: () => person.write({claim: "s 11\n"}),
             "another claim": () => person.choose("min"),
             "another file": () => person.drop(`[new File([${quoted(MAX)}], "one.max")]`, "instance"),
             "clearing a text": () => person.clear("claim"),
@@ -184,15 +191,14 @@ const TESTS = {
     "an answer to what was changed meanwhile": async (person) => {
         await person.example("a maximum flow");
         await person.page.evaluate(`(${button("Check")}.click(), ${typing("claim", "s 1\n")})`);
-        await until(person.page, `!document.getElementById("answer").hidden && ${settled}`);
-        assert.match((await person.answer()).verdict, /^Changed since/);
+        assert.match((await person.answered()).verdict, /^Changed since/);
     },
     "what is typed while a text is read": async (person) => {
-        await person.write("instance", MAX);
-        await person.drop(`[new File(["s 4\\nf 1 2 4\\n"], "one.solution")]`, "claim");
+        await person.write({instance: MAX});
+        await person.drop(`[new File([${quoted(FLOW)}], "one.solution")]`, "claim");
         const pause = "await new Promise((good) => setTimeout(good, 251))";
         for (let tries = 0; tries < 5; tries++) {
-            await person.page.evaluate(`(${typing("claim", "s 4\nf 1 2 4\n")}, ${pause}, ${typing("claim", "s 3\n")})`);
+            await person.page.evaluate(`(${typing("claim", FLOW)}, ${pause}, ${typing("claim", "s 3\n")})`);
             await person.read();
             assert.equal((await person.ask("Check")).line, "x solution 1 2 ValueDiffers");
         }
@@ -207,13 +213,12 @@ const TESTS = {
             assert.ok(texts[i].includes(`: ${name}, `), texts[i]);
             assert.ok(texts[i].endsWith(sumOf(readFileSync(`${EXAMPLES}/${name}`))), texts[i]);
         }
-        await person.write("claim", "s 12\n");
+        await person.write({claim: "s 12\n"});
         await person.ask("Check");
         assert.equal((await person.judged())[2], `solution: 5 bytes${sumOf("s 12\n")}`);
     },
     "the arc and the line that are wrong, of parallel ones": async (person) => {
-        await person.write("instance", PARALLEL);
-        await person.write("claim", "s 8\nf 1 2 8\nf 2 3 3\nf 2 3 6\n");
+        await person.write({instance: PARALLEL, claim: "s 8\nf 1 2 8\nf 2 3 3\nf 2 3 6\n"});
         const {marked, line} = await person.ask("Check");
         assert.deepEqual([line, marked], ["x arc 3 AboveCap", ["instance:6: a 2 3 5", "solution:4: f 2 3 6"]]);
         await person.page.evaluate(`void document.querySelectorAll(".quote")[1].click()`);
@@ -221,9 +226,7 @@ const TESTS = {
         assert.equal(await person.page.evaluate("document.activeElement.id"), "claim");
     },
     "a right flow and a certificate that doesn't show it": async (person) => {
-        await person.write("instance", MAX);
-        await person.write("claim", "s 4\nf 1 2 4\n");
-        await person.write("certificate", "p cut 2 2\nu 1\nu 2\n");
+        await person.write({instance: MAX, claim: FLOW, certificate: "p cut 2 2\nu 1\nu 2\n"});
         const {verdict, line} = await person.ask("Check");
         assert.deepEqual([verdict, line], ["Not shown: this certificate doesn't show it", "x node 2 SinkInside"]);
         assert.notEqual(await person.page.evaluate(`${element("answer")}.className`), "no");
@@ -231,14 +234,13 @@ const TESTS = {
         assert.match((await person.judged()).join("\n"), /^claim: .*\ninstance: .*\nsolution: .*\nby certify-max, .*$/);
     },
     "what isn't the answer's fault": async (person) => {
-        const solution = "s 4\nf 1 2 4\n";
         const rows = [
-            ["max", MAX.replace("4\n", "4.5\n"), solution, "", "Nothing was judged: the instance has a fault"],
+            ["max", MAX.replace("4\n", "4.5\n"), FLOW, "", "Nothing was judged: the instance has a fault"],
             ["max", MAX, "s 4\nf 1 2\n", "", "Nothing was judged: the solution has a fault"],
-            ["max", MAX, solution, "p cut 2 1\nu 3\n", "Nothing was judged: the certificate has a fault"],
-            ["max", solution, MAX, "", "Nothing was judged: the instance is a solution"],
+            ["max", MAX, FLOW, "p cut 2 1\nu 3\n", "Nothing was judged: the certificate has a fault"],
+            ["max", FLOW, MAX, "", "Nothing was judged: the instance is a solution"],
             ["max", MAX, "p distances 2 0\n", "", "Nothing was judged: the solution is distances"],
-            ["max", GRAPH, solution, "", "Nothing was judged: the instance is a graph"],
+            ["max", GRAPH, FLOW, "", "Nothing was judged: the instance is a graph"],
             ["paths", GRAPH, "p aux sp ss 1\ns 9\n", LABELS, "Nothing was judged: the texts don't fit together"],
             ["paths", GRAPH, "p aux sp ss 1\ns 2\n", LABELS, "Not shown: this certificate doesn't show it"],
             ["paths", GRAPH, "p distances 3 0\n", "", "Nothing was judged: the texts don't fit together"],
@@ -246,25 +248,24 @@ const TESTS = {
             ["min", DEAR, `s 0\nf 1 2 ${MANY}\n`, "", "Undecided: the cost is out of range"],
         ];
         for (const [kind, instance, claim, certificate, wanted] of rows) {
-            for (const [slot, text] of Object.entries({instance, claim, certificate})) await person.write(slot, text);
+            await person.write({instance, claim, certificate});
             await person.choose(kind);
             assert.equal((await person.ask("Check")).verdict, wanted);
         }
         assert.match((await person.ask("Solve")).verdict, /^Undecided: the solver reached its limit, or/);
         await person.choose("infeasible");
-        await person.write("instance", `${DEAR}c typed\n`);
+        await person.write({instance: `${DEAR}c typed\n`});
         assert.equal((await person.ask("Check")).line, "x instance 0 0 Feasible");
     },
     "what claims or asks nothing": async (person) => {
-        await person.write("instance", GRAPH);
+        await person.write({instance: GRAPH});
         await person.choose("paths");
         for (const [claim, certificate, line] of [
             ["p distances 2 0\n", "", "v sp distances 0"],
             ["p aux sp ss 0\n", "p dist 2 0\n", "v sp ss 0"],
             ["p aux sp p2p 0\n", "p dist 2 0\n", ""],
         ]) {
-            await person.write("claim", claim);
-            await person.write("certificate", certificate);
+            await person.write({claim, certificate});
             const answer = await person.ask("Check");
             assert.deepEqual([answer.verdict, answer.line], ["Nothing was claimed", line]);
             assert.equal(await person.page.evaluate(`${element("answer")}.className`), "open");
@@ -272,8 +273,7 @@ const TESTS = {
         assert.equal((await person.ask("Solve")).verdict, "Nothing was asked");
     },
     "a run that is stopped while a text is read": async (person) => {
-        await person.write("instance", MAX);
-        await person.write("claim", "s 4\nf 1 2 4\n");
+        await person.write({instance: MAX, claim: FLOW});
         const long = `[new File([${quoted(MAX)}, ...Array(20).fill(("c " + "x".repeat(997) + "\\n").repeat(1e4))], "long.max")]`;
         await person.page.evaluate(`void (async () => {
             const dataTransfer = new DataTransfer();
@@ -282,15 +282,13 @@ const TESTS = {
             ${button("Check")}.click();
             setTimeout(() => ${button("Stop")}.click(), 50);
         })()`);
-        await until(person.page, `!document.getElementById("answer").hidden && ${settled}`);
-        assert.equal((await person.answer()).verdict, "Stopped: undecided.");
+        assert.equal((await person.answered()).verdict, "Stopped: undecided.");
         await until(person.page, `${text("about-instance")}.startsWith("long.max: an instance of maximum flow")`);
         assert.equal((await person.ask("Check")).line, "v max 4");
         assert.match((await person.judged())[1], /^instance: long\.max, 200000030 bytes/);
     },
     "texts that a browser would put back": async (person) => {
-        await person.write("instance", MAX);
-        await person.write("claim", "s 4\nf 1 2 4\n");
+        await person.write({instance: MAX, claim: FLOW});
         await person.choose("infeasible");
         await person.page.load("about:blank");
         await person.page.evaluate("void history.back()");
@@ -306,18 +304,18 @@ const TESTS = {
         await person.example("queries and labels");
         await person.clear("instance");
         assert.equal(await person.page.evaluate(`${element("certificate")}.value`), "");
-        const texts = {"one.cut": "p cut 2 1\nu 1\n", "one.max": MAX, "one.solution": "s 4\nf 1 2 4\n"};
+        const texts = {"one.cut": "p cut 2 1\nu 1\n", "one.max": MAX, "one.solution": FLOW};
         const files = Object.entries(texts).map(([name, content]) => `new File([${quoted(content)}], ${quoted(name)})`);
         await person.drop(`[${files}]`);
         await person.ask("Check");
         assert.match((await person.judged()).at(-1), /^by judge-max/);
     },
     "a binary file as the instance": async (person) => {
-        for (const claim of ["", "s 4\nf 1 2 4\n"]) {
+        for (const claim of ["", FLOW]) {
             await person.choose("max");
             const bytes = "new Uint8Array(400).map((_, i) => (i * 89 + 7) % 256)";
             await person.drop(`[new File([${bytes}], "a.bin")]`, "instance");
-            await person.write("claim", claim);
+            await person.write({claim});
             const {verdict, meaning} = await person.ask("Check");
             assert.equal(verdict, "Nothing was judged: the instance has a fault");
             assert.match(meaning, /instance:1: /);
@@ -339,8 +337,7 @@ const TESTS = {
         assert.equal(await person.page.evaluate(CHOSEN("instance")), "a 3 4  500.5");
     },
     "nothing to check, and nothing to solve": async (person) => {
-        await person.write("instance", MAX);
-        await person.write("claim", "");
+        await person.write({instance: MAX, claim: ""});
         assert.match((await person.ask("Check")).verdict, /^There is nothing to check yet/);
         assert.equal((await person.ask("Solve")).line, "v max 4");
         await person.example("distances");
@@ -370,7 +367,7 @@ const TESTS = {
     },
     "files go where their kinds belong": async (person) => {
         await person.example("distances");
-        const files = [`new File(["s 4\\nf 1 2 4\\n"], "one.solution")`, `new File([${quoted(MAX)}], "one.max")`];
+        const files = [`new File([${quoted(FLOW)}], "one.solution")`, `new File([${quoted(MAX)}], "one.max")`];
         await person.drop(`[${files}]`);
         assert.match(await person.about("instance"), /^one\.max: an instance of maximum flow, 2 nodes, 1 arcs/);
         assert.equal((await person.ask("Check")).line, "v max 4");
@@ -378,7 +375,7 @@ const TESTS = {
     "a .gz is unpacked": async (person) => {
         const packed = `new Blob([${quoted(MAX)}]).stream().pipeThrough(new CompressionStream("gzip"))`;
         await person.drop(`(async () => [new File([await new Response(${packed}).blob()], "two.max.gz")])()`, "instance");
-        await person.write("claim", "s 4\nf 1 2 4\n");
+        await person.write({claim: FLOW});
         assert.match(await person.about("instance"), /^two\.max\.gz: an instance of maximum flow/);
         assert.equal((await person.ask("Check")).line, "v max 4");
     },
@@ -397,9 +394,8 @@ const TESTS = {
         await person.page.evaluate(`void (${element("answer")}.hidden = true, ${button("Solve")}.click())`);
         await until(person.page, `!document.getElementById("stop").hidden`);
         await person.click("Stop");
-        await until(person.page, `!document.getElementById("answer").hidden && ${settled}`);
-        assert.equal((await person.answer()).verdict, "Stopped: undecided.");
-        await person.write("claim", "s 0\n");
+        assert.equal((await person.answered()).verdict, "Stopped: undecided.");
+        await person.write({claim: "s 0\n"});
         assert.match((await person.ask("Check")).line, /^x solution 1 2 NotMaximum$/);
         await person.page.evaluate(`void ${button("Solve")}.click()`);
         await until(person.page, `!document.getElementById("stop").hidden`);
@@ -411,8 +407,7 @@ const TESTS = {
     "an example that is checked before it is read": async (person) => {
         await person.example("a flow of least cost");
         await person.page.evaluate(`void (${button("a maximum flow")}.click(), ${button("Check")}.click())`);
-        await until(person.page, `${settled} && !document.getElementById("answer").hidden`);
-        assert.equal((await person.answer()).line, "v max 12");
+        assert.equal((await person.answered()).line, "v max 12");
     },
     "keys and labels": async (person) => {
         await person.example("a maximum flow");

@@ -170,7 +170,6 @@ def walk(root, but=()):
 
 
 def instances_in(parent, folders, names):
-    """The instances in a folder."""
     found = [(file, *split(file)) for file in names]
     return [
         Instance(ending[1:], joined(parent, file), folders, name)

@@ -24,12 +24,26 @@ def read_cells(row):
     return [name, *(row[it] for it in list(READ)[1:])]
 
 
-class Csv:
-    """A line of titles, then a line for each row."""
+class Writer:
+    """Writes a table: what comes before its rows, each row, and what comes after them."""
 
-    IS_READ = False
+    IS_READ = False  # by people, and so without some columns
 
     def __init__(self, out):
+        self.out = out
+
+    def head(self):
+        pass
+
+    def end(self):
+        pass
+
+
+class Csv(Writer):
+    """A line of titles, then a line for each row."""
+
+    def __init__(self, out):
+        super().__init__(out)
         self.writer = csv.DictWriter(out, COLUMNS, lineterminator="\n")
         self.quoting = csv.DictWriter(out, COLUMNS, lineterminator="\n", quoting=csv.QUOTE_ALL)
 
@@ -41,35 +55,22 @@ class Csv:
         has_return = any("\r" in it for it in row.values())
         (self.quoting if has_return else self.writer).writerow(row)
 
-    def end(self):
-        pass
 
-
-class JsonLines:
+class JsonLines(Writer):
     """A JSON object for each row, on a line."""
-
-    IS_READ = False
-
-    def __init__(self, out):
-        self.out = out
-
-    def head(self):
-        pass
 
     def row(self, row):
         self.out.write(json.dumps({it: row[it] for it in COLUMNS}) + "\n")
 
-    def end(self):
-        pass
 
-
-class ToRead:
+class ToRead(Writer):
     """A table of some columns, and a line about the programs that judged, and about rows that it lacks."""
 
     IS_READ = True
 
     def __init__(self, out):
-        self.out, self.programs, self.missing = out, set(), Missing()
+        super().__init__(out)
+        self.programs, self.missing = set(), Missing()
 
     def row(self, row):
         self.missing.add(row)
@@ -77,7 +78,7 @@ class ToRead:
             self.programs.add((row["version"], row["proof"], row["program_sha256"]))
         self.out.write(self.line([self.escaped(it) for it in read_cells(row)]))
 
-    def put_sentences(self):
+    def end(self):
         """A sentence for each program, and one about what is missing."""
         judged_by = [
             f"Judged by dimacs {version} ({proof}), whose program has the SHA-256 {sha256}."
@@ -100,9 +101,6 @@ class Markdown(ToRead):
         self.out.write(self.line([title for title, _ in READ.values()]))
         self.out.write(self.line(["--:" if is_number else "---" for _, is_number in READ.values()]))
 
-    def end(self):
-        self.put_sentences()
-
 
 class Latex(ToRead):
     """A `tabular` of LaTeX."""
@@ -123,7 +121,7 @@ class Latex(ToRead):
 
     def end(self):
         self.out.write("\\hline\n\\end{tabular}\n")
-        self.put_sentences()
+        super().end()
 
 
 FORMATS = {"csv": Csv, "jsonl": JsonLines, "markdown": Markdown, "latex": Latex}

@@ -60,20 +60,27 @@ def drop_output():
     os.dup2(os.open(os.devnull, os.O_WRONLY), 1)
 
 
-def flush():
-    """Writes what the options print, such as a version, if there is room for it."""
+def words_of(options_of):
+    """The words, with the standard streams open. What these print, such as a version, is written if there is room."""
+    open_streams()
     try:
-        sys.stdout.flush()
-    except OSError:
+        return options_of()
+    finally:
+        try:
+            sys.stdout.flush()
+        except OSError:
+            drop_output()
+
+
+def fail_of(error, fail):
+    """Ends with what the system says of a file; one without a name is of the standard streams."""
+    if error.filename is None:
         drop_output()
+    return fail(f"{error.filename or 'standard input or output'}: {error.strerror}")
 
 
 def main():
-    open_streams()
-    try:
-        options = options_of()
-    finally:
-        flush()
+    options = words_of(options_of)
     for stream in (sys.stdin, sys.stdout):
         stream.reconfigure(**ANY_NAMES)
     for it in (signal.SIGTERM, signal.SIGHUP):
@@ -89,6 +96,4 @@ def main():
     except sqlite3.Error as error:
         return fail(f"the temporary file of the list: {error}")
     except OSError as error:
-        if error.filename is None:
-            drop_output()
-        return fail(f"{error.filename or 'standard input or output'}: {error.strerror}")
+        return fail_of(error, fail)

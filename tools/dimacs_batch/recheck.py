@@ -142,18 +142,12 @@ class Recheck:
             self.expect(row["verdict"], f"judge-{what}", *files, write(folder, "empty", EMPTY[what]))
         elif action == "judge":
             self.expect(row["verdict"], verb, *files[:-1], kept or files[-1])
-        elif action == "solve" and row["class"] == YES:
-            self.judge_solved(row["verdict"], what, files)
+        elif action == "solve" and row["verdict"] == "v infeasible":
+            self.expect("v infeasible", "judge-infeasible", files[0], files[2])
+        elif action == "solve" and row["class"] == YES:  # what it wrote, where it wrote it
+            self.expect(row["verdict"], f"judge-{what}", *files[:3])
         else:
             self.compare(row["verdict"], self.run(*words, may_write=False))
-
-    def judge_solved(self, line, what, files):
-        """What a solver wrote, where it wrote it."""
-        instance, answer, certificate = files[:3]
-        if line == "v infeasible":
-            self.expect(line, "judge-infeasible", instance, certificate)
-        else:
-            self.expect(line, f"judge-{what}", instance, answer, certificate)
 
     def judge_better(self, row, what, files, kept, folder):
         """A flow that is better than the claimed one, or feasible, is feasible by all tests of a judge."""

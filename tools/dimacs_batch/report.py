@@ -78,7 +78,6 @@ def seconds_of(found):
 
 
 def programs(found):
-    """By what was judged, and where."""
     lines = [("", [*map(text, it), count]) for it, count in sorted(found.items())]
     return table_of(["dimacs", "proof", "SHA-256 of the program", "host", "rows"], lines, [4])
 
@@ -138,7 +137,6 @@ def shown(row):
 
 
 def rows(table):
-    """All rows."""
     numbers = [k for k, (_, is_number) in enumerate(READ.values()) if is_number]
     lines = ((shown(row), map(text, read_cells(row))) for row in read_table(table))
     return table_of([title for title, _ in READ.values()], lines, numbers, "sorted")
@@ -168,7 +166,6 @@ class Axis:
 
 
 def extent(table):
-    """The ends of both axes."""
     ends = None
     for arcs, seconds, _, _ in points(table):
         ends = ends or [arcs, arcs, seconds, seconds]
@@ -199,7 +196,6 @@ def plot(table):
 
 
 def page(table, options, summary):
-    """Yields the page."""
     with open(os.path.join(HERE, "report.html"), encoding="utf-8") as it:
         frame = it.read()
     parts = {

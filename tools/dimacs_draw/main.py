@@ -3,7 +3,7 @@ import os
 import sys
 import zlib
 
-from dimacs_batch.main import drop_output, flush, open_streams
+from dimacs_batch.main import fail_of, words_of
 from dimacs_draw import drawing, fail
 from dimacs_draw.options import options_of
 from dimacs_draw.program import Failed, Program, Refused
@@ -63,11 +63,7 @@ def write(name, text):
 
 
 def main():
-    open_streams()
-    try:
-        options = options_of()
-    finally:
-        flush()
+    options = words_of(options_of)
     try:
         return draw(options)
     except drawing.TooLarge as error:
@@ -80,6 +76,4 @@ def main():
     except KeyboardInterrupt:
         return 130
     except OSError as error:
-        if error.filename is None:
-            drop_output()
-        return fail(f"{error.filename or 'standard input or output'}: {error.strerror}")
+        return fail_of(error, fail)

@@ -25,10 +25,10 @@ MADE = {
 
 def main():
     out = os.path.abspath(sys.argv[1])
-    kit, listed = kits.folder("bin/rattle"), kits.crates()
+    kit = kits.folder("bin/rattle")
     os.makedirs(os.path.dirname(out), exist_ok=True)
     crate, root = MADE[os.path.basename(out)]
-    words = [*proved_build.crate_words(kit, listed, crate), *root, "--target", TARGET]
+    words = [*kits.rattle_words(kit, "build", crate, ".."), *root, "--target", TARGET]
     subprocess.run([*words, "--toolchain", f"{kit}/toolchain", "-o", out], cwd=f"{kits.TOP}/crates/{crate}", check=True)
 
 

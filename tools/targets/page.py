@@ -12,7 +12,9 @@ import os
 import re
 import sys
 
-TOP = os.path.dirname(os.path.dirname(os.path.dirname(os.path.abspath(__file__))))
+sys.path.insert(0, f"{os.path.dirname(os.path.abspath(__file__))}/..")
+from texts import TOP, read, write  # noqa: E402  (the folder isn't a package of this one)
+
 PAGE, JS, EXAMPLES = f"{TOP}/lib/page", f"{TOP}/lib/js", f"{TOP}/examples"
 
 # Each example: its title, its claim, and the files of its instance, claim and certificate.
@@ -26,11 +28,6 @@ SHOWN = [
     ("a fault in a text", "paths", ["road-faulty.gr", "road.distances"]),
 ]
 SLOTS = ["instance", "claim", "certificate"]
-
-
-def read(path):
-    with open(path, encoding="utf-8") as it:
-        return it.read()
 
 
 def joined(*paths):
@@ -78,8 +75,7 @@ def main():
     module, out = sys.argv[1:]
     with open(module, "rb") as it:
         made = page(it.read())
-    with open(out, "w", encoding="utf-8") as it:
-        it.write(made)
+    write(os.path.abspath(out), made)
     print(f"{os.path.relpath(out)}: {len(made.encode()) // 1000} KB")
 
 

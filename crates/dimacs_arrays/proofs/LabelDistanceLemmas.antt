@@ -9,10 +9,9 @@ use Rattle.std.proofs.lemmas.Option.{slice_get-get_or, slice_get_past}
 use Rattle.dimacs_lines.specs.Limits.{IsNode}
 use Rattle.dimacs_claims.specs.inside.ById.{NodesAreDistinct}
 use Rattle.dimacs_claims.specs.declared.block.Label.{Label}
-use Rattle.dimacs_claims.specs.Labels.{BlockValue, distance_in, label}
+use Rattle.dimacs_claims.specs.Labels.{BlockValue, IsItem, distance_in, label}
 use Rattle.dimacs_claims.proofs.ByIdLemmas.{distance_in-at}
 use Rattle.dimacs_decide.specs.Claims.{claimed_by_node, unless_greatest}
-use Rattle.dimacs_arrays.specs.Paths.{FitsArray}
 use Rattle.dimacs_arrays.specs.inside.LabelDistances.{AreDistancesOf}
 use Rattle.dimacs_arrays.proofs.PredLemmas.{at_place}
 
@@ -20,13 +19,13 @@ use Rattle.dimacs_arrays.proofs.PredLemmas.{at_place}
 below : (x y : ℤ) → x <ℤ y → int_lt x y ≡ true
 below x y less = grind (arith, ints)
 
-fits_array : (n : ℤ) → FitsArray n → unless_greatest (Some n) ≡ Some n
+fits_array : (n : ℤ) → IsItem n → unless_greatest (Some n) ≡ Some n
 fits_array n is = rw (below n (pos (2 ^ 63 - 1)) (by_lt_z n (pos (2 ^ 63 - 1)) (λ less. less) (λ more. absurd (is.1 (omega (arith, ints, is.0.1, more)))))) refl
 
 unsaid : unless_greatest (Some (pos (2 ^ 63 - 1))) ≡ None
 unsaid = refl
 
-pub claim_here : (ds : List ℤ) (u : ℕ) (n : ℤ) → IsNode (length ds) u → FitsArray n → claimed_by_node (slice_set ds (u - 1) n) u ≡ Some n
+pub claim_here : (ds : List ℤ) (u : ℕ) (n : ℤ) → IsNode (length ds) u → IsItem n → claimed_by_node (slice_set ds (u - 1) n) u ≡ Some n
 claim_here ds zero n node is = absurd (omega (arith, node.0))
 claim_here ds (suc k) n node is =
     let e : suc k - 1 ≡ k = omega arith in
@@ -78,7 +77,7 @@ module _ (b : BlockValue) (nodes : ℕ) where
       }
 
   module _ (apart : NodesAreDistinct b.labels) (distances : List ℤ) where
-    pub reached_more : (n : ℕ) → n < length b.labels → IsNode nodes (at_place b.labels n).id → (at_place b.labels n).id ≢ b.source → FitsArray (at_place b.labels n).dist → AreReachedBy b nodes distances n
+    pub reached_more : (n : ℕ) → n < length b.labels → IsNode nodes (at_place b.labels n).id → (at_place b.labels n).id ≢ b.source → IsItem (at_place b.labels n).dist → AreReachedBy b nodes distances n
         → AreReachedBy b nodes (slice_set distances ((at_place b.labels n).id - 1) (at_place b.labels n).dist) (n + 1)
     reached_more n inside node other is are =
         let l = at_place b.labels n in

@@ -1,14 +1,13 @@
 -- Distances and predecessors by node, and the labels that they spell.
-use Rattle.std.specs.Prelude.{ℕ, ◌≡◌, ◌≢◌, ◌-◌, ◌^◌, ◌⊎◌, List, [], ◌∷◌, All, Contains, length, Option, None, Result, Ok, Err, ℤ, pos}
+use Rattle.std.specs.Prelude.{ℕ, ◌≡◌, ◌≢◌, ◌⊎◌, List, [], ◌∷◌, All, Contains, length, Option, None, Result, Ok, Err, ℤ, pos}
 use Rattle.std.specs.Global.{Vec}
 use Rattle.std.specs.Result.{IsErrAnd}
 use Rattle.dimacs_lines.specs.Limits.{IsNode}
 use Rattle.dimacs_records.specs.declared.reasons.Reason.TheVariants.{NegativeWeight, NodeRange}
-use Rattle.dimacs_records.specs.Ranges.{IsWhole}
 use Rattle.dimacs_network.specs.Arcs.{NetworkValue}
 use Rattle.dimacs_instance.specs.QueryTexts.{Sources}
 use Rattle.dimacs_claims.specs.declared.block.Label.{Label}
-use Rattle.dimacs_claims.specs.Labels.{BlockValue, EachAfter, IsBlock, LabelsValue, label}
+use Rattle.dimacs_claims.specs.Labels.{BlockValue, EachAfter, IsBlock, IsItem, LabelsValue, label}
 use Rattle.dimacs_judging.specs.Answers.{AnswersQueries}
 use Rattle.dimacs_judging.specs.PathsJudge.{PassesPaths, ShowsDistances, paths_rows}
 use Rattle.dimacs_judging.specs.Rows.{node_row}
@@ -75,13 +74,9 @@ CertifiesByNode g s claim (Ok preds) = AreDistancesFrom g s claim × ArePredeces
 CertifiesByNode g s claim (Err (Refused place reason)) = FirstAlone (claim_rows g s claim) place reason × ¬ AreDistancesFrom g s claim
 CertifiesByNode g s claim (Err Memory) = Unit
 
--- the distance fits into an array: 64 bits hold it, and it isn't their greatest number, which stands for none
-abbrev pub FitsArray : ℤ → Type 0
-FitsArray dist = IsWhole dist × (dist ≢ pos (2 ^ 63 - 1))
-
 -- some label's distance doesn't fit into an array
 abbrev pub ExceedsArray : BlockValue → Type 0
-ExceedsArray b = (l : Label) × Contains b.labels l × ¬ FitsArray l.dist
+ExceedsArray b = (l : Label) × Contains b.labels l × ¬ IsItem l.dist
 
 -- distances and predecessors that show them; or labels, if a distance doesn't fit into an array
 abbrev pub FindsByNode : NetworkValue → ℕ → PathsSolved → Type 0

@@ -1,9 +1,9 @@
 //! Distances by node, from labels.
 
 ghost use Rattle.std.specs.Prelude.{◌≡◌, IfNone, IfOk, IfSome};
-ghost use Rattle.dimacs_claims.specs.Labels.{IsBlock};
+ghost use Rattle.dimacs_claims.specs.Labels.{IsBlock, IsItem};
 ghost use Rattle.dimacs_records.specs.Ranges.{IsWide};
-ghost use Rattle.dimacs_arrays.specs.Paths.{ExceedsArray, FitsArray};
+ghost use Rattle.dimacs_arrays.specs.Paths.{ExceedsArray};
 ghost use Rattle.dimacs_arrays.specs.inside.LabelDistances.{AreDistancesOf};
 
 use dimacs_claims::Block;
@@ -38,8 +38,8 @@ pub(crate) fn distances_of(
 #[inline(always)]
 fn to_64_bits(dist: i128) -> Option<i64>
     requires { IsWide dist }
-    ensures some { IfSome result (λ number. (number ≡ dist) × FitsArray dist) }
-    ensures none { IfNone result (¬ FitsArray dist) }
+    ensures some { IfSome result (λ number. (number ≡ dist) × IsItem dist) }
+    ensures none { IfNone result (¬ IsItem dist) }
 {
     match i64::try_from(dist) {
         Ok(number) if number < i64::MAX => Some(number),

@@ -8,7 +8,7 @@ use Rattle.dimacs_arrays.specs.declared.error.ArrayError.{ArrayError}
 use Rattle.dimacs_arrays.specs.declared.solution.ClaimedFlow.{ClaimedFlow}
 use Rattle.dimacs_fill.specs.declared.error.FillError.{FillError}
 use Rattle.dimacs_fill.specs.declared.error.FillError.TheVariants.{Unread, Node}
-use Rattle.dimacs_fill.specs.Filling.{ReadsFitting, ReadsInto}
+use Rattle.dimacs_fill.specs.Filling.{ReadsArcsInto, ReadsFitting, ReadsInto}
 use Rattle.dimacs_c.specs.ArrayTexts.{value_read}
 use Rattle.dimacs_c.specs.Calls.{Handed, handed}
 use Rattle.dimacs_c.specs.Reading.{AnswersFilled, AnswersRead}
@@ -21,6 +21,11 @@ pub read_memory : {V W : Type 0} (kind : TextKind) (text : List ℕ) (spells : V
     → ReadsInto kind text spells none size gets (Err error) → ReadsInto kind text spells none size gets (Err Memory)
 read_memory kind text spells none size gets error (Ok v, reads, is, got) = absurd (cc)
 read_memory kind text spells none size gets error (Err other, reads, is, got) = (Err Memory, tt, refl, got)
+
+pub arcs_memory : {V W : Type 0} (kind : TextKind) (text : List ℕ) (spells : V → Type 0) (size : V → W) (gets : V → Type 0) (error : ReadError)
+    → ReadsArcsInto kind text spells size gets (Err error) → ReadsArcsInto kind text spells size gets (Err Memory)
+arcs_memory kind text spells size gets error (Ok v, reads, is, got) = absurd (cc)
+arcs_memory kind text spells size gets error (Err other, reads, is, got) = (Err Memory, tt, refl, tt)
 
 module _ {W : Type 0} (reads sets : Result W ReadError → Type 0) (text : List ℕ) where
   pub was_read : (sizes : W) → reads (Ok sizes) → sets (Ok sizes) → (out : List ℕ) (exit_status needed : ℕ) → exit_status ≡ 0 → needed ≡ 0 → AnswersRead reads sets text exit_status (handed out out needed)

@@ -1,10 +1,10 @@
 -- Labels: claimed distances with predecessors.
-use Rattle.std.specs.Prelude.{ℕ, ◌≡◌, ◌≢◌, ◌≤◌, ◌⊎◌, ◌==◌, if◌then◌else◌, List, [], ◌∷◌, ◌++◌, length, slice_get, Option, Some, None, IfSome, ℤ, ◌≤ℤ◌, pos, Bool}
+use Rattle.std.specs.Prelude.{ℕ, ◌≡◌, ◌≢◌, ◌≤◌, ◌⊎◌, ◌==◌, if◌then◌else◌, List, [], ◌∷◌, ◌++◌, length, slice_get, Option, Some, None, IfSome, ℤ, ◌≤ℤ◌, ◌-◌, ◌^◌, pos, Bool}
 use Rattle.std.specs.List.{All, Contains, list_any}
 use Rattle.std.specs.Ordering.{nat_cmp}
 use Rattle.std.specs.FinSet as set
 use Rattle.dimacs_lines.specs.Limits.{most_count, most_nodes, IsNode}
-use Rattle.dimacs_records.specs.Ranges.{IsRadius, IsWide}
+use Rattle.dimacs_records.specs.Ranges.{IsRadius, IsWhole, IsWide}
 use Rattle.dimacs_claims.specs.declared.block.Label.{Label}
 
 -- the labels of all nodes claimed to be reachable from the source, or of those within a radius
@@ -20,6 +20,10 @@ pub record LabelsValue : Type 0 where
 -- stands past the end of a list
 abbrev pub no_label : Label
 no_label = record { dist = pos 0; id = 0; pred = 0 }
+
+-- the number can be an item of an array by node: 64 bits hold it, and it isn't their greatest, which stands for none
+abbrev pub IsItem : ℤ → Type 0
+IsItem number = IsWhole number × (number ≢ pos (2 ^ 63 - 1))
 
 abbrev pub distance_in : List Label → ℕ → Option ℤ
 distance_in [] v = None

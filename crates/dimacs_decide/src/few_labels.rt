@@ -30,10 +30,10 @@ const NODES_A_LABEL: usize = 32;
 /// What blocks with few labels share. A block sets only the items of the nodes that it labels.
 #[derive(Drop)]
 pub(crate) struct Tables {
-    /// One lightest arc between each two nodes, if there is a hub, a node that very many arcs leave: each block may
-    /// label both ends of many parallel arcs.
+    /// What `lightest_arcs` leaves of the arcs, if there is a hub, a node that very many arcs leave: each block may label
+    /// both ends of many parallel arcs.
     lightest: Option<PlainArcs<ArcView>>,
-    /// The lists of the lightest arcs; without a hub, of all arcs.
+    /// The lists of these arcs; without a hub, of all.
     lists: AdjacencyLists,
     places: NodeTable<u32>,
     reached: NodeTable<bool>,

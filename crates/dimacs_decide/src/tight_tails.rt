@@ -59,8 +59,8 @@ pub(crate) fn block_by_predecessors<N: Network, C: DistanceClaim>(
     }
 }
 
-/// For each node the tail of the last tight arc of positive weight to it, 0 for none. If predecessors are wanted, only
-/// arcs from these count. None if an arc shows that the claim is wrong.
+/// For each node the tail of a tight arc of positive weight to it, or 0: that of an arc from its wanted predecessor, if
+/// predecessors are wanted. What becomes 0, and when the answer is none, isn't specified: a caller tests what it needs.
 #[inline(never)]
 pub fn tails_of_tight_arcs<N: Network, C: DistanceClaim>(
     alloc: Global,

@@ -1,11 +1,8 @@
 //! What fails in a block of labels or distances.
 
-use crate::lines::Tally;
-use crate::lookups::arc_of;
 use dimacs_claims::{Block, Label, Labels};
 use dimacs_network::ArcView;
-use dimacs_records::Record;
-use std::alloc::{AllocError, Global};
+use dimacs_records::TextKind;
 
 /// The labels of an arc's ends in a block in which it fails its test.
 #[derive(Clone, Copy)]
@@ -31,9 +28,8 @@ pub(crate) fn failing_ends(labels: &Labels, arc: ArcView) -> Option<EndLabels> {
             (None, None) => true,
         };
         if fails {
-            let source = block.source();
             return Some(EndLabels {
-                source,
+                source: block.source(),
                 tail,
                 head,
                 sum,
@@ -41,64 +37,6 @@ pub(crate) fn failing_ends(labels: &Labels, arc: ArcView) -> Option<EndLabels> {
         }
     }
     None
-}
-
-/// The arcs into a node: their tails and weights.
-#[derive(Drop)]
-pub(crate) struct ArcsInto {
-    node: u32,
-    arcs: Vec<(u32, i64)>,
-}
-
-impl ArcsInto {
-    /// Before the first arc.
-    pub(crate) fn new(alloc: Global, node: u32) -> ArcsInto {
-        ArcsInto {
-            node,
-            arcs: Vec::new(alloc),
-        }
-    }
-
-    /// The least distance of the node by an arc from a node that has a label in a block.
-    fn nearest(&self, labels: &Labels, block: usize) -> Option<i128> {
-        let mut least = None;
-        for &(tail, weight) in &self.arcs {
-            if let Some(dist) = labels.label(block, tail) {
-                let sum = dist.saturating_add(i128::from(weight));
-                least = Some(least.unwrap_or(sum).min(sum));
-            }
-        }
-        least
-    }
-
-    /// The weight of the lightest arc from a node.
-    pub(crate) fn lightest(&self, from: u32) -> Option<i64> {
-        let mut least = None;
-        for &(tail, weight) in &self.arcs {
-            if tail == from {
-                least = Some(least.unwrap_or(weight).min(weight));
-            }
-        }
-        least
-    }
-
-    fn has(&self, tail: u32, weight: i128) -> bool {
-        match i64::try_from(weight) {
-            Ok(weight) => self.arcs.contains(&(tail, weight)),
-            Err(_) => false,
-        }
-    }
-}
-
-impl Tally for ArcsInto {
-    fn add(&mut self, _: u64, record: Record) -> Result<(), AllocError> {
-        if let Some(arc) = arc_of(record)
-            && arc.head == self.node
-        {
-            self.arcs.push((arc.tail, arc.cost))?;
-        }
-        Ok(())
-    }
 }
 
 /// A node's label in a block in which no arc gives it.
@@ -112,50 +50,52 @@ pub(crate) struct Unreached {
     pub(crate) least: Option<i128>,
 }
 
-/// The first distance of a node that no arc gives.
-pub(crate) fn unreached_distance(labels: &Labels, arcs: &ArcsInto) -> Option<Unreached> {
+/// The first label of a node that no arc from its PRED gives, or distance that no arc gives; of the arcs into the node.
+pub(crate) fn first_unreached(
+    labels: &Labels,
+    kind: TextKind,
+    node: u32,
+    arcs: &[ArcView],
+) -> Option<Unreached> {
     for (k, block) in labels.blocks().iter().enumerate() {
-        if let Some(label) = label_in(block, arcs.node) {
-            let least = arcs.nearest(labels, k);
-            if least != Some(label.dist) {
-                let source = block.source();
-                return Some(Unreached {
-                    source,
-                    label,
-                    before: 0,
-                    least,
-                });
-            }
+        let Some(label) = block.labels().into_iter().find(|label| label.id == node) else {
+            continue;
+        };
+        let before = labels.label(k, label.pred).unwrap_or(0);
+        let least = nearest(labels, k, arcs);
+        let weight = label.dist.saturating_sub(before);
+        let is_given = match kind {
+            TextKind::Distances => least == Some(label.dist),
+            _ => arcs.iter().any(|it| it.tail == label.pred && i128::from(it.cost) == weight),
+        };
+        if !is_given {
+            return Some(Unreached {
+                source: block.source(),
+                label,
+                before,
+                least,
+            });
         }
     }
     None
 }
 
-/// The first label of a node that no arc from its PRED gives.
-pub(crate) fn unreached_label(labels: &Labels, arcs: &ArcsInto) -> Option<Unreached> {
-    for (k, block) in labels.blocks().iter().enumerate() {
-        if let Some(label) = label_in(block, arcs.node) {
-            let before = labels.label(k, label.pred).unwrap_or(0);
-            if !arcs.has(label.pred, label.dist.saturating_sub(before)) {
-                let source = block.source();
-                return Some(Unreached {
-                    source,
-                    label,
-                    before,
-                    least: None,
-                });
-            }
+/// The least distance by one of these arcs from a node that has a label in a block.
+fn nearest(labels: &Labels, block: usize, arcs: &[ArcView]) -> Option<i128> {
+    let mut least = None;
+    for arc in arcs {
+        if let Some(dist) = labels.label(block, arc.tail) {
+            let sum = dist.saturating_add(i128::from(arc.cost));
+            least = Some(least.unwrap_or(sum).min(sum));
         }
     }
-    None
+    least
 }
 
-/// The label of a node; none for the source.
-fn label_in(block: &Block, node: u32) -> Option<Label> {
-    for label in block.labels() {
-        if label.id == node {
-            return Some(label);
-        }
-    }
-    None
+/// The weight of the lightest arc from a node.
+pub(crate) fn lightest(arcs: &[ArcView], from: u32) -> Option<i64> {
+    arcs.iter()
+        .filter(|arc| arc.tail == from)
+        .map(|arc| arc.cost)
+        .min()
 }

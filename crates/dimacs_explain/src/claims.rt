@@ -1,203 +1,187 @@
 //! Explains why a claimed flow or the claim that none is feasible is refused, and what the run wrote in its place.
 
-use crate::entries::{MostCost, NodeFlow};
 use crate::forms::range_of;
-use crate::lookups::Wanted;
-use crate::page::{Page, Said, Stop};
-use crate::reopen::Reopen;
-use crate::sentence::{Value, ending, values};
+use crate::lookups::{Wanted, arc_of};
+use crate::page::{Page, Read, Reopen, Said, Stop};
+use crate::sentence::{Value, ending, say};
 use crate::texts::TextFile;
-use dimacs_records::{At, End, Record, TextKind};
+use dimacs_claims::read_solution_into;
+use dimacs_instance::{MinInstance, read_plain_min};
+use dimacs_judging::{FlowPlaces, cost_within};
+use dimacs_network::{ArcView, PlainArcs};
+use dimacs_records::{At, End, Reason, Record, TextKind};
 
 /// The greatest VALUE.
 const MOST_VALUE: i128 = 1_000_000_000_000_000_000_000_000_000_000;
 
+fn solution_in(file: &str) -> TextFile<'_> {
+    let kind = TextKind::Solution;
+    TextFile { kind, file }
+}
+
 impl<'a, A: Reopen> Page<'a, A> {
     /// Quotes a line of the solution.
-    fn quote_solution(&mut self, at: At) -> Result<Record, Stop<'a>> {
+    fn quote_solution(&mut self, at: At) -> Read<'a, Record> {
         let solution = self.texts.claim()?;
         self.quote_there(solution, Wanted::Line(at))
     }
 
-    /// Explains that an arc has more entries than there are arcs with its ends.
-    pub(crate) fn explain_arc_twice(&mut self, at: At) -> Said<'a> {
+    /// Explains that an entry belongs to no arc, or that as many earlier entries as there are arcs have its ends.
+    pub(crate) fn explain_entry(&mut self, at: At, reason: Reason) -> Said<'a> {
         let Record::SolutionEntry { tail, head, .. } = self.quote_solution(at)? else {
             return Ok(());
         };
-        let count = self.parallel(tail, head, 0)?.all;
-        let file = Value::File(self.texts.instance()?.file);
-        self.write(
-            "{} has {} arc{} from {} to {}, and as many earlier entries have these ends\n",
-            &values![file, count, ending(count), tail, head],
-        )?;
-        self.write_spread()
-    }
-
-    /// Explains that an entry belongs to no arc.
-    pub(crate) fn explain_unknown_arc(&mut self, at: At) -> Said<'a> {
-        let Record::SolutionEntry { tail, head, .. } = self.quote_solution(at)? else {
-            return Ok(());
-        };
-        let file = Value::File(self.texts.instance()?.file);
-        self.write("{} has no arc from {} to {}\n", &values![file, tail, head])?;
+        let instance = self.texts.instance()?;
+        if reason == Reason::ArcTwice {
+            let count = self.parallel(tail, head, 0)?.all;
+            say!(self; "{} has {} arc{} from {} to {}, and as many earlier entries have these ends\n",
+                instance, count, ending(count), tail, head);
+            return self.write_spread();
+        }
+        say!(self; "{} has no arc from {} to {}\n", instance, tail, head);
         let back = self.parallel(head, tail, 0)?;
         if back.all > 0 {
-            self.write(
-                "arc {} leads from {} to {}\n",
-                &values![back.first, head, tail],
-            )?;
+            say!(self; "arc {} leads from {} to {}\n", back.first, head, tail);
         }
         Ok(())
     }
 
     /// Compares the value or cost of a flow with the claimed one.
     pub(crate) fn explain_value(&mut self, at: At) -> Said<'a> {
-        let Record::SolutionValue { value } = self.quote_solution(at)? else {
+        let Record::SolutionValue { value: claimed } = self.quote_solution(at)? else {
             return Ok(());
         };
-        let (instance, solution) = (self.texts.instance()?, self.texts.claim()?);
-        match instance.kind {
-            TextKind::Min => self.explain_claimed_cost(value),
-            _ => self.explain_claimed_value(instance, solution, value),
-        }
+        let right = match self.texts.instance()?.kind {
+            TextKind::Min => self.write_cost_of(claimed)?,
+            _ => self.write_value_of(claimed)?,
+        };
+        self.write_wrapped(claimed, right);
+        Ok(())
     }
 
-    fn explain_claimed_cost(&mut self, claimed: i128) -> Said<'a> {
-        let cost = self.claimed_cost()?;
-        self.write(
-            "{} is claimed, and the flow costs {}\n",
-            &values![claimed, cost],
-        )?;
-        self.write_wrapped(claimed, cost)
+    /// The instance of a minimum cost flow.
+    pub(crate) fn min_instance(&self) -> Read<'a, MinInstance<PlainArcs<ArcView>>> {
+        let text = self.texts.instance()?;
+        read_plain_min(self.alloc, &mut self.source(text)?).map_err(|_| text.unread())
     }
 
-    fn explain_claimed_value(
-        &mut self,
-        instance: TextFile<'a>,
-        solution: TextFile<'a>,
-        claimed: i128,
-    ) -> Said<'a> {
-        let source = self.end_of(instance, End::Source)?;
-        let mut flow = NodeFlow::new(self.alloc, solution.file, source);
-        self.tally(solution, &mut flow)?;
+    /// Compares the cost of the solution's flow with a claimed one, and returns it.
+    fn write_cost_of(&mut self, claimed: i128) -> Read<'a, i128> {
+        let min = self.min_instance()?;
+        let text = self.texts.claim()?;
+        let places = FlowPlaces::new(self.alloc, min.network())?;
+        let Ok(placed) = read_solution_into(self.alloc, places, &mut self.source(text)?) else {
+            return Err(text.unread());
+        };
+        let Ok(flow) = placed.place.flow() else {
+            return Err(text.unread());
+        };
+        let cost = cost_within(min.network(), flow).map_err(|_| Stop::Said)?;
+        say!(self; "{} is claimed, and the flow costs {}\n", claimed, cost);
+        Ok(cost)
+    }
+
+    /// The same for its value.
+    fn write_value_of(&mut self, claimed: i128) -> Read<'a, i128> {
+        let source = self.end_of(End::Source)?;
+        let flow = self.node_flow(source)?;
         let (outflow, inflow) = (flow.out_of.sum(), flow.into.sum());
         let value = outflow.saturating_sub(inflow);
-        self.write(
-            "{} is claimed, and the flow has the value {}: {} leaves the source, node {}, and {} enters it\n",
-            &values![claimed, value, outflow, source, inflow],
-        )?;
-        self.write_wrapped(claimed, value)
+        say!(self; "{} is claimed, and the flow has the value {}: {} leaves the source, node {}, and {} enters it\n",
+            claimed, value, outflow, source, inflow);
+        Ok(value)
     }
 
     /// The source or the sink.
-    pub(crate) fn end_of(&self, instance: TextFile<'a>, end: End) -> Result<u32, Stop<'a>> {
-        if let Some(found) = self.find(instance, Wanted::End(end))?
-            && let Record::MaxNode { id, .. } = found.record
-        {
-            return Ok(id);
+    pub(crate) fn end_of(&self, end: End) -> Read<'a, u32> {
+        let instance = self.texts.instance()?;
+        let found = self.find(instance, Wanted::End(end))?;
+        match found.map(|found| found.record) {
+            Some(Record::MaxNode { id, .. }) => Ok(id),
+            _ => Err(instance.unread()),
         }
-        Err(Stop::Unread(instance.file))
     }
 
     /// Names the bits in which a sum may have wrapped around.
-    fn write_wrapped(&mut self, claimed: i128, right: i128) -> Said<'a> {
+    fn write_wrapped(&mut self, claimed: i128, right: i128) {
         let apart = claimed.saturating_sub(right);
-        let bits = if apart % 18_446_744_073_709_551_616 == 0 {
-            64_u32
-        } else if apart % 4_294_967_296 == 0 {
-            32
-        } else {
-            return Ok(());
+        let bits = match (apart % 18_446_744_073_709_551_616, apart % 4_294_967_296) {
+            (0, _) => 64_u32,
+            (_, 0) => 32,
+            _ => return,
         };
-        self.write(
-            "they differ by a multiple of 2^{}: a sum of {} bits may have wrapped around\n",
-            &values![bits, bits],
-        )
+        say!(self; "they differ by a multiple of 2^{}: a sum of {} bits may have wrapped around\n", bits, bits);
     }
 
     /// Names the file with the better flow, if one was written, and by how much it is better.
     pub(crate) fn explain_better(&mut self, at: At) -> Said<'a> {
         let solution = self.texts.claim()?;
-        if self.texts.written_file == Some(solution.file) {
-            let condition = self.condition()?;
-            return self.write(
-                "the flow is feasible, and there is a better one: {}{} has it now\n",
-                &values![condition, Value::File(solution.file)],
-            );
+        let written = self.texts.written();
+        if written == Some(solution.file) {
+            say!(self; "the flow is feasible, and there is a better one: {}{} has it now\n",
+                self.condition()?, solution);
+            return Ok(());
         }
         let Record::SolutionValue { value: claimed } = self.quote_solution(at)? else {
             return Ok(());
         };
-        let Some(file) = self.texts.written_file else {
-            return self.write(
-                "the flow is feasible, and there is a better one: name a file after the solution to get it\n",
-                &[],
-            );
-        };
-        if self.again.open(file).is_none() {
-            return self.write(
-                "the flow is feasible, and there is a better one, which was written to {}\n",
-                &[Value::File(file)],
-            );
+        match written {
+            None =>
+                say!(self; "the flow is feasible, and there is a better one: name a file after the solution to get it\n"),
+            Some(file) if self.again.open(file).is_none() =>
+                say!(self; "the flow is feasible, and there is a better one, which was written to {}\n",
+                Value::File(file)),
+            Some(file) => self.compare_better(file, claimed)?,
         }
-        self.compare_better(file, claimed)
+        Ok(())
     }
 
     /// Compares the value of the flow in a file with a claimed one. One above it is that of a maximum flow, one below is
     /// a cost.
     fn compare_better(&mut self, file: &'a str, claimed: i128) -> Said<'a> {
-        let Some(Record::SolutionValue { value }) = self.quote(solution_in(file), Wanted::Value)?
-        else {
-            return self.write(
-                "the flow is feasible, and there is a better one, whose cost leaves {}\n",
-                &values![range_of("VALUE")],
-            );
-        };
-        let (verb, apart, word) = if value > claimed {
-            ("has", value.saturating_sub(claimed), "more")
-        } else {
-            ("costs", claimed.saturating_sub(value), "less")
-        };
-        self.write(
-            "this flow is feasible, and {} {} {} than the {} that is claimed\n",
-            &values![verb, apart, word, claimed],
-        )
+        match self.quote(solution_in(file), Wanted::Value)? {
+            Some(Record::SolutionValue { value }) => {
+                let (verb, word) = if value > claimed {
+                    ("has", "more")
+                } else {
+                    ("costs", "less")
+                };
+                let apart = value.saturating_sub(claimed).saturating_abs();
+                say!(self; "this flow is feasible, and {} {} {} than the {} that is claimed\n",
+                    verb, apart, word, claimed);
+            }
+            _ =>
+                say!(self; "the flow is feasible, and there is a better one, whose cost leaves {}\n",
+                range_of("VALUE")),
+        }
+        Ok(())
     }
 
     /// On what it depends whether a flow was written: on nothing if each flow has a cost in range.
-    fn condition(&self) -> Result<&'static str, Stop<'a>> {
-        let mut most = MostCost::new();
-        self.tally(self.texts.instance()?, &mut most)?;
-        Ok(if most.sum <= MOST_VALUE {
-            ""
-        } else {
-            "if its cost can be written, "
-        })
+    fn condition(&self) -> Read<'a, &'static str> {
+        let mut most = 0i128;
+        for (_, record) in self.lines(self.texts.instance()?)? {
+            if let Some(arc) = record.and_then(arc_of) {
+                let cost = i128::from(arc.cost).saturating_mul(i128::from(arc.cap));
+                most = most.saturating_add(cost.saturating_abs());
+            }
+        }
+        if most > MOST_VALUE {
+            return Ok("if its cost can be written, ");
+        }
+        Ok("")
     }
 
     /// Names the file with a feasible flow, if one was written, and quotes its cost.
     pub(crate) fn explain_feasible(&mut self) -> Said<'a> {
-        let Some(file) = self.texts.written_file else {
-            return self.write(
-                "the instance has a feasible flow: name a file after the instance to get one\n",
-                &[],
-            );
+        let Some(file) = self.texts.written() else {
+            say!(self; "the instance has a feasible flow: name a file after the instance to get one\n");
+            return Ok(());
         };
-        let condition = self.condition()?;
-        self.write(
-            "the instance has a feasible flow: {}{} has one\n",
-            &values![condition, Value::File(file)],
-        )?;
+        say!(self; "the instance has a feasible flow: {}{} has one\n", self.condition()?, Value::File(file));
         if self.again.open(file).is_some() {
             self.quote(solution_in(file), Wanted::Value)?;
         }
         Ok(())
-    }
-}
-
-fn solution_in(file: &str) -> TextFile<'_> {
-    TextFile {
-        kind: TextKind::Solution,
-        file,
     }
 }

@@ -6,13 +6,10 @@ ghost use Rattle.dimacs_runs.specs.Jobs.{HasFiles};
 ghost use Rattle.dimacs_explain.specs.Explained as explained;
 ghost use Rattle.dimacs_explain.specs.Explained.{Explains, FollowedBy};
 
-use crate::page::Page;
-use crate::reopen::Reopen;
+use crate::page::{Page, Reopen};
 use crate::report_keeper::ReportKeeper;
-use crate::texts::Texts;
-use crate::yes::explain_yes;
-use dimacs_lines::{Memory, Sink, put_all};
-use dimacs_runs::{CommandError, Files, Job, Report, Status, run_job};
+use dimacs_lines::{Sink, put_all};
+use dimacs_runs::{CommandError, Files, Job, Status, run_job};
 use std::alloc::Global;
 
 /// Runs a job, and writes lines that explain its yes or its refusal. For these it reads files again, by `Reopen`. If
@@ -45,7 +42,7 @@ fn write_explanation<A: Reopen, K: Sink>(
     if let Ok(status) = ended
         && is_explained(job, *status)
         && let Some(report) = output.report()
-        && let Ok(text) = explanation(alloc, job, report, again)
+        && let Ok(text) = Page::new(alloc, again, job, report).explained()
     {
         let _ = put_all(output, text.as_bytes());
     }
@@ -59,21 +56,5 @@ fn is_explained(job: Job<'_>, status: Status) -> bool
         (_, Status::GaveUp) => false,
         (Job::Convert(..) | Job::Show(..) | Job::Spread(..), Status::Done) => false,
         _ => true,
-    }
-}
-
-/// The explanation of the report of a run; empty if there is none.
-fn explanation<A: Reopen>(
-    alloc: Global,
-    job: Job<'_>,
-    report: &Report,
-    again: &A,
-) -> Result<String, Memory> {
-    match report {
-        Report::No(..) | Report::Fault(..) => {
-            Page::new(alloc, again, Texts::of(job)).explained(report)
-        }
-        Report::Yes(_) | Report::Distances(_) => explain_yes(alloc, again, job, report),
-        Report::GaveUp | Report::Nothing => Ok(String::new(alloc)),
     }
 }

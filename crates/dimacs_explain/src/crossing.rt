@@ -1,21 +1,41 @@
 //! What crosses the border of a set: a tight cut shows that a flow is maximum, a violated set that none is feasible.
 
-use crate::page::{Page, Said};
-use crate::reopen::Reopen;
-use crate::sentence::values;
+use crate::lookups::Wanted;
+use crate::page::{Page, Reopen, Said};
+use crate::sentence::say;
 use crate::sums::Sum;
-use dimacs_claims::Cut;
+use dimacs_claims::{Cut, read_cut};
 use dimacs_instance::MinInstance;
 use dimacs_network::{ArcView, Network};
-use std::alloc::{AllocError, Global};
+use dimacs_records::End;
+use std::alloc::Global;
 
-/// What is added up over arcs.
+/// Which bounds are added up over the arcs that cross the border of a set.
 #[derive(Clone, Copy)]
-enum Bound {
-    Cap,
-    Low,
-    /// The flow of empty arcs.
-    Nothing,
+enum Limit {
+    /// The least that arcs can carry out of it.
+    Least,
+    /// The most.
+    Most,
+    /// What they carry if the cut is tight: nothing into it.
+    Tight,
+}
+
+impl Limit {
+    fn out_of(self, arc: ArcView) -> (&'static str, i64) {
+        match self {
+            Limit::Least => ("LOW", arc.low),
+            Limit::Most | Limit::Tight => ("CAP", arc.cap),
+        }
+    }
+
+    fn into(self, arc: ArcView) -> (&'static str, i64) {
+        match self {
+            Limit::Least => ("CAP", arc.cap),
+            Limit::Most => ("LOW", arc.low),
+            Limit::Tight => ("FLOW", 0),
+        }
+    }
 }
 
 /// The arcs out of a set, and those into it.
@@ -26,132 +46,112 @@ struct Crossing {
 }
 
 impl Crossing {
+    fn of<N: Network>(alloc: Global, network: &N, set: &Cut, limit: Limit) -> Crossing {
+        let mut leaving = Sum::new(alloc);
+        let mut entering = Sum::new(alloc);
+        for i in 0..network.arcs() {
+            let arc = network.arc(i);
+            match (set.contains(arc.tail), set.contains(arc.head)) {
+                (true, false) => leaving.add_arc(i, arc, limit.out_of(arc)),
+                (false, true) => entering.add_arc(i, arc, limit.into(arc)),
+                _ => (),
+            }
+        }
+        Crossing { leaving, entering }
+    }
+
     /// What leaves the set, less what enters it.
     fn net(&self) -> i128 {
         self.leaving.sum().saturating_sub(self.entering.sum())
     }
 }
 
-/// Adds up these bounds over the arcs that cross.
-fn across<N: Network>(
-    alloc: Global,
-    network: &N,
-    set: &Cut,
-    out_of: Bound,
-    into: Bound,
-) -> Result<Crossing, AllocError> {
-    let mut leaving = Sum::new(alloc);
-    let mut entering = Sum::new(alloc);
-    for i in 0..network.arcs() {
-        let arc = network.arc(i);
-        match (set.contains(arc.tail), set.contains(arc.head)) {
-            (true, false) => add_arc(&mut leaving, i, arc, out_of)?,
-            (false, true) => add_arc(&mut entering, i, arc, into)?,
-            _ => (),
-        }
-    }
-    Ok(Crossing { leaving, entering })
-}
-
-/// Adds a bound of the arc with this index.
-fn add_arc(sum: &mut Sum, index: u32, arc: ArcView, bound: Bound) -> Result<(), AllocError> {
-    let (name, number) = match bound {
-        Bound::Cap => ("CAP", arc.cap),
-        Bound::Low => ("LOW", arc.low),
-        Bound::Nothing => ("FLOW", 0),
-    };
-    let values = values![index.saturating_add(1), arc.tail, arc.head, name, number];
-    sum.add_line(
-        "  arc {}: {} -> {}, {} {}\n",
-        &values,
-        Some(i128::from(number)),
-    )
-}
-
 /// The supplies of a set's nodes.
-fn supply_of<N: Network>(
-    alloc: Global,
-    instance: &MinInstance<N>,
-    set: &Cut,
-) -> Result<Sum, AllocError> {
+fn supply_of<N: Network>(alloc: Global, instance: &MinInstance<N>, set: &Cut) -> Sum {
     let mut sum = Sum::new(alloc);
-    for before in 0..set.nodes() {
-        let id = before.saturating_add(1);
+    for id in 1..=set.nodes() {
         let supply = instance.supply(id);
         if supply != 0 && set.contains(id) {
-            sum.add(Some(i128::from(supply)))?;
+            sum.add(Some(i128::from(supply)));
         }
     }
-    Ok(sum)
-}
-
-/// A set's supply, and the least and the most that its arcs can carry out of it.
-pub(crate) fn supply_and_bounds<N: Network>(
-    alloc: Global,
-    instance: &MinInstance<N>,
-    set: &Cut,
-) -> Result<[i128; 3], AllocError> {
-    let supply = supply_of(alloc, instance, set)?;
-    let least = across(alloc, instance.network(), set, Bound::Low, Bound::Cap)?;
-    let most = across(alloc, instance.network(), set, Bound::Cap, Bound::Low)?;
-    Ok([supply.sum(), least.net(), most.net()])
+    sum
 }
 
 impl<'a, A: Reopen> Page<'a, A> {
     /// Explains a maximum flow by a cut that is tight for it.
-    pub(crate) fn explain_maximum<N: Network>(&mut self, network: &N, cut: &Cut) -> Said<'a> {
-        let all = across(self.alloc, network, cut, Bound::Cap, Bound::Nothing)?;
-        self.write("on the source's side of the cut, ", &[])?;
-        self.write_set(cut)?;
-        self.write_lines("arcs into it, all empty", &all.entering)?;
-        self.write_lines("arcs out of it, all full", &all.leaving)?;
+    pub(crate) fn explain_maximum<N: Network>(&mut self, network: &N, cut: &Cut) {
+        let all = Crossing::of(self.alloc, network, cut, Limit::Tight);
+        say!(self; "on the source's side of the cut, ");
+        self.write_set(cut);
+        self.write_lines("arcs into it, all empty", &all.entering);
+        self.write_lines("arcs out of it, all full", &all.leaving);
         if all.leaving.count == 0 {
-            return self.write(
-                "no flow reaches the sink, so none has a value above 0\n",
-                &[],
-            );
+            return say!(self; "no flow reaches the sink, so none has a value above 0\n");
         }
-        self.write_sum(&all.leaving)?;
-        self.write(
-            ", the value of the flow: all flow to the sink has to cross these arcs, so none has a greater value\n",
-            &[],
-        )
+        self.write_sum(&all.leaving);
+        say!(self; ", the value of the flow: all flow to the sink has to cross these arcs, so none has a greater value\n");
     }
 
     /// Explains by a violated set that no flow is feasible.
-    pub(crate) fn explain_infeasible<N: Network>(
-        &mut self,
-        instance: &MinInstance<N>,
-        set: &Cut,
-    ) -> Said<'a> {
+    pub(crate) fn explain_infeasible<N: Network>(&mut self, instance: &MinInstance<N>, set: &Cut) {
         let network = instance.network();
-        let supply = supply_of(self.alloc, instance, set)?;
-        self.write("in the set, ", &[])?;
-        self.write_set(set)?;
-        self.write("its supply: ", &[])?;
-        self.write_sum(&supply)?;
-        self.write("\n", &[])?;
-        let most = across(self.alloc, network, set, Bound::Cap, Bound::Low)?;
-        let needed = supply.sum();
-        if needed > most.net() {
-            return self.write_crossing(&most, "at most", needed);
+        let supply = supply_of(self.alloc, instance, set);
+        say!(self; "in the set, ");
+        self.write_set(set);
+        say!(self; "its supply: ");
+        self.write_sum(&supply);
+        say!(self; "\n");
+        let most = Crossing::of(self.alloc, network, set, Limit::Most);
+        if supply.sum() > most.net() {
+            return self.write_crossing(&most, "at most", supply.sum());
         }
-        let least = across(self.alloc, network, set, Bound::Low, Bound::Cap)?;
-        self.write_crossing(&least, "at least", needed)
+        let least = Crossing::of(self.alloc, network, set, Limit::Least);
+        self.write_crossing(&least, "at least", supply.sum());
     }
 
     /// Writes the arcs that cross, and compares what they carry with the supply.
-    fn write_crossing(&mut self, all: &Crossing, limit: &str, supply: i128) -> Said<'a> {
-        self.write_lines("arcs out of it", &all.leaving)?;
-        self.write_lines("arcs into it", &all.entering)?;
-        self.write("these bounds add up to ", &[])?;
-        self.write_sum(&all.leaving)?;
-        self.write(" out of it, and ", &[])?;
-        self.write_sum(&all.entering)?;
+    fn write_crossing(&mut self, all: &Crossing, limit: &str, supply: i128) {
+        self.write_lines("arcs out of it", &all.leaving);
+        self.write_lines("arcs into it", &all.entering);
+        say!(self; "these bounds add up to ");
+        self.write_sum(&all.leaving);
+        say!(self; " out of it, and ");
+        self.write_sum(&all.entering);
         let (leaving, entering) = (all.leaving.sum(), all.entering.sum());
-        self.write(
-            " into it\nso what leaves it, less what enters it, is {} {} - {} = {}, but has to be its supply, {}: no flow is feasible\n",
-            &values![limit, leaving, entering, all.net(), supply],
-        )
+        say!(self; " into it\nso what leaves it, less what enters it, is {} {} - {} = {}, but has to be its supply, {}: no flow is feasible\n",
+            limit, leaving, entering, all.net(), supply);
+    }
+
+    /// Explains that the cut lacks the source, or has the sink.
+    pub(crate) fn explain_end(&mut self, node: u32, end: End) -> Said<'a> {
+        let (instance, cut) = (self.texts.instance()?, self.texts.certificate()?);
+        self.quote(instance, Wanted::End(end))?;
+        let sink = self.end_of(End::Sink)?;
+        let has_sink = self.quote(cut, Wanted::Node(sink))?.is_some();
+        if node == sink {
+            say!(self; "node {} is the sink, and the cut holds it\n", node);
+            return Ok(());
+        }
+        say!(self; "node {} is the source, and the cut in {} doesn't hold it: ", node, cut);
+        if has_sink {
+            say!(self; "this is the sink's side: list the other nodes, those on the source's side\n");
+        } else {
+            say!(self; "it lists the nodes on the source's side, the source among them\n");
+        }
+        Ok(())
+    }
+
+    /// Explains why a set isn't violated.
+    pub(crate) fn explain_violation(&mut self) -> Said<'a> {
+        let text = self.texts.certificate()?;
+        let set = read_cut(self.alloc, &mut self.source(text)?).map_err(|_| text.unread())?;
+        let min = self.min_instance()?;
+        let supply = supply_of(self.alloc, &min, &set).sum();
+        let least = Crossing::of(self.alloc, min.network(), &set, Limit::Least).net();
+        let most = Crossing::of(self.alloc, min.network(), &set, Limit::Most).net();
+        say!(self; "the set in {} supplies {}, and its arcs can carry {} to {} out of it: it would show that no flow is feasible if it supplied less than {} or more than {}\n",
+            text, supply, least, most, least, most);
+        self.write_open()
     }
 }

@@ -1,8 +1,7 @@
 //! Finds a negative cycle, which leaves nodes without a distance.
 
-use crate::page::{Page, Said, Stop};
-use crate::reopen::Reopen;
-use crate::sentence::values;
+use crate::page::{Page, Reopen, Said};
+use crate::sentence::say;
 use crate::sums::Sum;
 use dimacs_instance::read_plain_graph;
 use dimacs_lines::Memory;
@@ -12,16 +11,16 @@ use std::alloc::Global;
 /// The most arcs that are looked at, again and again, to find a cycle.
 const MOST_STEPS: u32 = 1 << 26;
 
-/// A walk from a source to a node: its weight, and the number of its last arc, from 1; 0 if it has none.
+/// A walk from a source to a node: its weight, and the index of its last arc, if it has one.
 #[derive(Clone, Copy)]
 struct Walk {
     weight: i128,
-    last: u32,
+    last: Option<u32>,
 }
 
 #[derive(Clone, Copy)]
-struct NumberedArc {
-    number: u32,
+struct IndexedArc {
+    index: u32,
     arc: ArcView,
 }
 
@@ -35,11 +34,8 @@ fn lighten<N: Network>(network: &N, walks: &mut NodeMap<Walk>) -> Result<Option<
             continue;
         };
         let weight = walk.weight.saturating_add(i128::from(arc.cost));
-        if walks
-            .get(arc.head)
-            .is_none_or(|known| weight < known.weight)
-        {
-            let last = i.saturating_add(1);
+        if walks.get(arc.head).is_none_or(|it| weight < it.weight) {
+            let last = Some(i);
             walks.set(arc.head, Walk { weight, last })?;
             changed = Some(arc.head);
         }
@@ -47,15 +43,14 @@ fn lighten<N: Network>(network: &N, walks: &mut NodeMap<Walk>) -> Result<Option<
     Ok(changed)
 }
 
-/// The last arc of the walk to a node, with its number; none if it has no arc.
-fn last_arc<N: Network>(network: &N, walks: &NodeMap<Walk>, node: u32) -> Option<NumberedArc> {
-    let number = walks.get(node)?.last;
-    let index = number.checked_sub(1)?;
+/// The last arc of the walk to a node, with its index; none if it has no arc.
+fn last_arc<N: Network>(network: &N, walks: &NodeMap<Walk>, node: u32) -> Option<IndexedArc> {
+    let index = walks.get(node)?.last?;
     if index >= network.arcs() {
         return None;
     }
     let arc = network.arc(index);
-    Some(NumberedArc { number, arc })
+    Some(IndexedArc { index, arc })
 }
 
 /// The node that is reached from this one by going back along last arcs, as often as there are nodes; none if a walk
@@ -74,7 +69,7 @@ fn around<N: Network>(
     network: &N,
     walks: &NodeMap<Walk>,
     node: u32,
-) -> Result<Vec<NumberedArc>, Memory> {
+) -> Result<Vec<IndexedArc>, Memory> {
     let mut arcs = Vec::new(alloc);
     let mut at = node;
     for _ in 0..network.nodes() {
@@ -105,12 +100,18 @@ fn negative_cycle<N: Network>(
     alloc: Global,
     network: &N,
     source: u32,
-) -> Result<Vec<NumberedArc>, Memory> {
+) -> Result<Vec<IndexedArc>, Memory> {
     if !has_negative(network) {
         return Ok(Vec::new(alloc));
     }
     let mut walks = NodeMap::new(alloc);
-    walks.set(source, Walk { weight: 0, last: 0 })?;
+    walks.set(
+        source,
+        Walk {
+            weight: 0,
+            last: None,
+        },
+    )?;
     for _ in 0..MOST_STEPS / network.arcs().max(1) {
         let Some(changed) = lighten(network, &mut walks)? else {
             break;
@@ -126,29 +127,18 @@ impl<'a, A: Reopen> Page<'a, A> {
     /// Writes a negative cycle that a source reaches, if one is found.
     pub(crate) fn write_cycle(&mut self, source: u32) -> Said<'a> {
         let text = self.texts.instance()?;
-        let Ok(graph) = read_plain_graph(self.alloc, &mut self.source(text)?) else {
-            return Err(Stop::Unread(text.file));
-        };
-        let network = graph.network();
+        let graph = read_plain_graph(self.alloc, &mut self.source(text)?);
+        let graph = graph.map_err(|_| text.unread())?;
         let mut weights = Sum::new(self.alloc);
-        for NumberedArc { number, arc } in negative_cycle(self.alloc, network, source)? {
-            weights.add_line(
-                "  arc {}: {} -> {}, WEIGHT {}\n",
-                &values![number, arc.tail, arc.head, arc.cost],
-                Some(i128::from(arc.cost)),
-            )?;
+        for IndexedArc { index, arc } in negative_cycle(self.alloc, graph.network(), source)? {
+            weights.add_arc(index, arc, ("WEIGHT", arc.cost));
         }
-        if weights.count == 0 {
-            return Ok(());
+        if weights.count > 0 {
+            let what = "a cycle that the source reaches weighs less than 0; its arcs";
+            self.write_lines(what, &weights);
+            self.write_sum(&weights);
+            say!(self; ": with each round a walk weighs less, so the nodes that it leads to have no distance\n");
         }
-        self.write_lines(
-            "a cycle that the source reaches weighs less than 0; its arcs",
-            &weights,
-        )?;
-        self.write_sum(&weights)?;
-        self.write(
-            ": with each round a walk weighs less, so the nodes that it leads to have no distance\n",
-            &[],
-        )
+        Ok(())
     }
 }

@@ -2,14 +2,12 @@
 //! test compares, or those that show a yes. Nothing is proved about the content of these lines.
 #![tactic(auto)]
 
-mod before;
 mod blocks;
 mod claims;
 mod command;
-mod costs;
 mod crossing;
 mod cycles;
-mod entries;
+mod fault_line;
 mod faults;
 mod flows;
 mod forms;
@@ -22,15 +20,13 @@ mod page;
 mod paths;
 mod quote;
 mod refusals;
-mod reopen;
 mod report_keeper;
 mod routes;
 mod sentence;
-mod sets;
 mod sums;
 mod texts;
 mod yes;
 
 pub use command::explain_job;
-pub use reopen::Reopen;
+pub use page::Reopen;
 pub use report_keeper::ReportKeeper;

@@ -1,46 +1,47 @@
 //! The lines of a text, one after another.
 
-use dimacs_lines::{Lines, MAX_LINES, Source};
+ghost use Rattle.std.specs.Iterator.{at_most};
+
+use dimacs_lines::{Lines, MAX_LINES, Memory, Source};
 use dimacs_records::{Record, TextKind, record};
-use std::alloc::AllocError;
-
-/// No text has more lines.
-pub(crate) const ANY_LINES: u64 = MAX_LINES;
-
-/// What is found out from all records of a text.
-pub(crate) trait Tally {
-    /// Adds the record of this line.
-    fn add(&mut self, line: u64, record: Record) -> Result<(), AllocError>;
-}
+use std::alloc::Global;
 
 #[derive(Drop)]
 pub(crate) struct TextLines<I> {
     lines: Lines,
     source: I,
     kind: TextKind,
+    /// The most lines that are left: no text has more than `MAX_LINES`.
+    left: u64,
 }
 
-impl<I: Source> TextLines<I> {
+impl<I: Source + Drop> TextLines<I> {
     /// Before the first line.
-    pub(crate) fn new(lines: Lines, source: I, kind: TextKind) -> TextLines<I> {
-        TextLines {
-            lines,
+    pub(crate) fn new(alloc: Global, source: I, kind: TextKind) -> Result<TextLines<I>, Memory> {
+        Ok(TextLines {
+            lines: Lines::new(alloc)?,
             source,
             kind,
-        }
+            left: MAX_LINES,
+        })
     }
 
-    /// Goes to the next line, and returns its number. None at the end, or if the rest can't be read.
-    pub(crate) fn next(&mut self) -> Option<u64> {
-        self.lines.next_line(&mut self.source).ok().flatten()
-    }
-
+    /// The bytes of the last line.
     pub(crate) fn bytes(&self) -> &[u8] {
         self.lines.line()
     }
+}
 
-    /// The record of the line; none if it is skipped or has a fault.
-    pub(crate) fn record(&self) -> Option<Record> {
-        record(self.kind, self.lines.line()).ok().flatten()
+/// Ends where the rest of the text can't be read, too.
+impl<I: Source + Drop> Iterator for TextLines<I> {
+    /// The number of a line, and its record; none if the line is skipped or has a fault.
+    type Item = (u64, Option<Record>);
+
+    ghost remaining = { λ s. at_most s.left };
+
+    fn next(&mut self) -> Option<(u64, Option<Record>)> {
+        self.left = self.left.checked_sub(1)?;
+        let number = self.lines.next_line(&mut self.source).ok().flatten()?;
+        Some((number, record(self.kind, self.lines.line()).ok().flatten()))
     }
 }

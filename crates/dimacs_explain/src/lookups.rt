@@ -3,25 +3,6 @@
 use dimacs_network::ArcView;
 use dimacs_records::{At, Declared, End, Record};
 
-/// What a line names as its own.
-#[derive(Clone, Copy)]
-pub(crate) enum Named {
-    Node(u32),
-    /// A node with its label or distance in a block.
-    Label(u32),
-}
-
-impl Named {
-    /// Whether a line names this. That of a block names its source, which has a label by that.
-    fn is_of(self, record: Record) -> bool {
-        match (self, name_in(record)) {
-            (Named::Node(wanted), Some(Named::Node(id))) => id == wanted,
-            (Named::Label(wanted), Some(Named::Node(id) | Named::Label(id))) => id == wanted,
-            _ => false,
-        }
-    }
-}
-
 /// The line to look for.
 #[derive(Clone, Copy)]
 pub(crate) enum Wanted {
@@ -29,8 +10,10 @@ pub(crate) enum Wanted {
     Value,
     /// The line here; its field is marked.
     Line(At),
-    /// A line that names this, from a line on.
-    Name { named: Named, from: u64 },
+    /// The line of a node of an instance, a set or potentials, or of the block from it.
+    Node(u32),
+    /// The line of a label or distance of a node, from the line of its block on.
+    Label { id: u32, from: u64 },
     /// The line of the source, or of the sink.
     End(End),
     /// The arc with this number, from 1.
@@ -44,30 +27,21 @@ pub(crate) enum Wanted {
 }
 
 impl Wanted {
-    /// The line of a node of an instance, a set or potentials.
-    pub(crate) fn node(id: u32) -> Wanted {
-        Wanted::Name {
-            named: Named::Node(id),
-            from: 0,
-        }
-    }
-
     /// Whether a line is of the kind that is wanted.
     pub(crate) fn is(self, line: u64, record: Record) -> bool {
         match self {
-            Wanted::Problem => matches!(declared(record), Some(Declared { nodes: Some(_), .. })),
+            Wanted::Problem => declared(record).is_some(),
             Wanted::Value => matches!(record, Record::SolutionValue { .. }),
             Wanted::Line(at) => line == at.line,
-            Wanted::Name {
-                named: wanted,
-                from,
-            } => line >= from && wanted.is_of(record),
+            Wanted::Node(id) => node_of(record) == Some(id),
+            Wanted::Label { id, from } => line >= from && has_label(record, id),
             Wanted::End(wanted) => matches!(record, Record::MaxNode { end, .. } if end == wanted),
             Wanted::Arc(_) => arc_of(record).is_some(),
-            Wanted::Entry { tail, head, .. } => is_entry(record, tail, head),
-            Wanted::Query(node) => matches!(query_ends(record), Some((from, _)) if from == node),
+            Wanted::Entry { tail, head, .. } => entry_between(record, tail, head).is_some(),
+            Wanted::Query(node) => query_from(record) == Some(node),
             Wanted::QueryNaming(node) => {
-                matches!(query_ends(record), Some((from, to)) if from == node || to == node)
+                query_from(record) == Some(node)
+                    || matches!(record, Record::PairQuery { to, .. } if to == node)
             }
         }
     }
@@ -90,36 +64,44 @@ impl Wanted {
     }
 }
 
-/// What a line names as its own.
-pub(crate) fn name_in(record: Record) -> Option<Named> {
+/// The node that a line names as its own, or the source of the block that it begins.
+pub(crate) fn node_of(record: Record) -> Option<u32> {
     match record {
         Record::MaxNode { id, .. }
         | Record::MinNode { id, .. }
         | Record::CutNode { id }
         | Record::PotentialsNode { id, .. }
         | Record::LabelsBlock { source: id, .. }
-        | Record::DistancesBlock { source: id, .. } => Some(Named::Node(id)),
-        Record::LabelsNode { id, .. } | Record::DistancesNode { id, .. } => Some(Named::Label(id)),
+        | Record::DistancesBlock { source: id, .. } => Some(id),
         _ => None,
     }
+}
+
+/// The node whose label or distance a line has.
+pub(crate) fn labelled_node(record: Record) -> Option<u32> {
+    match record {
+        Record::LabelsNode { id, .. } | Record::DistancesNode { id, .. } => Some(id),
+        _ => None,
+    }
+}
+
+/// Whether a line gives a node its label. That of a block gives its source one.
+fn has_label(record: Record, id: u32) -> bool {
+    labelled_node(record).or(node_of(record)) == Some(id)
 }
 
 /// What a problem line declares.
 pub(crate) fn declared(record: Record) -> Option<Declared> {
     let (nodes, count) = match record {
-        Record::MaxProblem { nodes, arcs: count }
-        | Record::MinProblem { nodes, arcs: count }
-        | Record::GraphProblem { nodes, arcs: count }
-        | Record::CutProblem { nodes, count }
-        | Record::PotentialsProblem { nodes, count }
-        | Record::LabelsProblem {
-            nodes,
-            blocks: count,
+        Record::MaxProblem { nodes, arcs }
+        | Record::MinProblem { nodes, arcs }
+        | Record::GraphProblem { nodes, arcs } => (Some(nodes), arcs),
+        Record::CutProblem { nodes, count } | Record::PotentialsProblem { nodes, count } => {
+            (Some(nodes), count)
         }
-        | Record::DistancesProblem {
-            nodes,
-            blocks: count,
-        } => (Some(nodes), count),
+        Record::LabelsProblem { nodes, blocks } | Record::DistancesProblem { nodes, blocks } => {
+            (Some(nodes), blocks)
+        }
         Record::QueriesProblem { count, .. } => (None, count),
         _ => return None,
     };
@@ -149,16 +131,18 @@ pub(crate) fn arc_of(record: Record) -> Option<ArcView> {
     })
 }
 
-/// Whether a line is an entry with these ends.
-pub(crate) fn is_entry(record: Record, from: u32, to: u32) -> bool {
-    matches!(record, Record::SolutionEntry { tail, head, .. } if tail == from && head == to)
+/// The flow of an entry with these ends.
+pub(crate) fn entry_between(record: Record, from: u32, to: u32) -> Option<i64> {
+    match record {
+        Record::SolutionEntry { tail, head, flow } if tail == from && head == to => Some(flow),
+        _ => None,
+    }
 }
 
-/// The ends of a query; of one for all nodes, its source alone.
-fn query_ends(record: Record) -> Option<(u32, u32)> {
+/// The node that a query is from.
+fn query_from(record: Record) -> Option<u32> {
     match record {
-        Record::SourceQuery { id } => Some((id, id)),
-        Record::PairQuery { from, to } => Some((from, to)),
+        Record::SourceQuery { id } | Record::PairQuery { from: id, .. } => Some(id),
         _ => None,
     }
 }

@@ -1,12 +1,13 @@
 //! Words that were meant as whole numbers.
 
-use std::alloc::{AllocError, Global};
+use dimacs_lines::Memory;
+use std::alloc::Global;
 
 /// Numbers of up to this many digits fit all fields but IDs and counts.
 const MOST_DIGITS: usize = 18;
 
 /// The whole number that a word spells in another way: as `3.0` and `1e6` do, or with a typographic minus.
-pub(crate) fn meant_number(alloc: Global, word: &str) -> Result<Option<String>, AllocError> {
+pub(crate) fn meant_number(alloc: Global, word: &str) -> Result<Option<String>, Memory> {
     if let Some(digits) = word.strip_prefix('\u{2212}')
         && is_whole(digits)
     {
@@ -27,7 +28,7 @@ pub(crate) fn meant_number(alloc: Global, word: &str) -> Result<Option<String>, 
 }
 
 /// A whole number followed by this many zeros.
-fn with_zeros(alloc: Global, whole: &str, zeros: &str) -> Result<Option<String>, AllocError> {
+fn with_zeros(alloc: Global, whole: &str, zeros: &str) -> Result<Option<String>, Memory> {
     let zeros = zeros.strip_prefix('+').unwrap_or(zeros);
     if !zeros.bytes().all(|byte| byte.is_ascii_digit()) {
         return Ok(None);

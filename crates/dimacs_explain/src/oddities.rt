@@ -1,6 +1,6 @@
 //! Recognises files that are no texts, or texts of another kind.
 
-use crate::forms::{field_name, form_of, kind_words};
+use crate::forms::kind_words;
 use crate::quote::field_at;
 use dimacs_records::TextKind;
 
@@ -34,18 +34,6 @@ pub(crate) fn has_lone_return(line: &[u8]) -> bool {
     }
 }
 
-/// The kinds whose texts begin with a problem line.
-const KINDS: [TextKind; 8] = [
-    TextKind::Max,
-    TextKind::Min,
-    TextKind::Graph,
-    TextKind::Queries,
-    TextKind::Cut,
-    TextKind::Potentials,
-    TextKind::Distances,
-    TextKind::Labels,
-];
-
 /// What the problem line of a text of another kind is for.
 pub(crate) fn other_kind(kind: TextKind, line: &[u8]) -> Option<&'static str> {
     if field_at(line, 1)?.text != b"p".as_slice() {
@@ -62,12 +50,17 @@ pub(crate) fn other_kind(kind: TextKind, line: &[u8]) -> Option<&'static str> {
 
 /// The kind whose problem line has this word.
 fn kind_of(word: &[u8]) -> Option<TextKind> {
-    for kind in KINDS {
-        if field_name(form_of(kind, b"p")?, 2).as_bytes() == word {
-            return Some(kind);
-        }
+    match word {
+        b"max" => Some(TextKind::Max),
+        b"min" => Some(TextKind::Min),
+        b"sp" => Some(TextKind::Graph),
+        b"aux" => Some(TextKind::Queries),
+        b"cut" => Some(TextKind::Cut),
+        b"pot" => Some(TextKind::Potentials),
+        b"dist" => Some(TextKind::Labels),
+        b"distances" => Some(TextKind::Distances),
+        _ => None,
     }
-    None
 }
 
 /// What another text is whose problem line has this word.

@@ -1,14 +1,23 @@
 //! The page on which an explanation is written, and the texts that it is about.
 
-use crate::lines::{ANY_LINES, Tally, TextLines};
+use crate::lines::TextLines;
 use crate::lookups::Wanted;
 use crate::quote::quote;
-use crate::reopen::Reopen;
-use crate::sentence::{Value, fill};
+use crate::sentence::{Prose, Value, say};
 use crate::texts::{TextFile, Texts};
-use dimacs_lines::{Lines, Memory};
-use dimacs_records::Record;
-use std::alloc::{AllocError, Global};
+use dimacs_lines::{MAX_LINES, Memory, Source};
+use dimacs_records::{At, Record};
+use dimacs_runs::{Job, Report};
+use std::alloc::Global;
+
+/// Opens files once more. What reads them by this can't create, empty or write one.
+pub trait Reopen {
+    /// A file opened for reading.
+    type Input: Source + Drop;
+
+    /// Opens a file for reading; none if that fails.
+    fn open(&self, name: &str) -> Option<Self::Input>;
+}
 
 /// Why an explanation ends early.
 #[derive(Clone, Copy)]
@@ -20,14 +29,11 @@ pub(crate) enum Stop<'a> {
     Said,
 }
 
-/// Whether there is more to say.
-pub(crate) type Said<'a> = Result<(), Stop<'a>>;
+/// What was read of a text.
+pub(crate) type Read<'a, T> = Result<T, Stop<'a>>;
 
-impl<'a> From<AllocError> for Stop<'a> {
-    fn from(_: AllocError) -> Stop<'a> {
-        Stop::Memory
-    }
-}
+/// Whether there is more to say.
+pub(crate) type Said<'a> = Read<'a, ()>;
 
 impl<'a> From<Memory> for Stop<'a> {
     fn from(_: Memory) -> Stop<'a> {
@@ -40,7 +46,7 @@ impl<'a> From<Memory> for Stop<'a> {
 pub(crate) struct FoundLine {
     pub(crate) line: u64,
     pub(crate) record: Record,
-    pub(crate) quote: String,
+    quote: Prose,
 }
 
 #[derive(Drop)]
@@ -48,78 +54,60 @@ pub(crate) struct Page<'a, A> {
     pub(crate) alloc: Global,
     pub(crate) again: &'a A,
     pub(crate) texts: Texts<'a>,
-    pub(crate) out: String,
+    pub(crate) report: &'a Report,
+    pub(crate) out: Prose,
 }
 
 impl<'a, A: Reopen> Page<'a, A> {
-    pub(crate) fn new(alloc: Global, again: &'a A, texts: Texts<'a>) -> Page<'a, A> {
+    pub(crate) fn new(
+        alloc: Global,
+        again: &'a A,
+        job: Job<'a>,
+        report: &'a Report,
+    ) -> Page<'a, A> {
         Page {
             alloc,
             again,
-            texts,
-            out: String::new(alloc),
+            texts: Texts::of(job),
+            report,
+            out: Prose::new(alloc),
         }
     }
 
     /// Writes a sentence, with the next value for each `{}`.
-    pub(crate) fn write(&mut self, sentence: &str, values: &[Value<'_>]) -> Said<'a> {
-        fill(&mut self.out, sentence, values)?;
-        Ok(())
+    pub(crate) fn write(&mut self, sentence: &str, values: &[Value<'_>]) {
+        self.out.write(sentence, values);
     }
 
     /// Reports that a file can't be read again.
-    pub(crate) fn write_unread(&mut self, file: &str) -> Said<'a> {
-        self.write(
-            "{}: is no file that can be read again, so its lines are left out\n",
-            &[Value::File(file)],
-        )
+    pub(crate) fn write_unread(&mut self, file: &str) {
+        say!(self; "{}: is no file that can be read again, so its lines are left out\n", Value::File(file));
     }
 
     /// A text, to be read again.
-    pub(crate) fn source(&self, text: TextFile<'a>) -> Result<A::Input, Stop<'a>> {
-        self.again.open(text.file).ok_or(Stop::Unread(text.file))
+    pub(crate) fn source(&self, text: TextFile<'a>) -> Read<'a, A::Input> {
+        self.again.open(text.file).ok_or(text.unread())
     }
 
-    /// The lines of a text, before the first.
-    pub(crate) fn open(&self, text: TextFile<'a>) -> Result<TextLines<A::Input>, Stop<'a>> {
-        let lines = Lines::new(self.alloc)?;
-        Ok(TextLines::new(lines, self.source(text)?, text.kind))
-    }
-
-    /// Adds all records of a text.
-    pub(crate) fn tally<T: Tally>(&self, text: TextFile<'a>, tally: &mut T) -> Said<'a> {
-        let mut lines = self.open(text)?;
-        for _ in 0..ANY_LINES {
-            let Some(line) = lines.next() else {
-                break;
-            };
-            if let Some(record) = lines.record() {
-                tally.add(line, record)?;
-            }
-        }
-        Ok(())
+    /// The lines of a text.
+    pub(crate) fn lines(&self, text: TextFile<'a>) -> Read<'a, TextLines<A::Input>> {
+        Ok(TextLines::new(self.alloc, self.source(text)?, text.kind)?)
     }
 
     /// The line of a text that is wanted; none if there is none.
-    pub(crate) fn find(
-        &self,
-        text: TextFile<'a>,
-        wanted: Wanted,
-    ) -> Result<Option<FoundLine>, Stop<'a>> {
-        let mut lines = self.open(text)?;
+    pub(crate) fn find(&self, text: TextFile<'a>, wanted: Wanted) -> Read<'a, Option<FoundLine>> {
+        let mut lines = self.lines(text)?;
         let mut before = wanted.before();
-        for _ in 0..ANY_LINES {
-            let Some(line) = lines.next() else {
+        for _ in 0..MAX_LINES {
+            let Some((line, record)) = lines.next() else {
                 break;
             };
-            let Some(record) = lines.record() else {
+            let Some(record) = record.filter(|record| wanted.is(line, *record)) else {
                 continue;
             };
-            if !wanted.is(line, record) {
-                continue;
-            }
             if before == 0 {
-                let quote = quote(self.alloc, text.file, line, lines.bytes(), wanted.field())?;
+                let field = wanted.field();
+                let quote = quote(self.alloc, text.file, At { line, field }, lines.bytes());
                 return Ok(Some(FoundLine {
                     line,
                     record,
@@ -132,24 +120,16 @@ impl<'a, A: Reopen> Page<'a, A> {
     }
 
     /// Quotes the line of a text that is wanted, and returns its record; none if there is none.
-    pub(crate) fn quote(
-        &mut self,
-        text: TextFile<'a>,
-        wanted: Wanted,
-    ) -> Result<Option<Record>, Stop<'a>> {
+    pub(crate) fn quote(&mut self, text: TextFile<'a>, wanted: Wanted) -> Read<'a, Option<Record>> {
         let Some(found) = self.find(text, wanted)? else {
             return Ok(None);
         };
-        self.out.push_str(found.quote.as_str())?;
+        self.out.append(&found.quote);
         Ok(Some(found.record))
     }
 
     /// The same for a line that has to be there.
-    pub(crate) fn quote_there(
-        &mut self,
-        text: TextFile<'a>,
-        wanted: Wanted,
-    ) -> Result<Record, Stop<'a>> {
-        self.quote(text, wanted)?.ok_or(Stop::Unread(text.file))
+    pub(crate) fn quote_there(&mut self, text: TextFile<'a>, wanted: Wanted) -> Read<'a, Record> {
+        self.quote(text, wanted)?.ok_or(text.unread())
     }
 }

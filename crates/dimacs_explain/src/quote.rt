@@ -1,8 +1,9 @@
 //! Quotes of lines.
 
-use crate::sentence::{Value, fill, values};
+use crate::sentence::{Prose, Value, say};
 use dimacs_lines::{Field, fields};
-use std::alloc::{AllocError, Global};
+use dimacs_records::At;
+use std::alloc::Global;
 
 /// The most bytes of a line that a quote shows, around the field in question.
 const SHOWN: usize = 100;
@@ -10,34 +11,28 @@ const SHOWN: usize = 100;
 /// How many of them come before the field.
 const BEFORE: usize = 40;
 
-/// Quotes a line after the name of its file and its number, and marks a field, from 1; 0 marks none.
-pub(crate) fn quote(
-    alloc: Global,
-    file: &str,
-    line: u64,
-    bytes: &[u8],
-    field: u32,
-) -> Result<String, AllocError> {
-    let marked = field_at(bytes, field);
+/// Quotes a line after the name of its file and its number, and marks its field, from 1; 0 marks none.
+pub(crate) fn quote(alloc: Global, file: &str, at: At, bytes: &[u8]) -> Prose {
+    let marked = field_at(bytes, at.field);
     let (start, length) = marked.map_or((0, 0), |field| (field.start, field.text.len()));
     let from = start.saturating_sub(BEFORE);
     let end = bytes.len().min(from.saturating_add(SHOWN));
     let stop = end.min(start.saturating_add(length));
-    let mut text = String::new(alloc);
-    fill(&mut text, "{}:{}: ", &values![Value::File(file), line])?;
-    text.push_str(if from > 0 { ".." } else { "" })?;
-    escape(&mut text, bytes.get(from..start).unwrap_or(&[]))?;
-    let begin = text.chars().count();
-    escape(&mut text, bytes.get(start..stop).unwrap_or(&[]))?;
-    let width = text.chars().count().saturating_sub(begin);
-    escape(&mut text, bytes.get(stop..end).unwrap_or(&[]))?;
-    text.push_str(if end < bytes.len() { "..\n" } else { "\n" })?;
+    let mut quote = Prose::new(alloc);
+    say!(quote; "{}:{}: ", Value::File(file), at.line);
+    quote.push(if from > 0 { ".." } else { "" });
+    escape(&mut quote, bytes.get(from..start).unwrap_or(&[]));
+    let begin = quote.text.chars().count();
+    escape(&mut quote, bytes.get(start..stop).unwrap_or(&[]));
+    let width = quote.text.chars().count().saturating_sub(begin);
+    escape(&mut quote, bytes.get(stop..end).unwrap_or(&[]));
+    quote.push(if end < bytes.len() { "..\n" } else { "\n" });
     if marked.is_some() {
-        repeat(&mut text, ' ', begin)?;
-        repeat(&mut text, '^', width.max(1))?;
-        text.push('\n')?;
+        repeat(&mut quote, " ", begin);
+        repeat(&mut quote, "^", width.max(1));
+        quote.push("\n");
     }
-    Ok(text)
+    quote
 }
 
 /// A field of a line, from 1.
@@ -46,31 +41,28 @@ pub(crate) fn field_at(line: &[u8], field: u32) -> Option<Field<'_>> {
     fields(line).nth(place)
 }
 
-fn repeat(out: &mut String, what: char, times: usize) -> Result<(), AllocError> {
+fn repeat(out: &mut Prose, what: &str, times: usize) {
     for _ in 0..times {
-        out.push(what)?;
+        out.push(what);
     }
-    Ok(())
 }
 
 /// Writes bytes: visible characters unchanged, a tab or a carriage return as a space, others by the codes of their bytes.
-pub(crate) fn escape(out: &mut String, bytes: &[u8]) -> Result<(), AllocError> {
+pub(crate) fn escape(out: &mut Prose, bytes: &[u8]) {
     for chunk in bytes.utf8_chunks() {
-        escape_text(out, chunk.valid())?;
-        write_codes(out, chunk.invalid())?;
+        escape_text(out, chunk.valid());
+        write_codes(out, chunk.invalid());
     }
-    Ok(())
 }
 
-fn escape_text(out: &mut String, text: &str) -> Result<(), AllocError> {
+fn escape_text(out: &mut Prose, text: &str) {
     for it in text.chars() {
         match it {
-            '\t' | '\r' => out.push(' ')?,
-            _ if is_visible(it) => out.push(it)?,
-            _ => write_codes(out, it.encode_utf8(&mut [0; 4]).as_bytes())?,
+            '\t' | '\r' => out.push(" "),
+            _ if is_visible(it) => out.push(it.encode_utf8(&mut [0; 4])),
+            _ => write_codes(out, it.encode_utf8(&mut [0; 4]).as_bytes()),
         }
     }
-    Ok(())
 }
 
 /// Whether a character is seen as itself: it is no control character, and doesn't join, hide or turn others.
@@ -90,9 +82,8 @@ fn is_visible(it: char) -> bool {
     )
 }
 
-fn write_codes(out: &mut String, bytes: &[u8]) -> Result<(), AllocError> {
+fn write_codes(out: &mut Prose, bytes: &[u8]) {
     for byte in bytes {
-        write!(out, "\\x{byte:02x}")?;
+        out.is_lost |= write!(out.text, "\\x{byte:02x}").is_err();
     }
-    Ok(())
 }

@@ -1,140 +1,93 @@
-//! Explains a refusal by its place and its reason.
+//! Explains a report: a refusal by its place and its reason.
 
-use crate::flows::Bound;
 use crate::lookups::Wanted;
-use crate::page::{Page, Said, Stop};
-use crate::reopen::Reopen;
-use crate::sentence::Value;
+use crate::page::{Page, Reopen, Said, Stop};
+use crate::sentence::{Value, say};
 use dimacs_judging::Where;
 use dimacs_lines::Memory;
 use dimacs_records::{At, End, Reason};
 use dimacs_runs::Report;
 
-/// Where a test failed: at a line of the solution, or else at the arc with this number or the node with this ID.
-#[derive(Clone, Copy)]
-pub(crate) struct Place {
-    pub(crate) at: At,
-    pub(crate) number: u32,
-}
-
-impl Place {
-    fn of(place: Where) -> Place {
-        let whole = At { line: 0, field: 0 };
-        match place {
-            Where::Solution { line, field } => Place {
-                at: At { line, field },
-                number: 0,
-            },
-            Where::Certificate => Place {
-                at: whole,
-                number: 0,
-            },
-            Where::Arc(number) | Where::Node(number) => Place { at: whole, number },
-        }
+/// Where a test failed: the field of the solution, and the number of the arc or the ID of the node. 0 stands for none.
+fn place_of(place: Where) -> (At, u32) {
+    let whole = At { line: 0, field: 0 };
+    match place {
+        Where::Solution { line, field } => (At { line, field }, 0),
+        Where::Certificate => (whole, 0),
+        Where::Arc(number) | Where::Node(number) => (whole, number),
     }
 }
 
 impl<'a, A: Reopen> Page<'a, A> {
-    /// The explanation of a report that refuses.
-    pub(crate) fn explained(mut self, report: &Report) -> Result<String, Memory> {
-        match self.explain(report) {
-            Err(Stop::Memory) => Err(Memory),
-            _ => Ok(self.out),
+    /// The explanation of a report. It names the files that a solver which refuses has emptied, too.
+    pub(crate) fn explained(mut self) -> Result<String, Memory> {
+        match self.explain() {
+            Err(Stop::Memory) => return Err(Memory),
+            Err(Stop::Unread(file)) => self.write_unread(file),
+            Err(Stop::Said) | Ok(()) => (),
         }
+        if matches!(self.report, Report::No(..) | Report::Fault(..)) {
+            for file in self.texts.emptied() {
+                say!(self; "{} is empty: a solve run creates the files that it writes, or empties them, before it reads the others\n",
+                    Value::File(file.as_str()));
+            }
+        }
+        self.out.finish()
     }
 
-    /// Explains a refusal, and names the files that a solver has emptied.
-    fn explain(&mut self, report: &Report) -> Said<'a> {
-        match self.explain_report(report) {
-            Err(Stop::Unread(file)) => self.write_unread(file)?,
-            Err(Stop::Memory) => return Err(Stop::Memory),
-            _ => (),
-        }
-        for file in self.texts.emptied.unwrap_or_default() {
-            self.write(
-                "{} is empty: a solve run creates the files that it writes, or empties them, before it reads the others\n",
-                &[Value::File(file.as_str())],
-            )?;
-        }
-        Ok(())
-    }
-
-    fn explain_report(&mut self, report: &Report) -> Said<'a> {
-        match report {
-            Report::Fault(_, _, Reason::Feasible) => self.explain_feasible(),
-            Report::Fault(_, _, Reason::NodesDiffer) => self.explain_nodes(),
+    fn explain(&mut self) -> Said<'a> {
+        match self.report {
+            Report::Yes(_) | Report::Distances(_) => self.explain_yes(),
+            Report::GaveUp | Report::Nothing => (),
+            Report::Fault(_, _, Reason::Feasible) => self.explain_feasible()?,
+            Report::Fault(_, _, Reason::NodesDiffer) => self.explain_nodes()?,
             Report::Fault(kind, at, reason) => {
                 let text = self.texts.of_kind(*kind)?;
-                self.explain_fault(text, *at, *reason)
+                self.explain_fault(text, *at, *reason)?;
             }
             Report::No(place, reason) => {
                 self.test_readable()?;
-                self.explain_test(Place::of(*place), *reason)
+                self.explain_test(*place, *reason)?;
             }
-            Report::Yes(_) | Report::Distances(_) | Report::GaveUp | Report::Nothing => Ok(()),
         }
+        Ok(())
     }
 
     /// Ends the explanation if a text of the run can't be read again, and names each such text.
     fn test_readable(&mut self) -> Said<'a> {
         let mut all = Ok(());
-        for text in self.texts.all() {
-            if let Some(text) = text
-                && self.again.open(text.file).is_none()
-            {
-                self.write_unread(text.file)?;
+        for file in self.texts.files_read() {
+            if self.again.open(file.as_str()).is_none() {
+                self.write_unread(file.as_str());
                 all = Err(Stop::Said);
             }
         }
         all
     }
 
-    /// Explains a test that failed. The other reasons are those of texts.
-    fn explain_test(&mut self, place: Place, reason: Reason) -> Said<'a> {
+    /// Explains a test that failed.
+    fn explain_test(&mut self, place: Where, reason: Reason) -> Said<'a> {
+        let (at, number) = place_of(place);
         match reason {
-            Reason::UnknownArc => self.explain_unknown_arc(place.at),
-            Reason::ArcTwice => self.explain_arc_twice(place.at),
-            Reason::BelowLow => self.explain_bound(place.number, Bound::Low),
-            Reason::AboveCap => self.explain_bound(place.number, Bound::Cap),
-            Reason::Balance => self.explain_balance(place.number),
-            Reason::CostRange => self.explain_cost(place.number),
-            Reason::ValueDiffers => self.explain_value(place.at),
-            Reason::NodesDiffer => self.explain_nodes(),
-            Reason::SourceOutside => self.explain_end(place.number, End::Source),
-            Reason::SinkInside => self.explain_end(place.number, End::Sink),
-            Reason::NotSaturated => self.explain_leaving(place.number),
-            Reason::BackFlow => self.explain_entering(place.number),
-            Reason::NotTight => self.explain_slack(place.number),
+            Reason::UnknownArc | Reason::ArcTwice => self.explain_entry(at, reason),
+            Reason::ValueDiffers => self.explain_value(at),
+            Reason::NotMaximum | Reason::NotLeast => self.explain_better(at),
+            Reason::BelowLow | Reason::AboveCap => self.explain_bound(number, reason),
+            Reason::CostRange | Reason::NotSaturated | Reason::BackFlow | Reason::NotTight =>
+                self.explain_flow(number, reason),
+            Reason::Balance => self.explain_balance(number),
+            Reason::SourceOutside => self.explain_end(number, End::Source),
+            Reason::SinkInside => self.explain_end(number, End::Sink),
             Reason::NotViolated => self.explain_violation(),
-            Reason::QueryNode => self.explain_query_node(place.number),
-            Reason::BlockMissing => self.explain_query(place.number),
-            Reason::NoTightArc => self.explain_unreached(place.number),
-            Reason::Escapes | Reason::NotShortest => self.explain_farther(place.number),
-            Reason::NegativeWeight => self.explain_negative(place.number),
-            Reason::NotMaximum | Reason::NotLeast => self.explain_better(place.at),
             Reason::Feasible => self.explain_feasible(),
-            Reason::LineTooLong
-            | Reason::UnknownLine
-            | Reason::FieldCount
-            | Reason::BadNumber
-            | Reason::NumberRange
-            | Reason::BadWord
-            | Reason::ProblemMissing
-            | Reason::ProblemTwice
-            | Reason::RecordOrder
-            | Reason::NodeRange
-            | Reason::NodeTwice
-            | Reason::EndTwice
-            | Reason::EndMissing
-            | Reason::BoundOrder
-            | Reason::ParallelArc
-            | Reason::TooMany
-            | Reason::TooFew
-            | Reason::SolutionMissing
-            | Reason::SolutionTwice
-            | Reason::PredUnknown
-            | Reason::LineLimit
-            | Reason::PastRadius => Ok(()),
+            Reason::NodesDiffer => self.explain_nodes(),
+            Reason::QueryNode => self.explain_query_node(number),
+            Reason::BlockMissing => self.explain_query(number),
+            Reason::NoTightArc => self.explain_unreached(number),
+            Reason::Escapes | Reason::NotShortest => self.explain_farther(number),
+            Reason::NegativeWeight => self.explain_negative(number),
+            // The others are reasons of texts.
+            _ => Ok(()),
         }
     }
 
@@ -144,9 +97,7 @@ impl<'a, A: Reopen> Page<'a, A> {
         let (instance, tested) = (self.texts.instance()?, self.texts.tested()?);
         self.quote_there(instance, Wanted::Problem)?;
         self.quote_there(tested, Wanted::Problem)?;
-        self.write(
-            "NODES of the two differ: they are not of one instance\n",
-            &[],
-        )
+        say!(self; "NODES of the two differ: they are not of one instance\n");
+        Ok(())
     }
 }

@@ -1,8 +1,7 @@
 //! Why distances are right: a route for each, with its weights.
 
-use crate::page::{Page, Said, Stop};
-use crate::reopen::Reopen;
-use crate::sentence::values;
+use crate::page::{Page, Read, Reopen, Said};
+use crate::sentence::say;
 use crate::sums::{SHOWN, Sum};
 use dimacs_claims::{Block, Label, Labels};
 use dimacs_instance::Queries;
@@ -21,8 +20,7 @@ const REACHED: usize = 5;
 fn ends_at(queries: &Queries, labels: &Labels, k: usize) -> Option<(u32, Option<u32>)> {
     match queries {
         Queries::Pairs(pairs) if !pairs.is_empty() => {
-            let (from, to) = *pairs.get(k)?;
-            Some((from, Some(to)))
+            pairs.get(k).map(|&(from, to)| (from, Some(to)))
         }
         Queries::Sources(ids) if !ids.is_empty() => ids.get(k).map(|id| (*id, None)),
         _ => labels.blocks().get(k).map(|block| (block.source(), None)),
@@ -30,10 +28,7 @@ fn ends_at(queries: &Queries, labels: &Labels, k: usize) -> Option<(u32, Option<
 }
 
 fn block_from(labels: &Labels, source: u32) -> Option<&Block> {
-    labels
-        .blocks()
-        .iter()
-        .find(|block| block.source() == source)
+    labels.blocks().iter().find(|it| it.source() == source)
 }
 
 /// The label with the greatest distance; none if no node but the source has a label.
@@ -47,17 +42,12 @@ fn farthest(block: &Block) -> Option<Label> {
     Some(farthest)
 }
 
-fn by_node(alloc: Global, block: &Block) -> Result<NodeMap<Label>, Memory> {
-    let mut by_node = NodeMap::new(alloc);
-    for label in block.labels() {
-        by_node.set(label.id, label)?;
-    }
-    Ok(by_node)
-}
-
 /// The labels on the route to a node, from the source's successor on.
 fn route_to(alloc: Global, block: &Block, to: u32) -> Result<Vec<Label>, Memory> {
-    let labels = by_node(alloc, block)?;
+    let mut labels = NodeMap::new(alloc);
+    for label in block.labels() {
+        labels.set(label.id, label)?;
+    }
     let mut route = Vec::new(alloc);
     let mut node = to;
     for _ in 0..block.labels().len() {
@@ -91,116 +81,99 @@ impl<'a, A: Reopen> Page<'a, A> {
             asked => asked,
         };
         if count == 0 {
-            self.write("no distance is claimed: there is no block\n", &[])?;
+            say!(self; "no distance is claimed: there is no block\n");
         }
         if count > ROUTES {
-            self.write("..\n", &[])?;
+            say!(self; "..\n");
         }
         if has_route {
-            self.write(
-                "no walk is shorter: from the source, whose label is 0, each arc raises the label by its WEIGHT at most\n",
-                &[],
-            )?;
+            say!(self; "no walk is shorter: from the source, whose label is 0, each arc raises the label by its WEIGHT at most\n");
         }
         Ok(())
     }
 
     /// Writes the route to a node, or why there is none. Returns whether there is one.
-    fn write_pair(&mut self, block: &Block, to: u32) -> Result<bool, Stop<'a>> {
+    fn write_pair(&mut self, block: &Block, to: u32) -> Read<'a, bool> {
         let source = block.source();
         if to == source {
-            self.write("{} to itself, without an arc: 0\n", &values![to])?;
+            say!(self; "{} to itself, without an arc: 0\n", to);
             return Ok(true);
         }
         let route = route_to(self.alloc, block, to)?;
         if !route.is_empty() {
-            self.write_route(source, &route)?;
+            self.write_route(source, &route);
             return Ok(true);
         }
-        self.write("no walk from {} to {}", &values![source, to])?;
+        say!(self; "no walk from {} to {}", source, to);
         match block.radius() {
-            None => self.write_reached(block)?,
-            Some(radius) => self.write(
-                " weighs at most {}, the RADIUS: each arc from a node with a label to one without leads past it, and no WEIGHT is negative\n",
-                &values![radius],
-            )?,
+            None => self.write_reached(block),
+            Some(radius) =>
+                say!(self; " weighs at most {}, the RADIUS: each arc from a node with a label to one without leads past it, and no WEIGHT is negative\n",
+                radius),
         }
         Ok(false)
     }
 
     /// Writes the first nodes that the source reaches.
-    fn write_reached(&mut self, block: &Block) -> Said<'a> {
-        let count = block.labels().len().saturating_add(1) as u64;
-        let source = block.source();
-        self.write(
-            ": no arc leads out of the nodes that {} reaches, {}: {}",
-            &values![source, count, source],
-        )?;
-        for label in block.labels().into_iter().take(REACHED) {
-            self.write(" {}", &values![label.id])?;
+    fn write_reached(&mut self, block: &Block) {
+        let (source, labels) = (block.source(), block.labels());
+        say!(self; ": no arc leads out of the nodes that {} reaches, {}: {}",
+            source, labels.len().saturating_add(1) as u64, source);
+        for label in labels.into_iter().take(REACHED) {
+            say!(self; " {}", label.id);
         }
-        let has_more = block.labels().len() > REACHED;
-        self.write(if has_more { " ..\n" } else { "\n" }, &[])
+        say!(self; if labels.len() > REACHED { " ..\n" } else { "\n" });
     }
 
     /// Writes the route to the node with the greatest label. Returns whether there is one.
-    fn write_farthest(&mut self, block: &Block, nodes: u32) -> Result<bool, Stop<'a>> {
+    fn write_farthest(&mut self, block: &Block, nodes: u32) -> Read<'a, bool> {
         let Some(farthest) = farthest(block) else {
-            self.write_alone(block)?;
+            self.write_alone(block);
             return Ok(false);
         };
         let count = block.labels().len();
-        self.write(
-            "the farthest node from {}, of {}",
-            &values![block.source(), count as u64],
-        )?;
+        say!(self; "the farthest node from {}, of {}", block.source(), count as u64);
         match block.radius() {
-            None => self.write(" that it reaches: ", &[])?,
-            Some(radius) => self.write(" within {}, the RADIUS: ", &values![radius])?,
+            None => say!(self; " that it reaches: "),
+            Some(radius) => say!(self; " within {}, the RADIUS: ", radius),
         }
         let route = route_to(self.alloc, block, farthest.id)?;
-        self.write_route(block.source(), &route)?;
+        self.write_route(block.source(), &route);
         if block.radius().is_none() && count.saturating_add(1) < nodes as usize {
-            self.write(
-                "the other nodes can't be reached: no arc leads to them from these\n",
-                &[],
-            )?;
+            say!(self; "the other nodes can't be reached: no arc leads to them from these\n");
         }
         Ok(true)
     }
 
     /// Writes that no node but the source has a label.
-    fn write_alone(&mut self, block: &Block) -> Said<'a> {
+    fn write_alone(&mut self, block: &Block) {
         let source = block.source();
         match block.radius() {
-            None => self.write(
-                "{} reaches no other node: no arc leads from it to another\n",
-                &values![source],
-            ),
-            Some(radius) => self.write(
-                "no other node is within {}, the RADIUS, of {}: each arc from it to another leads past it\n",
-                &values![radius, source],
-            ),
+            None =>
+                say!(self; "{} reaches no other node: no arc leads from it to another\n", source),
+            Some(radius) =>
+                say!(self; "no other node is within {}, the RADIUS, of {}: each arc from it to another leads past it\n",
+                radius, source),
         }
     }
 
     /// Writes the first nodes of a route, the last, and the sum of the weights.
-    fn write_route(&mut self, source: u32, route: &[Label]) -> Said<'a> {
+    fn write_route(&mut self, source: u32, route: &[Label]) {
         let mut weights = Sum::new(self.alloc);
         let mut before = 0i128;
-        self.write("{}", &values![source])?;
+        say!(self; "{}", source);
         let last = route.len().saturating_sub(1);
         for (k, label) in route.iter().enumerate() {
             if weights.shows_next() || k == last {
-                self.write(" -> {}", &values![label.id])?;
+                say!(self; " -> {}", label.id);
             } else if weights.count == SHOWN {
-                self.write(" -> ..", &[])?;
+                say!(self; " -> ..");
             }
-            weights.add(Some(label.dist.saturating_sub(before)))?;
+            weights.add(Some(label.dist.saturating_sub(before)));
             before = label.dist;
         }
-        self.write(": ", &[])?;
-        self.write_sum(&weights)?;
-        self.write("\n", &[])
+        say!(self; ": ");
+        self.write_sum(&weights);
+        say!(self; "\n");
     }
 }

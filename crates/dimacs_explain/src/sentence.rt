@@ -1,14 +1,18 @@
 //! Sentences, written with the values that they name.
 
 use crate::quote::escape;
-use std::alloc::AllocError;
+use crate::texts::TextFile;
+use dimacs_lines::Memory;
+use std::alloc::Global;
 
-/// The values of a sentence.
-macro_rules! values {
-    ($($value:expr),* $(,)?) => { [$($crate::sentence::Value::from($value)),*] };
+/// Writes a sentence to a page or other text, with the next value for each `{}`.
+macro_rules! say {
+    ($out:expr; $sentence:expr $(, $value:expr)*) => {
+        $out.write($sentence, &[$($crate::sentence::Value::from($value)),*])
+    };
 }
 
-pub(crate) use values;
+pub(crate) use say;
 
 /// What a sentence names.
 #[derive(Clone, Copy)]
@@ -17,6 +21,8 @@ pub(crate) enum Value<'a> {
     /// The name of a file.
     File(&'a str),
     Number(i128),
+    /// The size of a number.
+    Size(u128),
     /// A number after an operator: in brackets if it is negative.
     Operand(i128),
 }
@@ -24,6 +30,12 @@ pub(crate) enum Value<'a> {
 impl<'a> From<&'a str> for Value<'a> {
     fn from(word: &'a str) -> Value<'a> {
         Value::Word(word)
+    }
+}
+
+impl<'a> From<TextFile<'a>> for Value<'a> {
+    fn from(text: TextFile<'a>) -> Value<'a> {
+        Value::File(text.file)
     }
 }
 
@@ -51,28 +63,60 @@ impl<'a> From<i128> for Value<'a> {
     }
 }
 
-/// Writes a sentence, with the next value for each `{}`. `write!` does so too, but takes three times as long to prove.
-pub(crate) fn fill(
-    out: &mut String,
-    sentence: &str,
-    values: &[Value<'_>],
-) -> Result<(), AllocError> {
-    let mut values = values.iter();
-    for piece in sentence.split("{}") {
-        out.push_str(piece)?;
-        if let Some(value) = values.next() {
-            write_value(out, *value)?;
-        }
-    }
-    Ok(())
+/// A text that is written piece by piece. If memory runs out, it is lost.
+#[derive(Drop)]
+pub(crate) struct Prose {
+    pub(crate) text: String,
+    pub(crate) is_lost: bool,
 }
 
-fn write_value(out: &mut String, value: Value<'_>) -> Result<(), AllocError> {
-    match value {
-        Value::Word(word) => out.push_str(word),
-        Value::File(name) => escape(out, name.as_bytes()),
-        Value::Operand(number) if number < 0 => write!(out, "({number})"),
-        Value::Number(number) | Value::Operand(number) => write!(out, "{number}"),
+impl Prose {
+    pub(crate) fn new(alloc: Global) -> Prose {
+        Prose {
+            text: String::new(alloc),
+            is_lost: false,
+        }
+    }
+
+    pub(crate) fn push(&mut self, text: &str) {
+        self.is_lost |= self.text.push_str(text).is_err();
+    }
+
+    /// Adds a sentence, with the next value for each `{}`. `write!` does so too, but takes three times as long to prove.
+    pub(crate) fn write(&mut self, sentence: &str, values: &[Value<'_>]) {
+        let mut values = values.iter();
+        for piece in sentence.split("{}") {
+            self.push(piece);
+            if let Some(value) = values.next() {
+                self.write_value(*value);
+            }
+        }
+    }
+
+    fn write_value(&mut self, value: Value<'_>) {
+        let out = &mut self.text;
+        let written = match value {
+            Value::Word(word) => out.push_str(word),
+            Value::File(name) => return escape(self, name.as_bytes()),
+            Value::Size(size) => write!(out, "{size}"),
+            Value::Operand(number) if number < 0 => write!(out, "({number})"),
+            Value::Number(number) | Value::Operand(number) => write!(out, "{number}"),
+        };
+        self.is_lost |= written.is_err();
+    }
+
+    /// Adds another text.
+    pub(crate) fn append(&mut self, other: &Prose) {
+        self.is_lost |= other.is_lost;
+        self.push(other.text.as_str());
+    }
+
+    /// The text, unless it is lost.
+    pub(crate) fn finish(self) -> Result<String, Memory> {
+        if self.is_lost {
+            return Err(Memory);
+        }
+        Ok(self.text)
     }
 }
 

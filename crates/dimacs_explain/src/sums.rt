@@ -1,10 +1,10 @@
 //! Sums and lists, of which the first items are shown.
 
-use crate::page::{Page, Said};
-use crate::reopen::Reopen;
-use crate::sentence::{Value, fill, values};
+use crate::page::{Page, Reopen};
+use crate::sentence::{Prose, Value, say};
 use dimacs_claims::Cut;
-use std::alloc::{AllocError, Global};
+use dimacs_network::ArcView;
+use std::alloc::Global;
 
 /// The most items that are shown.
 pub(crate) const SHOWN: u64 = 6;
@@ -13,8 +13,8 @@ pub(crate) const SHOWN: u64 = 6;
 #[derive(Drop)]
 pub(crate) struct Sum {
     /// The first lines.
-    lines: String,
-    terms: String,
+    lines: Prose,
+    terms: Prose,
     pub(crate) count: u64,
     /// None if a number or a sum didn't fit 128 bits.
     pub(crate) total: Option<i128>,
@@ -25,8 +25,8 @@ pub(crate) struct Sum {
 impl Sum {
     pub(crate) fn new(alloc: Global) -> Sum {
         Sum {
-            lines: String::new(alloc),
-            terms: String::new(alloc),
+            lines: Prose::new(alloc),
+            terms: Prose::new(alloc),
             count: 0,
             total: Some(0),
             rest: Some(0),
@@ -44,31 +44,29 @@ impl Sum {
     }
 
     /// Adds a number; none is one that doesn't fit.
-    pub(crate) fn add(&mut self, number: Option<i128>) -> Result<(), AllocError> {
-        let shown = self.shows_next();
-        self.count = self.count.saturating_add(1);
+    pub(crate) fn add(&mut self, number: Option<i128>) {
         self.total = plus(self.total, number);
-        if shown {
-            return write_term(number.unwrap_or(0), &mut self.terms);
+        if self.shows_next() {
+            write_term(&mut self.terms, number.unwrap_or(0));
+        } else {
+            self.rest = plus(self.rest, number);
+            self.total = self.rest.and(self.total);
         }
-        self.rest = plus(self.rest, number);
-        if self.rest.is_none() {
-            self.total = None;
-        }
-        Ok(())
+        self.count = self.count.saturating_add(1);
     }
 
-    /// Adds a number with its line, a sentence with these values.
-    pub(crate) fn add_line(
-        &mut self,
-        sentence: &str,
-        values: &[Value<'_>],
-        number: Option<i128>,
-    ) -> Result<(), AllocError> {
+    /// Writes the line of the next number, if that is shown.
+    pub(crate) fn write(&mut self, sentence: &str, values: &[Value<'_>]) {
         if self.shows_next() {
-            fill(&mut self.lines, sentence, values)?;
+            self.lines.write(sentence, values);
         }
-        self.add(number)
+    }
+
+    /// Adds a number of an arc, with its name, and writes its line.
+    pub(crate) fn add_arc(&mut self, index: u32, arc: ArcView, (name, number): (&str, i64)) {
+        let (tail, head) = (arc.tail, arc.head);
+        say!(self; "  arc {}: {} -> {}, {} {}\n", index.saturating_add(1), tail, head, name, number);
+        self.add(Some(i128::from(number)));
     }
 }
 
@@ -78,53 +76,46 @@ fn plus(one: Option<i128>, other: Option<i128>) -> Option<i128> {
 }
 
 /// Writes a number, with its sign between blanks unless it is the first.
-fn write_term(term: i128, out: &mut String) -> Result<(), AllocError> {
-    if out.is_empty() {
-        fill(out, "{}", &values![term])
+fn write_term(out: &mut Prose, term: i128) {
+    if out.text.is_empty() {
+        say!(out; "{}", term);
     } else if term < 0 {
-        write!(out, " - {}", term.unsigned_abs())
+        say!(out; " - {}", Value::Size(term.unsigned_abs()));
     } else {
-        fill(out, " + {}", &values![term])
+        say!(out; " + {}", term);
     }
 }
 
 impl<'a, A: Reopen> Page<'a, A> {
     /// Writes what the lines of a sum are, how many they are, and the first of them.
-    pub(crate) fn write_lines(&mut self, what: &str, sum: &Sum) -> Said<'a> {
-        self.write("{}: {}\n{}", &values![what, sum.count, sum.lines.as_str()])?;
+    pub(crate) fn write_lines(&mut self, what: &str, sum: &Sum) {
+        say!(self; "{}: {}\n", what, sum.count);
+        self.out.append(&sum.lines);
         if sum.count > SHOWN {
-            return self.write("  all others: {}\n", &values![sum.rest.unwrap_or(0)]);
+            say!(self; "  all others: {}\n", sum.rest.unwrap_or(0));
         }
-        Ok(())
     }
 
     /// Writes the numbers of a sum, and what they add up to.
-    pub(crate) fn write_sum(&mut self, sum: &Sum) -> Said<'a> {
+    pub(crate) fn write_sum(&mut self, sum: &Sum) {
         if sum.count > 1 {
-            self.out.push_str(sum.terms.as_str())?;
+            self.out.append(&sum.terms);
             if sum.count > SHOWN {
-                write_term(sum.rest.unwrap_or(0), &mut self.out)?;
+                write_term(&mut self.out, sum.rest.unwrap_or(0));
             }
-            self.out.push_str(" = ")?;
+            say!(self; " = ");
         }
-        self.write("{}", &values![sum.sum()])
+        say!(self; "{}", sum.sum());
     }
 
     /// Writes the first nodes of a set, and how many it has.
-    pub(crate) fn write_set(&mut self, set: &Cut) -> Said<'a> {
+    pub(crate) fn write_set(&mut self, set: &Cut) {
         let count = u64::from(set.len());
-        self.write("{} of the {} nodes:", &values![count, set.nodes()])?;
-        let mut left = SHOWN;
-        for before in 0..set.nodes() {
-            if left == 0 {
-                break;
-            }
-            let id = before.saturating_add(1);
-            if set.contains(id) {
-                self.write(" {}", &values![id])?;
-                left = left.saturating_sub(1);
-            }
+        say!(self; "{} of the {} nodes:", count, set.nodes());
+        let inside = (1..=set.nodes()).filter(|id| set.contains(*id));
+        for id in inside.take(SHOWN as usize) {
+            say!(self; " {}", id);
         }
-        self.write(if count > SHOWN { " ..\n" } else { "\n" }, &[])
+        say!(self; if count > SHOWN { " ..\n" } else { "\n" });
     }
 }

@@ -1,6 +1,6 @@
 //! The texts of a run, by their files.
 
-use crate::page::Stop;
+use crate::page::{Read, Stop};
 use dimacs_records::TextKind;
 use dimacs_runs::{Job, JudgeKind, SolveJob, SpreadKind};
 
@@ -11,150 +11,114 @@ pub(crate) struct TextFile<'a> {
     pub(crate) file: &'a str,
 }
 
-/// The texts that a run reads.
-#[derive(Clone, Copy)]
-pub(crate) struct Texts<'a> {
-    /// The text of `convert` or `show`, of any kind.
-    single: Option<TextFile<'a>>,
-    instance: Option<TextFile<'a>>,
-    /// Queries, a solution or distances.
-    claim: Option<TextFile<'a>>,
-    certificate: Option<TextFile<'a>>,
-    /// The file that the run may write once it has read the others.
-    pub(crate) written_file: Option<&'a str>,
-    /// Whether the run deals a flow out to parallel arcs.
-    pub(crate) is_spread: bool,
-    /// The files that the run empties before it reads the others.
-    pub(crate) emptied: Option<&'a [String]>,
+impl<'a> TextFile<'a> {
+    /// It can't be read again.
+    pub(crate) fn unread(self) -> Stop<'a> {
+        Stop::Unread(self.file)
+    }
 }
 
-const NO_TEXTS: Texts<'static> = Texts {
-    single: None,
-    instance: None,
-    claim: None,
-    certificate: None,
-    written_file: None,
-    is_spread: false,
-    emptied: None,
-};
+/// The texts that a run reads, and the files that it writes.
+#[derive(Clone, Copy)]
+pub(crate) struct Texts<'a> {
+    job: Job<'a>,
+    /// The kinds of the first files: those that the run reads.
+    kinds: &'static [TextKind],
+    pub(crate) files: &'a [String],
+}
 
 impl<'a> Texts<'a> {
     pub(crate) fn of(job: Job<'a>) -> Texts<'a> {
-        match job {
-            Job::Convert(kind, file) | Job::Show(kind, file) => Texts {
-                single: Some(TextFile { kind, file }),
-                ..NO_TEXTS
-            },
-            Job::Judge(kind, files) => judge_texts(kind, files),
-            Job::Certify(kind, files) => certify_texts(kind, files),
-            Job::Spread(kind, files) => Texts {
-                is_spread: true,
-                ..certify_texts(spread_claim(kind), files)
-            },
-            Job::Solve(job, files) => solve_texts(job, files),
+        let kinds = kinds_read(job);
+        let files: &[String] = match job {
+            Job::Convert(..) | Job::Show(..) => &[],
+            Job::Judge(_, files) | Job::Certify(_, files) => files,
+            Job::Spread(_, files) | Job::Solve(_, files) => files,
+        };
+        Texts { job, kinds, files }
+    }
+
+    /// The text in which a fault of this kind is.
+    pub(crate) fn of_kind(&self, kind: TextKind) -> Read<'a, TextFile<'a>> {
+        match self.job {
+            Job::Convert(kind, file) | Job::Show(kind, file) => Ok(TextFile { kind, file }),
+            _ => self.one_of(&[kind]),
         }
     }
 
-    /// The text of this kind.
-    pub(crate) fn of_kind(&self, kind: TextKind) -> Result<TextFile<'a>, Stop<'a>> {
-        if let Some(text) = self.single {
-            return Ok(text);
-        }
-        match kind {
-            TextKind::Max | TextKind::Min | TextKind::Graph => self.instance(),
-            TextKind::Queries | TextKind::Solution | TextKind::Distances => self.claim(),
-            TextKind::Cut | TextKind::Potentials | TextKind::Labels => self.certificate(),
-        }
+    pub(crate) fn instance(&self) -> Read<'a, TextFile<'a>> {
+        self.one_of(&[TextKind::Max, TextKind::Min, TextKind::Graph])
     }
 
-    pub(crate) fn instance(&self) -> Result<TextFile<'a>, Stop<'a>> {
-        self.instance.ok_or(Stop::Said)
+    /// Queries, a solution or distances.
+    pub(crate) fn claim(&self) -> Read<'a, TextFile<'a>> {
+        self.one_of(&[TextKind::Queries, TextKind::Solution, TextKind::Distances])
     }
 
-    pub(crate) fn claim(&self) -> Result<TextFile<'a>, Stop<'a>> {
-        self.claim.ok_or(Stop::Said)
-    }
-
-    pub(crate) fn certificate(&self) -> Result<TextFile<'a>, Stop<'a>> {
-        self.certificate.ok_or(Stop::Said)
+    pub(crate) fn certificate(&self) -> Read<'a, TextFile<'a>> {
+        self.one_of(&[TextKind::Cut, TextKind::Potentials, TextKind::Labels])
     }
 
     /// The text that is tested against the instance: the certificate, or distances.
-    pub(crate) fn tested(&self) -> Result<TextFile<'a>, Stop<'a>> {
-        match self.claim {
-            Some(claim) if claim.kind == TextKind::Distances => Ok(claim),
-            _ => self.certificate(),
+    pub(crate) fn tested(&self) -> Read<'a, TextFile<'a>> {
+        self.one_of(&[TextKind::Distances]).or(self.certificate())
+    }
+
+    /// The text of one of these kinds.
+    fn one_of(&self, kinds: &[TextKind]) -> Read<'a, TextFile<'a>> {
+        for (kind, file) in self.kinds.iter().zip(self.files) {
+            if kinds.contains(kind) {
+                let (kind, file) = (*kind, file.as_str());
+                return Ok(TextFile { kind, file });
+            }
+        }
+        Err(Stop::Said)
+    }
+
+    /// The files of all texts but that of `convert` or `show`.
+    pub(crate) fn files_read(&self) -> &'a [String] {
+        self.files.get(..self.kinds.len()).unwrap_or_default()
+    }
+
+    fn files_written(&self) -> &'a [String] {
+        self.files.get(self.kinds.len()..).unwrap_or_default()
+    }
+
+    /// The file that the run may write once it has read the others.
+    pub(crate) fn written(&self) -> Option<&'a str> {
+        self.files_written().first().map(String::as_str)
+    }
+
+    /// The files that the run empties before it reads the others.
+    pub(crate) fn emptied(&self) -> &'a [String] {
+        match self.job {
+            Job::Solve(..) => self.files_written(),
+            _ => &[],
         }
     }
 
-    /// All texts but that of `convert` or `show`.
-    pub(crate) fn all(&self) -> [Option<TextFile<'a>>; 3] {
-        [self.instance, self.claim, self.certificate]
+    /// Whether the run deals a flow out to parallel arcs.
+    pub(crate) fn is_spread(&self) -> bool {
+        matches!(self.job, Job::Spread(..))
     }
 }
 
-fn text_in(kind: TextKind, file: Option<&String>) -> Option<TextFile<'_>> {
-    let file = file?.as_str();
-    Some(TextFile { kind, file })
-}
-
-/// The kinds of an instance, a claim about it, and the claim's certificate.
-fn kinds(kind: JudgeKind) -> (TextKind, TextKind, TextKind) {
-    match kind {
-        JudgeKind::Max => (TextKind::Max, TextKind::Solution, TextKind::Cut),
-        JudgeKind::Min => (TextKind::Min, TextKind::Solution, TextKind::Potentials),
-        JudgeKind::Infeasible => (TextKind::Min, TextKind::Solution, TextKind::Cut),
-        JudgeKind::Paths => (TextKind::Graph, TextKind::Queries, TextKind::Labels),
-    }
-}
-
-fn judge_texts(kind: JudgeKind, files: &[String]) -> Texts<'_> {
-    let (instance, claim, certificate) = kinds(kind);
-    let claim = match kind {
-        JudgeKind::Infeasible => None,
-        _ => text_in(claim, files.get(1)),
-    };
-    Texts {
-        instance: text_in(instance, files.first()),
-        claim,
-        certificate: text_in(certificate, files.last()),
-        ..NO_TEXTS
-    }
-}
-
-/// For a run that reads an instance, and a claim but for `Infeasible`, and may write one more file.
-fn certify_texts(kind: JudgeKind, files: &[String]) -> Texts<'_> {
-    let (instance, claim, _) = kinds(kind);
-    let (claim, written) = match kind {
-        JudgeKind::Infeasible => (None, files.get(1)),
-        JudgeKind::Paths => (text_in(TextKind::Distances, files.get(1)), files.get(2)),
-        JudgeKind::Max | JudgeKind::Min => (text_in(claim, files.get(1)), files.get(2)),
-    };
-    Texts {
-        instance: text_in(instance, files.first()),
-        claim,
-        written_file: written.map(String::as_str),
-        ..NO_TEXTS
-    }
-}
-
-fn spread_claim(kind: SpreadKind) -> JudgeKind {
-    match kind {
-        SpreadKind::Max => JudgeKind::Max,
-        SpreadKind::Min => JudgeKind::Min,
-    }
-}
-
-fn solve_texts(job: SolveJob, files: &[String]) -> Texts<'_> {
-    let (instance, claim, read) = match job {
-        SolveJob::Max(_) => (TextKind::Max, None, 1),
-        SolveJob::Min(_) => (TextKind::Min, None, 1),
-        SolveJob::Paths => (TextKind::Graph, text_in(TextKind::Queries, files.get(1)), 2),
-    };
-    Texts {
-        instance: text_in(instance, files.first()),
-        claim,
-        emptied: files.get(read..),
-        ..NO_TEXTS
+/// The kinds of the texts that a run reads, in the order of their files; none for `convert` and `show`.
+fn kinds_read(job: Job<'_>) -> &'static [TextKind] {
+    match job {
+        Job::Judge(JudgeKind::Max, _) => &[TextKind::Max, TextKind::Solution, TextKind::Cut],
+        Job::Judge(JudgeKind::Min, _) => &[TextKind::Min, TextKind::Solution, TextKind::Potentials],
+        Job::Judge(JudgeKind::Infeasible, _) => &[TextKind::Min, TextKind::Cut],
+        Job::Judge(JudgeKind::Paths, _) => &[TextKind::Graph, TextKind::Queries, TextKind::Labels],
+        Job::Certify(JudgeKind::Max, _) => &[TextKind::Max, TextKind::Solution],
+        Job::Certify(JudgeKind::Min, _) => &[TextKind::Min, TextKind::Solution],
+        Job::Certify(JudgeKind::Infeasible, _) => &[TextKind::Min],
+        Job::Certify(JudgeKind::Paths, _) => &[TextKind::Graph, TextKind::Distances],
+        Job::Spread(SpreadKind::Max, _) => &[TextKind::Max, TextKind::Solution],
+        Job::Spread(SpreadKind::Min, _) => &[TextKind::Min, TextKind::Solution],
+        Job::Solve(SolveJob::Max(_), _) => &[TextKind::Max],
+        Job::Solve(SolveJob::Min(_), _) => &[TextKind::Min],
+        Job::Solve(SolveJob::Paths, _) => &[TextKind::Graph, TextKind::Queries],
+        Job::Convert(..) | Job::Show(..) => &[],
     }
 }

@@ -1,2 +1,4 @@
+mod ArcReadingLemmas
 mod BlockLemmas
+mod ColumnLemmas
 mod FillLemmas

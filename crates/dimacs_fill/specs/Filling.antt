@@ -1,5 +1,5 @@
 -- The arrays of a caller, filled with as many items as fit.
-use Rattle.std.specs.Prelude.{ℕ, ◌≡◌, ◌<◌, ◌++◌, List, length, take, drop, map, Some, slice_get, ℤ, IfErr, Result, Ok, Err}
+use Rattle.std.specs.Prelude.{ℕ, ◌≡◌, ◌<◌, ◌++◌, List, length, take, drop, map, Some, slice_get, ℤ, IfErr, IfOk, Result, Ok, Err}
 use Rattle.dimacs_lines.specs.Lines.{lines}
 use Rattle.dimacs_network.specs.declared.network.ArcView.{ArcView}
 use Rattle.dimacs_records.specs.declared.faults.ReadError.{ReadError}
@@ -43,6 +43,11 @@ size_of f (Err error) = Err error
 abbrev pub ReadsInto : {V W : Type 0} → TextKind → List ℕ → (V → Type 0) → V → (V → W) → (V → Type 0) → Result W ReadError → Type 0
 ReadsInto {V} kind text spells none size gets result =
     (answer : Result V ReadError) × Reads spells (Fault kind (lines text)) answer × (result ≡ size_of size answer) × gets (value_or none answer)
+
+-- the same of an instance; after an error the arrays may hold anything
+abbrev pub ReadsArcsInto : {V W : Type 0} → TextKind → List ℕ → (V → Type 0) → (V → W) → (V → Type 0) → Result W ReadError → Type 0
+ReadsArcsInto {V} kind text spells size gets result =
+    (answer : Result V ReadError) × Reads spells (Fault kind (lines text)) answer × (result ≡ size_of size answer) × IfOk answer gets
 
 abbrev pub FillsIf : {V W : Type 0} → (V → Result W FillError → Type 0) → Result V ReadError → Result W FillError → Type 0
 FillsIf fills (Ok v) result = fills v result

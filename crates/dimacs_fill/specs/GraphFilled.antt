@@ -1,15 +1,11 @@
 -- Graphs in the arrays of a caller.
-use Rattle.std.specs.Prelude.{ℕ, ℤ, List, [], length, Result}
+use Rattle.std.specs.Prelude.{ℕ, ℤ, List, length, Result}
 use Rattle.dimacs_records.specs.declared.faults.ReadError.{ReadError}
 use Rattle.dimacs_records.specs.declared.kinds.TextKind.TheVariants.{Graph}
 use Rattle.dimacs_network.specs.Arcs.{NetworkValue}
 use Rattle.dimacs_instance.specs.Graph.{SpellsGraph}
 use Rattle.dimacs_fill.specs.declared.graph.GraphSizes.{GraphSizes}
-use Rattle.dimacs_fill.specs.Filling.{Array, IsFilled, ReadsInto, tails_of, heads_of, costs_of}
-
--- no nodes and no arcs
-abbrev pub no_graph : NetworkValue
-no_graph = record { nodes = 0; arcs = [] }
+use Rattle.dimacs_fill.specs.Filling.{Array, IsFilled, ReadsArcsInto, tails_of, heads_of, costs_of}
 
 abbrev pub graph_sizes : NetworkValue → GraphSizes
 graph_sizes g = record { nodes = g.nodes; arcs = length g.arcs }
@@ -21,4 +17,4 @@ HoldGraph tails heads weights g =
 
 abbrev pub ReadsGraphInto : List ℕ → Array ℕ → Array ℕ → Array ℤ → Result GraphSizes ReadError → Type 0
 ReadsGraphInto text tails heads weights =
-    ReadsInto Graph text (SpellsGraph text) no_graph graph_sizes (HoldGraph tails heads weights)
+    ReadsArcsInto Graph text (SpellsGraph text) graph_sizes (HoldGraph tails heads weights)

@@ -1,15 +1,11 @@
 -- Maximum flow instances in the arrays of a caller.
-use Rattle.std.specs.Prelude.{ℕ, ℤ, List, [], length, Result}
+use Rattle.std.specs.Prelude.{ℕ, ℤ, List, length, Result}
 use Rattle.dimacs_records.specs.declared.faults.ReadError.{ReadError}
 use Rattle.dimacs_records.specs.declared.kinds.TextKind.TheVariants.{Max}
 use Rattle.dimacs_instance.specs.MaxFlows.{MaxValue}
 use Rattle.dimacs_instance.specs.MaxTexts.{SpellsMax}
 use Rattle.dimacs_fill.specs.declared.max.MaxSizes.{MaxSizes}
-use Rattle.dimacs_fill.specs.Filling.{Array, IsFilled, ReadsInto, tails_of, heads_of, caps_of}
-
--- no arcs
-abbrev pub no_max : MaxValue
-no_max = record { nodes = 0; source = 0; sink = 0; arcs = [] }
+use Rattle.dimacs_fill.specs.Filling.{Array, IsFilled, ReadsArcsInto, tails_of, heads_of, caps_of}
 
 abbrev pub max_sizes : MaxValue → MaxSizes
 max_sizes m = record { nodes = m.nodes; source = m.source; sink = m.sink; arcs = length m.arcs }
@@ -20,4 +16,4 @@ HoldMax tails heads caps m =
     IsFilled (tails_of m.arcs) tails × IsFilled (heads_of m.arcs) heads × IsFilled (caps_of m.arcs) caps
 
 abbrev pub ReadsMaxInto : List ℕ → Array ℕ → Array ℕ → Array ℤ → Result MaxSizes ReadError → Type 0
-ReadsMaxInto text tails heads caps = ReadsInto Max text (SpellsMax text) no_max max_sizes (HoldMax tails heads caps)
+ReadsMaxInto text tails heads caps = ReadsArcsInto Max text (SpellsMax text) max_sizes (HoldMax tails heads caps)

@@ -1,17 +1,12 @@
 -- Minimum cost flow instances in the arrays of a caller.
-use Rattle.std.specs.Prelude.{ℕ, ℤ, List, [], length, map, Result}
-use Rattle.std.specs.FinMap.{empty}
+use Rattle.std.specs.Prelude.{ℕ, ℤ, List, length, map, Result}
 use Rattle.std.specs.List.{range_with_len}
 use Rattle.dimacs_records.specs.declared.faults.ReadError.{ReadError}
 use Rattle.dimacs_records.specs.declared.kinds.TextKind.TheVariants.{Min}
 use Rattle.dimacs_instance.specs.MinFlows.{MinValue, supply_of}
 use Rattle.dimacs_instance.specs.MinTexts.{SpellsMin}
 use Rattle.dimacs_fill.specs.declared.min.MinSizes.{MinSizes}
-use Rattle.dimacs_fill.specs.Filling.{Array, IsFilled, ReadsInto, tails_of, heads_of, lows_of, caps_of, costs_of}
-
--- no nodes and no arcs
-abbrev pub no_min : MinValue
-no_min = record { nodes = 0; supplies = empty; arcs = [] }
+use Rattle.dimacs_fill.specs.Filling.{Array, IsFilled, ReadsArcsInto, tails_of, heads_of, lows_of, caps_of, costs_of}
 
 abbrev pub min_sizes : MinValue → MinSizes
 min_sizes m = record { nodes = m.nodes; arcs = length m.arcs }
@@ -27,4 +22,4 @@ HoldMin tails heads lows caps costs supplies m =
 
 abbrev pub ReadsMinInto : List ℕ → Array ℕ → Array ℕ → Array ℤ → Array ℤ → Array ℤ → Array ℤ → Result MinSizes ReadError → Type 0
 ReadsMinInto text tails heads lows caps costs supplies =
-    ReadsInto Min text (SpellsMin text) no_min min_sizes (HoldMin tails heads lows caps costs supplies)
+    ReadsArcsInto Min text (SpellsMin text) min_sizes (HoldMin tails heads lows caps costs supplies)

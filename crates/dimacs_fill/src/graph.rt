@@ -4,11 +4,10 @@ ghost use Rattle.std.specs.Prelude.{◌≡◌, ℕ, List, Some};
 ghost use Rattle.dimacs_records.specs.Readings.{CountsRead};
 ghost use Rattle.dimacs_fill.specs.GraphFilled.{ReadsGraphInto};
 
-use crate::arcs::{fill_costs, fill_heads, fill_tails};
-use dimacs_instance::read_plain_graph;
+use crate::arc_reading::ArcReading;
+use dimacs_instance::GraphSummaryReading;
 use dimacs_lines::Source;
-use dimacs_network::Network;
-use dimacs_records::ReadError;
+use dimacs_records::{ReadError, TextKind, end_text, read_records};
 use std::alloc::Global;
 
 /// The numbers of nodes and arcs.
@@ -18,7 +17,8 @@ pub struct GraphSizes {
     pub arcs: u32,
 }
 
-/// Reads the text of a graph. The arrays get the tail, head and weight of each arc.
+/// Reads the text of a graph. The arrays get the tail, head and weight of each arc; after an error they may hold
+/// anything.
 pub fn read_graph_into<S: Source>(
     alloc: Global,
     text: &mut S,
@@ -30,13 +30,20 @@ pub fn read_graph_into<S: Source>(
         → ReadsGraphInto bytes (tails.old, tails.new) (heads.old, heads.new) (weights.old, weights.new) result }
     ensures faults { CountsRead result (S.faults text.old) (S.faults text.new) }
 {
-    let graph = read_plain_graph(alloc, text)?;
-    let network = graph.network();
-    fill_tails(network, tails);
-    fill_heads(network, heads);
-    fill_costs(network, weights);
+    let mut counted = GraphSummaryReading::new(alloc);
+    let mut reading = ArcReading {
+        counted: &mut counted,
+        at: 0,
+        tails,
+        heads,
+        lows: &mut [],
+        caps: &mut [],
+        costs: weights,
+    };
+    let count = read_records(alloc, TextKind::Graph, &mut reading, text)?;
+    let graph = end_text(counted, count)?;
     Ok(GraphSizes {
-        nodes: network.nodes(),
-        arcs: network.arcs(),
+        nodes: graph.nodes,
+        arcs: graph.arcs,
     })
 }

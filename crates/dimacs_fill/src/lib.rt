@@ -2,10 +2,11 @@
 //!
 //! Each call reads a whole text, and copies its value item by item: an array by arc begins with the first arc, one by
 //! node with node 1. An array that is too short gets the first items, a longer one keeps its others. After an error the
-//! arrays are as they were. No call takes memory for arcs that a text declares and doesn't have.
+//! arrays are as they were, but those of an instance, whose arcs are copied as they are read, may hold anything. No call
+//! takes memory for arcs that a text declares and doesn't have.
 #![tactic(auto)]
 
-mod arcs;
+mod arc_reading;
 mod block;
 mod cut;
 mod distances;

@@ -4,11 +4,10 @@ ghost use Rattle.std.specs.Prelude.{◌≡◌, ℕ, List, Some};
 ghost use Rattle.dimacs_records.specs.Readings.{CountsRead};
 ghost use Rattle.dimacs_fill.specs.MaxFilled.{ReadsMaxInto};
 
-use crate::arcs::{fill_caps, fill_heads, fill_tails};
-use dimacs_instance::read_plain_max;
+use crate::arc_reading::ArcReading;
+use dimacs_instance::MaxSummaryReading;
 use dimacs_lines::Source;
-use dimacs_network::Network;
-use dimacs_records::ReadError;
+use dimacs_records::{ReadError, TextKind, end_text, read_records};
 use std::alloc::Global;
 
 /// The numbers of a maximum flow instance, without its arcs.
@@ -20,7 +19,8 @@ pub struct MaxSizes {
     pub arcs: u32,
 }
 
-/// Reads the text of a maximum flow instance. The arrays get the tail, head and capacity of each arc.
+/// Reads the text of a maximum flow instance. The arrays get the tail, head and capacity of each arc; after an error they
+/// may hold anything.
 pub fn read_max_into<S: Source>(
     alloc: Global,
     text: &mut S,
@@ -32,15 +32,22 @@ pub fn read_max_into<S: Source>(
         → ReadsMaxInto bytes (tails.old, tails.new) (heads.old, heads.new) (caps.old, caps.new) result }
     ensures faults { CountsRead result (S.faults text.old) (S.faults text.new) }
 {
-    let max = read_plain_max(alloc, text)?;
-    let network = max.network();
-    fill_tails(network, tails);
-    fill_heads(network, heads);
-    fill_caps(network, caps);
+    let mut counted = MaxSummaryReading::new(alloc);
+    let mut reading = ArcReading {
+        counted: &mut counted,
+        at: 0,
+        tails,
+        heads,
+        lows: &mut [],
+        caps,
+        costs: &mut [],
+    };
+    let count = read_records(alloc, TextKind::Max, &mut reading, text)?;
+    let max = end_text(counted, count)?;
     Ok(MaxSizes {
-        nodes: network.nodes(),
-        source: max.source(),
-        sink: max.sink(),
-        arcs: network.arcs(),
+        nodes: max.nodes,
+        source: max.source,
+        sink: max.sink,
+        arcs: max.arcs,
     })
 }

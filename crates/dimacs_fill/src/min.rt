@@ -8,12 +8,12 @@ ghost use Rattle.dimacs_records.specs.Readings.{CountsRead};
 ghost use Rattle.dimacs_fill.specs.Filling.{filled};
 ghost use Rattle.dimacs_fill.specs.MinFilled.{ReadsMinInto};
 
-use crate::arcs::{fill_caps, fill_costs, fill_heads, fill_lows, fill_tails};
+use crate::arc_reading::ArcReading;
 use crate::filling::fill;
-use dimacs_instance::{MinInstance, read_plain_min};
+use dimacs_instance::{MinInstance, MinNodesReading};
 use dimacs_lines::Source;
 use dimacs_network::Network;
-use dimacs_records::ReadError;
+use dimacs_records::{ReadError, TextKind, end_text, read_records};
 use std::alloc::Global;
 
 /// The numbers of nodes and arcs.
@@ -24,7 +24,7 @@ pub struct MinSizes {
 }
 
 /// Reads the text of a minimum cost flow instance. The arrays get the tail, head, lower bound, capacity and cost of each
-/// arc, and the supply of each node.
+/// arc, and the supply of each node; after an error they may hold anything.
 pub fn read_min_into<S: Source>(
     alloc: Global,
     text: &mut S,
@@ -40,17 +40,22 @@ pub fn read_min_into<S: Source>(
         (supplies.old, supplies.new) result }
     ensures faults { CountsRead result (S.faults text.old) (S.faults text.new) }
 {
-    let instance = read_plain_min(alloc, text)?;
-    let network = instance.network();
-    fill_tails(network, tails);
-    fill_heads(network, heads);
-    fill_lows(network, lows);
-    fill_caps(network, caps);
-    fill_costs(network, costs);
-    fill_supplies(&instance, supplies);
+    let mut counted = MinNodesReading::new(alloc);
+    let mut reading = ArcReading {
+        counted: &mut counted,
+        at: 0,
+        tails,
+        heads,
+        lows,
+        caps,
+        costs,
+    };
+    let count = read_records(alloc, TextKind::Min, &mut reading, text)?;
+    let min = end_text(counted, count)?;
+    fill_supplies(&min.without_arcs, supplies);
     Ok(MinSizes {
-        nodes: network.nodes(),
-        arcs: network.arcs(),
+        nodes: min.without_arcs.network().nodes(),
+        arcs: min.arcs,
     })
 }
 

@@ -1,11 +1,11 @@
-mod GraphLemmas
+pub mod GraphLemmas
 mod MaxCountLemmas
 mod MaxLemmas
-mod MaxTextLemmas
+pub mod MaxTextLemmas
 mod MinCountLemmas
 mod MinLemmas
 mod MinSupplies
-mod MinTextLemmas
+pub mod MinTextLemmas
 mod QueriesLemmas
 mod SummaryLemmas
 mod SupplyLemmas

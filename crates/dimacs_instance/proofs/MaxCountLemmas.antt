@@ -20,9 +20,10 @@ use Rattle.dimacs_network.specs.KeptArcs.{capacity_arc}
 use Rattle.dimacs_instance.specs.MaxFlows.{HasCapacityAlone, MaxValue}
 use Rattle.dimacs_instance.specs.MaxTexts.{GivesMax, max_arc}
 use Rattle.dimacs_instance.specs.MaxReading.{MaxBegun, MaxCount, context, end_context, count_of, end_records, max_begun_records}
-use Rattle.dimacs_instance.specs.inside.MaxReading.{AreEnds, AreNodes, EndsAreDistinct, IsMaxBegun, IsMaxCountedBy}
+use Rattle.dimacs_instance.specs.MaxReading.{AreNodes, EndsAreDistinct, IsMaxBegun, IsMaxCountedBy}
+use Rattle.dimacs_instance.specs.inside.MaxReading.{AreEnds}
 use Rattle.dimacs_instance.specs.Summaries.{SumsUpMax}
-use Rattle.dimacs_instance.specs.inside.Summaries.{GivesSummary}
+use Rattle.dimacs_instance.specs.Summaries.{GivesSummary}
 use Rattle.dimacs_instance.specs.declared.max.EndLines.{EndLines}
 use Rattle.dimacs_instance.specs.declared.max.EndLines.TheVariants.{Neither, One, Both}
 use Rattle.dimacs_instance.proofs.MaxLemmas.{end_context_by_records, context_by_records}

@@ -28,7 +28,7 @@ use Rattle.dimacs_lines.specs.Limits.{IsNode}
 use Rattle.dimacs_network.specs.KeptArcs.{capacity_arc}
 use Rattle.dimacs_instance.specs.MaxTexts.{max_arc, max_records, canonical_max, GivesMax, SpellsMax}
 use Rattle.dimacs_instance.specs.MaxReading.{MaxBegun, max_node, max_begun_records}
-use Rattle.dimacs_instance.specs.inside.MaxReading.{IsMaxBegun}
+use Rattle.dimacs_instance.specs.MaxReading.{IsMaxBegun}
 use Rattle.dimacs_instance.proofs.MaxLemmas.{first_problem, one_more_node, one_more_arc, all_arcs, lacking}
 
 -- the state after all lines of an instance, with the node lines in this order

@@ -1,6 +1,6 @@
 -- The records of minimum cost flow instances, with the arcs only counted.
 use Rattle.std.proofs.Common.{◌≡◌, ℕ, ◌+◌, ◌≤◌, ◌∷◌, ◌++◌, [], List, map, refl, ap, sym, ◌∙◌, arith, append_assoc}
-use Rattle.std.specs.Prelude.{ℤ, pos}
+use Rattle.std.specs.Prelude.{ℤ}
 use Rattle.std.specs.FinMap.{empty, insert}
 use Rattle.std.proofs.lemmas.Bool.Decides.{nat_tests}
 use Rattle.std.proofs.lemmas.List.{length-append, map-append}
@@ -14,12 +14,13 @@ use Rattle.dimacs_records.specs.Readings.{LineRecord, records_of}
 use Rattle.dimacs_records.specs.Spelling.{kind_of}
 use Rattle.dimacs_records.specs.Tests.{Passes, PassesEnd, plain_context_after, context_after}
 use Rattle.dimacs_network.specs.declared.network.ArcView.{ArcView}
-use Rattle.dimacs_instance.specs.MinFlows.{IsMin, demand_sum, supply_sum}
+use Rattle.dimacs_instance.specs.MinFlows.{IsMin}
 use Rattle.dimacs_instance.specs.MinTexts.{GivesMin, min_arc, min_node, min_records}
 use Rattle.dimacs_instance.specs.MinReading.{MinCount, plain_context, context, count_of}
-use Rattle.dimacs_instance.specs.inside.MinReading.{IsMinBegun, IsMinCountedBy, without_arcs}
-use Rattle.dimacs_instance.specs.Summaries.{SumsUpMin}
-use Rattle.dimacs_instance.specs.inside.Summaries.{GivesSummary}
+use Rattle.dimacs_instance.specs.MinReading.{IsMinBegun, IsMinCountedBy}
+use Rattle.dimacs_instance.specs.inside.MinReading.{without_arcs}
+use Rattle.dimacs_instance.specs.Summaries.{HasNodes}
+use Rattle.dimacs_instance.specs.Summaries.{GivesSummary}
 use Rattle.dimacs_instance.proofs.MinLemmas.{arc_bounds, arc_joins, arc_room, begins, gives_min, law_with_arc, law_with_supply, plain_context_by_records, min_law, names_one, new_law, node, context_by_records, with_arc}
 
 pub counted_none : (nodes declared : ℕ) → nodes ≤ most_nodes → declared ≤ most_count → IsMinCountedBy (record { nodes = nodes; declared = declared; supplies = empty; arcs = 0 }) (MinProblem nodes declared ∷ [])
@@ -80,13 +81,11 @@ counted_node c id s passes least = (least, grind (arith, nat_tests, passes.secon
 pub supplies_law : (c : MinCount) → IsMinBegun (without_arcs c) → IsMin (record { nodes = c.nodes; supplies = without_zeros c.supplies; arcs = [] })
 supplies_law c law = min_law (without_arcs c) law
 
-pub gives_min_summary : (c : MinCount) → PassesEnd Min (plain_context c) → (rs : List LineRecord) → IsMinCountedBy c (records_of rs) → (supplied demanded : ℤ)
-    → supplied ≡ pos (supply_sum (record { nodes = c.nodes; supplies = without_zeros c.supplies; arcs = [] }))
-    → demanded ≡ pos (demand_sum (record { nodes = c.nodes; supplies = without_zeros c.supplies; arcs = [] }))
-    → GivesSummary GivesMin SumsUpMin rs (record { nodes = c.nodes; arcs = c.arcs; supplied = supplied; demanded = demanded })
-gives_min_summary c p rs counted supplied demanded supplied_is demanded_is =
+pub gives_nodes : (c : MinCount) → PassesEnd Min (plain_context c) → (rs : List LineRecord) → IsMinCountedBy c (records_of rs)
+    → GivesSummary GivesMin HasNodes rs (record { arcs = c.arcs; without_arcs = record { nodes = c.nodes; supplies = without_zeros c.supplies; arcs = [] } })
+gives_nodes c p rs counted =
     let b = counted.begun in (
       record { nodes = b.nodes; supplies = without_zeros b.supplies; arcs = b.arcs },
       gives_min b counted.is_begun (rw counted.counts at p) rs counted.built_from,
-      rw (supplied_is, demanded_is, counted.counts) refl,
+      rw counted.counts refl,
     )

@@ -26,7 +26,7 @@ use Rattle.dimacs_instance.specs.MinFlows.{IsMin, IsSupply, HasBounds}
 use Rattle.dimacs_instance.specs.MinTexts.{GivesMin, min_node, min_arc, min_records}
 use Rattle.dimacs_records.specs.NodeValues.{is_of, without_zeros}
 use Rattle.dimacs_instance.specs.MinReading.{MinBegun, IsMinBegunBy, plain_context, context, count_of, has_line}
-use Rattle.dimacs_instance.specs.inside.MinReading.{IsMinBegun, IsNamed}
+use Rattle.dimacs_instance.specs.MinReading.{IsMinBegun, IsNamed}
 use Rattle.dimacs_records.specs.Spelling.{kind_of}
 use Rattle.dimacs_records.proofs.NameLemmas.{get_nonzero, has-from_entries, map_more, named_more, without_zeros-named}
 

@@ -22,7 +22,7 @@ use Rattle.dimacs_network.specs.Arcs.{JoinsNodes}
 use Rattle.dimacs_network.specs.KeptArcs.{weight_arc}
 use Rattle.dimacs_instance.specs.Graph.{GivesGraph, HasWeightAlone, graph_arc}
 use Rattle.dimacs_instance.specs.Summaries.{ReadsSummary, SumsUpGraph}
-use Rattle.dimacs_instance.specs.inside.Summaries.{GivesSummary, IsGraphCountedBy, counted_lines}
+use Rattle.dimacs_instance.specs.Summaries.{GivesSummary, IsGraphCountedBy, counted_lines}
 use Rattle.dimacs_instance.specs.declared.summaries.graph.CountedGraph.{CountedGraph}
 use Rattle.dimacs_instance.proofs.GraphLemmas.{plain_context_by_records}
 

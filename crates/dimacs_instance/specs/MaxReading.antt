@@ -1,6 +1,6 @@
 -- A maximum flow instance while its text is read.
-use Rattle.std.specs.Prelude.{ℕ, List, [], ◌∷◌, ◌++◌, map, length, Some, nat_lt}
-use Rattle.std.specs.List.{list_any}
+use Rattle.std.specs.Prelude.{ℕ, List, [], ◌∷◌, ◌++◌, map, length, Some, nat_lt, ◌≡◌, ◌≢◌, ◌≤◌}
+use Rattle.std.specs.List.{list_any, All}
 use Rattle.dimacs_records.specs.declared.records.Record.{Record}
 use Rattle.dimacs_records.specs.declared.records.Record.TheVariants.{MaxProblem, MaxNode, MaxArc}
 use Rattle.dimacs_network.specs.declared.network.ArcView.{ArcView}
@@ -12,6 +12,9 @@ use Rattle.dimacs_records.specs.declared.order.Context.{Context}
 use Rattle.dimacs_records.specs.Conditions.{lacks_end}
 use Rattle.dimacs_records.specs.Earlier.{is_end_node, names}
 use Rattle.dimacs_records.specs.Tests.{plain_context_of}
+use Rattle.dimacs_lines.specs.Limits.{most_count, most_nodes, IsNode}
+use Rattle.dimacs_network.specs.Arcs.{JoinsNodes}
+use Rattle.dimacs_instance.specs.MaxFlows.{HasCapacityAlone}
 
 -- the declared numbers, and the node lines and arcs so far
 pub record MaxBegun : Type 0 where
@@ -59,3 +62,31 @@ context counted (MaxNode id end) = record (plain_context counted) {
 }
 context counted (MaxArc tail head cap) = end_context counted
 context counted r = plain_context counted
+
+-- two node lines name different nodes and different ends
+abbrev pub EndsAreDistinct : EndLines → Type 0
+EndsAreDistinct (Both first second) = (first.node ≢ second.node) × (first.end ≢ second.end)
+EndsAreDistinct ends = Unit {0}
+
+-- the node lines name nodes of the instance
+abbrev pub AreNodes : ℕ → EndLines → Type 0
+AreNodes nodes Neither = Unit {0}
+AreNodes nodes (One first) = IsNode nodes first.node
+AreNodes nodes (Both first second) = IsNode nodes first.node × IsNode nodes second.node
+
+-- a lawful state
+pub record IsMaxBegun (begun : MaxBegun) : Type 0 where
+  pub nodes_few : begun.nodes ≤ most_nodes
+  pub arcs_few : begun.declared ≤ most_count
+  pub no_more : length begun.arcs ≤ begun.declared
+  pub ends_within : AreNodes begun.nodes begun.ends
+  pub ends_apart : EndsAreDistinct begun.ends
+  pub joined : All (JoinsNodes begun.nodes) begun.arcs
+  pub capacities : All HasCapacityAlone begun.arcs
+
+-- these records may lead to this state; their arcs are counted
+pub record IsMaxCountedBy (counted : MaxCount) (rs : List Record) : Type 0 where
+  pub begun : MaxBegun
+  pub is_begun : IsMaxBegun begun
+  pub records : rs ≡ max_begun_records begun
+  pub counts : counted ≡ count_of begun

@@ -6,7 +6,7 @@ use Rattle.std.specs.FinMap.{FinMap}
 use Rattle.std.specs.FinMap as map
 use Rattle.dimacs_network.specs.declared.network.ArcView.{ArcView}
 use Rattle.dimacs_instance.specs.MinFlows.{MinValue}
-use Rattle.dimacs_instance.specs.MinReading.{MinBegun}
+use Rattle.dimacs_instance.specs.MinReading.{MinBegun, MinCount}
 
 abbrev arc_code : Coded ArcView
 arc_code =
@@ -26,4 +26,11 @@ abbrev pub begun_code : Coded MinBegun
 begun_code =
     code_by (ℕ × (ℕ × (FinMap nat_cmp ℤ × List ArcView))) (coded× coded_ℕ (coded× coded_ℕ (coded× supplies_code (coded_list arc_code))))
     (λ b. (b.nodes, (b.declared, (b.supplies, b.arcs))))
+    (λ p. record { nodes = p.0; declared = p.1.0; supplies = p.1.1.0; arcs = p.1.1.1 }) (λ _. refl)
+
+-- how the counts are stored
+abbrev pub count_code : Coded MinCount
+count_code =
+    code_by (ℕ × (ℕ × (FinMap nat_cmp ℤ × ℕ))) (coded× coded_ℕ (coded× coded_ℕ (coded× supplies_code coded_ℕ)))
+    (λ c. (c.nodes, (c.declared, (c.supplies, c.arcs))))
     (λ p. record { nodes = p.0; declared = p.1.0; supplies = p.1.1.0; arcs = p.1.1.1 }) (λ _. refl)

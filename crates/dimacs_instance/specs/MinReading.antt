@@ -1,7 +1,7 @@
 -- A minimum cost flow instance while its text is read.
-use Rattle.std.specs.Prelude.{ℕ, ℤ, ◌≡◌, List, length, Bool, Some, is_some, nat_lt}
+use Rattle.std.specs.Prelude.{ℕ, ℤ, ◌≡◌, List, length, Bool, Some, is_some, nat_lt, ◌≤◌}
 use Rattle.std.specs.Ordering.{nat_cmp}
-use Rattle.std.specs.FinMap.{FinMap, from_entries, get}
+use Rattle.std.specs.FinMap.{FinMap, from_entries, get, entries}
 use Rattle.dimacs_records.specs.declared.records.Record.{Record}
 use Rattle.dimacs_network.specs.declared.network.ArcView.{ArcView}
 use Rattle.dimacs_instance.specs.MinTexts.{min_records}
@@ -9,6 +9,11 @@ use Rattle.dimacs_records.specs.NodeValues.{NameNodes}
 use Rattle.dimacs_records.specs.declared.order.Context.{Context}
 use Rattle.dimacs_records.specs.declared.records.Record.TheVariants.{MinNode}
 use Rattle.dimacs_records.specs.Tests.{plain_context_of}
+use Rattle.std.specs.List.{All}
+use Rattle.dimacs_lines.specs.Limits.{most_count, most_nodes, IsNode}
+use Rattle.dimacs_network.specs.Arcs.{JoinsNodes}
+use Rattle.dimacs_instance.specs.MinFlows.{HasBounds}
+use Rattle.dimacs_records.specs.Ranges.{IsWhole}
 
 -- the declared numbers, the supplies of the named nodes, and the arcs so far
 pub record MinBegun : Type 0 where
@@ -45,3 +50,23 @@ plain_context counted = plain_context_of (Some (record { nodes = Some counted.no
 abbrev pub context : MinCount → Record → Context
 context counted (MinNode id supply) = record (plain_context counted) { misplaced = nat_lt 0 counted.arcs; named = has_line counted id }
 context counted r = plain_context counted
+
+-- a node with a supply, perhaps 0
+abbrev pub IsNamed : ℕ → ℕ × ℤ → Type 0
+IsNamed nodes s = IsNode nodes s.0 × IsWhole s.1
+
+-- a lawful state
+pub record IsMinBegun (begun : MinBegun) : Type 0 where
+  pub nodes_few : begun.nodes ≤ most_nodes
+  pub arcs_few : begun.declared ≤ most_count
+  pub no_more : length begun.arcs ≤ begun.declared
+  pub supplied : All (IsNamed begun.nodes) (entries begun.supplies)
+  pub joined : All (JoinsNodes begun.nodes) begun.arcs
+  pub bounds : All HasBounds begun.arcs
+
+-- these records may lead to this state; their arcs are counted
+pub record IsMinCountedBy (counted : MinCount) (rs : List Record) : Type 0 where
+  pub begun : MinBegun
+  pub is_begun : IsMinBegun begun
+  pub built_from : IsMinBegunBy begun rs
+  pub counts : counted ≡ count_of begun

@@ -121,7 +121,7 @@ pub struct GraphBuilder<N: OfWeightArcs> {
 
 impl<N: OfWeightArcs> Model for GraphBuilder<N> {
     ghost use Rattle.dimacs_instance.specs.GraphReading.{GraphBegun};
-    ghost use Rattle.dimacs_instance.specs.inside.GraphReading.{IsGraphBegun};
+    ghost use Rattle.dimacs_instance.specs.GraphReading.{IsGraphBegun};
 
     ghost Value = { GraphBegun };
 

@@ -24,4 +24,7 @@ pub use min::{
     MinInstance, MinReading, PlainMinReading, SupplySums, read_min, read_plain_min, write_min,
 };
 pub use queries::{LawfulQueries, Queries, QueriesReading, read_queries, write_queries};
-pub use summaries::{GraphSummary, MaxSummary, MinSummary, Summary};
+pub use summaries::{
+    GraphSummary, GraphSummaryReading, MaxSummary, MaxSummaryReading, MinNodes, MinNodesReading,
+    MinSummary, Summary,
+};

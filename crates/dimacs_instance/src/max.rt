@@ -15,7 +15,8 @@ ghost use Rattle.dimacs_network.specs.KeptArcs.{capacity_arc};
 ghost use Rattle.dimacs_instance.specs.MaxFlows.{MaxValue, IsMax};
 ghost use Rattle.dimacs_instance.specs.MaxTexts.{GivesMax, SpellsMax, canonical_max, max_arc, nodes_by_id};
 ghost use Rattle.dimacs_instance.specs.MaxReading.{context, end_context, count_of, end_records, max_begun_records, max_node};
-ghost use Rattle.dimacs_instance.specs.inside.MaxReading.{AreEnds, EndsAreDistinct};
+ghost use Rattle.dimacs_instance.specs.MaxReading.{EndsAreDistinct};
+ghost use Rattle.dimacs_instance.specs.inside.MaxReading.{AreEnds};
 
 use crate::summaries::CountedMax;
 use dimacs_lines::{DeviceFault, Memory, Sink, Source};
@@ -238,7 +239,7 @@ pub struct MaxBuilder<N: OfCapacityArcs> {
 
 impl<N: OfCapacityArcs> Model for MaxBuilder<N> {
     ghost use Rattle.dimacs_instance.specs.MaxReading.{MaxBegun};
-    ghost use Rattle.dimacs_instance.specs.inside.MaxReading.{IsMaxBegun};
+    ghost use Rattle.dimacs_instance.specs.MaxReading.{IsMaxBegun};
 
     ghost Value = { MaxBegun };
 

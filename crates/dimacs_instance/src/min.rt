@@ -204,7 +204,7 @@ pub struct MinBuilder<N: OfCostArcs> {
 
 impl<N: OfCostArcs> Model for MinBuilder<N> {
     ghost use Rattle.dimacs_instance.specs.MinReading.{MinBegun};
-    ghost use Rattle.dimacs_instance.specs.inside.MinReading.{IsMinBegun};
+    ghost use Rattle.dimacs_instance.specs.MinReading.{IsMinBegun};
     ghost use Rattle.dimacs_instance.specs.MinCodes.{begun_code};
 
     ghost Value = { MinBegun };

@@ -14,10 +14,10 @@ mod min;
 
 use dimacs_lines::{DeviceFault, Sink, Source};
 use dimacs_records::{ReadError, TextKind};
-pub use graph::GraphSummary;
+pub use graph::{GraphSummary, GraphSummaryReading};
 pub(crate) use max::CountedMax;
-pub use max::MaxSummary;
-pub use min::MinSummary;
+pub use max::{MaxSummary, MaxSummaryReading};
+pub use min::{MinNodes, MinNodesReading, MinSummary};
 use std::alloc::Global;
 
 /// The summary of an instance: enough to print the line about it.

@@ -1,11 +1,12 @@
 -- The ends of numbers as the bits of a word.
-use Rattle.std.proofs.Common.{◌≡◌, ℕ, zero, suc, ◌+◌, ◌-◌, ◌*◌, ◌%◌, ◌^◌, ◌<◌, ◌≤◌, Bool, true, false, cond, List, [], ◌∷◌, length, take, drop, map, bit_and, refl, sym, ap, ap₂, subst, ◌∙◌, arith, lit<, pow-add, pow-suc, suc-mul, length-drop, length-take}
+use Rattle.std.proofs.Common.{◌≡◌, ℕ, zero, suc, ◌+◌, ◌-◌, ◌*◌, ◌%◌, ◌^◌, ◌<◌, ◌≤◌, Bool, true, false, cond, List, [], ◌∷◌, length, take, drop, map, bit_and, get_or, inl, inr, refl, sym, ap, ap₂, subst, ◌∙◌, arith, lit<, pow-add, pow-suc, suc-mul, length-drop, length-take}
 use Rattle.std.specs.Prelude.{not}
 use Rattle.std.specs.Char.{is_ascii_digit, IsAsciiDigit}
 use Rattle.std.specs.Int.Bits.{and_self, and_zero_l}
 use Rattle.std.specs.Int.Count.{count_trailing_zeros}
 use Rattle.std.specs.List.{All, prefix_len}
-use Rattle.std.proofs.lemmas.List.{drop-drop, drop-take, length-map}
+use Rattle.std.proofs.lemmas.Bool.{cases_lt}
+use Rattle.std.proofs.lemmas.List.{drop-drop, drop-take, drop_all, drop_more, length-map}
 use Rattle.std.proofs.lemmas.Nat.{and_block, pow_pos}
 use Rattle.std.proofs.Math.Nat.{mul-lt-mul_of_pos_right}
 use lib.Lanes.{mask_l}
@@ -132,6 +133,33 @@ left_digits bytes start at early =
     let xs = drop (start + at) bytes in
     let is : left bytes start at ≡ take (32 - at) xs = ap (λ n. drop at (take n (drop start bytes))) whole ∙ drop-take at (32 - at) (drop start bytes) ∙ ap (take (32 - at)) (drop-drop at start bytes) in
     All-digits (32 - at) xs (digits_left bytes start at) (ap (prefix_len is_ascii_digit) is)
+
+-- no digit stands before a minus
+minus_ends : (bytes : List ℕ) (start at : ℕ) → at < 32 → start + at < length bytes → get_or bytes (start + at) 0 ≡ 45 → digits_left bytes start at ≡ 0
+minus_ends bytes start at early inside minus =
+    let whole : 32 ≡ at + suc (31 - at) = omega (arith, early) in
+    let xs = drop (start + at) bytes in
+    let is : left bytes start at ≡ take (suc (31 - at)) xs = ap (λ n. drop at (take n (drop start bytes))) whole ∙ drop-take at (suc (31 - at)) (drop start bytes) ∙ ap (take (suc (31 - at))) (drop-drop at start bytes) in
+    let cut : xs ≡ 45 ∷ drop (start + at + 1) bytes = drop_more bytes (start + at) 0 inside ∙ ap (λ b. b ∷ drop (start + at + 1) bytes) minus in
+    ap (prefix_len is_ascii_digit) (is ∙ ap (take (suc (31 - at))) cut)
+
+-- without the lowest bit, the bits are those from the place after the minus on
+pub ends_after_minus : (bytes : List ℕ) (start at : ℕ) → start + 40 ≤ length bytes → at < 32 → get_or bytes (start + at) 0 ≡ 45
+    → let ends = ends_from bytes start at in bit_and ends ((ends + 4294967295) % 4294967296) ≡ ends_from bytes start (at + 1)
+ends_after_minus bytes start at room early minus =
+    let none = minus_ends bytes start at early (omega (arith, room, early)) minus in
+    let next : at + digits_left bytes start at + 1 ≡ at + 1 = omega (arith, none) in
+    ends_after bytes start at (omega (arith, room)) (omega (arith, early)) ∙ ap (ends_from bytes start) next
+
+-- the bits fit into a word of 32
+pub ends_fit : (bytes : List ℕ) (start at : ℕ) → start + 40 ≤ length bytes → ends_from bytes start at < 4294967296
+ends_fit bytes start at room =
+    elim (cases_lt 32 at) [
+      | inr early ↦ ends_few bytes start at (omega (arith, room)) early
+      | inl late ↦
+          let none : left bytes start at ≡ [] = drop_all at (take 32 (drop start bytes)) (omega (arith, late, length-take 32 (drop start bytes))) in
+          rw none (omega arith)
+    ]
 
 -- a test of each byte that says the same gives the same bits
 pub marks_agree : (f : ℕ → Bool) → ((b : ℕ) → b < 256 → f b ≡ not (is_ascii_digit b)) → (bs : List ℕ) → All (λ b. b < 256) bs → map f bs ≡ map (λ b. not (is_ascii_digit b)) bs

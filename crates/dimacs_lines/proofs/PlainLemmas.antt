@@ -1,9 +1,10 @@
 -- Numbers in a buffer with a given byte right after them.
-use Rattle.std.proofs.Common.{◌≡◌, ◌+◌, ◌-◌, ◌*◌, ◌^◌, ◌<◌, ◌≤◌, ◌++◌, ◌∷◌, [], ℕ, List, length, take, drop, get_or, ap, ap₂, sym, ◌∙◌, arith, length-append, length-drop, pow-add, take-take}
+use Rattle.std.proofs.Common.{◌≡◌, ◌+◌, ◌-◌, ◌*◌, ◌^◌, ◌<◌, ◌≤◌, ◌++◌, ◌∷◌, [], ℕ, List, length, take, drop, get_or, ap, ap₂, sym, ◌∙◌, arith, length-append, length-drop, pow-add, take-take, to_z, w64}
 use Rattle.std.specs.Prelude.{pos, neg_ℤ}
 use Rattle.std.specs.Char.{IsAsciiDigit}
 use Rattle.std.specs.List.{All}
 use Rattle.std.proofs.Math.Nat.{pow-le-pow_right}
+use Rattle.std.proofs.lemmas.Int.{ints}
 use Rattle.std.proofs.lemmas.List.{take-append-drop, drop-drop, drop-take, drop_more, length-take, length-take-le}
 use Rattle.dimacs_lines.specs.Number.{place_sum}
 use Rattle.dimacs_lines.specs.Plain.{StandsAt}
@@ -64,6 +65,10 @@ place_sum-split bytes at count enough within =
 -- a text of digits
 pub stands_digits : (bytes : List ℕ) (at stop n next : ℕ) → DigitsAt bytes at stop n next → StandsAt bytes at stop (pos n) next
 stands_digits bytes at stop n next d = record { text = d.digits; spelled = rw d.value (spells_digits d.digits d.nonempty d.each); short = omega (arith, d.at_most_sixteen); ends = d.ends }
+
+-- sixteen digits fit into 64 bits with a sign
+pub as_signed : (n : ℕ) → n < 10 ^ 16 → to_z w64 n ≡ pos n
+as_signed n fit = omega (arith, ints, fit)
 
 -- a minus, then digits
 pub stands_minus : (bytes : List ℕ) (at stop n next : ℕ) → at < length bytes → get_or bytes at 0 ≡ 45 → DigitsAt bytes (at + 1) stop n next → StandsAt bytes at stop (neg_ℤ (pos n)) next

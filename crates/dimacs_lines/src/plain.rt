@@ -3,7 +3,8 @@
 
 ghost use Rattle.std.specs.Prelude.{◌≡◌, ◌≤◌, ◌<◌, ◌+◌, ◌∷◌, pos, length, take, drop, IfSome, IfNone};
 ghost use Rattle.dimacs_lines.specs.Plain.{StandsAt};
-ghost use Rattle.dimacs_lines.specs.inside.Plain.{DigitsAt, IsRunOfDigits, ends_of};
+ghost use Rattle.std.specs.Bool.{MatchBool};
+ghost use Rattle.dimacs_lines.specs.inside.Plain.{DigitsAt, IsRunOfDigits, TakesMinus, ends_of};
 
 use crate::digits::digits_value;
 use std::marker::Model;
@@ -22,6 +23,13 @@ pub struct PlainNumbers<'a> {
     ends: u32,
     /// The place of the next number, counted from `start`.
     at: usize,
+}
+
+/// A number, and those after it.
+#[derive(Drop)]
+struct Taken<'a> {
+    size: u64,
+    rest: PlainNumbers<'a>,
 }
 
 impl<'a> Model for PlainNumbers<'a> {
@@ -85,34 +93,64 @@ impl<'a> PlainNumbers<'a> {
         Some(id)
     }
 
-    /// Takes a number of one to sixteen digits, perhaps after a minus, with `stop` right after it. None if the bytes
-    /// have another form. Up to eight digits without a minus are the fast case.
+    /// Takes a number of one to sixteen digits with `stop` right after it. None if the bytes have another form. Up to
+    /// eight digits are the fast case.
+    #[inline(always)]
+    pub fn size(&mut self, stop: u8) -> Option<i64>
+        ensures stands { IfSome result (λ n. StandsAt self.old.bytes self.old.at stop n self.new.at) }
+        ensures bytes { self.new.bytes ≡ self.old.bytes }
+    {
+        let size = self.sixteen_digits(stop)?;
+        Some(size as i64)
+    }
+
+    /// Takes a number as `size` does, perhaps after a minus, on which no branch depends.
     #[inline(always)]
     pub fn whole(&mut self, stop: u8) -> Option<i64>
         ensures stands { IfSome result (λ n. StandsAt self.old.bytes self.old.at stop n self.new.at) }
         ensures bytes { self.new.bytes ≡ self.old.bytes }
     {
-        if let Some(size) = self.digits(stop) {
-            return Some(i64::from(size));
-        }
-        let minus = self.bytes[self.at()] == b'-';
-        self.restart(self.at() + usize::from(minus))?;
-        let size = self.more_digits(stop)? as i64;
+        let minus = self.minus();
+        let size = self.sixteen_digits(stop)? as i64;
         Some(if minus { -size } else { size })
     }
 
-    /// Finds the ends of numbers from `start` on.
+    /// Takes a minus, if one is next.
     #[inline(always)]
-    fn restart(&mut self, start: usize) -> Option<()>
-        requires { start ≤ length self.old.bytes }
-        ensures some { IfSome result (λ _. self.new ≡ record { bytes = self.old.bytes; at = start }) }
-        ensures none { IfNone result (self.new ≡ self.old) }
+    fn minus(&mut self) -> bool
+        ensures { MatchBool result (TakesMinus self.old self.new) (self.new ≡ self.old) }
     {
-        if self.bytes.len() - start < ROOM {
+        let minus = (self.at < 32) & (self.bytes[self.at()] == b'-');
+        self.ends &= self.ends.wrapping_sub(u32::from(minus));
+        self.at += usize::from(minus);
+        minus
+    }
+
+    /// Takes one to sixteen digits with `stop` right after them.
+    #[inline(always)]
+    fn sixteen_digits(&mut self, stop: u8) -> Option<u64>
+        ensures digits { IfSome result (λ n. DigitsAt self.old.bytes self.old.at stop n self.new.at) }
+        ensures range { IfSome result (λ n. n < 10000000000000000) }
+        ensures bytes { self.new.bytes ≡ self.old.bytes }
+    {
+        if let Some(size) = self.digits(stop) {
+            return Some(u64::from(size));
+        }
+        let Taken { size, rest } = digits_from(self.bytes, self.at(), stop)?;
+        *self = rest;
+        Some(size)
+    }
+
+    /// The numbers from `start` on. None if fewer than 40 bytes are left.
+    #[inline(always)]
+    fn starting(bytes: &'a [u8], start: usize) -> Option<PlainNumbers<'a>>
+        requires { start ≤ length bytes.now }
+        ensures { IfSome result (λ numbers. numbers ≡ record { bytes = bytes.now; at = start }) }
+    {
+        if bytes.len() - start < ROOM {
             return None;
         }
-        *self = PlainNumbers::from(self.bytes, start);
-        Some(())
+        Some(PlainNumbers::from(bytes, start))
     }
 
     /// Takes one to eight digits with `stop` right after them, or nothing.
@@ -128,7 +166,7 @@ impl<'a> PlainNumbers<'a> {
         Some(digits_value(self.bytes, at, count))
     }
 
-    /// Takes one to sixteen digits with `stop` right after them.
+    /// Takes one to sixteen digits of the 32 bytes with `stop` right after them.
     #[inline(always)]
     fn more_digits(&mut self, stop: u8) -> Option<u64>
         ensures digits { IfSome result (λ n. DigitsAt self.old.bytes self.old.at stop n self.new.at) }
@@ -164,6 +202,20 @@ impl<'a> PlainNumbers<'a> {
         self.at = end + 1;
         Some(count)
     }
+}
+
+/// Takes one to sixteen digits from `at` on. It stays a call, so that the lines of such numbers are small enough to be
+/// inlined.
+#[inline(never)]
+fn digits_from<'a>(bytes: &'a [u8], at: usize, stop: u8) -> Option<Taken<'a>>
+    requires { at ≤ length bytes.now }
+    ensures digits { IfSome result (λ taken. DigitsAt bytes.now at stop taken.size taken.rest.at) }
+    ensures range { IfSome result (λ taken. taken.size < 10000000000000000) }
+    ensures bytes { IfSome result (λ taken. taken.rest.bytes ≡ bytes.now) }
+{
+    let mut rest = PlainNumbers::starting(bytes, at)?;
+    let size = rest.more_digits(stop)?;
+    Some(Taken { size, rest })
 }
 
 /// A bit for each of the first 32 bytes that is no digit.

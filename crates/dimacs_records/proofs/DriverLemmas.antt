@@ -15,7 +15,7 @@ use Rattle.dimacs_records.specs.declared.faults.TakeError.{TakeError}
 use Rattle.dimacs_records.specs.declared.faults.TakeError.TheVariants as take_errors
 use Rattle.dimacs_records.specs.declared.faults.ReadError.{ReadError}
 use Rattle.dimacs_records.specs.declared.faults.ReadError.TheVariants as read_errors
-use Rattle.dimacs_records.specs.Readings.{LineRecord, on_line, numbered, records_of, AreBefore, IsAllowed, IsFirstCondition, RefusesRecord, GiveValue, ReadsLines, RefusesEnd, IsComplete}
+use Rattle.dimacs_records.specs.Readings.{LineRecord, on_line, numbered, records_of, AreBefore, IsAllowed, IsFirstCondition, RefusesRecord, GiveValue, ReadsLines, RefusesEnd, IsComplete, IsReadWhole, RefusesLine}
 use Rattle.dimacs_records.specs.declared.reasons.Reason.TheVariants.{LineLimit, LineTooLong}
 use Rattle.dimacs_records.specs.declared.faults.LineFault.{LineFault}
 use Rattle.dimacs_records.specs.Spelling.{SpellsRecord, texts_in, is_skip}
@@ -23,7 +23,7 @@ use Rattle.dimacs_records.specs.Conditions.{limit_condition}
 use Rattle.dimacs_records.specs.LineReader.{ReadsLine}
 use Rattle.dimacs_records.specs.Order.{at, limit_places, places, FirstOf}
 use Rattle.dimacs_records.specs.Faults.{Condition, Spell, IsClean, records_in}
-use Rattle.dimacs_records.specs.inside.Driver.{IsReadSoFar, IsReadWhole, ReadsNext, RefusesLine, TakesLine, ComesAfter, read_error, lines_error}
+use Rattle.dimacs_records.specs.inside.Driver.{IsReadSoFar, ReadsNext, TakesLine, ComesAfter, read_error, lines_error}
 use Rattle.dimacs_records.proofs.FirstLemmas.{is_first}
 use Rattle.dimacs_records.proofs.PlaceLemmas.{test_at}
 use Rattle.dimacs_records.proofs.CleanLines.{NoneHolds, clean_nothing, clean_skip, clean_record, first_limit, first_shape, first_record}

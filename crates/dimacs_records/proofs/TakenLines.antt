@@ -7,8 +7,7 @@ use Rattle.dimacs_lines.specs.Limits.{most_lines}
 use Rattle.dimacs_records.specs.declared.kinds.TextKind.{TextKind}
 use Rattle.dimacs_records.specs.declared.records.Record.{Record}
 use Rattle.dimacs_records.specs.declared.faults.TakeError.{TakeError}
-use Rattle.dimacs_records.specs.Readings.{LineRecord, on_line, AreBefore, IsGivenByLines, IsOfKind}
-use Rattle.dimacs_records.specs.inside.Driver.{HasTaken}
+use Rattle.dimacs_records.specs.Readings.{LineRecord, on_line, AreBefore, IsGivenByLines, IsOfKind, HasTaken}
 
 abbrev IsSpelled : TextKind → LineRecord → Type 0
 IsSpelled kind r = IsOfKind kind r.spells

@@ -14,7 +14,7 @@ use Rattle.dimacs_records.specs.declared.faults.ReadError.TheVariants as read_er
 use Rattle.dimacs_records.specs.Spelling.{SpellsRecord}
 use Rattle.dimacs_records.specs.Conditions.{condition, end_condition}
 use Rattle.dimacs_records.specs.Order.{IsRefusedAt, FaultPlace, at, record_places, FirstOf}
-use Rattle.dimacs_records.specs.Faults.{IsFaultless, FirstAtEnd, Fault}
+use Rattle.dimacs_records.specs.Faults.{IsClean, IsFaultless, FaultyLine, FirstAtEnd, Fault}
 
 -- a record and the number of its line
 pub record LineRecord : Type 0 where
@@ -85,6 +85,28 @@ ReadsLines kind gives all (Ok v) = GiveValue kind gives all v
 ReadsLines kind gives all (Err (read_errors.Refused place reason)) = Fault kind all place.line place.field reason
 ReadsLines kind gives all (Err read_errors.Device) = Unit {0}
 ReadsLines kind gives all (Err read_errors.Memory) = Unit {0}
+
+-- the reading stands for some records that lines before this one can spell
+abbrev pub HasTaken : TextKind → ℕ → (List LineRecord → Type 0) → Type 0
+HasTaken kind line stands_for = (rs : List LineRecord) × stands_for rs × AreSpelledBefore kind line rs
+
+-- all lines are read
+pub record IsReadWhole (kind : TextKind) (all : List (List ℕ)) (count : ℕ) (stands_for : List LineRecord → Type 0) : Type 0 where
+  pub by_line : List (Option Record)
+  pub counted : count ≡ length all
+  pub clean : IsClean kind all by_line
+  pub stands : stands_for (numbered 1 by_line)
+
+-- why a line is refused; I/O errors and out of memory are left open
+abbrev pub RefusesLine : TextKind → List (List ℕ) → ReadError → Type 0
+RefusesLine kind all (read_errors.Refused place reason) = FaultyLine kind all place.line place.field reason
+RefusesLine kind all read_errors.Device = Unit {0}
+RefusesLine kind all read_errors.Memory = Unit {0}
+
+-- the result of reading all lines: how many there are
+abbrev pub ReadsAll : TextKind → List (List ℕ) → (List LineRecord → Type 0) → Result ℕ ReadError → Type 0
+ReadsAll kind all stands_for (Ok count) = IsReadWhole kind all count stands_for
+ReadsAll kind all stands_for (Err error) = RefusesLine kind all error
 
 -- the source's faults after a reading: one more after the error `Device`, otherwise the same
 abbrev pub CountsRead : {V : Type 0} → Result V ReadError → ℕ → ℕ → Type 0

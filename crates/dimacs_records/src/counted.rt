@@ -8,7 +8,7 @@ ghost use Rattle.dimacs_records.specs.declared.records.Record.{Record};
 ghost use Rattle.dimacs_records.specs.Conditions.{needs_problem};
 ghost use Rattle.dimacs_records.specs.Earlier.{is_problem};
 ghost use Rattle.dimacs_records.specs.Faults.{Fault};
-ghost use Rattle.dimacs_records.specs.Readings.{CountsRead, LineRecord, IsAllowed, IsOfKind, RefusesRecord, records_of};
+ghost use Rattle.dimacs_records.specs.Readings.{CountsRead, LineRecord, IsAllowed, IsComplete, IsOfKind, RefusesEnd, RefusesRecord, records_of};
 ghost use Rattle.dimacs_records.specs.Spelling.{kind_of};
 ghost use Rattle.dimacs_records.specs.Takings.{StandsFor};
 ghost use Rattle.dimacs_records.specs.Tests.{Passes, PassesEnd, end_context_of, context_after};
@@ -100,6 +100,20 @@ impl<B: Builder> CountedReading<B> {
             builder: None,
         }
     }
+
+    /// As `finish`, for a reading behind a reference. It then is as before the first record.
+    pub fn end(&mut self) -> Result<B::Value, TakeError>
+        ensures given { IfOk result (λ value. (rs : List LineRecord) → StandsFor B.built_from self.old.builder (records_of rs) → B.gives rs value) }
+        ensures complete { OnOk result ((rs : List LineRecord) → StandsFor B.built_from self.old.builder (records_of rs) → IsComplete B.kind (records_of rs)) }
+        ensures refused { IfErr result (λ error. (rs : List LineRecord) → StandsFor B.built_from self.old.builder (records_of rs) → RefusesEnd B.kind (records_of rs) error) }
+        ensures new { self.new.builder ≡ None }
+    {
+        let Some(builder) = self.builder.take() else {
+            return Err(TakeError::refused(0, Reason::ProblemMissing));
+        };
+        test_end(B::kind(), builder.end_context())?;
+        Ok(builder.value(self.alloc)?)
+    }
 }
 
 impl<B: Builder> Reading for CountedReading<B> {
@@ -110,6 +124,10 @@ impl<B: Builder> Reading for CountedReading<B> {
     ghost stands_for = { λ reading rs. StandsFor B.built_from reading.builder (records_of rs) };
 
     ghost gives = { λ rs value. B.gives rs value };
+
+    ghost Fixed = { Unit {0} };
+
+    ghost fixed = { λ reading. tt };
 
     #[inline(always)]
     fn take(&mut self, _line: u64, rec: Record) -> Result<(), TakeError> {
@@ -127,12 +145,8 @@ impl<B: Builder> Reading for CountedReading<B> {
     }
 
     fn finish(self) -> Result<B::Value, TakeError> {
-        let alloc = self.alloc;
-        let Some(builder) = self.builder else {
-            return Err(TakeError::refused(0, Reason::ProblemMissing));
-        };
-        test_end(B::kind(), builder.end_context())?;
-        Ok(builder.value(alloc)?)
+        let mut reading = self;
+        reading.end()
     }
 }
 

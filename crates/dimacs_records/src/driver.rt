@@ -9,9 +9,9 @@ ghost use Rattle.dimacs_lines.specs.declared.reader.Progress.TheVariants.{Open};
 ghost use Rattle.dimacs_lines.specs.Limits.{most_lines};
 ghost use Rattle.dimacs_records.specs.declared.faults.ReadError.TheVariants.{Device};
 ghost use Rattle.dimacs_records.specs.declared.records.Record.{Record};
-ghost use Rattle.dimacs_records.specs.Readings.{ReadsLines, CountsRead, IsGivenByLines, numbered};
+ghost use Rattle.dimacs_records.specs.Readings.{HasTaken, IsReadWhole, ReadsAll, ReadsLines, CountsRead, IsGivenByLines, numbered};
 ghost use Rattle.dimacs_records.specs.inside.Plain.{TakesPlain};
-ghost use Rattle.dimacs_records.specs.inside.Driver.{HasTaken, IsReadSoFar, ComesAfter, ReadsNext, ReadsSome, ReadsAll, TakesLine, read_error, lines_error};
+ghost use Rattle.dimacs_records.specs.inside.Driver.{IsReadSoFar, ComesAfter, ReadsNext, ReadsSome, TakesLine, read_error, lines_error};
 
 use crate::faults::{At, ReadError, TakeError};
 use crate::kinds::TextKind;
@@ -39,8 +39,40 @@ pub fn read_text<R: Reading, S: Source>(
     ensures faults { CountsRead result (S.faults source.old) (S.faults source.new) }
 {
     let mut reading = reading;
+    let count = read_records(alloc, kind, &mut reading, source)?;
+    end_text(reading, count)
+}
+
+/// Passes the records of a whole text to a reading, which the caller keeps. Returns the number of lines. `end_text` makes
+/// the tests at the end.
+pub fn read_records<R: Reading, S: Source>(
+    alloc: Global,
+    kind: TextKind,
+    reading: &mut R,
+    source: &mut S,
+) -> Result<u64, ReadError>
+    requires kind { R.kind reading.old ≡ kind }
+    requires new { R.stands_for reading.old [] }
+    ensures kind { R.kind reading.new ≡ kind }
+    ensures reads { (text : List ℕ) → S.coming source.old ≡ Some text → ReadsAll kind (lines text) (R.stands_for reading.new) result }
+    ensures within_limit { IfOk result (λ count. count ≤ most_lines) }
+    ensures spelled { IfOk result (λ count. HasTaken kind (count + 1) (R.stands_for reading.new)) }
+    ensures fixed { R.fixed reading.new ≡ R.fixed reading.old }
+    ensures kept { (value : R.Value) → R.keeps reading.new value → R.keeps reading.old value }
+    ensures faults { CountsRead result (S.faults source.old) (S.faults source.new) }
+{
     let mut lines = Lines::new(alloc)?;
-    let count = read_lines(kind, &mut lines, &mut reading, source)?;
+    read_lines(kind, &mut lines, reading, source)
+}
+
+/// The value of a reading that took the records of a text with so many lines, or the fault at its end.
+pub fn end_text<R: Reading>(reading: R, count: u64) -> Result<R::Value, ReadError>
+    requires { count ≤ most_lines }
+    ensures reads { (all : List (List ℕ)) → IsReadWhole (R.kind reading) all count (R.stands_for reading) → ReadsLines (R.kind reading) R.gives all result }
+    ensures spelled { IfOk result (λ value. HasTaken (R.kind reading) (count + 1) (R.stands_for reading) → IsGivenByLines (R.kind reading) R.gives value) }
+    ensures kept { IfOk result (λ value. R.keeps reading value) }
+    ensures no_io_error { IfErr result (λ error. error ≢ Device) }
+{
     match reading.finish() {
         Ok(value) => Ok(value),
         Err(error) => Err(at_line(count + 1, error)),
@@ -63,6 +95,7 @@ fn read_lines<R: Reading, S: Source>(
         → ReadsAll kind all (R.stands_for reading.new) result }
     ensures spelled { IfOk result (λ count. HasTaken kind (lines.old.given + 1) (R.stands_for reading.old)
         → HasTaken kind (count + 1) (R.stands_for reading.new)) }
+    ensures fixed { R.fixed reading.new ≡ R.fixed reading.old }
     ensures kept { (value : R.Value) → R.keeps reading.new value → R.keeps reading.old value }
     ensures faults { CountsRead result (S.faults source.old) (S.faults source.new) }
 {
@@ -93,6 +126,7 @@ fn take_held<R: Reading>(
         → ReadsSome kind all lines.new.given (text_left lines.new coming) (R.stands_for reading.new) result }
     ensures spelled { OnOk result (HasTaken kind (lines.old.given + 1) (R.stands_for reading.old)
         → HasTaken kind (lines.new.given + 1) (R.stands_for reading.new)) }
+    ensures fixed { R.fixed reading.new ≡ R.fixed reading.old }
     ensures kept { (value : R.Value) → R.keeps reading.new value → R.keeps reading.old value }
     ensures no_io_error { IfErr result (λ error. error ≢ Device) }
 {
@@ -104,8 +138,9 @@ fn take_held<R: Reading>(
     Ok(())
 }
 
-/// Passes the records of the lines in plain form at the front of the held bytes to the reading.
-#[inline(always)]
+/// Passes the records of the lines in plain form at the front of the held bytes to the reading. Each reading has one such
+/// loop for all sources, into which its lines are inlined.
+#[inline(never)]
 fn take_plain<R: Reading>(
     kind: TextKind,
     held: &[u8],
@@ -123,6 +158,7 @@ fn take_plain<R: Reading>(
         → TakesPlain kind all given held.now coming (R.stands_for reading.new) result }
     ensures spelled { IfOk result (λ taken. HasTaken kind (given + 1) (R.stands_for reading.old)
         → HasTaken kind (given + taken.lines + 1) (R.stands_for reading.new)) }
+    ensures fixed { R.fixed reading.new ≡ R.fixed reading.old }
     ensures kept { (value : R.Value) → R.keeps reading.new value → R.keeps reading.old value }
     ensures no_io_error { IfErr result (λ error. error ≢ Device) }
 {
@@ -155,6 +191,7 @@ fn read_line<R: Reading, S: Source>(
         → ReadsNext kind all lines.old.given (text_left lines.new (S.coming source.new)) (R.stands_for reading.new) result }
     ensures spelled { IfOk result (λ answer. HasTaken kind (lines.old.given + 1) (R.stands_for reading.old)
         → HasTaken kind (lines.old.given + 1 + option_len answer) (R.stands_for reading.new)) }
+    ensures fixed { R.fixed reading.new ≡ R.fixed reading.old }
     ensures kept { (value : R.Value) → R.keeps reading.new value → R.keeps reading.old value }
     ensures faults { CountsRead result (S.faults source.old) (S.faults source.new) }
 {
@@ -182,6 +219,7 @@ fn take_line<R: Reading>(
         → R.stands_for reading.old (numbered 1 by_line)
         → TakesLine kind before by_line line.now (R.stands_for reading.new) result }
     ensures spelled { OnOk result (HasTaken kind number (R.stands_for reading.old) → HasTaken kind (number + 1) (R.stands_for reading.new)) }
+    ensures fixed { R.fixed reading.new ≡ R.fixed reading.old }
     ensures kept { (value : R.Value) → R.keeps reading.new value → R.keeps reading.old value }
 {
     match record(kind, line) {

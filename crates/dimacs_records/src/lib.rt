@@ -23,7 +23,7 @@ mod text;
 
 pub use canonical::{put_record, put_text, write_lines, write_record};
 pub use counted::{Builder, CountedReading, read_counted};
-pub use driver::read_text;
+pub use driver::{end_text, read_records, read_text};
 pub use faults::{At, LineFault, ReadError, TakeError};
 pub use field_reader::{MAX_COUNT, MAX_NODES};
 pub use kinds::TextKind;

@@ -135,7 +135,7 @@ fn labels_line(bytes: &[u8]) -> Option<PlainLine>
 {
     let mut numbers = PlainNumbers::after(b'd', bytes)?;
     let id = numbers.id(b' ')?;
-    let dist = numbers.whole(b' ')?;
+    let dist = numbers.size(b' ')?;
     let pred = numbers.id(b'\n')?;
     let rec = Record::LabelsNode {
         id,
@@ -154,8 +154,8 @@ fn bounds_line(bytes: &[u8]) -> Option<PlainLine>
     let mut numbers = PlainNumbers::after(b'a', bytes)?;
     let tail = numbers.id(b' ')?;
     let head = numbers.id(b' ')?;
-    let low = numbers.whole(b' ')?;
-    let cap = numbers.whole(b' ')?;
+    let low = numbers.size(b' ')?;
+    let cap = numbers.size(b' ')?;
     let cost = numbers.whole(b'\n')?;
     let rec = Record::MinArc {
         tail,
@@ -196,7 +196,7 @@ fn arc_line(kind: TextKind, letter: u8, bytes: &[u8]) -> Option<PlainLine>
     let mut numbers = PlainNumbers::after(letter, bytes)?;
     let tail = numbers.id(b' ')?;
     let head = numbers.id(b' ')?;
-    let number = numbers.whole(b'\n')?;
+    let number = numbers.size(b'\n')?;
     let size = numbers.at();
     let rec = arc_record(kind, letter, tail, head, number)?;
     Some(PlainLine { size, rec })

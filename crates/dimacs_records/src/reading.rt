@@ -22,6 +22,11 @@ pub trait Reading: Drop {
     /// Which value the records of a text give.
     ghost gives: { List LineRecord → Self.Value → Type 0 };
 
+    ghost Fixed: { Type 0 };
+
+    /// The part of the state that no record changes.
+    ghost fixed: { Self → Fixed };
+
     /// How the value depends on the reading before its first record. A reading that starts empty leaves this out.
     ghost keeps: { Self → Self.Value → Type 0 } = { λ _ _. ⊤ };
 
@@ -35,6 +40,7 @@ pub trait Reading: Drop {
             → stands_for self.new (rs ++ on_line line rec ∷ [])) }
         ensures refused { IfErr result (λ error. (rs : List LineRecord) → stands_for self.old rs → RefusesRecord (records_of rs) rec error) }
         ensures unchanged { OnErr result ((rs : List LineRecord) → stands_for self.new rs ↔ stands_for self.old rs) }
+        ensures fixed { fixed self.new ≡ fixed self.old }
         ensures kept { (value : Self.Value) → keeps self.new value → keeps self.old value };
 
     /// The value of the records. `Refused` has the first condition of the end that holds.

@@ -7,8 +7,8 @@ ghost use Rattle.dimacs_runs.specs.Version.{proved_version};
 /// compiles a copy of this file with `false` here.
 pub const PROVED: bool = true;
 
-/// The version of a build that is proved, and the kit that proved it, by its `rt version`.
-const PROVED_VERSION: &str = "0.2.0-dev (proved by rattle-kit-13f logic dac8208d650f15bf)";
+/// The version of a build that is proved, and the logic of the kit that proved it, as `rt version` names it.
+const PROVED_VERSION: &str = "0.2.0-dev (proved by Rattle, logic dac8208d650f15bf)";
 
 const UNPROVED_VERSION: &str = "0.2.0-dev (not proved)";
 

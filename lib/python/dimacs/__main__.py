@@ -143,17 +143,15 @@ def _run(job: _Job) -> int:
     return status
 
 
-#: What stands for the blanks in a file's name, where blanks separate words.
-_BLANKS = dict(zip(b" \t\r", b"\1\2\3"))
+#: What stands for the blanks in a file's name, where blanks separate words; and these again.
+_STAND_INS, _BLANKS = bytes.maketrans(b" \t\r", b"\1\2\3"), bytes.maketrans(b"\1\2\3", b" \t\r")
 
 
 def _explained(job: _Job, texts: Sequence[bytes]) -> bytes:
-    words = [it.encode("utf-8", "surrogateescape") for it in job.explained]
-    command = b" ".join(bytes(_BLANKS.get(letter, letter) for letter in it) for it in words)
+    command = b" ".join(it.encode("utf-8", "surrogateescape").translate(_STAND_INS) for it in job.explained)
     given = [word for it in (command, *texts, b"", b"", b"") for word in bytes_of(it).words()][:8]
     _, lines = library.call(library.explain(), *given)
-    blanks = {stand_in: letter for letter, stand_in in _BLANKS.items()}
-    return bytes(blanks.get(letter, letter) for letter in lines)
+    return lines.translate(_BLANKS)
 
 
 def _answered(words: list[str]) -> int:

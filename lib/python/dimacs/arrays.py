@@ -25,9 +25,9 @@ from __future__ import annotations
 
 from typing import Any
 
-from . import calls, library
+from . import calls
 from .answers import Certified, Solved, Verdict
-from .buffers import LIMIT, LIMITS, Numbers
+from .buffers import LIMIT, Numbers
 from .given import DISTANCES, FLOWS, GRAPH, INSIDE, MAX, MIN, POTENTIALS, PREDECESSORS, Given, Names
 
 
@@ -43,7 +43,7 @@ def judge_max_arrays(
     Verdict(kind='max', value=4, pairs=())
     """
     given = Given(MAX, nodes, source, sink, tails, heads, caps, scale=scale, names=Names(base))
-    return calls.judge(library.judge_max_arrays, given.add(FLOWS, flows).add(INSIDE, inside))
+    return calls.judge(given.add(FLOWS, flows).add(INSIDE, inside))
 
 
 def judge_min_arrays(
@@ -60,7 +60,7 @@ def judge_min_arrays(
     Verdict(kind='min', value=22, pairs=())
     """
     given = Given(MIN, nodes, tails, heads, lows, caps, costs, supplies, scale=scale, names=Names(base))
-    return calls.judge(library.judge_min_arrays, given.add(FLOWS, flows).add(POTENTIALS, potentials))
+    return calls.judge(given.add(FLOWS, flows).add(POTENTIALS, potentials))
 
 
 def judge_infeasible_arrays(
@@ -74,7 +74,7 @@ def judge_infeasible_arrays(
     Verdict(kind='infeasible', value=None, pairs=())
     """
     given = Given(MIN, nodes, tails, heads, lows, caps, costs, supplies, scale=scale, names=Names(base))
-    return calls.judge(library.judge_infeasible_arrays, given.add(INSIDE, inside))
+    return calls.judge(given.add(INSIDE, inside))
 
 
 def judge_paths_arrays(
@@ -92,7 +92,7 @@ def judge_paths_arrays(
     """
     given = Given(GRAPH, nodes, tails, heads, weights, scale=scale, names=Names(base)).add_number("source", source)
     given.add(DISTANCES, distances).add(PREDECESSORS, predecessors)
-    return calls.judge(library.judge_paths_arrays, given)
+    return calls.judge(given)
 
 
 def certify_max_arrays(
@@ -110,7 +110,7 @@ def certify_max_arrays(
     Fraction(2, 5)
     """
     given = Given(MAX, nodes, source, sink, tails, heads, caps, scale=scale, names=Names(base)).add(FLOWS, flows)
-    return calls.certify(library.certify_max_arrays, given, flows, INSIDE, FLOWS)
+    return calls.certify(given, flows)
 
 
 def certify_min_arrays(
@@ -125,12 +125,9 @@ def certify_min_arrays(
 
     >>> certify_min_arrays(2, [1, 1], [2, 2], [0, 0], [5, 5], [3, 7], [6, -6], [5, 1]).value
     22
-    >>> certify_min_arrays(2, [1, 1], [2, 2], [0, 0], [5, 5], [3, 7], [6, -6], [4, 2])
-    Traceback (most recent call last):
-    dimacs.answers.NotOptimal: solution 0 0 NotLeast: it costs 26, and a better flow 22
     """
     given = Given(MIN, nodes, tails, heads, lows, caps, costs, supplies, scale=scale, names=Names(base))
-    return calls.certify(library.certify_min_arrays, given.add(FLOWS, flows), flows, POTENTIALS, FLOWS)
+    return calls.certify(given.add(FLOWS, flows), flows)
 
 
 def certify_infeasible_arrays(
@@ -145,7 +142,7 @@ def certify_infeasible_arrays(
     [True, False]
     """
     given = Given(MIN, nodes, tails, heads, lows, caps, costs, supplies, scale=scale, names=Names(base))
-    return calls.certify_infeasible(given, caps)
+    return calls.certify(given, caps)
 
 
 def certify_paths_arrays(
@@ -158,12 +155,9 @@ def certify_paths_arrays(
 
     >>> certify_paths_arrays(3, [1, 2], [2, 3], [5, 4], 1, [0, 5, 9]).predecessors
     [0, 1, 2]
-    >>> certify_paths_arrays(3, [0, 1], [1, 2], [5, 4], 0, [0, 5, float("inf")], base=0)
-    Traceback (most recent call last):
-    dimacs.answers.Refused: arc 1 Escapes: its tail is at 5, its head isn't reached
     """
     given = Given(GRAPH, nodes, tails, heads, weights, scale=scale, names=Names(base)).add_number("source", source)
-    return calls.certify(library.certify_paths_arrays, given.add(DISTANCES, distances), distances, PREDECESSORS)
+    return calls.certify(given.add(DISTANCES, distances), distances)
 
 
 def solve_max_arrays(
@@ -179,7 +173,7 @@ def solve_max_arrays(
     Solved(value=5, solution=[5, 5], certificate=[True, False, False])
     """
     given = Given(MAX, nodes, source, sink, tails, heads, caps, scale=scale, names=Names(base))
-    return calls.solve_max(given.add_number("limit", limit, LIMITS), caps)
+    return calls.solve_max(given, caps, limit)
 
 
 def solve_min_arrays(
@@ -195,12 +189,9 @@ def solve_min_arrays(
 
     >>> solve_min_arrays(2, [1, 1], [2, 2], [0, 0], [5, 5], [3, 7], [6, -6])[:2]
     (22, [5, 1])
-    >>> from decimal import Decimal
-    >>> solve_min_arrays(2, [1], [2], [0], [5], [0.03], [4, -4], scale=(1, Decimal("0.01")))[:2]
-    (Decimal('0.12'), [4])
     """
     given = Given(MIN, nodes, tails, heads, lows, caps, costs, supplies, scale=scale, names=Names(base))
-    return calls.solve_min(given.add_number("limit", limit, LIMITS), caps)
+    return calls.solve_min(given, caps, limit)
 
 
 def solve_paths_arrays(

@@ -29,21 +29,17 @@ else:
     Numbers = Iterable[Any]
 
 
-class Buffer:
-    """The address and number of items, and the object that keeps their memory. If that is bytes, it is the address too."""
+class Buffer(NamedTuple):
+    """What keeps the memory of items, their address and number. If it is bytes, it is the address too."""
 
-    __slots__ = ("kept", "address", "length")
-
-    def __init__(self, kept: Any, address: int | bytes, length: int) -> None:
-        self.kept = kept
-        self.address = address
-        self.length = length
+    kept: Any
+    address: int | bytes
+    length: int
 
     def words(self) -> tuple[Any, int]:
         return self.address, self.length
 
     def listed(self, items: Items) -> list[int]:
-        """The items as ints."""
         return array.array(items.code, ctypes.string_at(self.address, self.length * items.width)).tolist()
 
 
@@ -192,7 +188,6 @@ def is_infinite(number: Any) -> bool:
 
 
 def _whole(number: Any, items: Items, name: str) -> int:
-    """A number as an integer."""
     if _is_numpy_bool(number):
         return int(number)
     if hasattr(number, "__index__"):
@@ -222,31 +217,17 @@ def _is_whole(number: Any) -> bool:
     return bool(number.is_integer())
 
 
-def converted(numbers: Sequence[Any], items: Items, name: Name) -> array.array[int]:
+def _from_numbers(numbers: Sequence[Any], items: Items, name: Name) -> Buffer:
     """An array of numbers, each of which is converted."""
     try:
-        return array.array(items.code, numbers)
+        found = array.array(items.code, numbers)
     except (OverflowError, TypeError):
         found = array.array(items.code, (0,)) * len(numbers)
-    for place, number in enumerate(numbers):
-        if type(number) is not int or not items.least <= number <= items.greatest:
-            number = number_of(number, items, item(name, place))
-        found[place] = number
-    return found
-
-
-def _from_numbers(numbers: Sequence[Any], items: Items, name: Name) -> Buffer:
-    kept = converted(numbers, items, name)
-    return Buffer(kept, *kept.buffer_info())
-
-
-def _from_view(view: memoryview, items: Items) -> Buffer:
-    """Takes a view of such items as it is, or copies it if it isn't aligned to their width."""
-    address = _address_of(view) if len(view) else 0
-    if address % items.width == 0:
-        return Buffer(view, address, len(view))
-    kept = array.array(items.code, view.tobytes())
-    return Buffer(kept, *kept.buffer_info())
+        for place, number in enumerate(numbers):
+            if type(number) is not int or not items.least <= number <= items.greatest:
+                number = number_of(number, items, item(name, place))
+            found[place] = number
+    return Buffer(found, *found.buffer_info())
 
 
 def _from_numpy(numpy: Any, numbers: Any, items: Items, name: Name) -> Buffer:
@@ -284,7 +265,6 @@ def whole_floats(numpy: Any, numbers: Any, items: Items = NUMBERS) -> tuple[Any,
 
 
 def _whole_numpy(numpy: Any, numbers: Any, items: Items, name: Name) -> Any:
-    """An array of floats as integers."""
     whole, fits = whole_floats(numpy, numbers, items)
     if items.infinity is not None:
         infinite = numbers == math.inf
@@ -379,30 +359,36 @@ def array_of(numbers: Any, items: Items, name: Name) -> Buffer:
         return _from_numbers(_items_of(numbers, view, name), items, name)
     if isinstance(numbers, array.array):
         return Buffer(view, *numbers.buffer_info())
-    return _from_view(view, items)
+    address = _address_of(view) if len(view) else 0
+    if address % items.width == 0:
+        return Buffer(view, address, len(view))
+    kept = array.array(items.code, view.tobytes())  # it isn't aligned to their width
+    return Buffer(kept, *kept.buffer_info())
 
 
-def test_text(numbers: Any, items: Items, name: str) -> None:
-    """Raises TypeError for the bytes of a text: they are no numbers, but may be marks."""
+def test_array(numbers: Any, items: Items, name: str, wanted: str = "an array") -> None:
+    """Raises TypeError for the bytes of a text, which may only be marks, and for one number, or nothing."""
     if isinstance(numbers, (bytes, bytearray)) and items is not MARKS:
         raise TypeError(f"{name} is a text, {numbers!r}, and no array of numbers")
-
-
-def only_array_of(numbers: Any, items: Items, name: Name) -> Buffer:
-    """The items of an array, and TypeError for a text or one number."""
-    test_text(numbers, items, _array(name))
     if is_single(numbers):
-        raise TypeError(f"{_array(name)}: {'None' if numbers is None else 'one number'}, an array is wanted")
+        raise TypeError(f"{name}: {'None' if numbers is None else 'one number'}, {wanted} is wanted")
+
+
+def only_array_of(numbers: Any, items: Items, name: str) -> Buffer:
+    """The items of an array, and TypeError for what is none."""
+    test_array(numbers, items, name)
     return array_of(numbers, items, name)
 
 
-def list_of(numbers: Any, items: Items, name: Name) -> list[int]:
-    """The items of an array as ints."""
-    return only_array_of(numbers, items, name).listed(items)
+def test_same_lengths(lengths: dict[str, int]) -> None:
+    """Raises ValueError for the first array of these names that is longer or shorter than the first one."""
+    first, wanted = next(iter(lengths.items()))
+    for name, length in lengths.items():
+        if length != wanted:
+            raise ValueError(f"{name} has {length} items, and {first} has {wanted}")
 
 
 def number_of(number: Any, items: Items, name: str) -> int:
-    """A single number."""
     whole = number if type(number) is int else _whole(number, items, name)
     if not items.least <= whole <= items.greatest:
         raise _refuse(name, number, items)
@@ -442,7 +428,6 @@ class Room:
         return address, length, ctypes.byref(self._needed)
 
     def items(self) -> array.array[int]:
-        """All items."""
         if self._needed.value != len(self._kept):
             raise RuntimeError(f"the library handed out {self._needed.value} items, and there is room for {len(self._kept)}")
         return self._kept

@@ -6,17 +6,20 @@ from __future__ import annotations
 from typing import Any, Callable
 
 from . import library
-from .answers import UNREACHED, Certified, Feasible, GaveUp, Infeasible, NotOptimal, Refused, Solved, Unbounded, Verdict
-from .buffers import Room
+from .answers import UNREACHED, Certified, Feasible, GaveUp, Infeasible, NotOptimal, Refused, Solved, Verdict
+from .buffers import LIMIT, LIMITS, Room, value_of
 from .explained import AskedOfArrays, kept
 from .given import COSTS, DISTANCES, FLOWS, GRAPH, HEADS, INSIDE, MAX, MIN, POTENTIALS, PREDECESSORS, SUPPLIES, TAILS
 from .given import Array, Given
 
+#: What shows each kind of claim.
+_CERTIFICATES = {"max": INSIDE, "min": POTENTIALS, "infeasible": INSIDE, "paths": PREDECESSORS}
 
-def _asked(call: str, given: Given) -> AskedOfArrays:
-    """A call, without what it hands out."""
-    kinds = {MAX: "max", MIN: "infeasible" if given.has(INSIDE) else "min", GRAPH: "paths"}
-    return AskedOfArrays(f"{call}_{kinds[given.form]}", given)
+
+def _claimed(given: Given) -> str:
+    """What a claim is about. One of least cost has flows."""
+    kinds = {MAX: "max", MIN: "min" if given.has(FLOWS) else "infeasible", GRAPH: "paths"}
+    return kinds[given.form]
 
 
 def _shown_by(given: Given, kind: str, **found: Room) -> AskedOfArrays:
@@ -25,79 +28,94 @@ def _shown_by(given: Given, kind: str, **found: Room) -> AskedOfArrays:
     return AskedOfArrays(f"judge_{kind}", given, **found)
 
 
-def judge(function: Callable[..., int], given: Given) -> Verdict:
-    words = given.words()
-    asked = _asked("judge", given)
+def judge(given: Given) -> Verdict:
+    words, kind = given.words(), _claimed(given)
+    asked = AskedOfArrays(f"judge_{kind}", given)
     with given.named(asked):
-        status, line = library.call(function, *words)
+        status, line = library.call(getattr(library, f"judge_{kind}_arrays"), *words)
         if status == library.REFUSED:
             raise library.refusal(line)
         found = library.verdict(line)
-        if found.kind == "infeasible" and given.limitless() and not _is_violated(given, given.column(INSIDE)):
+        if kind == "infeasible" and given.limitless() and not _is_violated(given, given.column(INSIDE)):
             raise Refused("NotViolated", text="certificate", line=0, field=0)
-    value = given.value(found.value) if found.kind in ("max", "min") else found.value
+    value = given.value(found.value) if kind in ("max", "min") else found.value
     given.forget()
     return kept(Verdict(found.kind, value), asked)
 
 
-def certify(function: Callable[..., int], given: Given, came: Any, *handed: Array) -> Certified:
-    """Makes a call that certifies. It hands out the certificate, then a better flow."""
-    words = given.words()
-    asked = _asked("certify", given)
+def certify(given: Given, came: Any = ()) -> Certified:
+    """What is handed out has the form of an array that came."""
+    words, kind = given.words(), _claimed(given)
+    asked, certificate = AskedOfArrays(f"certify_{kind}", given), _CERTIFICATES[kind]
     with given.named(asked):
-        rooms = [given.room(kind) for kind in handed]
-        status, line = library.call_with_rooms(function, words, rooms)
-        if status == library.DONE:
-            value = None if given.form is GRAPH else given.value(library.verdict(line).value)
-            answer = Certified(value, given.shown(handed[0], rooms[0], came))
-            return kept(answer, _shown_by(given, asked.kind, **{handed[0].name: rooms[0]}))
-        no = library.refusal(line)
-        if not no.is_about_value():
-            raise no
-        flows = rooms[1].items()
-        asked.add(better=rooms[1])
-        values = {"value": given.value_of(given.column(FLOWS)), "better_value": given.value_of(flows)}
-        numbers = {name: given.value(it) for name, it in values.items()}
-        better = given.shown(FLOWS, rooms[1], came)
-        raise NotOptimal(no.reason, better, text=no.text, line=no.line, field=no.field, numbers=numbers)
-
-
-def certify_infeasible(given: Given, came: Any) -> Certified:
-    words = given.words()
-    asked = AskedOfArrays("certify_infeasible", given)
-    with given.named(asked):
-        inside, flows = rooms = [given.room(INSIDE), given.room(FLOWS)]
-        status, _ = library.call_with_rooms(library.certify_infeasible_arrays, words, rooms)
+        shown, *better = rooms = [given.room(it) for it in (certificate, *[FLOWS] * (kind != "paths"))]
+        status, line = library.call_with_rooms(getattr(library, f"certify_{kind}_arrays"), words, rooms)
         if status == library.REFUSED:
-            asked.add(better=flows)
-            raise Feasible(given.shown(FLOWS, flows, came))
-        answer = Certified(None, _found_set(given, inside, came))
-        return kept(answer, _shown_by(given, "infeasible", inside=inside))
+            raise _refusal(given, library.refusal(line), asked, came, *better)
+        if kind == "infeasible":
+            _test_found_set(given, shown)
+        value = given.value(library.verdict(line).value) if kind in ("max", "min") else None
+        answer = Certified(value, given.shown(certificate, shown, came))
+        return kept(answer, _shown_by(given, kind, **{certificate.name: shown}))
 
 
-def solve_max(given: Given, came: Any) -> Solved:
-    words = given.words()
-    found, (flows, inside) = _solve_bounded(library.solve_max_arrays, given, words, _test_bounded_max, FLOWS, INSIDE)
-    if any(inside.items()[tail - 1] and not inside.items()[head - 1] for tail, head in _limitless_ends(given)):
+def _refusal(given: Given, no: Refused, asked: AskedOfArrays, came: Any, *better: Room) -> Refused:
+    """A refusal, with the flow that shows it if one does."""
+    if no.reason != "Feasible" and not no.is_about_value():
+        return no
+    (flows,) = better
+    asked.add(better=flows)
+    if no.reason == "Feasible":
+        return Feasible(given.shown(FLOWS, flows, came))
+    values = {"value": given.value_of(given.column(FLOWS)), "better_value": given.value_of(flows.items())}
+    numbers = {name: given.value(it) for name, it in values.items()}
+    shown = given.shown(FLOWS, flows, came)
+    return NotOptimal(no.reason, shown, text=no.text, line=no.line, field=no.field, numbers=numbers)
+
+
+def of_value(certified: Certified, claimed: Any, name: str) -> Certified:
+    """The same. Raises Refused if it has another value than is claimed."""
+    number = value_of(claimed, name)
+    if number != certified.value:
+        numbers = {"claimed": number, "value": certified.value}
+        raise Refused("ValueDiffers", text="solution", line=0, field=0, numbers=numbers)
+    return certified
+
+
+def solve_max(given: Given, came: Any = (), limit: Any = LIMIT) -> Solved:
+    given.add_number("limit", limit, LIMITS)
+    found, rooms = _solve_bounded("max", given, _test_bounded_max, FLOWS, INSIDE)
+    inside = rooms[INSIDE].items()
+    if any(inside[tail - 1] and not inside[head - 1] for tail, head in _limitless_ends(given)):
         _test_bounded_max(given)
         raise GaveUp("the capacities have a sum that is out of range")
-    answer = Solved(given.value(found.value), given.shown(FLOWS, flows, came), given.shown(INSIDE, inside, came))
-    return kept(answer, _shown_by(given, "max", flows=flows, inside=inside))
+    return _solved(given, "max", given.value(found.value), rooms, came)
 
 
-def solve_min(given: Given, came: Any) -> Solved:
-    words, handed = given.words(), (FLOWS, POTENTIALS, INSIDE)
-    found, (flows, prices, inside) = _solve_bounded(library.solve_min_arrays, given, words, _test_bounded_min, *handed)
+def solve_min(given: Given, came: Any = (), limit: Any = LIMIT) -> Solved:
+    given.add_number("limit", limit, LIMITS)
+    found, rooms = _solve_bounded("min", given, _test_bounded_min, FLOWS, POTENTIALS, INSIDE)
+    inside = rooms.pop(INSIDE)
     if found.kind == "infeasible":
-        no = Infeasible(_found_set(given, inside, came), _imbalance(given))
+        _test_found_set(given, inside)
+        no = Infeasible(given.shown(INSIDE, inside, came), _imbalance(given))
         raise kept(no, _shown_by(given, "infeasible", inside=inside))
-    costs, potentials = given.column(COSTS), prices.items()
+    costs, potentials = given.column(COSTS), rooms[POTENTIALS].items()
     for arc, (tail, head) in zip(given.limitless(), _limitless_ends(given)):
         if costs[arc] - potentials[tail - 1] + potentials[head - 1] < 0:
             _test_bounded_min(given)
             raise GaveUp("the capacities and supplies have a sum that is out of range")
-    answer = Solved(given.value(found.value), given.shown(FLOWS, flows, came), given.shown(POTENTIALS, prices, came))
-    return kept(answer, _shown_by(given, "min", flows=flows, potentials=prices))
+    return _solved(given, "min", given.value(found.value), rooms, came)
+
+
+def solve_paths(given: Given, came: Any = ()) -> Solved:
+    _, rooms = _solve("paths", given, given.words(), DISTANCES, PREDECESSORS)
+    return _solved(given, "paths", None, rooms, came)
+
+
+def _solved(given: Given, kind: str, value: Any, rooms: dict[Array, Room], came: Any) -> Solved:
+    answer = Solved(value, *(given.shown(*it, came) for it in rooms.items()))
+    return kept(answer, _shown_by(given, kind, **{it.name: room for it, room in rooms.items()}))
 
 
 def _imbalance(given: Given) -> dict[str, Any]:
@@ -108,36 +126,30 @@ def _imbalance(given: Given) -> dict[str, Any]:
 
 
 def _solve_bounded(
-    function: Callable[..., int], given: Given, words: list[Any], test: Callable[[Given], None], *handed: Array
-) -> tuple[Verdict, list[Room]]:
+    kind: str, given: Given, test: Callable[[Given], None], *handed: Array
+) -> tuple[Verdict, dict[Array, Room]]:
     """Solves with a bound in place of inf. If the library gives up, the bound may be why: then the test raises Unbounded."""
+    words = given.words()
     if not given.limitless():
-        return _solve(function, given, words, *handed)
+        return _solve(kind, given, words, *handed)
     given.bound_limitless()
     try:
-        return _solve(function, given, words, *handed)
+        return _solve(kind, given, words, *handed)
     except GaveUp:
-        if given.form is MAX or _has_flow(given, words[:1]):
+        if kind == "max" or _has_flow(given, words[:1]):
             test(given)
         raise
 
 
 def _has_flow(given: Given, instance: list[Any]) -> bool:
-    """Whether a flow is feasible."""
     status, _ = library.call_with_rooms(library.certify_infeasible_arrays, instance, [given.room(INSIDE), given.room(FLOWS)])
     return status == library.REFUSED
 
 
-def solve_paths(given: Given, came: Any) -> Solved:
-    _, (distances, before) = _solve(library.solve_paths_arrays, given, given.words(), DISTANCES, PREDECESSORS)
-    answer = Solved(None, given.shown(DISTANCES, distances, came), given.shown(PREDECESSORS, before, came))
-    return kept(answer, _shown_by(given, "paths", distances=distances, predecessors=before))
-
-
-def _solve(function: Callable[..., int], given: Given, words: list[Any], *handed: Array) -> tuple[Verdict, list[Room]]:
-    with given.named(_asked("solve", given)):
-        rooms = [given.room(kind) for kind in handed]
-        status, line = library.call_with_rooms(function, words, rooms)
+def _solve(kind: str, given: Given, words: list[Any], *handed: Array) -> tuple[Verdict, dict[Array, Room]]:
+    with given.named(AskedOfArrays(f"solve_{kind}", given)):
+        rooms = {it: given.room(it) for it in handed}
+        status, line = library.call_with_rooms(getattr(library, f"solve_{kind}_arrays"), words, rooms.values())
         if status == library.REFUSED:
             raise library.refusal(line)
         return library.verdict(line), rooms
@@ -159,14 +171,14 @@ def _test_bounded_max(given: Given) -> None:
     tails, heads = zip(*_limitless_ends(given))
     graph = Given(GRAPH, given.number("nodes"), tails, heads, [0] * len(tails))
     source, node = given.number("source"), given.number("sink")
-    _, distances, before = solve_paths(graph.add_number("source", source), [])
+    _, distances, before = solve_paths(graph.add_number("source", source))
     if distances[node - 1] == UNREACHED:
         return
     ends, arcs = dict(zip(zip(tails, heads), given.limitless())), []
     while node != source:
         arcs.append(ends[before[node - 1], node])
         node = before[node - 1]
-    raise Unbounded(f"arcs without a limit lead from the source to the sink: {_named(given, arcs[::-1])}")
+    raise given.names.unbounded(f"arcs without a limit lead from the source to the sink: {_named(given, arcs[::-1])}")
 
 
 def _named(given: Given, arcs: list[int]) -> str:
@@ -184,17 +196,17 @@ def _test_bounded_min(given: Given) -> None:
     none, nodes = [0] * len(limitless), given.number("nodes")
     claim = Given(MIN, nodes, tails, heads, none, [1] * len(none), costs, [0] * nodes).add(FLOWS, none)
     try:
-        certify(library.certify_min_arrays, claim, [], POTENTIALS, FLOWS)
+        certify(claim)
     except NotOptimal as it:
-        arcs = [arc for arc, amount in zip(limitless, it.better) if amount]
-        raise Unbounded(f"a cycle of arcs without a limit costs less than nothing: {_named(given, arcs)}") from None
+        arcs = _named(given, [arc for arc, amount in zip(limitless, it.better) if amount])
+        message = f"a cycle of arcs without a limit costs less than nothing: {arcs}"
+        raise given.names.unbounded(message) from None
 
 
-def _found_set(given: Given, inside: Room, came: Any) -> Any:
-    """A set that was found to show that no flow is feasible. It has to show it of arcs without a limit too."""
+def _test_found_set(given: Given, inside: Room) -> None:
+    """A set that was found to show that no flow is feasible has to show it of arcs without a limit too."""
     if given.limitless() and not _is_violated(given, inside.items()):
         raise GaveUp("no flow is feasible that stays below 2^63 - 1 on the arcs without a limit")
-    return given.shown(INSIDE, inside, came)
 
 
 def _is_violated(given: Given, inside: Any) -> bool:

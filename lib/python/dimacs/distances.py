@@ -36,8 +36,8 @@ def distances_from(
         solved = solve_paths_arrays(nodes, tails, heads, weights, source)
         return Distances(list(solved.distances), list(solved.predecessors))
     if potentials is None:
-        within = _reached(nodes, tails, heads, source)
-        arcs = [arc for arc, tail in enumerate(tails) if within[tail - 1]]
+        reached = solve_paths_arrays(nodes, tails, heads, [0] * len(tails), source).distances
+        arcs = [arc for arc, tail in enumerate(tails) if reached[tail - 1] != UNREACHED]
         tails, heads, weights = ([numbers[arc] for arc in arcs] for numbers in (tails, heads, weights))
         potentials = potentials_of(nodes, tails, heads, weights)
     return _with_negative(nodes, tails, heads, weights, source, potentials)
@@ -59,12 +59,6 @@ def _with_negative(
     distances = [reached.get(node, UNREACHED) for node in range(nodes)]
     judge_paths_arrays(nodes, tails, heads, weights, source, distances, predecessors)
     return Distances(distances, list(predecessors))
-
-
-def _reached(nodes: int, tails: Sequence[int], heads: Sequence[int], source: int) -> list[bool]:
-    """Whether each node can be reached from the source."""
-    found = solve_paths_arrays(nodes, tails, heads, [0] * len(tails), source).distances
-    return [it != UNREACHED for it in found]
 
 
 def potentials_of(nodes: int, tails: Sequence[int], heads: Sequence[int], weights: Sequence[int]) -> list[int]:

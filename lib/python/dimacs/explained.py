@@ -15,19 +15,12 @@ from .writing import text_of, text_of_instance
 
 #: The names of a call's texts, which the lines quote: those that refusals have for them.
 _NAMES = {
-    "judge_max": "instance solution certificate",
-    "judge_min": "instance solution certificate",
-    "judge_infeasible": "instance certificate",
-    "judge_paths": "instance query certificate",
-    "certify_max": "instance solution certificate",
-    "certify_min": "instance solution certificate",
-    "certify_infeasible": "instance certificate",
+    **dict.fromkeys(("judge_max", "judge_min", "certify_max", "certify_min"), "instance solution certificate"),
+    **dict.fromkeys(("solve_max", "solve_min"), "instance solution certificate"),
+    **dict.fromkeys(("judge_infeasible", "certify_infeasible"), "instance certificate"),
+    **dict.fromkeys(("judge_paths", "solve_paths"), "instance query certificate"),
+    **dict.fromkeys(("spread_max", "spread_min"), "instance solution spread"),
     "certify_paths": "instance distances certificate",
-    "solve_max": "instance solution certificate",
-    "solve_min": "instance solution certificate",
-    "solve_paths": "instance query certificate",
-    "spread_max": "instance solution spread",
-    "spread_min": "instance solution spread",
 }
 
 #: The names of single texts, by their kinds.
@@ -59,10 +52,6 @@ def _explanation(command: str, texts: Sequence[Any]) -> list[str]:
     return lines.decode().splitlines()
 
 
-def _forgotten() -> None:
-    """In place of what a pickled answer was asked of."""
-
-
 class Asked:
     """A call over texts: these, then what it hands out. It keeps them alive."""
 
@@ -74,7 +63,7 @@ class Asked:
         return cls(f"{call} {kind} {_KINDS[kind]}", text)
 
     def __reduce__(self) -> Any:
-        return _forgotten, ()
+        return type(None), ()  # a pickled answer keeps nothing
 
     @property
     def kind(self) -> str:
@@ -170,7 +159,6 @@ class AskedOfArrays(Asked):
         self.said = ""
 
     def add(self, **more: Room) -> None:
-        """Adds what was handed out."""
         self._more.update(more)
 
     def _column(self, kind: Array) -> Any:
@@ -281,7 +269,6 @@ class AskedOfArrays(Asked):
             yield from _named("arc", arcs, names.arc)
         elif names.base == 0:
             yield "nodes and arcs are numbered from 1 here, and from 0 in the arrays"
-
 
     def _scaled(self, amount: Any, cost: Any) -> str:
         """What 1 stands for."""

@@ -4,17 +4,17 @@ from __future__ import annotations
 
 import math
 from collections.abc import Mapping
-from typing import Any, ContextManager, NamedTuple
+from typing import Any, NamedTuple
 
 import pandas as pd
 from pandas.api.types import is_hashable
 
-from . import calls, library
-from .answers import Certified, Explainable, Solved, reshaped
-from .buffers import LIMIT, LIMITS
+from . import calls
+from .answers import Certified, Explainable, Solved
+from .buffers import LIMIT
 from .explained import like
 from .instances import Graph, MaxInstance, MinInstance
-from .given import DISTANCES, FLOWS, GRAPH, INSIDE, MAX, MIN, POTENTIALS, PREDECESSORS, Given, Names
+from .given import DISTANCES, FLOWS, GRAPH, INSIDE, MAX, MIN, POTENTIALS, Array, Given, Names
 
 
 __all__ = ["Frame", "FrameAnswer", "from_frame"]
@@ -50,7 +50,7 @@ class FrameAnswer(_FrameAnswer, Explainable):
 
 
 class _FrameNames(Names):
-    """Arcs by the index of the frame, nodes by their names."""
+    """Arcs by the index of the frame, nodes by their names; flows and what is by node as a frame has them."""
 
     has_inf_alone = True
 
@@ -68,6 +68,12 @@ class _FrameNames(Names):
         if name in ("supplies", "distances"):
             return f"{name}[{self.node(place)!r}]"
         return f"{self._frame.columns.get(name, name)} of row {self.arc(place)!r}"
+
+    def formed(self, kind: Array, items: Any) -> Any:
+        if kind is FLOWS:
+            return self._frame._by_edge(items)
+        columns = {INSIDE: "inside", POTENTIALS: "potential"}
+        return self._frame._by_node(**{columns[kind]: items}) if kind in columns else items
 
 
 def _listed(column: pd.Series) -> list[Any]:
@@ -124,20 +130,8 @@ def _column_of(items: Any, index: Any) -> pd.Series:
 class Frame:
     """A network of edges in a DataFrame. See from_frame.
 
-    >>> table = {"from": ["mine", "mine"], "to": ["port", "port"], "tons": [5, 5], "price": [3, 7]}
-    >>> supply = {"mine": 6, "port": -6}
-    >>> network = from_frame(pd.DataFrame(table), "from", "to", capacity="tons", cost="price", supply=supply)
-    >>> network
+    >>> from_frame(pd.DataFrame({"from": ["mine", "mine"], "to": ["port", "port"]}), "from", "to")
     Frame of 2 edges between 2 nodes
-    >>> network.solve_max("mine", "port").value
-    10
-    >>> network.certify_min([5, 1]).value
-    22
-    >>> network.certify_max("mine", "port", [5, 1])
-    Traceback (most recent call last):
-    dimacs.answers.NotOptimal: solution 0 0 NotMaximum: its value is 6, and that of a better flow 10
-    >>> network.certify_paths("mine", {"mine": 0, "port": 3}).nodes["predecessor"].to_dict()
-    {'mine': None, 'port': 'mine'}
     """
 
     def __init__(self, edges: pd.DataFrame, tail: Any, head: Any, columns: dict[str, Any], supply: Any, scale: Any) -> None:
@@ -179,14 +173,9 @@ class Frame:
         return self._given(MAX, *ends, self._tails, self._heads, self._numbers_of("caps", math.inf))
 
     def _min(self) -> Given:
-        arcs = (
-            self._tails,
-            self._heads,
-            self._numbers_of("lows", 0),
-            self._numbers_of("caps", math.inf),
-            self._numbers_of("costs", 0),
-        )
-        return self._given(MIN, *arcs, self._supplies)
+        missing = {"lows": 0, "caps": math.inf, "costs": 0}
+        numbers = (self._numbers_of(*it) for it in missing.items())
+        return self._given(MIN, self._tails, self._heads, *numbers, self._supplies)
 
     def _graph(self) -> Given:
         return self._given(GRAPH, self._tails, self._heads, self._numbers_of("costs", 1))
@@ -224,65 +213,55 @@ class Frame:
     def _by_edge(self, flows: Any) -> pd.Series:
         return _column_of(flows, self.edges.index).rename("flow")
 
-    def _answer(self, found: Certified | Solved, flows: Any, **columns: Any) -> FrameAnswer:
-        edges = self.edges[self._named].assign(flow=self._by_edge(flows)) if flows is not None else None
-        return like(FrameAnswer(found.value, edges, self._by_node(**columns)), found)
+    def _answer(self, found: Certified | Solved, flows: pd.Series | None, nodes: pd.DataFrame) -> FrameAnswer:
+        edges = None if flows is None else self.edges[self._named].assign(flow=flows)
+        return like(FrameAnswer(found.value, edges, nodes), found)
 
     def _by_node(self, **columns: Any) -> pd.DataFrame:
         index = pd.Index(self.nodes, name="node", tupleize_cols=False)
         return pd.DataFrame({name: _column_of(it, index) for name, it in columns.items()}, index)
 
-    def _shown(self) -> ContextManager[None]:
-        """Exceptions raised inside have flows and sets as a frame has them."""
-        return reshaped(self._by_edge, lambda inside: self._by_node(inside=inside))
-
     def solve_max(self, source: Any, sink: Any, limit: int = LIMIT) -> FrameAnswer:
         """A maximum flow, and which nodes are on the source's side of a cut that shows it. Raises as solve_max_arrays,
         and ValueError if the frame has a column of lower bounds."""
-        with self._shown():
-            found = calls.solve_max(self._max(source, sink).add_number("limit", limit, LIMITS), [])
-        return self._answer(found, found.flows, inside=found.inside)
+        found = calls.solve_max(self._max(source, sink), limit=limit)
+        return self._answer(found, found.flows, found.certificate)
 
     def solve_min(self, limit: int = LIMIT) -> FrameAnswer:
         """A flow of least cost, and potentials that show it. Raises as solve_min_arrays."""
-        with self._shown():
-            found = calls.solve_min(self._min().add_number("limit", limit, LIMITS), [])
-        return self._answer(found, found.flows, potential=found.potentials)
+        found = calls.solve_min(self._min(), limit=limit)
+        return self._answer(found, found.flows, found.certificate)
 
     def solve_paths(self, source: Any) -> FrameAnswer:
         """The distances from a node, by the column of costs, and predecessors; inf and None of a node that isn't reached:
         these columns have the dtype object then, in which distances stay ints."""
-        found = calls.solve_paths(self._paths(source), [])
+        found = calls.solve_paths(self._paths(source))
         before = found.predecessors
         reached = [it != 0 or self.nodes[place] == source for place, it in enumerate(before)]
         distances = [it if is_reached else math.inf for it, is_reached in zip(found.distances, reached)]
-        return self._answer(found, None, distance=distances, predecessor=self._before(before))
+        return self._answer(found, None, self._labels(distances, before))
 
-    def _before(self, numbers: Any) -> list[Any]:
-        return [self.nodes[it - 1] if it else None for it in numbers]
+    def _labels(self, distances: Any, before: Any) -> pd.DataFrame:
+        """The distances of nodes, and their predecessors by numbers."""
+        return self._by_node(distance=distances, predecessor=[self.nodes[it - 1] if it else None for it in before])
 
     def certify_max(self, source: Any, sink: Any, flows: Any) -> FrameAnswer:
         """Decides whether flows, a column or a Series, are maximum. Raises as certify_max_arrays, and ValueError if the
         frame has a column of lower bounds."""
         flows = self._flows(flows)
-        claim = self._max(source, sink).add(FLOWS, flows)
-        with self._shown():
-            found = calls.certify(library.certify_max_arrays, claim, [], INSIDE, FLOWS)
-        return self._answer(found, flows, inside=found.inside)
+        found = calls.certify(self._max(source, sink).add(FLOWS, flows))
+        return self._answer(found, self._by_edge(flows), found.certificate)
 
     def certify_min(self, flows: Any) -> FrameAnswer:
         """Decides whether flows, a column or a Series, cost least. Raises as certify_min_arrays."""
         flows = self._flows(flows)
-        claim = self._min().add(FLOWS, flows)
-        with self._shown():
-            found = calls.certify(library.certify_min_arrays, claim, [], POTENTIALS, FLOWS)
-        return self._answer(found, flows, potential=found.potentials)
+        found = calls.certify(self._min().add(FLOWS, flows))
+        return self._answer(found, self._by_edge(flows), found.certificate)
 
     def certify_infeasible(self) -> FrameAnswer:
         """Decides whether no flow meets the supplies. Raises Feasible with flows if one does."""
-        with self._shown():
-            found = calls.certify_infeasible(self._min(), [])
-        return self._answer(found, None, inside=found.inside)
+        found = calls.certify(self._min())
+        return self._answer(found, None, found.certificate)
 
     def certify_paths(self, source: Any, distances: Any) -> FrameAnswer:
         """Decides whether these are the distances from a node: a dict or Series by node, without those that aren't reached,
@@ -291,9 +270,8 @@ class Frame:
         for node in claimed:
             self._number(node)
         by_node = [claimed.get(node, math.inf) for node in self.nodes]
-        claim = self._paths(source).add(DISTANCES, by_node)
-        found = calls.certify(library.certify_paths_arrays, claim, [], PREDECESSORS)
-        return self._answer(found, None, distance=by_node, predecessor=self._before(found.predecessors))
+        found = calls.certify(self._paths(source).add(DISTANCES, by_node))
+        return self._answer(found, None, self._labels(by_node, found.predecessors))
 
 
 def from_frame(

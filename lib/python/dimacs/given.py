@@ -12,9 +12,9 @@ from functools import partial
 from numbers import Integral
 from typing import Any, Callable, Iterable, Iterator, NamedTuple, Sequence
 
-from .answers import UNREACHED, PastLimit, Refused
-from .buffers import CAPACITIES, IDS, LENGTHS, MARKS, NUMBERS, UNLIMITED, Buffer, Items, Room
-from .buffers import array_of, gone_through, is_bool, is_numpy, is_single, item, number_of, test_text, unlabelled, written
+from .answers import UNREACHED, PastLimit, Refused, Unbounded
+from .buffers import CAPACITIES, IDS, LENGTHS, MARKS, NUMBERS, UNLIMITED, Buffer, Items, Room, array_of, gone_through
+from .buffers import is_bool, is_numpy, is_single, item, number_of, test_array, unlabelled, written
 from .scales import units_of
 
 #: The greatest number of nodes.
@@ -93,6 +93,14 @@ class Names:
     def item(self, name: str, place: int) -> str:
         return f"{name}[{place}]"
 
+    def formed(self, kind: Array, items: Any) -> Any:
+        """What is handed out, in the form of the caller."""
+        return items
+
+    def unbounded(self, message: str) -> Any:
+        """What is raised if an optimum would be infinite."""
+        return Unbounded(message)
+
 
 #: In place of a scale where there is no such argument.
 UNSCALED = object()
@@ -169,11 +177,8 @@ class Given:
 
     def _convert(self, kind: Array) -> None:
         numbers = self._raw[kind]
-        test_text(numbers, kind.items, kind.name)
-        if is_single(numbers):
-            wanted = f"an array of {self._count[kind.each]}" if kind.each in self._count else "an array"
-            given = "None" if numbers is None else "one number"
-            raise TypeError(f"{kind.name}: {given}, {wanted} is wanted")
+        wanted = f"an array of {self._count[kind.each]}" if kind.each in self._count else "an array"
+        test_array(numbers, kind.items, kind.name, wanted)
         if self._units and kind.unit:
             scale, name = self._units.of(kind.unit), self._namer(kind)
             numbers = [scale.whole(it, partial(item, name, k)) for k, it in enumerate(gone_through(numbers, name))]
@@ -275,6 +280,9 @@ class Given:
 
     def shown(self, kind: Array, room: Room, came: Any) -> Any:
         """An array that was handed out, in the user's numbers, and in the form of one that came."""
+        return self.names.formed(kind, self._in_numbers(kind, room, came))
+
+    def _in_numbers(self, kind: Array, room: Room, came: Any) -> Any:
         if kind.items is IDS and self.names.base == 0:
             return room.in_form_of(came).astype("q") - 1 if is_numpy(came) else [it - 1 for it in room.items()]
         if not (self._units and kind.unit):
@@ -282,7 +290,7 @@ class Given:
         scale = self._units.of(kind.unit)
         is_distance = kind.items is LENGTHS
         shown = [math.inf if is_distance and it == UNREACHED else scale.shown(it) for it in room.items()]
-        return _in_form_of(shown, came, "O")
+        return sys.modules["numpy"].array(shown, "O") if is_numpy(came) else shown
 
     def value(self, number: int | None) -> Any:
         """The value of a maximum flow, or a cost, in the user's numbers."""
@@ -292,7 +300,6 @@ class Given:
         return (amount if self.form is MAX else amount.times(cost)).shown(number)
 
     def value_of(self, flows: Sequence[int]) -> int:
-        """The value or the cost of a flow."""
         if self.form is MIN:
             return sum(map(operator.mul, flows, self.column(COSTS)))
         return self.sent(self.number("source"), flows)
@@ -347,12 +354,3 @@ def infinite(numbers: Any) -> list[int]:
     if isinstance(kind, str) and kind[-1] in "?bBhHiIlLqQ":
         return []
     return [place for place, it in enumerate(numbers) if type(it) is not int and it == math.inf]
-
-
-def _in_form_of(items: list[Any], came: Any, kind: str) -> Any:
-    """Items in an array of numpy if that came, else in a list."""
-    if not is_numpy(came):
-        return items
-    import numpy
-
-    return numpy.array(items, kind)

@@ -13,39 +13,17 @@ from __future__ import annotations
 
 import math
 from collections.abc import Mapping, Set
-from contextlib import contextmanager
-from typing import Any, Iterator, Sequence
+from typing import Any, Sequence
 
-from . import calls, library
-from .answers import Certified, Solved, Unbounded, Verdict, reshaped
-from .buffers import LIMIT, LIMITS, is_bool, unlabelled
+from . import calls
+from .answers import Certified, Solved, Verdict
+from .buffers import LIMIT, is_bool, unlabelled
 from .explained import like
-from .given import DISTANCES, FLOWS, GRAPH, INSIDE, MAX, MIN, POTENTIALS, PREDECESSORS, Given, Names
+from .given import DISTANCES, FLOWS, GRAPH, INSIDE, MAX, MIN, POTENTIALS, Array, Given, Names
 
 #: What numbers are of, by the names of arrays.
 _OF_EDGES = {"caps": "capacity", "costs": "weight", "weights": "weight", "flows": "flow"}
 _OF_NODES = {"supplies": "demand", "distances": "distance", "potentials": "potential"}
-
-
-class EdgeNames(Names):
-    """Arcs and nodes as a graph has them."""
-
-    has_demands = has_inf_alone = True
-
-    def __init__(self, nodes: Sequence[Any], edges: Sequence[Any]) -> None:
-        super().__init__()
-        self._nodes, self._edges = nodes, edges
-
-    def arc(self, place: int) -> Any:
-        return self._edges[place]
-
-    def node(self, place: int) -> Any:
-        return self._nodes[place]
-
-    def item(self, name: str, place: int) -> str:
-        if name in _OF_EDGES:
-            return f"{_OF_EDGES[name]} of edge {self._edges[place]!r}"
-        return f"{_OF_NODES[name]} of node {self._nodes[place]!r}"
 
 
 def _entries(flow: Any, shape: str) -> dict[tuple[Any, ...], Any]:
@@ -63,10 +41,13 @@ def _test_shape(has_it: bool, shape: str) -> None:
         raise TypeError(f"the flow isn't a dict of dicts with the amounts {shape}, as it has to be for this graph")
 
 
-class NumberedGraph:
+class NumberedGraph(Names):
     """The nodes and edges of a graph by the numbers that they have in arrays."""
 
+    has_demands = has_inf_alone = True
+
     def __init__(self, graph: Any, scale: Any) -> None:
+        super().__init__()
         if not hasattr(graph, "is_directed"):
             raise TypeError(f"the graph is a {type(graph).__name__}, and has to be a DiGraph or MultiDiGraph of networkx")
         if not graph.is_directed():
@@ -80,7 +61,7 @@ class NumberedGraph:
         self._data = [data for *_, data in listed]
         self._node_data = [graph.nodes[node] for node in self.nodes]
         self._ends = tuple([self._number[edge[k]] for edge in self.edges] for k in (0, 1))
-        self._how: dict[str, Any] = {"scale": scale, "names": EdgeNames(self.nodes, self.edges)}
+        self._how: dict[str, Any] = {"scale": scale, "names": self}
 
     def number(self, node: Any) -> int:
         if node not in self._number:
@@ -91,12 +72,10 @@ class NumberedGraph:
         return [data.get(attribute, missing) for data in self._data]
 
     def max(self, source: Any, sink: Any) -> Given:
-        """The arguments of a call about a maximum flow."""
         ends = self.number(source), self.number(sink)
         return Given(MAX, len(self.nodes), *ends, *self._ends, self._of_edges("capacity", math.inf), **self._how)
 
     def min(self) -> Given:
-        """The arguments of a call about a flow of least cost."""
         demands = [data.get("demand", 0) for data in self._node_data]
         numbers = [0] * len(self.edges), self._of_edges("capacity", math.inf), self._of_edges("weight", 0)
         return Given(MIN, len(self.nodes), *self._ends, *numbers, demands, **self._how)
@@ -105,11 +84,9 @@ class NumberedGraph:
         return Given(GRAPH, len(self.nodes), *self._ends, self._of_edges("weight", 1), **self._how)
 
     def paths(self, source: Any) -> Given:
-        """The arguments of a call about distances."""
         return self.graph().add_number("source", self.number(source))
 
     def by_node(self, values: Mapping[Any, Any], missing: Any, name: str) -> list[Any]:
-        """The value of each node."""
         if not isinstance(values, Mapping):
             raise TypeError(f"{name} is a {type(values).__name__}, and has to be a dict by node")
         for node in values:
@@ -131,7 +108,6 @@ class NumberedGraph:
         return self.by_node(marks, False, "side")
 
     def flows(self, flow: Mapping[Any, Any]) -> list[Any]:
-        """The flow of each edge."""
         entries = _entries(flow, "flow[u][v][key]" if self._is_multigraph else "flow[u][v]")
         flows = [entries.pop(edge, 0) for edge in self.edges]
         for edge, amount in entries.items():
@@ -139,20 +115,37 @@ class NumberedGraph:
                 raise ValueError(f"the flow has an entry of {edge!r}, which is no edge of the graph")
         return flows
 
-    def nodes_inside(self, inside: Any) -> set[Any]:
-        """The nodes whose mark is true."""
-        return {node for node, is_inside in zip(self.nodes, inside) if is_inside}
+    # ---- what is named, and handed out, as networkx has it
 
-    def by_name(self, values: Sequence[Any]) -> dict[Any, Any]:
-        return dict(zip(self.nodes, values))
+    def arc(self, place: int) -> Any:
+        return self.edges[place]
+
+    def node(self, place: int) -> Any:
+        return self.nodes[place]
+
+    def item(self, name: str, place: int) -> str:
+        if name in _OF_EDGES:
+            return f"{_OF_EDGES[name]} of edge {self.edges[place]!r}"
+        return f"{_OF_NODES[name]} of node {self.nodes[place]!r}"
+
+    def formed(self, kind: Array, items: Any) -> Any:
+        if kind is FLOWS:
+            return self._flow_dict(items)
+        if kind is INSIDE:
+            return {node for node, is_inside in zip(self.nodes, items) if is_inside}
+        return dict(zip(self.nodes, items)) if kind is POTENTIALS else items
+
+    def unbounded(self, message: str) -> Any:
+        from networkx import NetworkXUnbounded
+
+        return NetworkXUnbounded(message)
 
     def predecessors(self, source: Any, by_node: Sequence[int]) -> dict[Any, Any]:
         """The predecessor of each node that is reached; None of the source."""
         found = {node: self.nodes[it - 1] for node, it in zip(self.nodes, by_node) if it != 0}
         return {source: None, **found}
 
-    def flow_dict(self, flows: Sequence[Any]) -> dict[Any, Any]:
-        """The flow as networkx has it."""
+    def _flow_dict(self, flows: Sequence[Any]) -> dict[Any, Any]:
         made: dict[Any, Any] = {node: {} for node in self.nodes}
         for (tail, head, *key), amount in zip(self.edges, flows):
             if key:
@@ -160,17 +153,6 @@ class NumberedGraph:
             else:
                 made[tail][head] = amount
         return made
-
-    @contextmanager
-    def shown(self) -> Iterator[None]:
-        """Exceptions raised inside have flows and sets as networkx has them."""
-        try:
-            with reshaped(self.flow_dict, self.nodes_inside):
-                yield
-        except Unbounded as it:
-            from networkx import NetworkXUnbounded
-
-            raise NetworkXUnbounded(str(it)) from None
 
 
 def judge_networkx_max(graph: Any, source: Any, sink: Any, flow: Any, side: Any, *, scale: Any = None) -> Verdict:
@@ -180,14 +162,13 @@ def judge_networkx_max(graph: Any, source: Any, sink: Any, flow: Any, side: Any,
     the dict isn't on it. Raises Refused if a test fails, and TypeError if the side is another dict.
 
     >>> import networkx
-    >>> graph = networkx.DiGraph()
-    >>> graph.add_edge("spring", "town", capacity=3)
+    >>> graph = networkx.DiGraph([("spring", "town", {"capacity": 3})])
     >>> judge_networkx_max(graph, "spring", "town", {"spring": {"town": 3}}, {"spring"}).value
     3
     """
     given = NumberedGraph(graph, scale)
     claim = given.max(source, sink).add(FLOWS, given.flows(flow)).add(INSIDE, given.inside(side))
-    return calls.judge(library.judge_max_arrays, claim)
+    return calls.judge(claim)
 
 
 def judge_networkx_min(graph: Any, flow: Any, potentials: Any = None, *, scale: Any = None) -> Verdict:
@@ -198,8 +179,7 @@ def judge_networkx_min(graph: Any, flow: Any, potentials: Any = None, *, scale: 
     certify_networkx_min.
 
     >>> import networkx
-    >>> graph = networkx.DiGraph()
-    >>> graph.add_edge("mine", "port", weight=7)
+    >>> graph = networkx.DiGraph([("mine", "port", {"weight": 7})])
     >>> judge_networkx_min(graph, {}, {"mine": 7}).value
     0
     """
@@ -208,7 +188,7 @@ def judge_networkx_min(graph: Any, flow: Any, potentials: Any = None, *, scale: 
         return like(Verdict("min", certified.value), certified)
     given = NumberedGraph(graph, scale)
     prices = given.by_node(potentials, 0, "potentials")
-    return calls.judge(library.judge_min_arrays, given.min().add(FLOWS, given.flows(flow)).add(POTENTIALS, prices))
+    return calls.judge(given.min().add(FLOWS, given.flows(flow)).add(POTENTIALS, prices))
 
 
 def certify_networkx_max(graph: Any, source: Any, sink: Any, flow: Any, *, scale: Any = None) -> Certified:
@@ -218,41 +198,28 @@ def certify_networkx_max(graph: Any, source: Any, sink: Any, flow: Any, *, scale
     feasible.
 
     >>> import networkx
-    >>> graph = networkx.DiGraph()
-    >>> graph.add_edge("spring", "town", capacity=3)
+    >>> graph = networkx.DiGraph([("spring", "town", {"capacity": 3})])
     >>> certify_networkx_max(graph, "spring", "town", {"spring": {"town": 3}})
     Certified(value=3, certificate={'spring'})
-    >>> certify_networkx_max(graph, "spring", "town", {"spring": {"town": 4}})
-    Traceback (most recent call last):
-    dimacs.answers.Refused: arc ('spring', 'town') AboveCap: it carries 4, its capacity is 3
     """
     given = NumberedGraph(graph, scale)
-    with given.shown():
-        claim = given.max(source, sink).add(FLOWS, given.flows(flow))
-        found = calls.certify(library.certify_max_arrays, claim, [], INSIDE, FLOWS)
-    return like(Certified(found.value, given.nodes_inside(found.inside)), found)
+    return calls.certify(given.max(source, sink).add(FLOWS, given.flows(flow)))
 
 
 def certify_networkx_min(graph: Any, flow: Any, *, scale: Any = None) -> Certified:
     """Decides whether a flow costs least. Returns its cost, and a dict of potentials by node that show it.
 
     Raises NotOptimal with a cheaper flow, a dict, if the flow is feasible, but doesn't cost least; Refused as
-    certify_networkx_max; GaveUp if the flow costs least, but two of the potentials that were found are 2^64 or more apart;
-    others may fit.
+    certify_networkx_max; GaveUp as certify_min_arrays.
 
     >>> import networkx
-    >>> graph = networkx.DiGraph()
-    >>> graph.add_node("mine", demand=-2)
-    >>> graph.add_node("port", demand=2)
-    >>> graph.add_edge("mine", "port", weight=7)
+    >>> graph = networkx.DiGraph([("mine", "port", {"weight": 7})])
+    >>> graph.add_nodes_from([("mine", {"demand": -2}), ("port", {"demand": 2})])
     >>> certify_networkx_min(graph, {"mine": {"port": 2}}).value
     14
     """
     given = NumberedGraph(graph, scale)
-    with given.shown():
-        claim = given.min().add(FLOWS, given.flows(flow))
-        found = calls.certify(library.certify_min_arrays, claim, [], POTENTIALS, FLOWS)
-    return like(Certified(found.value, given.by_name(found.potentials)), found)
+    return calls.certify(given.min().add(FLOWS, given.flows(flow)))
 
 
 def certify_networkx_infeasible(graph: Any, *, scale: Any = None) -> Certified:
@@ -262,17 +229,12 @@ def certify_networkx_infeasible(graph: Any, *, scale: Any = None) -> Certified:
     capacity.
 
     >>> import networkx
-    >>> graph = networkx.DiGraph()
-    >>> graph.add_node("mine", demand=-2)
-    >>> graph.add_node("port", demand=2)
-    >>> graph.add_edge("mine", "port", capacity=1)
+    >>> graph = networkx.DiGraph([("mine", "port", {"capacity": 1})])
+    >>> graph.add_nodes_from([("mine", {"demand": -2}), ("port", {"demand": 2})])
     >>> certify_networkx_infeasible(graph).inside
     {'mine'}
     """
-    given = NumberedGraph(graph, scale)
-    with given.shown():
-        found = calls.certify_infeasible(given.min(), [])
-    return like(Certified(None, given.nodes_inside(found.inside)), found)
+    return calls.certify(NumberedGraph(graph, scale).min())
 
 
 def certify_networkx_paths(graph: Any, source: Any, distances: Any, *, scale: Any = None) -> Certified:
@@ -289,7 +251,7 @@ def certify_networkx_paths(graph: Any, source: Any, distances: Any, *, scale: An
     """
     given = NumberedGraph(graph, scale)
     claim = given.paths(source).add(DISTANCES, given.by_node(distances, math.inf, "distances"))
-    found = calls.certify(library.certify_paths_arrays, claim, [], PREDECESSORS)
+    found = calls.certify(claim)
     return like(Certified(None, given.predecessors(source, found.predecessors)), found)
 
 
@@ -300,16 +262,11 @@ def solve_networkx_max(graph: Any, source: Any, sink: Any, limit: int = LIMIT, *
     aren't maximum.
 
     >>> import networkx
-    >>> graph = networkx.DiGraph()
-    >>> graph.add_edge("spring", "town", capacity=0.3)
+    >>> graph = networkx.DiGraph([("spring", "town", {"capacity": 0.3})])
     >>> solve_networkx_max(graph, "spring", "town", scale=10)
     Solved(value=Fraction(3, 10), solution={'spring': {'town': Fraction(3, 10)}, 'town': {}}, certificate={'spring'})
     """
-    given = NumberedGraph(graph, scale)
-    with given.shown():
-        found = calls.solve_max(given.max(source, sink).add_number("limit", limit, LIMITS), [])
-    value, flows, inside = found
-    return like(Solved(value, given.flow_dict(flows), given.nodes_inside(inside)), found)
+    return calls.solve_max(NumberedGraph(graph, scale).max(source, sink), limit=limit)
 
 
 def solve_networkx_min(graph: Any, limit: int = LIMIT, *, scale: Any = None) -> Solved:
@@ -319,18 +276,12 @@ def solve_networkx_min(graph: Any, limit: int = LIMIT, *, scale: Any = None) -> 
     a capacity costs less than nothing; GaveUp as solve_min_arrays.
 
     >>> import networkx
-    >>> graph = networkx.DiGraph()
-    >>> graph.add_node("mine", demand=-2)
-    >>> graph.add_node("port", demand=2)
-    >>> graph.add_edge("mine", "port", weight=7)
+    >>> graph = networkx.DiGraph([("mine", "port", {"weight": 7})])
+    >>> graph.add_nodes_from([("mine", {"demand": -2}), ("port", {"demand": 2})])
     >>> solve_networkx_min(graph)[:2]
     (14, {'mine': {'port': 2}, 'port': {}})
     """
-    given = NumberedGraph(graph, scale)
-    with given.shown():
-        found = calls.solve_min(given.min().add_number("limit", limit, LIMITS), [])
-    cost, flows, potentials = found
-    return like(Solved(cost, given.flow_dict(flows), given.by_name(potentials)), found)
+    return calls.solve_min(NumberedGraph(graph, scale).min(), limit=limit)
 
 
 def solve_networkx_paths(graph: Any, source: Any, *, scale: Any = None) -> Solved:
@@ -342,7 +293,7 @@ def solve_networkx_paths(graph: Any, source: Any, *, scale: Any = None) -> Solve
     {'a': 0, 'b': 1, 'c': 2}
     """
     given = NumberedGraph(graph, scale)
-    solved = calls.solve_paths(given.paths(source), [])
+    solved = calls.solve_paths(given.paths(source))
     found = given.predecessors(source, solved.predecessors)
     distances = {node: it for node, it in zip(given.nodes, solved.distances) if node in found}
     return like(Solved(None, distances, found), solved)

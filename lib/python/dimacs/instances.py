@@ -15,7 +15,7 @@ from collections.abc import Iterable, Sized
 from dataclasses import dataclass
 from typing import Any, ClassVar, Iterator, Sequence, TypeVar, Union
 
-from .buffers import IDS, MARKS, NUMBERS, Buffer, Items, array_of, number_of, only_array_of
+from .buffers import IDS, MARKS, NUMBERS, Buffer, Items, array_of, number_of, only_array_of, test_same_lengths
 from .given import DISTANCES, FLOWS, GRAPH, INSIDE, MAX, MIN, POTENTIALS, PREDECESSORS, UNSCALED, Array, Form, Given
 
 #: The nodes by their numbers, from 1.
@@ -338,11 +338,9 @@ class ByNode(Value):
 
     def __post_init__(self) -> None:
         ids = [number_of(getattr(self, it), IDS, it) for it in self.ids]
-        first, *others = arrays = [_array(it, getattr(self, it.name)) for it in self.arrays]
-        for kind, it in zip(self.arrays[1:], others):
-            if len(it) != len(first):
-                raise ValueError(f"{kind.name} has {len(it)} items, and {self.arrays[0].name} has {len(first)}")
-        self._set(*ids, *arrays)
+        arrays = {it.name: _array(it, getattr(self, it.name)) for it in self.arrays}
+        test_same_lengths({name: len(it) for name, it in arrays.items()})
+        self._set(*ids, **arrays)
 
     def __len__(self) -> int:
         return len(getattr(self, self.arrays[0].name))
@@ -465,9 +463,9 @@ class Queries(Value):
 
     def __post_init__(self) -> None:
         given = zip(_QUERIES, (self.froms,) if self.tos is None else (self.froms, self.tos))
-        self._set(*(_array(kind, it) for kind, it in given))
-        if self.tos is not None and len(self.tos) != len(self):
-            raise ValueError(f"tos has {len(self.tos)} items, and froms has {len(self)}")
+        arrays = {kind.name: _array(kind, it) for kind, it in given}
+        test_same_lengths({name: len(it) for name, it in arrays.items()})
+        self._set(**arrays)
 
     def __len__(self) -> int:
         return len(self.froms)

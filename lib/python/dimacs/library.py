@@ -6,7 +6,7 @@ import ctypes
 import os
 import sys
 from pathlib import Path
-from typing import Any, Callable, Sequence
+from typing import Any, Callable, Iterable, Sequence
 
 from .answers import Beyond, GaveUp, Pair, PastLimit, Refused, Verdict
 from .buffers import Room
@@ -54,11 +54,6 @@ _room = [_address, _size, ctypes.POINTER(_size)]
 _library = ctypes.CDLL(str(_find()))
 
 
-def _is_proved() -> bool:
-    """Whether the library says that each of its functions was proved; one that has no such call says nothing."""
-    return hasattr(_library, "dimacs_proved") and bool(_library.dimacs_proved())
-
-
 def _description() -> str:
     """The version of the library, and what it says of its proof."""
     if not hasattr(_library, "dimacs_version_text"):
@@ -69,7 +64,8 @@ def _description() -> str:
     return out.raw[: needed.value].decode("ascii")
 
 
-proved = _is_proved()
+#: Whether the library says that each of its functions was proved; one that has no such call says nothing.
+proved = hasattr(_library, "dimacs_proved") and bool(_library.dimacs_proved())
 description = _description()
 _TRANSLATED = "+translated" if sys.platform == "win32" else ""
 #: As PEP 440 spells it.
@@ -157,17 +153,7 @@ def raise_for(status: int, line: bytes, function: Callable[..., int], words: Seq
 
 def call(function: Callable[..., int], *words: Any) -> tuple[int, bytes]:
     """Makes a call that hands out a text, twice if it is longer than a line. Returns its status and the text."""
-    line, room = ctypes.create_string_buffer(LINE), LINE
-    while True:
-        needed = _size()
-        status = function(*words, line, room, ctypes.byref(needed))
-        if needed.value <= room:
-            break
-        room = needed.value
-        line = ctypes.create_string_buffer(room)
-    output = line.raw[: needed.value]
-    if status != DONE and status != REFUSED:
-        raise_for(status, output, function, words)
+    status, (output,) = call_for_texts(function, *words, rooms=[LINE])
     return status, output
 
 
@@ -187,10 +173,14 @@ def call_for_texts(function: Callable[..., int], *words: Any, rooms: Sequence[in
     return status, outputs
 
 
-def call_with_rooms(function: Callable[..., int], words: list[Any], rooms: list[Room]) -> tuple[int, bytes]:
+def call_with_rooms(function: Callable[..., int], words: Sequence[Any], rooms: Iterable[Room]) -> tuple[int, bytes]:
     """Makes a call that hands out items to rooms that are large enough. Returns its status and the line."""
+    return call_with_line(function, words, [word for room in rooms for word in room.words()])
+
+
+def call_with_line(function: Callable[..., int], words: Sequence[Any], handed: Sequence[Any]) -> tuple[int, bytes]:
+    """The same by the words for what is handed out after the line."""
     line, needed = ctypes.create_string_buffer(LINE), _size()
-    handed = [word for room in rooms for word in room.words()]
     status = function(*words, line, LINE, ctypes.byref(needed), *handed)
     output = line.raw[: needed.value]
     raise_for(status, output, function, words)

@@ -4,7 +4,7 @@ from __future__ import annotations
 
 import ctypes
 from array import array
-from typing import Any, Literal, Sequence, overload
+from typing import Any, Iterable, Literal, Sequence, overload
 
 from . import library
 from .answers import UNREACHED, Refused
@@ -43,9 +43,6 @@ class _Room:
     def words(self) -> tuple[int, int]:
         return self._kept.ctypes.data if self._is_numpy else self._kept.buffer_info()[0], self.length
 
-    def with_room_for(self, count: int) -> _Room:
-        return self if count <= self.length else _Room(self.items, count)
-
     def filled(self, count: int) -> Any:
         """The first items, which nobody else can write to."""
         if not self._is_numpy:
@@ -55,80 +52,59 @@ class _Room:
         return fixed(self._kept.view(bool) if self.items is MARKS else self._kept)
 
 
-class _Reading:
-    """A call that reads a text, and what it hands out: numbers, arrays of the same length, and others."""
+def _rooms(length: int, kinds: Iterable[Items]) -> list[_Room]:
+    return [_Room(it, length) for it in kinds]
 
-    def __init__(self, kind: type[Value], text: Buffer, *numbers: Any) -> None:
-        self._name, self._text, self._numbers = kind.name, text, numbers
-        self._same: list[_Room] = []
-        self._others: list[_Room] = []
 
-    def same(self, least: int, *items: Items) -> _Reading:
-        """Adds arrays of the same length, whose items take so many bytes of the text at least."""
-        self._same = [_Room(it, (self._text.length + 1) // least) for it in items]
-        return self
-
-    def others(self, length: int, *items: Items) -> _Reading:
-        """Adds arrays that may have another length than this."""
-        self._others = [_Room(it, length) for it in items]
-        return self
-
-    def made(self, before: Sequence[Any] = (), after: Sequence[Any] = ()) -> list[Any]:
-        """Makes the call, and again if there is more of an array than had room. Returns the arrays."""
-        while True:
-            count, counts = ctypes.c_size_t(), [ctypes.c_size_t() for _ in self._others]
-            handed: list[Any] = [*map(ctypes.byref, self._numbers), *(word for it in self._same for word in it.words())]
-            handed += [ctypes.byref(count)] if self._same else []
-            for it, needed in zip(self._others, counts):
-                handed += [*it.words(), ctypes.byref(needed)]
-            self._ask([*before], [*after], handed)
-            others = [it.with_room_for(needed.value) for it, needed in zip(self._others, counts)]
-            if others == self._others:
-                found = [it.filled(count.value) for it in self._same]
-                return found + [it.filled(needed.value) for it, needed in zip(others, counts)]
-            self._others = others
-
-    def _types(self) -> list[Any]:
-        address, size = ctypes.c_void_p, ctypes.c_size_t
-        same = [address, size] * len(self._same) + [address] * (len(self._same) > 0)
-        return [address] * len(self._numbers) + same + [address, size, address] * len(self._others)
-
-    def _ask(self, before: list[Any], after: list[Any], handed: list[Any]) -> None:
-        """Raises Refused if the text has a fault."""
-        function = library.reader(self._name, [*map(type, before)], [*map(type, after)], self._types())
-        words = [*before, *self._text.words(), *after]
-        line, needed = ctypes.create_string_buffer(library.LINE), ctypes.c_size_t()
-        status = function(*words, line, library.LINE, ctypes.byref(needed), *handed)
-        output = line.raw[: needed.value]
-        library.raise_for(status, output, function, words)
+def _arrays(
+    kind: type[Value], text: Buffer, *numbers: Any, same: Sequence[_Room] = (), others: Sequence[_Room] = (),
+    before: Sequence[Any] = (), after: Sequence[Any] = (),
+) -> list[Any]:
+    """Makes the call that reads a text, and again if one of the others had too little room. It takes words before and
+    after the text; what it hands out are numbers, arrays of one length, and others. Raises Refused for a fault."""
+    address, size = ctypes.c_void_p, ctypes.c_size_t
+    types = [address] * len(numbers) + [address, size] * len(same) + [address] * (len(same) > 0)
+    types += [address, size, address] * len(others)
+    function = library.reader(kind.name, [*map(type, before)], [*map(type, after)], types)
+    while True:
+        count, counts = size(), [size() for _ in others]
+        handed: list[Any] = [*map(ctypes.byref, numbers), *(word for it in same for word in it.words())]
+        handed += [ctypes.byref(count)] if same else []
+        for it, needed in zip(others, counts):
+            handed += [*it.words(), ctypes.byref(needed)]
+        status, line = library.call_with_line(function, [*before, *text.words(), *after], handed)
         if status == library.REFUSED:
-            raise library.refusal(output)
+            raise library.refusal(line)
+        if all(needed.value <= it.length for it, needed in zip(others, counts)):
+            return [it.filled(count.value) for it in same] + [it.filled(its.value) for it, its in zip(others, counts)]
+        others = [_Room(it.items, needed.value) for it, needed in zip(others, counts)]
 
 
 def _read_instance(kind: type[Instance], text: Buffer) -> Instance:
     form, numbers = kind.form, [ctypes.c_uint32() for _ in kind.form.numbers]
     by_arc, by_node = ([it.items for it in form.arrays if it.each == each] for each in ("arcs", "nodes"))
-    arrays = _Reading(kind, text, *numbers).same(_ARC, *by_arc).others(text.length // _NODE, *by_node).made()
+    same, others = _rooms((text.length + 1) // _ARC, by_arc), _rooms(text.length // _NODE, by_node)
+    arrays = _arrays(kind, text, *numbers, same=same, others=others)
     return kind.made(*(it.value for it in numbers), *arrays, names=None)
 
 
 def _read_solution(text: Buffer, instance: Instance) -> Solution:
-    value = ctypes.c_int64()
-    (flows,) = _Reading(Solution, text, value).others(len(instance), NUMBERS).made(before=ends_of(instance))
+    value, room = ctypes.c_int64(), _rooms(len(instance), [NUMBERS])
+    (flows,) = _arrays(Solution, text, value, others=room, before=ends_of(instance))
     return Solution.made(value.value, flows, instance=instance)
 
 
 def _read_queries(text: Buffer) -> Queries:
     pairs = ctypes.c_uint32()
-    froms, tos = _Reading(Queries, text, pairs).same(_QUERY, IDS, IDS).made()
+    froms, tos = _arrays(Queries, text, pairs, same=_rooms((text.length + 1) // _QUERY, [IDS, IDS]))
     return Queries.made(froms, tos if pairs.value else None)
 
 
 def _read_by_node(kind: type[ByNode], text: Buffer, source: Any) -> ByNode:
     """The block of a source, if there are any. Only labels have a radius."""
     ids, radius = [number_of(source, IDS, it) for it in kind.ids], ctypes.c_int64()
-    reading = _Reading(kind, text, *[radius] * (kind is Labels))
-    arrays = reading.others(text.length // _NODE, *(it.items for it in kind.arrays)).made(after=[*map(ctypes.c_uint32, ids)])
+    rooms, numbers = _rooms(text.length // _NODE, (it.items for it in kind.arrays)), [radius] * (kind is Labels)
+    arrays = _arrays(kind, text, *numbers, others=rooms, after=[*map(ctypes.c_uint32, ids)])
     more = {"radius": None if radius.value == UNREACHED else radius.value} if kind is Labels else {}
     return kind.made(*ids, *arrays, **more)
 

@@ -30,7 +30,8 @@ class Scale(NamedTuple):
     def of(cls, given: Any) -> Scale:
         """The scale that an argument names: a factor, or a decimal as the unit itself."""
         try:
-            if is_bool(given) or _is_broken(given):
+            is_float = isinstance(given, Real) and not isinstance(given, Rational)
+            if is_bool(given) or is_float and not cast(Any, given).is_integer():
                 raise TypeError
             exact = fraction_of(given, lambda: "scale")
         except TypeError:
@@ -122,11 +123,6 @@ def fraction_of(number: Any, name: Callable[[], str]) -> Fraction:
 def _is_long(number: Any) -> bool:
     """Whether this is a long double of numpy, which no float of Python holds."""
     return isinstance(number, Real) and hasattr(number, "item") and hasattr(number.item(), "item")
-
-
-def _is_broken(number: Any) -> bool:
-    """Whether this is a float that isn't whole."""
-    return isinstance(number, Real) and not isinstance(number, Rational) and not cast(Any, number).is_integer()
 
 
 def _is_nearest(number: Any, value: Fraction) -> bool:

@@ -10,7 +10,7 @@ from typing import Any
 
 from . import texts
 from .answers import PastLimit, Refused
-from .buffers import IDS, NUMBERS, Numbers, Room, list_of, number_of
+from .buffers import IDS, NUMBERS, Numbers, Room, number_of, only_array_of, test_same_lengths
 from .given import MAX, MIN, MOST_NODES, Given, Names
 from .instances import Instance, MaxInstance, MinInstance
 from .reading import read
@@ -19,29 +19,19 @@ from .writing import text_of_instance
 _PAIRS = ("pair_tails", IDS), ("pair_heads", IDS), ("sums", NUMBERS)
 
 
-def _claim(base: int, *pairs: Any) -> list[list[int]]:
-    """The items of arrays of one length; nodes are numbered from 1."""
-    columns = [list_of(numbers, items, name) for (name, items), numbers in zip(_PAIRS, pairs)]
-    for (name, items), column in zip(_PAIRS, columns):
-        if len(column) != len(columns[0]):
-            raise ValueError(f"{name} has {len(column)} items, and pair_tails has {len(columns[0])}")
-        if items is IDS:
-            column[:] = [it + 1 - base for it in column]
-    return columns
-
-
 def _spread(call: Any, kind: type[Instance], given: Given, *pairs: Any) -> Any:
     """Spreads the sums of pairs over arcs. A fault of a pair has its two nodes."""
     instance, base = kind.of(given, None), given.names.base
-    columns = _claim(base, *pairs)
-    claim = "s 0\n" + "".join(f"f {tail} {head} {it}\n" for tail, head, it in zip(*columns))
+    columns = [only_array_of(numbers, items, name).listed(items) for (name, items), numbers in zip(_PAIRS, pairs)]
+    test_same_lengths({name: len(column) for (name, _), column in zip(_PAIRS, columns)})
+    claim = "s 0\n" + "".join(f"f {tail + 1 - base} {head + 1 - base} {it}\n" for tail, head, it in zip(*columns))
     try:
         solution = call(text_of_instance(given), claim.encode("ascii"))
     except Refused as it:
         if it.text is None and it.arc is not None:
             it.arc += base - 1
         if it.text == "solution" and it.line is not None:
-            it.numbers = {name: column[it.line - 2] + base - 1 for name, column in zip(("tail", "head"), columns)}
+            it.numbers = {name: column[it.line - 2] for name, column in zip(("tail", "head"), columns)}
         raise
     return Room.of(NUMBERS, read("solution", solution, instance).flows.tolist()).in_form_of(pairs[-1])
 

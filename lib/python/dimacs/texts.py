@@ -15,9 +15,6 @@ from .explained import Asked, kept
 
 Text = Union[bytes, str, bytearray, memoryview, "os.PathLike[str]"]
 
-#: In place of a text that a call doesn't read.
-_NO_TEXT = b""
-
 
 @contextmanager
 def bytes_from(call: str, *texts: Text) -> Iterator[list[Buffer]]:
@@ -41,20 +38,48 @@ def _asked(call: str, no: Refused, *texts: Text) -> Asked:
     name, _, kind = call.partition(" ")
     if kind:
         return Asked.of_text("show" if name == "read" else name, kind, *texts)
-    read = [it for it in texts if it is not _NO_TEXT]
     for exception, shown in ((NotOptimal, "better"), (Feasible, "flow")):
         found = getattr(no, shown) if isinstance(no, exception) else None
         if found is not None:
-            return Asked(call, *read, found, shown=shown)
-    return Asked(call, *read)
+            return Asked(call, *texts, found, shown=shown)
+    return Asked(call, *texts)
+
+
+def _run(call: str, *read: Text, limit: int = LIMIT) -> tuple[bytes, list[bytes]]:
+    """What a call prints and makes of these texts. Raises Refused."""
+    verb, kind = call.replace("_", " ").split()
+    with bytes_from(call, *read) as texts:
+        status, printed, made = run(verb, kind, texts, number_of(limit, LIMITS, "limit"))
+        if status == library.REFUSED:
+            raise _refusal(library.refusal(printed), made, *read)
+    return printed, made
+
+
+def _refusal(no: Refused, made: list[bytes], *read: Text) -> Refused:
+    """The exception for a refusal, with the text that shows it."""
+    if no.reason == "Feasible":
+        return Feasible(_in_form_of(read[0], made[0]) if made[0] else None)
+    if not no.is_about_value():
+        return no
+    (shown,), claim = made, read[1]
+    if not shown:
+        return NotOptimal(no.reason, None, text=no.text, line=no.line, field=no.field)
+    numbers = {"value": _value(claim), "better_value": _value(shown)}
+    return NotOptimal(no.reason, _in_form_of(claim, shown), text=no.text, line=no.line, field=no.field, numbers=numbers)
+
+
+def _value(solution: Text) -> int:
+    """The value that a solution claims, which has no fault."""
+    return int(show("solution", solution).split()[2])
+
+
+def _in_form_of(came: Text, text: bytes) -> Any:
+    return text.decode("ascii") if isinstance(came, (str, os.PathLike)) else text
 
 
 def _judge(kind: str, *read: Text) -> Verdict:
-    with bytes_from(f"judge_{kind}", *read) as texts:
-        status, output, _ = run("judge", kind, texts)
-        if status == library.REFUSED:
-            raise library.refusal(output)
-    return kept(library.verdict(output), Asked(f"judge_{kind}", *read))
+    printed, _ = _run(f"judge_{kind}", *read)
+    return kept(library.verdict(printed), Asked(f"judge_{kind}", *read))
 
 
 def judge_max(instance: Text, solution: Text, cut: Text) -> Verdict:
@@ -93,34 +118,10 @@ def judge_paths(graph: Text, queries: Text, labels: Text) -> Verdict:
     return _judge("paths", graph, queries, labels)
 
 
-def _in_form_of(came: Text, text: bytes) -> Any:
-    return text.decode("ascii") if isinstance(came, (str, os.PathLike)) else text
-
-
-def _certify(kind: str, instance: Text, claim: Text) -> Certified:
-    with bytes_from(f"certify_{kind}", instance, claim) as texts:
-        status, line, (shown,) = run("certify", kind, texts)
-        if status == library.REFUSED:
-            raise _refusal(library.refusal(line), instance, claim, shown)
-    value = library.verdict(line).value if kind in ("max", "min") else None
-    read = [it for it in (instance, claim) if it is not _NO_TEXT]
-    return kept(Certified(value, _in_form_of(instance, shown)), Asked(f"certify_{kind}", *read, shown))
-
-
-def _refusal(no: Refused, instance: Text, claim: Text, shown: bytes) -> Refused:
-    """The exception for a refusal, with the text that shows it."""
-    if no.reason == "Feasible":
-        return Feasible(_in_form_of(instance, shown) if shown else None)
-    if not no.is_about_value():
-        return no
-    numbers = {"value": _value(claim), "better_value": _value(shown) if shown else None}
-    better = _in_form_of(claim, shown) if shown else None
-    return NotOptimal(no.reason, better, text=no.text, line=no.line, field=no.field, numbers=numbers if shown else {})
-
-
-def _value(solution: Text) -> int:
-    """The value that a solution claims, which has no fault."""
-    return int(show("solution", solution).split()[2])
+def _certify(kind: str, *read: Text) -> Certified:
+    printed, (shown,) = _run(f"certify_{kind}", *read)
+    value = library.verdict(printed).value if kind in ("max", "min") else None
+    return kept(Certified(value, _in_form_of(read[0], shown)), Asked(f"certify_{kind}", *read, shown))
 
 
 def certify_max(instance: Text, solution: Text) -> Certified:
@@ -156,7 +157,7 @@ def certify_infeasible(instance: Text) -> Certified:
     >>> certify_infeasible("p min 2 1\nn 1 3\nn 2 -3\na 1 2 0 2 7\n").certificate
     'p cut 2 1\nu 1\n'
     """
-    return _certify("infeasible", instance, _NO_TEXT)
+    return _certify("infeasible", instance)
 
 
 def certify_paths(graph: Text, distances: Text) -> Certified:
@@ -171,14 +172,6 @@ def certify_paths(graph: Text, distances: Text) -> Certified:
     return _certify("paths", graph, distances)
 
 
-def _spread(kind: str, instance: Text, solution: Text) -> Any:
-    with bytes_from(f"spread_{kind}", instance, solution) as texts:
-        status, line, (spread,) = run("spread", kind, texts)
-        if status == library.REFUSED:
-            raise library.refusal(line)
-    return _in_form_of(solution, spread)
-
-
 def spread_max(instance: Text, solution: Text) -> Any:
     r"""Deals a solution out to parallel arcs: adds up the entries with the same ends, and gives each arc with these ends its
     share, within its bounds if possible. Returns the text of a solution with the claimed value and an entry for every arc.
@@ -189,7 +182,8 @@ def spread_max(instance: Text, solution: Text) -> Any:
     >>> spread_max("p max 2 2\nn 1 s\nn 2 t\na 1 2 3\na 1 2 5\n", "s 6\nf 1 2 6\n")
     's 6\nf 1 2 3\nf 1 2 3\n'
     """
-    return _spread("max", instance, solution)
+    _, (spread,) = _run("spread_max", instance, solution)
+    return _in_form_of(solution, spread)
 
 
 def spread_min(instance: Text, solution: Text) -> Any:
@@ -198,20 +192,15 @@ def spread_min(instance: Text, solution: Text) -> Any:
     >>> spread_min("p min 2 2\na 1 2 0 3 9\na 1 2 0 5 1\n", "s 0\nf 1 2 6\n")
     's 0\nf 1 2 1\nf 1 2 5\n'
     """
-    return _spread("min", instance, solution)
+    _, (spread,) = _run("spread_min", instance, solution)
+    return _in_form_of(solution, spread)
 
 
-def _solve(kind: str, instance: Text, queries: Text, limit: int) -> Solved:
-    with bytes_from(f"solve_{kind}", instance, queries) as texts:
-        status, output, (solution, certificate) = run("solve", kind, texts, number_of(limit, LIMITS, "limit"))
-        if status == library.REFUSED:
-            raise library.refusal(output)
-    shown = _in_form_of(instance, certificate)
-    found = library.verdict(output)
+def _solve(kind: str, instance: Text, limit: int) -> Solved:
+    printed, (solution, certificate) = _run(f"solve_{kind}", instance, limit=limit)
+    shown, found = _in_form_of(instance, certificate), library.verdict(printed)
     if found.kind == "infeasible":
         raise kept(Infeasible(shown), Asked(f"solve_{kind}", instance, b"", shown))
-    if kind == "paths":
-        return kept(Solved(None, found.pairs, shown), Asked("solve_paths", instance, queries, certificate))
     answer = Solved(found.value, _in_form_of(instance, solution), shown)
     return kept(answer, Asked(f"solve_{kind}", instance, solution, certificate))
 
@@ -224,7 +213,7 @@ def solve_max(instance: Text, limit: int = LIMIT) -> Solved:
     >>> solve_max("p max 2 1\nn 1 s\nn 2 t\na 1 2 3\n")
     Solved(value=3, solution='s 3\nf 1 2 3\n', certificate='p cut 2 1\nu 1\n')
     """
-    return _solve("max", instance, _NO_TEXT, limit)
+    return _solve("max", instance, limit)
 
 
 def solve_min(instance: Text, limit: int = LIMIT) -> Solved:
@@ -236,7 +225,7 @@ def solve_min(instance: Text, limit: int = LIMIT) -> Solved:
     >>> solve_min("p min 2 1\nn 1 3\nn 2 -3\na 1 2 0 5 7\n").value
     21
     """
-    return _solve("min", instance, _NO_TEXT, limit)
+    return _solve("min", instance, limit)
 
 
 def solve_paths(graph: Text, queries: Text) -> Solved:
@@ -247,16 +236,15 @@ def solve_paths(graph: Text, queries: Text) -> Solved:
     >>> solve_paths("p sp 2 1\na 1 2 5\n", "p aux sp p2p 1\nq 1 2\n").solution
     (Pair(source=1, target=2, distance=5),)
     """
-    return _solve("paths", graph, queries, LIMIT)
+    printed, (_, labels) = _run("solve_paths", graph, queries)
+    answer = Solved(None, library.verdict(printed).pairs, _in_form_of(graph, labels))
+    return kept(answer, Asked("solve_paths", graph, queries, labels))
 
 
 def _printed(call: str, kind: str, text: Text) -> Any:
     if kind not in TEXTS:
         raise ValueError(f"{kind!r} is no kind of text: these are {', '.join(TEXTS)}")
-    with bytes_from(f"{call} {kind}", text) as texts:
-        status, printed, _ = run(call, kind, texts)
-        if status == library.REFUSED:
-            raise library.refusal(printed)
+    printed, _ = _run(f"{call} {kind}", text)
     return _in_form_of(text, printed)
 
 

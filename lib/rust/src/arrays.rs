@@ -5,9 +5,9 @@
 //! [`Error::PastLimit`] if a number of the instance is past its limit, [`Error::OutOfMemory`], and
 //! [`Error::UnknownAnswer`]. Its documentation names the other variants that it returns.
 
-use crate::ffi::{self, bytes, call, Array, Graph as RawGraph, Max, Min, DONE, GAVE_UP, MISUSED, NO_MEMORY, REFUSED};
+use crate::ffi::{self, bytes, call, Graph as RawGraph, Max, Min};
 use crate::rooms::{room_for, Room, LINE};
-use crate::words::{is_feasible, is_infeasible, is_not_optimal, refused, unknown_status, value};
+use crate::words::{is_feasible, is_infeasible, is_not_optimal, line_of, value};
 
 /// Why a call over slices doesn't answer yes. A flow is an amount for each arc, and a set has for each node whether it
 /// is inside.
@@ -128,14 +128,7 @@ impl MaxInstance<'_> {
         let arcs = self.tails.len();
         test("heads", self.heads.len(), arcs)?;
         test("caps", self.caps.len(), arcs)?;
-        Ok(Max {
-            nodes: self.nodes,
-            source: self.source,
-            sink: self.sink,
-            tails: Array::of(self.tails),
-            heads: Array::of(self.heads),
-            caps: Array::of(self.caps),
-        })
+        Ok(Max::from(self))
     }
 }
 
@@ -146,15 +139,7 @@ impl MinInstance<'_> {
             test(array, items, self.tails.len())?;
         }
         test("supplies", self.supplies.len(), self.nodes as usize)?;
-        Ok(Min {
-            nodes: self.nodes,
-            tails: Array::of(self.tails),
-            heads: Array::of(self.heads),
-            lows: Array::of(self.lows),
-            caps: Array::of(self.caps),
-            costs: Array::of(self.costs),
-            supplies: Array::of(self.supplies),
-        })
+        Ok(Min::from(self))
     }
 }
 
@@ -162,29 +147,11 @@ impl Graph<'_> {
     pub(crate) fn raw(&self) -> Result<RawGraph, Error> {
         test("heads", self.heads.len(), self.tails.len())?;
         test("weights", self.weights.len(), self.tails.len())?;
-        Ok(RawGraph {
-            nodes: self.nodes,
-            tails: Array::of(self.tails),
-            heads: Array::of(self.heads),
-            weights: Array::of(self.weights),
-        })
+        Ok(RawGraph::from(self))
     }
 }
 
-/// The line of a yes, or what the status means.
-pub(crate) fn line_of(status: u32, line: Room<u8>) -> Result<String, Error> {
-    let line = line.text()?;
-    match status {
-        DONE => Ok(line),
-        GAVE_UP => Err(Error::GaveUp),
-        NO_MEMORY => Err(Error::OutOfMemory),
-        MISUSED if !line.is_empty() => Err(Error::PastLimit(refused(&line)?)),
-        REFUSED => Err(Error::Refused(refused(&line)?)),
-        _ => Ok(unknown_status(status)?),
-    }
-}
-
-/// The same of a call that hands out better flows.
+/// The line of a call that hands out better flows.
 fn line_or_better(status: u32, line: Room<u8>, better: Room<i64>) -> Result<String, Error> {
     match line_of(status, line) {
         Err(Error::Refused(it)) if is_not_optimal(&it) => Err(Error::NotOptimal(better.take())),

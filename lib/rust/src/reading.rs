@@ -14,9 +14,10 @@
 //! # Ok::<(), arrays::Error>(())
 //! ```
 
-use crate::arrays::{line_of, test, Error, Graph, MaxInstance, MinInstance, UNREACHED};
+use crate::arrays::{test, Error, Graph, MaxInstance, MinInstance, UNREACHED};
 use crate::ffi::{self, bytes, call};
 use crate::rooms::{Room, LINE};
+use crate::words::line_of;
 
 /// A maximum flow instance in vectors.
 #[derive(Clone, Debug, PartialEq, Eq)]
@@ -131,23 +132,17 @@ pub struct Arcs<'a> {
     pub heads: &'a [u32],
 }
 
-impl<'a> From<MaxInstance<'a>> for Arcs<'a> {
-    fn from(it: MaxInstance<'a>) -> Self {
-        Arcs { nodes: it.nodes, tails: it.tails, heads: it.heads }
-    }
+macro_rules! arcs_of {
+    ($($instance:ident)*) => {$(
+        impl<'a> From<$instance<'a>> for Arcs<'a> {
+            fn from(it: $instance<'a>) -> Self {
+                Arcs { nodes: it.nodes, tails: it.tails, heads: it.heads }
+            }
+        }
+    )*};
 }
 
-impl<'a> From<MinInstance<'a>> for Arcs<'a> {
-    fn from(it: MinInstance<'a>) -> Self {
-        Arcs { nodes: it.nodes, tails: it.tails, heads: it.heads }
-    }
-}
-
-impl<'a> From<Graph<'a>> for Arcs<'a> {
-    fn from(it: Graph<'a>) -> Self {
-        Arcs { nodes: it.nodes, tails: it.tails, heads: it.heads }
-    }
-}
+arcs_of! { MaxInstance MinInstance Graph }
 
 /// As many items as a text has at most, each of which takes so many bytes.
 fn most(text: &[u8], bytes: usize) -> usize {
@@ -188,15 +183,9 @@ pub fn read_min(text: impl AsRef<[u8]>) -> Result<MinVectors, Error> {
     let (mut lows, mut caps, mut costs) = (Room::new(most)?, Room::new(most)?, Room::new(most)?);
     let (mut line, mut supplies) = (Room::new(LINE)?, Room::new(most)?);
     let (mut nodes, mut arcs) = (0, 0);
-    loop {
-        let status = call!(ffi::dimacs_read_min: [text], {line}, &mut nodes,
-                           (tails), (heads), (lows), (caps), (costs), &mut arcs, {supplies});
-        if supplies.fits() {
-            line_of(status, line)?;
-            break;
-        }
-        supplies.grow()?; // nodes have no line each
-    }
+    let status = call!(ffi::dimacs_read_min: [text], {line}, &mut nodes,
+                       (tails), (heads), (lows), (caps), (costs), &mut arcs, {supplies});
+    line_of(status, line)?;
     let (tails, heads, lows) = (tails.first(arcs), heads.first(arcs), lows.first(arcs));
     let (caps, costs, supplies) = (caps.first(arcs), costs.first(arcs), supplies.take());
     Ok(MinVectors { nodes, tails, heads, lows, caps, costs, supplies })
@@ -261,18 +250,6 @@ pub fn read_solution<'a>(text: impl AsRef<[u8]>, arcs: impl Into<Arcs<'a>>) -> R
     Ok(Solution { value, flows: flows.take() })
 }
 
-/// Makes a call that reads a text into an array by node, again if there are more nodes than room.
-fn read_by_node<T: Copy>(text: &[u8], call: impl Fn(&mut Room<u8>, &mut Room<T>) -> u32) -> Result<Room<T>, Error> {
-    let (mut line, mut items) = (Room::new(LINE)?, Room::new(most(text, 8))?);
-    loop {
-        let status = call(&mut line, &mut items);
-        if items.fits() {
-            return line_of(status, line).map(|_| items);
-        }
-        items.grow()?;
-    }
-}
-
 /// Reads a cut or a set: by node, whether it is inside.
 ///
 /// ```
@@ -281,8 +258,10 @@ fn read_by_node<T: Copy>(text: &[u8], call: impl Fn(&mut Room<u8>, &mut Room<T>)
 /// ```
 pub fn read_cut(text: impl AsRef<[u8]>) -> Result<Vec<bool>, Error> {
     let text = text.as_ref();
-    let read = |line: &mut Room<u8>, items: &mut Room<u8>| call!(ffi::dimacs_read_cut: [text], {line}, {items});
-    Ok(read_by_node(text, read)?.marks()?)
+    let (mut line, mut inside) = (Room::new(LINE)?, Room::new(most(text, 8))?);
+    let status = call!(ffi::dimacs_read_cut: [text], {line}, {inside});
+    line_of(status, line)?;
+    Ok(inside.marks()?)
 }
 
 /// Reads potentials, by node. [`Error::Refused`] also for the first one that doesn't fit in 64 bits.
@@ -293,8 +272,10 @@ pub fn read_cut(text: impl AsRef<[u8]>) -> Result<Vec<bool>, Error> {
 /// ```
 pub fn read_potentials(text: impl AsRef<[u8]>) -> Result<Vec<i64>, Error> {
     let text = text.as_ref();
-    let read = |line: &mut Room<u8>, items: &mut Room<i64>| call!(ffi::dimacs_read_potentials: [text], {line}, {items});
-    Ok(read_by_node(text, read)?.take())
+    let (mut line, mut potentials) = (Room::new(LINE)?, Room::new(most(text, 8))?);
+    let status = call!(ffi::dimacs_read_potentials: [text], {line}, {potentials});
+    line_of(status, line)?;
+    Ok(potentials.take())
 }
 
 /// Reads the block of a source from distances, by node: [`UNREACHED`] for a node without a line.
@@ -308,9 +289,10 @@ pub fn read_potentials(text: impl AsRef<[u8]>) -> Result<Vec<i64>, Error> {
 /// ```
 pub fn read_distances(text: impl AsRef<[u8]>, source: u32) -> Result<Vec<i64>, Error> {
     let text = text.as_ref();
-    let read =
-        |line: &mut Room<u8>, items: &mut Room<i64>| call!(ffi::dimacs_read_distances: [text], source, {line}, {items});
-    Ok(read_by_node(text, read)?.take())
+    let (mut line, mut distances) = (Room::new(LINE)?, Room::new(most(text, 8))?);
+    let status = call!(ffi::dimacs_read_distances: [text], source, {line}, {distances});
+    line_of(status, line)?;
+    Ok(distances.take())
 }
 
 /// Reads the block of a source from labels. [`Error::Refused`] as by [`read_distances`].
@@ -324,29 +306,17 @@ pub fn read_labels(text: impl AsRef<[u8]>, source: u32) -> Result<Labels, Error>
     let text = text.as_ref();
     let (mut line, mut distances, mut radius) = (Room::new(LINE)?, Room::new(most(text, 8))?, 0);
     let mut predecessors = Room::new(most(text, 8))?;
-    loop {
-        let status = call!(ffi::dimacs_read_labels: [text], source, {line}, &mut radius, {distances}, {predecessors});
-        if distances.fits() && predecessors.fits() {
-            line_of(status, line)?;
-            break;
-        }
-        distances.grow()?;
-        predecessors.grow()?;
-    }
+    let status = call!(ffi::dimacs_read_labels: [text], source, {line}, &mut radius, {distances}, {predecessors});
+    line_of(status, line)?;
     let radius = Some(radius).filter(|&it| it != UNREACHED);
     Ok(Labels { distances: distances.take(), predecessors: predecessors.take(), radius })
 }
 
-/// Makes a call that writes about so many lines, again if they are longer than the room.
-fn write(lines: usize, call: impl Fn(&mut Room<u8>) -> u32) -> Result<String, Error> {
+/// Makes a call that writes about so many lines.
+fn write(lines: usize, call: impl FnOnce(&mut Room<u8>) -> Result<u32, Error>) -> Result<String, Error> {
     let mut text = Room::new(LINE + 32 * lines)?;
-    loop {
-        let status = call(&mut text);
-        if text.fits() {
-            return line_of(status, text);
-        }
-        text.grow()?;
-    }
+    let status = call(&mut text)?;
+    line_of(status, text)
 }
 
 /// The text of a maximum flow instance.
@@ -358,7 +328,7 @@ fn write(lines: usize, call: impl Fn(&mut Room<u8>) -> u32) -> Result<String, Er
 /// ```
 pub fn write_max(instance: &MaxInstance) -> Result<String, Error> {
     let raw = instance.raw()?;
-    write(instance.tails.len(), |text| call!(ffi::dimacs_write_max: &raw, {text}))
+    write(instance.tails.len(), |text| Ok(call!(ffi::dimacs_write_max: &raw, {text})))
 }
 
 /// The text of a minimum cost flow instance.
@@ -370,7 +340,7 @@ pub fn write_max(instance: &MaxInstance) -> Result<String, Error> {
 /// ```
 pub fn write_min(instance: &MinInstance) -> Result<String, Error> {
     let (raw, lines) = (instance.raw()?, instance.tails.len() + instance.supplies.len());
-    write(lines, |text| call!(ffi::dimacs_write_min: &raw, {text}))
+    write(lines, |text| Ok(call!(ffi::dimacs_write_min: &raw, {text})))
 }
 
 /// The text of a graph.
@@ -382,7 +352,7 @@ pub fn write_min(instance: &MinInstance) -> Result<String, Error> {
 /// ```
 pub fn write_graph(graph: &Graph) -> Result<String, Error> {
     let raw = graph.raw()?;
-    write(graph.tails.len(), |text| call!(ffi::dimacs_write_graph: &raw, {text}))
+    write(graph.tails.len(), |text| Ok(call!(ffi::dimacs_write_graph: &raw, {text})))
 }
 
 /// The text of a solution that claims a value, with an entry for each arc of an instance, in their order.
@@ -396,7 +366,7 @@ pub fn write_solution<'a>(value: i64, arcs: impl Into<Arcs<'a>>, flows: &[i64]) 
     let Arcs { nodes, tails, heads } = arcs.into();
     test("heads", heads.len(), tails.len())?;
     test("flows", flows.len(), tails.len())?;
-    write(flows.len(), |text| call!(ffi::dimacs_write_solution: value, nodes, [tails], [heads], [flows], {text}))
+    write(flows.len(), |text| Ok(call!(ffi::dimacs_write_solution: value, nodes, [tails], [heads], [flows], {text})))
 }
 
 /// The text of a cut or a set, given by node.
@@ -406,7 +376,7 @@ pub fn write_solution<'a>(value: i64, arcs: impl Into<Arcs<'a>>, flows: &[i64]) 
 /// assert_eq!(write_cut(&[false, true]).unwrap(), "p cut 2 1\nu 2\n");
 /// ```
 pub fn write_cut(inside: &[bool]) -> Result<String, Error> {
-    write(inside.len() / 4, |text| call!(ffi::dimacs_write_cut: [bytes(inside)], {text}))
+    write(inside.len() / 4, |text| Ok(call!(ffi::dimacs_write_cut: [bytes(inside)], {text})))
 }
 
 /// The text of potentials, given by node.
@@ -416,7 +386,7 @@ pub fn write_cut(inside: &[bool]) -> Result<String, Error> {
 /// assert_eq!(write_potentials(&[0, -7]).unwrap(), "p pot 2 1\ny 2 -7\n");
 /// ```
 pub fn write_potentials(potentials: &[i64]) -> Result<String, Error> {
-    write(potentials.len(), |text| call!(ffi::dimacs_write_potentials: [potentials], {text}))
+    write(potentials.len(), |text| Ok(call!(ffi::dimacs_write_potentials: [potentials], {text})))
 }
 
 /// The text of queries.
@@ -439,7 +409,7 @@ pub fn write_queries(queries: &Queries) -> Result<String, Error> {
         }
     };
     let is_pairs = u32::from(matches!(queries, Queries::Pairs(_)));
-    write(froms.len(), |text| call!(ffi::dimacs_write_queries: is_pairs, [froms], [tos], {text}))
+    write(froms.len(), |text| Ok(call!(ffi::dimacs_write_queries: is_pairs, [froms], [tos], {text})))
 }
 
 /// The text of distances from a source, given by node: one block, with a line for each other node that is reached.
@@ -450,7 +420,7 @@ pub fn write_queries(queries: &Queries) -> Result<String, Error> {
 /// assert_eq!(write_distances(1, &[0, 7, UNREACHED]).unwrap(), "p distances 3 1\nt 1 1\nd 2 7\n");
 /// ```
 pub fn write_distances(source: u32, distances: &[i64]) -> Result<String, Error> {
-    write(distances.len(), |text| call!(ffi::dimacs_write_distances: source, [distances], {text}))
+    write(distances.len(), |text| Ok(call!(ffi::dimacs_write_distances: source, [distances], {text})))
 }
 
 /// The same as labels, with predecessors that lead back to the source. [`Error::Refused`] as by
@@ -463,5 +433,5 @@ pub fn write_distances(source: u32, distances: &[i64]) -> Result<String, Error> 
 /// ```
 pub fn write_labels(source: u32, distances: &[i64], predecessors: &[u32]) -> Result<String, Error> {
     test("predecessors", predecessors.len(), distances.len())?;
-    write(distances.len(), |text| call!(ffi::dimacs_write_labels: source, [distances], [predecessors], {text}))
+    write(distances.len(), |text| Ok(call!(ffi::dimacs_write_labels: source, [distances], [predecessors], {text})))
 }

@@ -5,9 +5,9 @@
 //! [`Error::OutOfMemory`], and [`Error::UnknownAnswer`]. Its documentation names the other variants that it returns.
 
 use crate::error::NoAnswer;
-use crate::ffi::{self, call, DONE, GAVE_UP, MISUSED, NO_MEMORY, REFUSED};
+use crate::ffi::{self, call, GAVE_UP, MISUSED, REFUSED};
 use crate::rooms::{Room, LINE};
-use crate::words::{is_feasible, is_infeasible, is_not_optimal, known, refused, unknown_status, value, words};
+use crate::words::{is_feasible, is_infeasible, is_not_optimal, known, line_of, value, words};
 
 /// Why a call over texts doesn't answer yes. A flow is the text of a solution, or `None` if its cost is out of the
 /// range of such texts. A set is a text too.
@@ -92,83 +92,32 @@ const MIN: u32 = 1;
 const INFEASIBLE: u32 = 2;
 const PATHS: u32 = 3;
 
-/// The lines of a yes, or what the status means.
-fn lines_of(status: u32, lines: Room<u8>) -> Result<String, Error> {
-    let lines = lines.text()?;
-    match status {
-        DONE => Ok(lines),
-        GAVE_UP => Err(Error::GaveUp),
-        NO_MEMORY => Err(Error::OutOfMemory),
-        REFUSED => Err(Error::Refused(refused(&lines)?)),
-        _ => Ok(unknown_status(status)?),
-    }
-}
-
 /// The text of the library's version.
 pub(crate) fn version_text() -> Result<String, Error> {
     let mut text = Room::new(LINE)?;
-    loop {
-        let status = call!(ffi::dimacs_version_text: {text});
-        if grow([&mut text])? {
-            return lines_of(status, text);
-        }
-    }
-}
-
-fn grow<const N: usize>(mut rooms: [&mut Room<u8>; N]) -> Result<bool, NoAnswer> {
-    let is_enough = rooms.iter().all(|it| it.fits());
-    for room in &mut rooms {
-        room.grow()?;
-    }
-    Ok(is_enough)
+    let status = call!(ffi::dimacs_version_text: {text});
+    line_of(status, text)
 }
 
 fn judge(kind: u32, texts: [&[u8]; 3], room: usize) -> Result<String, Error> {
     let mut lines = Room::new(room)?;
     let [instance, claim, certificate] = texts;
-    loop {
-        let status = call!(ffi::dimacs_judge: kind, [instance], [claim], [certificate], {lines});
-        if grow([&mut lines])? {
-            return lines_of(status, lines);
-        }
-    }
+    let status = call!(ffi::dimacs_judge: kind, [instance], [claim], [certificate], {lines});
+    line_of(status, lines)
 }
-
-/// A call over two texts of a kind, which hands out a line and another text.
-type CallOfTwo = unsafe extern "C" fn(
-    u32,
-    *const u8,
-    usize,
-    *const u8,
-    usize,
-    *mut u8,
-    usize,
-    *mut usize,
-    *mut u8,
-    usize,
-    *mut usize,
-) -> u32;
 
 /// A line, or what the status means, and the text that comes with it.
-fn call_of_two(
-    call: CallOfTwo, kind: u32, instance: &[u8], claim: &[u8],
-) -> Result<(Result<String, Error>, String), Error> {
-    let (mut line, mut shown) = (Room::new(LINE)?, Room::new(LINE + instance.len() + claim.len())?);
-    loop {
-        let status = call!(call: kind, [instance], [claim], {line}, {shown});
-        if grow([&mut line, &mut shown])? {
-            return Ok((lines_of(status, line), shown.text()?));
-        }
-    }
-}
-
 fn certify(kind: u32, instance: &[u8], claim: &[u8]) -> Result<(Result<String, Error>, String), Error> {
-    call_of_two(ffi::dimacs_certify, kind, instance, claim)
+    let (mut line, mut shown) = (Room::new(LINE)?, Room::new(LINE + instance.len() + claim.len())?);
+    let status = call!(ffi::dimacs_certify: kind, [instance], [claim], {line}, {shown});
+    Ok((line_of(status, line), shown.text()?))
 }
 
 fn spread(kind: u32, instance: &[u8], solution: &[u8]) -> Result<String, Error> {
-    let (line, spread) = call_of_two(ffi::dimacs_spread, kind, instance, solution)?;
-    line.map(|_| spread)
+    let (mut line, mut spread) = (Room::new(LINE)?, Room::new(LINE + instance.len() + solution.len())?);
+    let status = call!(ffi::dimacs_spread: kind, [instance], [solution], {line}, {spread});
+    line_of(status, line)?;
+    Ok(spread.text()?)
 }
 
 fn certify_flow(kind: u32, instance: &[u8], solution: &[u8]) -> Result<Certified, Error> {
@@ -186,12 +135,8 @@ fn solve(kind: u32, instance: &[u8], queries: &[u8], limit: u64) -> Result<(Stri
     // An answer to a query is a longer line than the query, and a potential or a label may be one than an arc.
     let mut lines = Room::new(LINE + 4 * queries.len())?;
     let (mut solution, mut shown) = (Room::new(LINE + instance.len())?, Room::new(LINE + 2 * instance.len())?);
-    loop {
-        let status = call!(ffi::dimacs_solve: kind, [instance], [queries], limit, {lines}, {solution}, {shown});
-        if grow([&mut lines, &mut solution, &mut shown])? {
-            return Ok((lines_of(status, lines)?, solution.text()?, shown.text()?));
-        }
-    }
+    let status = call!(ffi::dimacs_solve: kind, [instance], [queries], limit, {lines}, {solution}, {shown});
+    Ok((line_of(status, lines)?, solution.text()?, shown.text()?))
 }
 
 fn pair(line: &str) -> Option<Pair> {
@@ -404,12 +349,8 @@ pub fn spread_min(instance: impl AsRef<[u8]>, solution: impl AsRef<[u8]>) -> Res
 pub fn convert(kind: Kind, text: impl AsRef<[u8]>) -> Result<String, Error> {
     let text = text.as_ref();
     let mut out = Room::new(LINE + text.len())?;
-    loop {
-        let status = call!(ffi::dimacs_convert: kind as u32, [text], {out});
-        if grow([&mut out])? {
-            return lines_of(status, out);
-        }
-    }
+    let status = call!(ffi::dimacs_convert: kind as u32, [text], {out});
+    line_of(status, out)
 }
 
 /// A line that describes a text.
@@ -421,12 +362,8 @@ pub fn convert(kind: Kind, text: impl AsRef<[u8]>) -> Result<String, Error> {
 pub fn show(kind: Kind, text: impl AsRef<[u8]>) -> Result<String, Error> {
     let text = text.as_ref();
     let mut out = Room::new(LINE)?;
-    loop {
-        let status = call!(ffi::dimacs_show: kind as u32, [text], {out});
-        if grow([&mut out])? {
-            return lines_of(status, out);
-        }
-    }
+    let status = call!(ffi::dimacs_show: kind as u32, [text], {out});
+    line_of(status, out)
 }
 
 /// The lines that `dimacs explain` prints for a command over texts: its own, after a refusal too, then what explains
@@ -444,15 +381,11 @@ pub fn explain(
 ) -> Result<String, Error> {
     let [first, second, third] = [first.as_ref(), second.as_ref(), third.as_ref()];
     let mut lines = Room::new(16 * LINE)?;
-    loop {
-        let status = call!(ffi::dimacs_explain: [command], [first], [second], [third], {lines});
-        if grow([&mut lines])? {
-            return match status {
-                REFUSED | GAVE_UP => Ok(lines.text()?),
-                MISUSED => Err(Error::NoCommand),
-                _ => lines_of(status, lines),
-            };
-        }
+    let status = call!(ffi::dimacs_explain: [command], [first], [second], [third], {lines});
+    match status {
+        REFUSED | GAVE_UP => Ok(lines.text()?),
+        MISUSED => Err(Error::NoCommand),
+        _ => line_of(status, lines),
     }
 }
 
@@ -467,7 +400,7 @@ mod tests {
             assert_eq!(paths(line), Err(NoAnswer::Unknown(line.to_owned())));
         }
         assert_eq!(paths("v 1 2 3\n\nv 1 3 4\n"), Err(NoAnswer::Unknown(String::new())));
-        assert_eq!(lines_of(9, Room::new(0).unwrap()), Err(Error::UnknownAnswer("the status 9".to_owned())));
+        assert_eq!(line_of(9, Room::new(0).unwrap()), Err(Error::UnknownAnswer("the status 9".to_owned())));
         assert_eq!(paths("v sp ss 18446744073709551615\n"), Ok(Paths::Sources(u64::MAX)));
         assert_eq!(paths(""), Ok(Paths::Pairs(Vec::new())));
     }

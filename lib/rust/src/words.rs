@@ -1,6 +1,8 @@
 //! The fields of the lines that calls hand out.
 
-use crate::error::{NoAnswer, Place, Refused};
+use crate::error::{Error, NoAnswer, Place, Refused};
+use crate::ffi::{DONE, GAVE_UP, MISUSED, NO_MEMORY, REFUSED};
+use crate::rooms::Room;
 
 /// A copy, if there is memory for it.
 fn owned(text: &str) -> Result<String, NoAnswer> {
@@ -15,15 +17,24 @@ pub fn unknown<T>(answer: &str) -> Result<T, NoAnswer> {
     Err(NoAnswer::Unknown(owned(answer.trim_end())?))
 }
 
-pub fn unknown_status<T>(status: u32) -> Result<T, NoAnswer> {
-    unknown(&format!("the status {status}"))
-}
-
 /// What was read of a line, if it could be read.
 pub fn known<T>(read: Option<T>, line: &str) -> Result<T, NoAnswer> {
     match read {
         Some(it) => Ok(it),
         None => unknown(line),
+    }
+}
+
+/// The lines of a yes, or what the status means.
+pub fn line_of<Flow, Set>(status: u32, line: Room<u8>) -> Result<String, Error<Flow, Set>> {
+    let line = line.text()?;
+    match status {
+        DONE => Ok(line),
+        GAVE_UP => Err(Error::GaveUp),
+        NO_MEMORY => Err(Error::OutOfMemory),
+        MISUSED if !line.is_empty() => Err(Error::PastLimit(refused(&line)?)),
+        REFUSED => Err(Error::Refused(refused(&line)?)),
+        _ => Ok(unknown(&format!("the status {status}"))?),
     }
 }
 

@@ -5,12 +5,13 @@ ghost use Rattle.dimacs_records.specs.declared.kinds.TextKind.TheVariants as kin
 ghost use Rattle.dimacs_network.specs.Arcs.{NetworkValue};
 ghost use Rattle.dimacs_instance.specs.Graph.{GivesGraph, SpellsGraph, shown_graph};
 ghost use Rattle.dimacs_instance.specs.Summaries.{SumsUpGraph, graph_summary_line};
-ghost use Rattle.dimacs_instance.specs.inside.Summaries.{GivesSummary, IsGraphCountedBy, counted_lines};
+ghost use Rattle.dimacs_instance.specs.Summaries.{GivesSummary, IsGraphCountedBy, counted_lines};
 
 use crate::summaries::Summary;
 use dimacs_lines::{DeviceFault, Memory, Sink, Source};
 use dimacs_records::{
-    Builder, Context, Declared, Part, ReadError, Record, TextKind, put_line, read_counted,
+    Builder, Context, CountedReading, Declared, Part, ReadError, Record, TextKind, put_line,
+    read_counted,
 };
 use std::alloc::Global;
 
@@ -54,6 +55,9 @@ impl Summary for GraphSummary {
         )
     }
 }
+
+/// Reads the records of a graph, and keeps its summary alone.
+pub type GraphSummaryReading = CountedReading<CountedGraph>;
 
 /// A graph while its text is read, with the arcs only counted.
 #[derive(Clone, Copy)]

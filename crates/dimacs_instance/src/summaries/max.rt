@@ -4,16 +4,17 @@ ghost use Rattle.std.specs.Prelude.{◌≡◌, refl};
 ghost use Rattle.dimacs_records.specs.declared.kinds.TextKind.TheVariants as kinds;
 ghost use Rattle.dimacs_instance.specs.MaxFlows.{MaxValue};
 ghost use Rattle.dimacs_instance.specs.MaxReading.{plain_context, context, end_context};
-ghost use Rattle.dimacs_instance.specs.inside.MaxReading.{IsMaxCountedBy};
+ghost use Rattle.dimacs_instance.specs.MaxReading.{IsMaxCountedBy};
 ghost use Rattle.dimacs_instance.specs.MaxTexts.{GivesMax, SpellsMax, shown_max};
 ghost use Rattle.dimacs_instance.specs.Summaries.{SumsUpMax, max_summary_line};
-ghost use Rattle.dimacs_instance.specs.inside.Summaries.{GivesSummary};
+ghost use Rattle.dimacs_instance.specs.Summaries.{GivesSummary};
 
 use crate::max::{EndLine, EndLines};
 use crate::summaries::Summary;
 use dimacs_lines::{DeviceFault, Memory, Sink, Source};
 use dimacs_records::{
-    Builder, Context, Declared, Part, ReadError, Record, TextKind, put_line, read_counted,
+    Builder, Context, CountedReading, Declared, Part, ReadError, Record, TextKind, put_line,
+    read_counted,
 };
 use std::alloc::Global;
 use std::marker::Model;
@@ -63,6 +64,9 @@ impl Summary for MaxSummary {
     }
 }
 
+/// Reads the records of a maximum flow instance, and keeps its summary alone.
+pub type MaxSummaryReading = CountedReading<CountedMax>;
+
 /// A maximum flow instance while its text is read, with the arcs only counted.
 #[derive(Drop)]
 pub struct CountedMax {
@@ -74,7 +78,7 @@ pub struct CountedMax {
 
 impl Model for CountedMax {
     ghost use Rattle.dimacs_instance.specs.MaxReading.{MaxCount};
-    ghost use Rattle.dimacs_instance.specs.inside.MaxReading.{EndsAreDistinct};
+    ghost use Rattle.dimacs_instance.specs.MaxReading.{EndsAreDistinct};
 
     ghost Value = { MaxCount };
 

@@ -1,20 +1,21 @@
 //! The summary of a minimum cost flow instance.
 
-ghost use Rattle.std.specs.Prelude.{refl};
+ghost use Rattle.std.specs.Prelude.{◌≡◌, refl};
 ghost use Rattle.dimacs_records.specs.declared.kinds.TextKind.TheVariants as kinds;
 ghost use Rattle.dimacs_instance.specs.MinFlows.{MinValue};
 ghost use Rattle.dimacs_instance.specs.MinReading.{plain_context, context};
-ghost use Rattle.dimacs_instance.specs.inside.MinReading.{IsMinCountedBy};
+ghost use Rattle.dimacs_instance.specs.MinReading.{IsMinCountedBy};
 ghost use Rattle.dimacs_instance.specs.MinTexts.{GivesMin, SpellsMin, shown_min};
-ghost use Rattle.dimacs_instance.specs.Summaries.{SumsUpMin, min_summary_line};
-ghost use Rattle.dimacs_instance.specs.inside.Summaries.{GivesSummary};
+ghost use Rattle.dimacs_instance.specs.Summaries.{HasNodes, SumsUpMin, min_summary, min_summary_line};
+ghost use Rattle.dimacs_instance.specs.Summaries.{GivesSummary};
 
 use crate::min::MinInstance;
 use crate::summaries::Summary;
 use dimacs_lines::{DeviceFault, Memory, Sink, Source};
-use dimacs_network::{ArcView, NodeMap, PlainArcs};
+use dimacs_network::{ArcView, Network, NodeMap, PlainArcs};
 use dimacs_records::{
-    Builder, Context, Declared, Part, ReadError, Record, TextKind, put_line, read_counted,
+    Builder, Context, CountedReading, Declared, Part, ReadError, Record, TextKind, put_line,
+    read_counted,
 };
 use std::alloc::Global;
 use std::marker::Model;
@@ -46,7 +47,7 @@ impl Summary for MinSummary {
     }
 
     fn read<S: Source>(alloc: Global, source: &mut S) -> Result<MinSummary, ReadError> {
-        read_counted::<CountedMin, S>(alloc, source)
+        Ok(read_counted::<CountedMin, S>(alloc, source)?.summary())
     }
 
     fn show<K: Sink>(&self, sink: &mut K) -> Result<(), DeviceFault> {
@@ -64,6 +65,31 @@ impl Summary for MinSummary {
     }
 }
 
+/// The nodes of a minimum cost flow instance, and how many arcs it has.
+#[derive(Drop)]
+pub struct MinNodes {
+    pub arcs: u32,
+    /// The instance without its arcs.
+    pub without_arcs: MinInstance<PlainArcs<ArcView>>,
+}
+
+impl MinNodes {
+    fn summary(&self) -> MinSummary
+        ensures { (m : MinValue) → HasNodes self.now m → result ≡ min_summary m }
+    {
+        let sums = self.without_arcs.supply_sums();
+        MinSummary {
+            nodes: self.without_arcs.network().nodes(),
+            arcs: self.arcs,
+            supplied: sums.supplied,
+            demanded: sums.demanded,
+        }
+    }
+}
+
+/// Reads the records of a minimum cost flow instance, and keeps its nodes, of the arcs only how many they are.
+pub type MinNodesReading = CountedReading<CountedMin>;
+
 /// A minimum cost flow instance while its text is read, with the arcs only counted.
 #[derive(Drop)]
 pub struct CountedMin {
@@ -76,8 +102,9 @@ pub struct CountedMin {
 
 impl Model for CountedMin {
     ghost use Rattle.dimacs_instance.specs.MinReading.{MinCount};
-    ghost use Rattle.dimacs_instance.specs.inside.MinReading.{IsMinBegun, without_arcs};
-    ghost use Rattle.dimacs_instance.specs.inside.MinCodes.{count_code};
+    ghost use Rattle.dimacs_instance.specs.MinReading.{IsMinBegun};
+    ghost use Rattle.dimacs_instance.specs.inside.MinReading.{without_arcs};
+    ghost use Rattle.dimacs_instance.specs.MinCodes.{count_code};
 
     ghost Value = { MinCount };
 
@@ -89,7 +116,7 @@ impl Model for CountedMin {
 }
 
 impl Builder for CountedMin {
-    type Value = MinSummary;
+    type Value = MinNodes;
 
     ghost kind = { kinds.Min };
 
@@ -99,7 +126,7 @@ impl Builder for CountedMin {
 
     ghost end_context = { λ counted. plain_context counted };
 
-    ghost gives = { λ rs summary. GivesSummary GivesMin SumsUpMin rs summary };
+    ghost gives = { λ rs nodes. GivesSummary GivesMin HasNodes rs nodes };
 
     fn kind() -> TextKind {
         TextKind::Min
@@ -153,17 +180,14 @@ impl Builder for CountedMin {
         Context::of(Some(Declared { nodes, count }), self.arcs)
     }
 
-    fn value(self, alloc: Global) -> Result<MinSummary, Memory> {
-        let supplied = MinInstance {
+    fn value(self, alloc: Global) -> Result<MinNodes, Memory> {
+        let without_arcs = MinInstance {
             supplies: self.supplies,
             network: PlainArcs::<ArcView>::new(alloc, self.nodes),
         };
-        let sums = supplied.supply_sums();
-        Ok(MinSummary {
-            nodes: self.nodes,
+        Ok(MinNodes {
             arcs: self.arcs,
-            supplied: sums.supplied,
-            demanded: sums.demanded,
+            without_arcs,
         })
     }
 

@@ -4,7 +4,7 @@ use Rattle.std.specs.List.{All}
 use Rattle.std.specs.Char.{IsAsciiDigit, is_ascii_digit}
 use lib.Lanes.{mask_l}
 use Rattle.dimacs_lines.specs.Number.{place_sum}
-use Rattle.dimacs_lines.specs.Plain.{EndsAt}
+use Rattle.dimacs_lines.specs.Plain.{EndsAt, NumbersLeft}
 
 -- the bit of 16 is set, as in all digits
 abbrev pub has_sixteen : ℕ → Bool
@@ -26,6 +26,12 @@ pub record DigitsAt (bytes : List ℕ) (at stop n next : ℕ) : Type 0 where
   pub each : All IsAsciiDigit digits
   pub value : n ≡ place_sum digits
   pub ends : EndsAt bytes at stop digits next
+
+-- a minus stands there, and the numbers left begin after it
+pub record TakesMinus (before after : NumbersLeft) : Type 0 where
+  pub within : before.at < length before.bytes
+  pub minus : slice_index before.bytes before.at ≡ 45
+  pub passed : after ≡ record before { at = before.at + 1 }
 
 -- a bit for each byte that is no digit, the first byte's lowest
 abbrev pub ends_of : List ℕ → ℕ

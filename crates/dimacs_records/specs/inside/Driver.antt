@@ -12,8 +12,8 @@ use Rattle.dimacs_records.specs.declared.faults.TakeError.{TakeError}
 use Rattle.dimacs_records.specs.declared.faults.TakeError.TheVariants as take_errors
 use Rattle.dimacs_records.specs.declared.reasons.Reason.TheVariants.{LineTooLong, LineLimit}
 use Rattle.dimacs_records.specs.Order.{at, places, FirstOf}
-use Rattle.dimacs_records.specs.Faults.{Condition, IsClean, FaultyLine, records_in}
-use Rattle.dimacs_records.specs.Readings.{LineRecord, numbered, AreSpelledBefore}
+use Rattle.dimacs_records.specs.Faults.{Condition, IsClean, records_in}
+use Rattle.dimacs_records.specs.Readings.{LineRecord, numbered, IsReadWhole, RefusesLine}
 
 -- the first `count` lines are read and clean, the reading stands for their records, and this text is left
 pub record IsReadSoFar (kind : TextKind) (all : List (List ℕ)) (count : ℕ) (left : Option (List ℕ)) (stands_for : List LineRecord → Type 0) : Type 0 where
@@ -26,23 +26,6 @@ pub record IsReadSoFar (kind : TextKind) (all : List (List ℕ)) (count : ℕ) (
   pub clean : IsClean kind before by_line
   pub stands : stands_for (numbered 1 by_line)
 
--- the reading stands for some records that lines before this one can spell
-abbrev pub HasTaken : TextKind → ℕ → (List LineRecord → Type 0) → Type 0
-HasTaken kind line stands_for = (rs : List LineRecord) × stands_for rs × AreSpelledBefore kind line rs
-
--- all lines are read
-pub record IsReadWhole (kind : TextKind) (all : List (List ℕ)) (count : ℕ) (stands_for : List LineRecord → Type 0) : Type 0 where
-  pub by_line : List (Option Record)
-  pub counted : count ≡ length all
-  pub clean : IsClean kind all by_line
-  pub stands : stands_for (numbered 1 by_line)
-
--- why a line is refused; I/O errors and out of memory are left open
-abbrev pub RefusesLine : TextKind → List (List ℕ) → ReadError → Type 0
-RefusesLine kind all (read_errors.Refused place reason) = FaultyLine kind all place.line place.field reason
-RefusesLine kind all read_errors.Device = Unit {0}
-RefusesLine kind all read_errors.Memory = Unit {0}
-
 -- the result of reading one more line
 abbrev pub ReadsNext : TextKind → List (List ℕ) → ℕ → Option (List ℕ) → (List LineRecord → Type 0) → Result (Option ℕ) ReadError → Type 0
 ReadsNext kind all count left stands_for (Ok (Some number)) = IsReadSoFar kind all number left stands_for
@@ -53,11 +36,6 @@ ReadsNext kind all count left stands_for (Err error) = RefusesLine kind all erro
 abbrev pub ReadsSome : TextKind → List (List ℕ) → ℕ → Option (List ℕ) → (List LineRecord → Type 0) → Result Unit ReadError → Type 0
 ReadsSome kind all count left stands_for (Ok done) = IsReadSoFar kind all count left stands_for
 ReadsSome kind all count left stands_for (Err error) = RefusesLine kind all error
-
--- the result of reading all lines: how many there are
-abbrev pub ReadsAll : TextKind → List (List ℕ) → (List LineRecord → Type 0) → Result ℕ ReadError → Type 0
-ReadsAll kind all stands_for (Ok count) = IsReadWhole kind all count stands_for
-ReadsAll kind all stands_for (Err error) = RefusesLine kind all error
 
 -- the result of taking one more line: it is clean and the reading stands for its record too; or its first condition
 abbrev pub TakesLine : TextKind → List (List ℕ) → List (Option Record) → List ℕ → (List LineRecord → Type 0) → Result Unit TakeError → Type 0

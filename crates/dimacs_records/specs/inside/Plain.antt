@@ -9,10 +9,10 @@ use Rattle.dimacs_records.specs.declared.faults.ReadError.{ReadError}
 use Rattle.dimacs_records.specs.declared.kinds.TextKind.{TextKind}
 use Rattle.dimacs_records.specs.declared.records.Record.{Record}
 use Rattle.dimacs_records.specs.declared.plain.PlainLines.{PlainLines}
-use Rattle.dimacs_records.specs.inside.Driver.{IsReadSoFar, RefusesLine}
+use Rattle.dimacs_records.specs.inside.Driver.{IsReadSoFar}
 use Rattle.dimacs_records.specs.Forms.{FieldType, Id, Whole, form, forms}
 use Rattle.dimacs_records.specs.LineReader.{ReadsLine}
-use Rattle.dimacs_records.specs.Readings.{LineRecord}
+use Rattle.dimacs_records.specs.Readings.{LineRecord, RefusesLine}
 use Rattle.dimacs_records.specs.Spelling.{Part, Amount, SpellFields, kind_of, letter_of, parts_of, texts_in}
 
 -- these texts stand one after another, with a blank after each but the last, and a line end after the last

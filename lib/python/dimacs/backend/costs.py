@@ -33,7 +33,6 @@ class Network(NamedTuple):
 
 
 def read(graph: Any, capacity: Any, weight: Any) -> tuple[Numbers, Numbers]:
-    """The capacities and weights of the arcs."""
     return of_edges(graph, capacity, math.inf, "capacity", True), of_edges(graph, weight, 0, "weight", True)
 
 

@@ -36,7 +36,6 @@ def _test_graph(graph: Any, source: Any, sink: Any) -> None:
 
 
 def solved(given: Any, source: Any, sink: Any, capacity: Any) -> Found:
-    """A maximum flow of a graph."""
     graph = graph_of(given)
     _test_graph(graph, source, sink)
     capacities = of_edges(graph, capacity, math.inf, "capacity", True)

@@ -77,7 +77,6 @@ class Arcs:
         return [self.tails[arc] for arc in arcs], [self.heads[arc] for arc in arcs]
 
     def flow_dict(self, flows: list[int]) -> dict[Any, Any]:
-        """A flow as networkx has it."""
         amounts = iter(flows)
         if not self.graph.is_multigraph():
             return {tail: dict(zip(heads, amounts)) for tail, heads in self.graph.adjacency()}

@@ -18,7 +18,6 @@ _FASTER_THERE = ("cost_of_flow", "has_path", "single_source_shortest_path", "sin
 
 
 def function_of(name: str) -> Any:
-    """A function of this backend."""
     return next(getattr(it, name) for it in (costs, flows, paths) if hasattr(it, name))
 
 

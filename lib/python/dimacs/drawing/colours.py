@@ -33,7 +33,6 @@ _DASHES = {CLAIMED: "7 4", EMPTY: "2 3"}
 
 
 def arc_colour(marks: Set[str]) -> str:
-    """The name of an arc's colour."""
     return next((it for mark, it in _COLOURS.items() if mark in marks), "line")
 
 
@@ -70,7 +69,6 @@ def of_arc(marks: Set[str]) -> Dict[str, str]:
 
 
 def of_node(marks: Set[str]) -> Dict[str, str]:
-    """The attributes of a node."""
     border, inside = (PALETTE[it].light for it in node_colours(marks))
     borders = "2" if is_doubled(marks) else "1"
     return {"style": "rounded,filled", "fillcolor": inside, "color": border, "peripheries": borders}

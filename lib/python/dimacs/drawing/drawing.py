@@ -30,15 +30,12 @@ class Judge(Protocol):
 
     def show(self, kind: str, text: bytes) -> str:
         """A line about a text."""
-        ...
 
     def convert(self, kind: str, text: bytes) -> bytes:
         """The canonical form of a text."""
-        ...
 
     def answer(self, command: str, texts: Sequence[bytes]) -> Answer:
         """The verdict on texts, or the refusal."""
-        ...
 
 
 @dataclass
@@ -75,7 +72,11 @@ def draw(
     """Draws an instance with a claim about it, or alone. Of a graph distances from one source are drawn."""
     found = kinds.kinds_of(texts)
     canonical = {kind: judge.convert(kind, it.content) for kind, it in zip(found, texts)}
-    answer = _answer(judge, found, texts)
+    contents = [it.content for it in texts]
+    if len(found) == 1:
+        answer = Answer("show", [judge.show(found[0], contents[0])])
+    else:
+        answer = judge.answer(kinds.COMMANDS[found], contents)
     network = reading.read_instance(found[0], canonical[found[0]], list(only))
     _mark(network, canonical, answer, source, texts)
     return picture(network, answer, [it.name for it in texts], has_own_layers)
@@ -91,17 +92,9 @@ def picture(network: Network, answer: Answer, names: Sequence[str], has_own_laye
     return Drawing(svg.write(network, sketch, layout, said), dot, tuple(answer.lines))
 
 
-def _answer(judge: Judge, found: Sequence[str], texts: Sequence[Text]) -> Answer:
-    contents = [it.content for it in texts]
-    if len(found) == 1:
-        return Answer("show", [judge.show(found[0], contents[0])])
-    return judge.answer(kinds.COMMANDS[tuple(found)], contents)
-
-
 def _mark(
     network: Network, canonical: Dict[str, bytes], answer: Answer, source: Optional[int], texts: Sequence[Text]
 ) -> None:
-    """Marks all that the texts and the answer say."""
     refusal = marks.refusal_of(answer.lines[0]) if answer.lines else None
     certificate = kinds.CERTIFICATES.get(answer.command)
     if certificate and answer.certificate and not refusal:
@@ -148,5 +141,5 @@ def _mark_block(
 
 def _entry(text: bytes, line: int) -> Optional[Tuple[int, int, int]]:
     """The ends and the flow of an entry, by its line in a solution without a fault."""
-    fields = text.split(b"\n")[line - 1].replace(b"\r", b" ").replace(b"\t", b" ").split()
+    fields = kinds.fields_of(text.split(b"\n")[line - 1])
     return int(fields[1]), int(fields[2]), int(fields[3])

@@ -2,19 +2,13 @@
 
 from __future__ import annotations
 
-from typing import Optional, Sequence
+import io
+import re
+from typing import List, Optional, Sequence
 
 #: The kinds of texts by the word in their problem line. A solution has none.
-_BY_WORD = {
-    b"max": "max",
-    b"min": "min",
-    b"sp": "gr",
-    b"aux": "query",
-    b"cut": "cut",
-    b"pot": "pot",
-    b"dist": "dist",
-    b"distances": "distances",
-}
+_BY_WORD = {b"sp": "gr", b"aux": "query"}
+_BY_WORD.update((it.encode(), it) for it in ("max", "min", "cut", "pot", "dist", "distances"))
 
 #: What a text of each kind has.
 NAMES = {
@@ -50,15 +44,14 @@ class NoClaim(ValueError):
     """Texts that no command judges."""
 
 
+def fields_of(line: bytes) -> List[bytes]:
+    return [it for it in re.split(b"[ \t\r\n]+", line) if it]
+
+
 def kind_of(text: bytes) -> Optional[str]:
     """The kind of a text; None if its first record is of no kind."""
-    begin = 0
-    while begin < len(text):
-        end = text.find(b"\n", begin)
-        end = len(text) if end < 0 else end
-        fields = text[begin:end].replace(b"\r", b" ").replace(b"\t", b" ").split(b" ")
-        fields = [it for it in fields if it]
-        begin = end + 1
+    for line in io.BytesIO(text):
+        fields = fields_of(line)
         if not fields or fields[0].startswith(b"c"):
             continue
         if fields[0] in (b"s", b"f"):

@@ -96,7 +96,8 @@ def _order(columns: List[List[_Place]]) -> None:
 
 
 def _sort(column: List[_Place], columns: List[List[_Place]], forward: bool) -> None:
-    near = columns[column[0].column + (-1 if forward else 1)] if column and _has_near(column, columns, forward) else []
+    beside = column[0].column + (-1 if forward else 1) if column else -1
+    near = columns[beside] if 0 <= beside < len(columns) else []
     at = {id(it): k for k, it in enumerate(near)}
     own = {id(it): k * len(near) / max(1, len(column)) for k, it in enumerate(column)}
 
@@ -105,10 +106,6 @@ def _sort(column: List[_Place], columns: List[List[_Place]], forward: bool) -> N
         return sum(found) / len(found) if found else own[id(it)]
 
     column.sort(key=height)
-
-
-def _has_near(column: List[_Place], columns: List[List[_Place]], forward: bool) -> bool:
-    return column[0].column > 0 if forward else column[0].column + 1 < len(columns)
 
 
 def _crossings(columns: List[List[_Place]]) -> int:

@@ -36,7 +36,7 @@ def mark_flows(network: Network, solution: Solution) -> None:
     seen: Dict[Tuple[int, int], int] = {}
     for arc in network.arcs:
         ends = arc.tail, arc.head
-        flows, place = solution.flows.get(ends, []), seen.get(ends, 0)
+        flows, place = solution.get(ends, []), seen.get(ends, 0)
         arc.flow = flows[place] if place < len(flows) else 0
         seen[ends] = place + 1
         if arc.flow == arc.cap:

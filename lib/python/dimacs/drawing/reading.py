@@ -9,11 +9,8 @@ from typing import Dict, Iterable, Iterator, List, Optional, Set, Tuple
 from .network import ENDS, MOST_ARCS, MOST_NODES, Arc, Network, Node, TooLarge
 
 
-@dataclass
-class Solution:
-    """The flows of a solution, by the ends of arcs, in the order of their lines."""
-
-    flows: Dict[Tuple[int, int], List[int]] = field(default_factory=dict)
+#: The flows of a solution by the ends of arcs, in the order of their lines.
+Solution = Dict[Tuple[int, int], List[int]]
 
 
 @dataclass
@@ -60,7 +57,6 @@ def read_instance(kind: str, text: bytes, only: Iterable[int]) -> Network:
 
 
 def arcs_of(kind: str, text: bytes) -> Iterator[Arc]:
-    """All arcs of an instance."""
     number = 0
     for letter, fields in records(text):
         if letter == "a":
@@ -86,7 +82,6 @@ def _all_nodes(network: Network, text: bytes) -> Set[int]:
 
 
 def _neighbourhood(network: Network, text: bytes, only: Set[int]) -> Set[int]:
-    """These nodes and their neighbours."""
     for node in only:
         if not 1 <= node <= network.node_count:
             raise ValueError(f"there is no node {node}: the network has nodes 1 to {network.node_count}")
@@ -130,11 +125,11 @@ def _arc(kind: str, number: int, fields: List[int]) -> Arc:
 
 
 def read_solution(text: bytes) -> Solution:
-    solution = Solution()
+    solution: Solution = {}
     for letter, fields in records(text):
         if letter == "f":
             tail, head, flow = map(int, fields)
-            solution.flows.setdefault((tail, head), []).append(flow)
+            solution.setdefault((tail, head), []).append(flow)
     return solution
 
 
@@ -147,7 +142,6 @@ def read_potentials(text: bytes) -> Dict[int, int]:
 
 
 def read_blocks(text: bytes) -> List[Block]:
-    """The blocks of labels or of distances."""
     blocks: List[Block] = []
     for letter, fields in records(text):
         if letter == "t":

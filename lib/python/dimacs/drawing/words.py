@@ -43,7 +43,6 @@ class Said(NamedTuple):
 
 
 def sketch_of(network: Network) -> Sketch:
-    """The sizes of what is drawn."""
     nodes = {node: node_lines(network, node) for node in network.nodes}
     has_costs = _has_costs(network)
     edges = [_edge(arc, arc_label(network.kind, arc, has_costs)) for arc in network.arcs]
@@ -167,7 +166,6 @@ def _nodes_meanings(network: Network) -> List[str]:
 
 
 def _counted(count: int, noun: str) -> str:
-    """A number of things."""
     return f"{count} {noun}" if count == 1 else f"{count} {noun}s"
 
 

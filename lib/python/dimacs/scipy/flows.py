@@ -10,10 +10,10 @@ import numpy as np
 from numpy.typing import NDArray
 from scipy import sparse
 
-from .. import calls, library
-from ..answers import Certified, GaveUp, NotOptimal, Refused
-from ..buffers import LIMIT, LIMITS, test_mask, value_of
-from ..given import FLOWS, INSIDE, MAX, Given, Names
+from .. import calls
+from ..answers import Certified, GaveUp
+from ..buffers import test_mask
+from ..given import FLOWS, MAX, Array, Given, Names
 from .entries import Places, Sums, entries_of, exact, matrix_of, netted, numbers_of, terms_of, whole
 
 
@@ -25,11 +25,8 @@ class MaximumFlowResult:
     from j to i, and inside has for each vertex whether it is on the source's side of the cut.
 
     >>> from scipy.sparse import csr_array
-    >>> found = maximum_flow(csr_array([[0, 5, 0], [0, 0, 4], [0, 0, 0]]), 0, 2)
-    >>> found
+    >>> maximum_flow(csr_array([[0, 5, 0], [0, 0, 4], [0, 0, 0]]), 0, 2)
     MaximumFlowResult with value of 4
-    >>> found.inside
-    array([ True,  True, False])
     """
 
     flow_value: Any
@@ -40,24 +37,12 @@ class MaximumFlowResult:
         return f"MaximumFlowResult with value of {self.flow_value}"
 
 
-class _EntryNames(Names):
-    """Vertices by their numbers, from 0, and an arc by its two."""
-
-    def __init__(self, tails: Any, heads: Any) -> None:
-        super().__init__()
-        self._ends = tails, heads
-
-    def node(self, place: int) -> Any:
-        return place
-
-    def arc(self, place: int) -> Any:
-        return tuple(int(it[place]) for it in self._ends)
-
-
-class Network:
-    """The entries of a matrix of capacities as arcs, and the source and the sink."""
+class Network(Names):
+    """The entries of a matrix of capacities as arcs, and the source and the sink. Vertices are named by numbers from 0,
+    arcs by their two."""
 
     def __init__(self, csgraph: Any, source: int, sink: int) -> None:
+        super().__init__()
         if not (sparse.issparse(csgraph) and csgraph.format == "csr"):
             raise TypeError("graph must be in CSR format")
         if csgraph.dtype.kind not in "iu":
@@ -79,14 +64,20 @@ class Network:
             raise ValueError(f"the capacity from {self.tails[arc]} to {self.heads[arc]} is {self.caps[arc]}")
 
     def given(self) -> Given:
-        """The arguments of calls over arrays."""
-        names = _EntryNames(self.tails, self.heads)
         ends = self.source + 1, self.sink + 1, numbers_of(self.tails), numbers_of(self.heads)
-        return Given(MAX, self.vertices, *ends, self.caps, names=names)
+        return Given(MAX, self.vertices, *ends, self.caps, names=self)
 
-    def matrix(self, flows: Any) -> Any:
+    def node(self, place: int) -> Any:
+        return place
+
+    def arc(self, place: int) -> Any:
+        return int(self.tails[place]), int(self.heads[place])
+
+    def formed(self, kind: Array, items: Any) -> Any:
         """A flow as SciPy has it: of 32 bits if all capacities and all of its sums fit those."""
-        parts = [netted(matrix_of(self.tails, self.heads, it, self.vertices)) for it in terms_of(flows)]
+        if kind is not FLOWS:
+            return items
+        parts = [netted(matrix_of(self.tails, self.heads, it, self.vertices)) for it in terms_of(items)]
         matrix = parts[0]
         sums = Sums(*(it.data for it in parts))
         amounts = sums.fitting("the flow", lambda arc: tuple(int(it[arc]) for it in entries_of(matrix)[:2]), GaveUp)
@@ -109,9 +100,8 @@ def maximum_flow(csgraph: Any, source: int, sink: int, *, method: str = "dinic")
     given = Network(csgraph, source, sink)
     if method not in ("edmonds_karp", "dinic"):
         raise ValueError(f"{method} method is not supported yet.")
-    value, flows, inside = calls.solve_max(given.given().add_number("limit", LIMIT, LIMITS), given.caps)
-    shown = np.int64(value) if value <= np.iinfo(np.int64).max else value
-    return MaximumFlowResult(shown, given.matrix(flows), inside)
+    value, flow, inside = calls.solve_max(given.given(), given.caps)
+    return MaximumFlowResult(np.int64(value) if value <= np.iinfo(np.int64).max else value, flow, inside)
 
 
 def certify_maximum_flow(csgraph: Any, source: int, sink: int, flow: Any) -> Certified:
@@ -129,16 +119,8 @@ def certify_maximum_flow(csgraph: Any, source: int, sink: int, flow: Any) -> Cer
     """
     given = Network(csgraph, source, sink)
     given.tails, given.heads, given.caps, flows = _by_pair(given, getattr(flow, "flow", flow))
-    try:
-        found = calls.certify(library.certify_max_arrays, given.given().add(FLOWS, flows), flows, INSIDE, FLOWS)
-    except NotOptimal as it:
-        it.better = given.matrix(it.better)
-        raise
-    claimed = value_of(getattr(flow, "flow_value", found.value), "flow_value")
-    if claimed != found.value:
-        numbers = {"claimed": claimed, "value": found.value}
-        raise Refused("ValueDiffers", text="solution", line=0, field=0, numbers=numbers)
-    return found
+    found = calls.certify(given.given().add(FLOWS, flows), flows)
+    return calls.of_value(found, getattr(flow, "flow_value", found.value), "flow_value")
 
 
 def _by_pair(given: Network, flow: Any) -> tuple[Any, Any, Any, Any]:

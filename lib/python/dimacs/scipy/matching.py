@@ -10,10 +10,10 @@ import numpy as np
 from numpy.typing import NDArray
 from scipy import sparse
 
-from .. import calls, library
+from .. import calls
 from ..answers import GaveUp, Infeasible, NotOptimal
-from ..buffers import LIMIT, LIMITS, NUMBERS, test_mask
-from ..given import FLOWS, MAX, MIN, POTENTIALS, Given, Names
+from ..buffers import NUMBERS, test_mask
+from ..given import FLOWS, MAX, MIN, Array, Given, Names
 from .entries import edges_of, entries_of, exact, whole, whole_items
 
 
@@ -45,33 +45,20 @@ class CertifiedAssignment(NamedTuple):
     v: NDArray[np.int64]
 
 
-class _Names(Names):
-    """Arcs by the rows and columns of the entries, which have these words the other way round if a matrix is turned."""
-
-    def __init__(self, ends: tuple[Any, Any], shape: tuple[int, int], words: tuple[str, str]) -> None:
-        super().__init__()
-        self._ends, self._shape, self._words = ends, shape, words
-
-    def arc(self, place: int) -> Any:
-        edges = len(self._ends[0])
-        return tuple(int(it[place]) for it in self._ends) if place < edges else (self._words[1], place - edges)
-
-    def node(self, place: int) -> Any:
-        count = self._shape[0]
-        if place == sum(self._shape):
-            return "the sink"
-        return (self._words[0], place) if place < count else (self._words[1], place - count)
-
-
-class _Edges:
-    """The edges between rows and columns, with their costs; rows are at most as many as columns."""
+class _Edges(Names):
+    """The edges between rows and columns, with their costs. A matrix with more rows than columns is turned."""
 
     def __init__(self, shape: tuple[int, int], rows: Any, columns: Any, costs: Any, maximize: bool) -> None:
-        self.is_turned = shape[0] > shape[1]
+        super().__init__()
+        self._is_turned = shape[0] > shape[1]
         self.sign = -1 if maximize else 1
-        self.shape = shape[::-1] if self.is_turned else shape
-        self.rows, self.columns = (columns, rows) if self.is_turned else (rows, columns)
+        self.shape = self.turned(*shape)
+        self.rows, self.columns = self.turned(rows, columns)
         self.costs = costs
+
+    def turned(self, of_rows: Any, of_columns: Any) -> tuple[Any, Any]:
+        """What rows and columns have, the other way round if the matrix is turned."""
+        return (of_columns, of_rows) if self._is_turned else (of_rows, of_columns)
 
     def ends(self) -> tuple[int, NDArray[np.uint32], NDArray[np.uint32]]:
         """The number of nodes, and the ends of arcs: those of edges, and one from each column to the sink."""
@@ -92,27 +79,36 @@ class _Edges:
         costs = np.concatenate((self.sign * self.costs, np.zeros(more, np.int64)))
         supplies = np.zeros(nodes, np.int64)
         supplies[:count], supplies[-1] = 1, -count
-        words, ends = ("row", "column"), (self.rows, self.columns)
-        if self.is_turned:
-            words, ends = words[::-1], ends[::-1]
-        names = _Names(ends, self.shape, words)
-        return Given(MIN, nodes, tails, heads, np.zeros(len(caps), np.int64), caps, costs, supplies, names=names)
+        return Given(MIN, nodes, tails, heads, np.zeros(len(caps), np.int64), caps, costs, supplies, names=self)
+
+    def arc(self, place: int) -> Any:
+        """Arcs are named by the rows and columns of entries, or by the columns from which they lead to the sink."""
+        edges = len(self.costs)
+        if place >= edges:
+            return self.node(self.shape[0] + place - edges)
+        return tuple(int(it[place]) for it in self.turned(self.rows, self.columns))
+
+    def node(self, place: int) -> Any:
+        count, (row, column) = self.shape[0], self.turned("row", "column")
+        if place == sum(self.shape):
+            return "the sink"
+        return (row, place) if place < count else (column, place - count)
+
+    def formed(self, kind: Array, items: Any) -> Any:
+        return self.assigned(items) if kind is FLOWS else items
 
     def assigned(self, flows: Any) -> Assignment:
-        """The assignment of a flow."""
         used = np.flatnonzero(flows[: len(self.costs)])
-        rows, columns = self.rows[used], self.columns[used]
-        if self.is_turned:
-            rows, columns = columns, rows
+        rows, columns = self.turned(self.rows[used], self.columns[used])
         order = np.argsort(rows, kind="stable")
         return Assignment(rows[order].astype(np.intp), columns[order].astype(np.intp))
 
     def solved(self, infeasible: str) -> Assignment:
-        given = self.given().add_number("limit", LIMIT, LIMITS)
         try:
-            return self.assigned(calls.solve_min(given, self.costs).flows)
+            found: Assignment = calls.solve_min(self.given(), self.costs).flows
         except Infeasible:
             raise ValueError(infeasible) from None
+        return found
 
     def duals(self, potentials: Any) -> tuple[Any, Any]:
         """What rows and columns add to the costs of their entries. Raises GaveUp if a number has more than 64 bits."""
@@ -122,8 +118,7 @@ class _Edges:
         for it in chain(*found):
             if not NUMBERS.least <= it <= NUMBERS.greatest:
                 raise GaveUp(f"the assignment is optimal, but {it}, which would show it, has more than 64 bits")
-        rows, columns = (np.array(it, np.int64) for it in found)
-        return (columns, rows) if self.is_turned else (rows, columns)
+        return self.turned(*(np.array(it, np.int64) for it in found))
 
 
 def _of_matrix(cost_matrix: Any, maximize: bool) -> _Edges:
@@ -164,28 +159,23 @@ def certify_assignment(cost_matrix: Any, row_ind: Any, col_ind: Any, maximize: b
     edges = _of_matrix(cost_matrix, maximize)
     flows = _claimed(edges, row_ind, col_ind)
     try:
-        cost, potentials = calls.certify(
-            library.certify_min_arrays, edges.given().add(FLOWS, flows), flows, POTENTIALS, FLOWS
-        )
+        cost, potentials = calls.certify(edges.given().add(FLOWS, flows), flows)
     except NotOptimal as it:
-        it.better = edges.assigned(it.better)
         it.numbers = {name: edges.sign * number for name, number in it.numbers.items()}
         raise
     return CertifiedAssignment(edges.sign * cost, *edges.duals(potentials))
 
 
 def _claimed(edges: _Edges, row_ind: Any, col_ind: Any) -> Any:
-    """The flow of an assignment."""
     rows, columns = whole_items(row_ind, "row_ind"), whole_items(col_ind, "col_ind")
     if len(rows) != len(columns):
         raise ValueError(f"row_ind has {len(rows)} items, and col_ind {len(columns)}")
-    if edges.is_turned:
-        rows, columns = columns, rows
+    rows, columns = edges.turned(rows, columns)
     flows = np.zeros(len(edges.costs) + edges.shape[1], np.int64)
     number = {place: arc for arc, place in enumerate(zip(edges.rows.tolist(), edges.columns.tolist()))}
     for place in zip(rows.tolist(), columns.tolist()):
         if place not in number:
-            raise ValueError(f"{place[::-1] if edges.is_turned else place} is no place of the matrix with a finite cost")
+            raise ValueError(f"{edges.turned(*place)} is no place of the matrix with a finite cost")
         flows[number[place]] += 1
         flows[len(edges.costs) + place[1]] += 1
     return flows
@@ -231,7 +221,7 @@ def maximum_bipartite_matching(graph: Any, perm_type: str = "row") -> NDArray[np
     rows = np.arange(1, edges.shape[0] + 1, dtype=np.uint32)
     tails, heads = np.append(tails, np.full(len(rows), nodes + 1, np.uint32)), np.append(heads, rows)
     given = Given(MAX, nodes + 1, nodes + 1, nodes, tails, heads, np.ones(len(tails), np.int64))
-    found = edges.assigned(calls.solve_max(given.add_number("limit", LIMIT, LIMITS), edges.costs).flows)
+    found = edges.assigned(calls.solve_max(given, edges.costs).flows)
     wanted, others = (found.col_ind, found.row_ind) if perm_type == "row" else (found.row_ind, found.col_ind)
     matched = np.full(graph.shape[1 if perm_type == "row" else 0], -1, np.int32)
     matched[wanted] = others

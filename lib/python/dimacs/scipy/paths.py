@@ -2,14 +2,14 @@
 
 from __future__ import annotations
 
-from typing import Any
+from typing import Any, Callable
 
 import numpy as np
 from numpy.typing import NDArray
 from scipy import sparse
 from scipy.sparse import csgraph as scipy_graphs
 
-from .. import calls, library
+from .. import calls
 from ..answers import UNREACHED, GaveUp
 from ..arrays import solve_paths_arrays
 from ..buffers import test_mask
@@ -84,23 +84,15 @@ def arcs_of(csgraph: Any, directed: bool, unweighted: bool, has_more: bool = Fal
     return vertices, tails, heads, weights
 
 
-class _Distances:
-    """How the distances from a source are made: by one call, or by more if weights are negative."""
-
-    def __init__(self, vertices: int, tails: Any, heads: Any, weights: Any, method: str) -> None:
-        self._words: tuple[int, Any, Any, Any] = vertices, numbers_of(tails), numbers_of(heads), weights
-        self._is_signed = len(weights) > 0 and weights.min() < 0
-        self._potentials = None
-        if self._is_signed:
-            self._words = vertices, *(it.tolist() for it in self._words[1:])  # type: ignore[assignment]
-            # By this method SciPy asks only of what the sources reach whether there is a negative cycle.
-            self._potentials = None if method == "BF" else potentials_of(*self._words)
-
-    def from_source(self, source: int) -> tuple[Any, Any]:
-        if self._is_signed:
-            found, before = distances_from(*self._words, source + 1, self._potentials)
-            return np.array(found), np.array(before)
-        return solve_paths_arrays(*self._words, source + 1)[1:]
+def _search(vertices: int, tails: Any, heads: Any, weights: Any, method: str) -> Callable[[int], Any]:
+    """What makes the distances from a source, and predecessors: one call, or more if weights are negative."""
+    graph = vertices, numbers_of(tails), numbers_of(heads), weights
+    if not len(weights) or weights.min() >= 0:
+        return lambda source: solve_paths_arrays(*graph, source + 1)[1:]
+    tails, heads, weights = (it.tolist() for it in graph[1:])
+    # By this method SciPy asks only of what the sources reach whether there is a negative cycle.
+    potentials = None if method == "BF" else potentials_of(vertices, tails, heads, weights)
+    return lambda source: map(np.array, distances_from(vertices, tails, heads, weights, source + 1, potentials))
 
 
 def _as_floats(distances: Any, source: int) -> Any:
@@ -138,9 +130,9 @@ def shortest_path(
     distances = np.empty((sources.size, vertices), np.float64)
     predecessors = np.empty((sources.size, vertices), np.int32)
     try:
-        graph = _Distances(vertices, tails, heads, weights, method)
+        search = _search(vertices, tails, heads, weights, method)
         for row, source in enumerate(map(int, sources.flat)):
-            found, before = graph.from_source(source)
+            found, before = search(source)
             distances[row] = _as_floats(found, source)
             predecessors[row] = np.where(before > 0, before.astype(np.int64) - 1, NO_PREDECESSOR)
     except NegativeCycle as it:
@@ -195,10 +187,10 @@ def certify_shortest_path(
         given = Given(GRAPH, vertices, *ends, weights, names=_TableNames(tails, heads, source))
         given.add_number("source", source + 1).add(DISTANCES, rows[row])
         if before is None:
-            shown = calls.certify(library.certify_paths_arrays, given, rows[row], PREDECESSORS).predecessors
+            shown = calls.certify(given, rows[row]).predecessors
             found[row] = np.where(shown > 0, shown.astype(np.int64) - 1, NO_PREDECESSOR)
         else:
-            calls.judge(library.judge_paths_arrays, given.add(PREDECESSORS, before[row]))
+            calls.judge(given.add(PREDECESSORS, before[row]))
             found[row] = np.where(before[row] > 0, before[row] - 1, NO_PREDECESSOR)
     return found.reshape((*sources.shape, vertices))
 

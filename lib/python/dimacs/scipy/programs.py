@@ -16,10 +16,10 @@ import numpy as np
 from numpy.typing import NDArray
 from scipy import sparse
 
-from .. import calls, library
+from .. import calls
 from ..answers import NotOptimal, Refused
 from ..buffers import NUMBERS, number_of, test_mask
-from ..given import FLOWS, MIN, POTENTIALS, Given, Names
+from ..given import FLOWS, MIN, Array, Given, Names
 from ..scales import fraction_of
 
 
@@ -38,24 +38,6 @@ class CertifiedProgram(NamedTuple):
     value: Any
     x: NDArray[np.int64] | None
     duals: list[Any]
-
-
-class _ConstraintNames(Names):
-    def __init__(self, variables: int, inequalities: int, rows: int) -> None:
-        super().__init__()
-        self._variables, self._inequalities, self._rows = variables, inequalities, rows
-
-    def arc(self, place: int) -> Any:
-        return f"x[{place}]" if place < self._variables else f"the slack of A_ub[{place - self._variables}]"
-
-    def node(self, place: int) -> Any:
-        count = self._inequalities
-        if place == self._rows:
-            return "the end of variables in one constraint"
-        return f"A_ub[{place}]" if place < count else f"A_eq[{place - count}]"
-
-    def item(self, name: str, place: int) -> str:
-        return f"{name} of {self.node(place) if name == 'supplies' else self.arc(place)}"
 
 
 class _Part:
@@ -97,10 +79,11 @@ def _columns(parts: Sequence[_Part], count: int) -> list[list[tuple[int, Any]]]:
     return [[(row, it) for row, it in by_row.items() if it != 0] for by_row in found]
 
 
-class _Program:
-    """The arcs of a program, and its numbers."""
+class _Program(Names):
+    """The arcs of a program, and its numbers. Nodes are named by constraints, and arcs by variables."""
 
     def __init__(self, c: Any, A_ub: Any, b_ub: Any, A_eq: Any, b_eq: Any, bounds: Any) -> None:
+        super().__init__()
         self.costs = _numbers(c, "c")
         parts = [_Part(A, b, name, len(self.costs)) for A, b, name in ((A_ub, b_ub, "ub"), (A_eq, b_eq, "eq"))]
         self.right = [it for part in parts for it in part.right]
@@ -113,8 +96,7 @@ class _Program:
         self.shifts = [min(low, 0) for low, _ in self.bounds]  # an arc carries 0 or more
 
     def given(self) -> Given:
-        """The instance."""
-        count, last = len(self.costs), self.rows + 1
+        last = self.rows + 1
         tails, heads = ([last if ends[k] is None else ends[k] + 1 for ends in self.ends] for k in (0, 1))
         supplies = [sign * it for sign, it in zip(self.signs, self.right)] + [0]
         for (tail, head), shift in zip(self.ends, self.shifts):
@@ -122,9 +104,24 @@ class _Program:
             supplies[self.rows if head is None else head] += shift
         supplies[self.rows] = -sum(supplies[: self.rows])
         lows, caps = ([bound[k] - shift for bound, shift in zip(self.bounds, self.shifts)] for k in (0, 1))
-        costs = self.costs + [0] * (len(self.ends) - count)
-        names = _ConstraintNames(count, self.inequalities, self.rows)
-        return Given(MIN, last, tails, heads, lows, caps, costs, supplies, names=names)
+        costs = self.costs + [0] * (len(self.ends) - len(self.costs))
+        return Given(MIN, last, tails, heads, lows, caps, costs, supplies, names=self)
+
+    def arc(self, place: int) -> Any:
+        count = len(self.costs)
+        return f"x[{place}]" if place < count else f"the slack of A_ub[{place - count}]"
+
+    def node(self, place: int) -> Any:
+        count = self.inequalities
+        if place == self.rows:
+            return "the end of variables in one constraint"
+        return f"A_ub[{place}]" if place < count else f"A_eq[{place - count}]"
+
+    def item(self, name: str, place: int) -> str:
+        return f"{name} of {self.node(place) if name == 'supplies' else self.arc(place)}"
+
+    def formed(self, kind: Array, items: Any) -> Any:
+        return self.variables(items) if kind is FLOWS else items
 
     def flows(self, x: Sequence[int]) -> list[Any]:
         """What arcs carry, those of inequalities too."""
@@ -212,10 +209,7 @@ def certify_linprog(
     of status 2 is certified to be infeasible: see CertifiedProgram for what is returned then.
 
     >>> from scipy.optimize import linprog
-    >>> program = dict(c=[3, 7], A_eq=[[1, 1]], b_eq=[6], bounds=(0, 5))
-    >>> certify_linprog(linprog(**program), **program).x
-    array([5, 1])
-    >>> program["b_eq"] = [11]
+    >>> program = dict(c=[3, 7], A_eq=[[1, 1]], b_eq=[11], bounds=(0, 5))
     >>> certify_linprog(linprog(**program), **program)
     CertifiedProgram(value=None, x=None, duals=['A_eq[0]'])
     """
@@ -231,10 +225,8 @@ def certify_linprog(
     if len(x) != len(program.costs):
         raise ValueError(f"x has {len(x)} numbers, and c has {len(program.costs)}")
     try:
-        given = program.given().add(FLOWS, program.flows(x))
-        cost, potentials = calls.certify(library.certify_min_arrays, given, [], POTENTIALS, FLOWS)
+        cost, potentials = calls.certify(program.given().add(FLOWS, program.flows(x)))
     except NotOptimal as it:
-        it.better = program.variables(it.better)
         it.numbers = {name: number + program.constant() for name, number in it.numbers.items()}
         raise
     value = cost + program.constant()
@@ -247,9 +239,8 @@ def certify_linprog(
 def _unmet(program: _Program) -> list[Any]:
     """The names of constraints that can't be met together: those of a set that is violated, or those outside of it if it has
     the node that is no constraint."""
-    given = program.given()
-    *rows, last = calls.certify_infeasible(given, []).inside
-    return [given.names.node(row) for row, inside in enumerate(rows) if inside != last]
+    *rows, last = calls.certify(program.given()).inside
+    return [program.node(row) for row, inside in enumerate(rows) if inside != last]
 
 
 def _rounded(x: Any, allowed: Fraction) -> list[int]:

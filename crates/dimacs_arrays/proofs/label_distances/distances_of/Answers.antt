@@ -3,10 +3,9 @@ use Rattle.std.specs.Int.{w128}
 use Rattle.std.proofs.lemmas.Int.{to_z-of_z}
 use Rattle.std.proofs.lemmas.List.Elements.{All-get_or}
 use Rattle.dimacs_claims.specs.declared.block.Label.{Label}
-use Rattle.dimacs_claims.specs.Labels.{IsLabel, no_label}
+use Rattle.dimacs_claims.specs.Labels.{IsItem, IsLabel, no_label}
 use Rattle.dimacs_claims.proofs.ByIdLemmas.{fresh_apart}
 use Rattle.dimacs_decide.proofs.TightTailLemmas.{not_source}
-use Rattle.dimacs_arrays.specs.Paths.{FitsArray}
 use Rattle.dimacs_arrays.proofs.PredLemmas.{at_place}
 use Rattle.dimacs_arrays.proofs.LabelDistanceLemmas.{reached_all, reached_more}
 use Rattle.dimacs_arrays.proofs.label_distances.distances_of.Goals as goal
@@ -21,7 +20,7 @@ loop-i-preserved c =
     let other = All-get_or (λ (l : Label). l.id ≢ b.source) labels i no_label inside (not_source b.source [] labels c.requires.fresh) in
     let fits : SFits w64 c.in-Some.distance = search rules in
     let wide : SFits w128 c.at-label.result.dist = search rules in
-    let fits_array : (c.in-Some.distance ≡ (at_place labels i).dist) × FitsArray (at_place labels i).dist = rw (to_z-of_z w128 c.at-label.result.dist wide, c.at-label.ensures, c.labels-labels.ensures) at c.in-Some.ensures.some in
+    let fits_array : (c.in-Some.distance ≡ (at_place labels i).dist) × IsItem (at_place labels i).dist = rw (to_z-of_z w128 c.at-label.result.dist wide, c.at-label.ensures, c.labels-labels.ensures) at c.in-Some.ensures.some in
     let more = reached_more b c.args.nodes (fresh_apart b.source labels c.requires.fresh) c.loop-i.distances.items i inside node other fits_array.1 c.loop-i.invariant in
     rw (to_z-of_z w64 c.in-Some.distance fits, fits_array.0, c.at-label.ensures, c.labels-labels.ensures) more
 

@@ -1,6 +1,5 @@
 use Rattle.std.proofs.Common.{ℕ, ◌<◌, get_or}
-use Rattle.dimacs_claims.specs.Labels.{no_label}
-use Rattle.dimacs_fill.specs.BlockFilled.{IsItem}
+use Rattle.dimacs_claims.specs.Labels.{IsItem, no_label}
 use Rattle.dimacs_fill.proofs.block.labels_hold.Given as goal
 
 -- the distances so far can be items

@@ -2,7 +2,8 @@ use Rattle.std.proofs.Common.{◌≡◌, ◌≤◌, ◌+◌, ◌-◌, List, ℕ}
 use Rattle.dimacs_lines.specs.Reader.{text_left}
 use Rattle.dimacs_lines.specs.declared.reader.Progress.TheVariants.{Open}
 use Rattle.dimacs_lines.specs.Limits.{most_lines}
-use Rattle.dimacs_records.specs.inside.Driver.{HasTaken, IsReadSoFar}
+use Rattle.dimacs_records.specs.Readings.{HasTaken}
+use Rattle.dimacs_records.specs.inside.Driver.{IsReadSoFar}
 use Rattle.dimacs_records.proofs.driver.read_lines.Given as goal
 
 -- so many lines were read without an I/O error
@@ -14,6 +15,7 @@ invariant-loop-lines g l = record {
   read : (all : List (List ℕ)) → IsReadSoFar l.kind all l.fn.lines.given (text_left l.fn.lines (g.S.Source.coming l.fn.source)) (g.R.Reading.stands_for l.fn.reading)
       → IsReadSoFar l.kind all l.lines.given (text_left l.lines (g.S.Source.coming l.source)) (g.R.Reading.stands_for l.reading);
   spelled : HasTaken l.kind (l.fn.lines.given + 1) (g.R.Reading.stands_for l.fn.reading) → HasTaken l.kind (l.lines.given + 1) (g.R.Reading.stands_for l.reading);
+  fixed : g.R.Reading.fixed l.reading ≡ g.R.Reading.fixed l.fn.reading;
   kept : (value : _) → g.R.Reading.keeps l.reading value → g.R.Reading.keeps l.fn.reading value;
   sound : g.S.Source.faults l.source ≡ g.S.Source.faults l.fn.source;
 }

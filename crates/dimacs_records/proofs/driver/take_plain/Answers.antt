@@ -43,5 +43,6 @@ loop-line-preserved g c =
       spelled = λ before.
           let there : c.args.given + loop.lines + 1 ≡ c.args.given + (loop.lines + 1) = omega arith in
           one_taken c.args.kind (c.args.given + (loop.lines + 1)) line.rec (g.R.Reading.stands_for loop.reading) (g.R.Reading.stands_for c.take.new.self) (record { texts = texts_in spells.line; spelled = spells.reads.1 }) c.in_default-take.ensures.taken (rw there at (loop.invariant.spelled before));
+      fixed = c.take.ensures.fixed ∙ loop.invariant.fixed;
       kept = λ value keeps. loop.invariant.kept value (c.take.ensures.kept value keeps);
     }

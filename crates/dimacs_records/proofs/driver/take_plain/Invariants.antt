@@ -1,7 +1,8 @@
 use Rattle.std.proofs.Common.{◌≡◌, ◌+◌, ◌-◌, ◌≤◌, ℕ, List, Option, length, take, drop}
 use Rattle.dimacs_lines.specs.Devices.{before_piece}
 use Rattle.dimacs_lines.specs.Lines.{AreWholeLines}
-use Rattle.dimacs_records.specs.inside.Driver.{HasTaken, IsReadSoFar}
+use Rattle.dimacs_records.specs.Readings.{HasTaken}
+use Rattle.dimacs_records.specs.inside.Driver.{IsReadSoFar}
 use Rattle.dimacs_records.proofs.driver.take_plain.Given as goal
 
 -- so many lines and bytes of the buffer were taken
@@ -14,6 +15,7 @@ invariant-loop-line g l = record {
   read : (all : List (List ℕ)) (coming : Option (List ℕ)) → IsReadSoFar l.kind all l.given (before_piece l.held coming) (g.R.Reading.stands_for l.fn.reading)
       → IsReadSoFar l.kind all (l.given + l.lines) (before_piece (drop l.bytes l.held) coming) (g.R.Reading.stands_for l.reading);
   spelled : HasTaken l.kind (l.given + 1) (g.R.Reading.stands_for l.fn.reading) → HasTaken l.kind (l.given + l.lines + 1) (g.R.Reading.stands_for l.reading);
+  fixed : g.R.Reading.fixed l.reading ≡ g.R.Reading.fixed l.fn.reading;
   kept : (value : _) → g.R.Reading.keeps l.reading value → g.R.Reading.keeps l.fn.reading value;
 }
 

@@ -15,7 +15,7 @@ returns c =
     let number = c.in_ok-number in
     let fits : SFits w64 number.number = search rules in
     let types = Id ∷ Id ∷ Whole ∷ [] in
-    let size = c.whole.new.self.at in
+    let size = c.size.new.self.at in
     let spells = rw (to_z-of_z w64 number.number fits) at c.in_ok-rec.ensures in
     let line = ends_stand bytes letter tail.tail head.head c.id.new.self.at c.id-2.new.self.at size number.number c.in_ok-numbers.ensures.begins
     (rw start at tail.ensures.stands) tail.ensures.range (rw (tail.ensures.bytes, start) at head.ensures.stands) head.ensures.range

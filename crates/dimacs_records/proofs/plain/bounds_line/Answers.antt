@@ -20,8 +20,8 @@ returns c =
     let cap_fits : SFits w64 cap.cap = search rules in
     let cost_fits : SFits w64 cost.cost = search rules in
     rw (to_z-of_z w64 low.low low_fits, to_z-of_z w64 cap.cap cap_fits, to_z-of_z w64 cost.cost cost_fits, c.at-size.ensures)
-    (plain_spells Min (form (codes "a") (Id ∷ Id ∷ Whole ∷ Whole ∷ Whole ∷ [])) bytes 97 c.whole-3.new.self.at (MinArc tail.tail head.head low.low cap.cap cost.cost) (2, lit< tt, refl) refl refl refl refl
-    (bounds_stand bytes tail.tail head.head c.id.new.self.at c.id-2.new.self.at c.whole.new.self.at c.whole-2.new.self.at c.whole-3.new.self.at low.low cap.cap cost.cost c.in_ok-numbers.ensures.begins
+    (plain_spells Min (form (codes "a") (Id ∷ Id ∷ Whole ∷ Whole ∷ Whole ∷ [])) bytes 97 c.whole.new.self.at (MinArc tail.tail head.head low.low cap.cap cost.cost) (2, lit< tt, refl) refl refl refl refl
+    (bounds_stand bytes tail.tail head.head c.id.new.self.at c.id-2.new.self.at c.size.new.self.at c.size-2.new.self.at c.whole.new.self.at low.low cap.cap cost.cost c.in_ok-numbers.ensures.begins
     (rw start at tail.ensures.stands) tail.ensures.range (rw (tail.ensures.bytes, start) at head.ensures.stands) head.ensures.range
     (rw (head.ensures.bytes, tail.ensures.bytes, start) at low.ensures.stands) low_fits
     (rw (low.ensures.bytes, head.ensures.bytes, tail.ensures.bytes, start) at cap.ensures.stands) cap_fits

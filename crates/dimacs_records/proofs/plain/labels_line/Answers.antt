@@ -20,6 +20,6 @@ returns c =
     let wide_fits : SFits w128 wide = search rules in
     rw (to_z-of_z w128 wide wide_fits, c.from.ensures, to_z-of_z w64 dist.dist dist_fits, c.at-size.ensures)
     (plain_spells Labels (form (codes "d") (Id ∷ Wide ∷ Id ∷ [])) bytes 100 c.id-2.new.self.at (LabelsNode id.id dist.dist pred.pred) (3, lit< tt, refl) refl refl refl refl
-    (label_stands bytes id.id pred.pred c.id.new.self.at c.whole.new.self.at c.id-2.new.self.at dist.dist c.in_ok-numbers.ensures.begins
+    (label_stands bytes id.id pred.pred c.id.new.self.at c.size.new.self.at c.id-2.new.self.at dist.dist c.in_ok-numbers.ensures.begins
     (rw start at id.ensures.stands) id.ensures.range (rw (id.ensures.bytes, start) at dist.ensures.stands) dist_fits
     (rw (dist.ensures.bytes, id.ensures.bytes, start) at pred.ensures.stands) pred.ensures.range))
