@@ -1,10 +1,10 @@
 //! Sets of nodes.
 
-ghost use Rattle.std.specs.Prelude.{◌≡◌, ◌≢◌, ◌%◌, ℕ, IsTrue, IsOk, OnOk, OnErr, false, true};
+ghost use Rattle.std.specs.Prelude.{◌≡◌, ◌≢◌, ◌<◌, ◌≤◌, ◌/◌, ◌%◌, ℕ, IsTrue, IsOk, OnOk, OnErr, false, length, true};
 ghost use Rattle.std.specs.FinSet as set;
-ghost use Rattle.dimacs_network.specs.Sets.{has_bit};
+ghost use Rattle.dimacs_network.specs.Sets.{SameBytes, byte_at, has_bit};
 
-use crate::node_table::NodeTable;
+use crate::node_table::fill;
 use dimacs_lines::Memory;
 use std::alloc::Global;
 use std::marker::Model;
@@ -12,27 +12,23 @@ use std::marker::Model;
 /// How many IDs share a byte.
 const BITS: u32 = 8;
 
-/// A set of node IDs, with a bit for each: 64 bytes for each page of 512 IDs in use.
+/// A set of node IDs, with a bit for each up to the greatest that it had: at most 17 MB.
 #[derive(Drop)]
 pub struct NodeSet {
-    bytes: NodeTable<u8>,
+    bytes: Vec<u8>,
 }
 
 impl Model for NodeSet {
-    ghost use Rattle.std.specs.Prelude.{◌≡◌};
     ghost use Rattle.std.specs.Ordering.{nat_cmp};
     ghost use Rattle.std.specs.FinSet as set;
     ghost use Rattle.std.specs.Coded.{coded_ℕ};
     ghost use Rattle.dimacs_network.specs.Sets.{nodes_in};
-    ghost use Rattle.dimacs_network.specs.Tables.{blank_of};
 
     ghost Value = { set.FinSet nat_cmp };
 
     ghost coded = { set.code coded_ℕ };
 
-    ghost view = { λ all. nodes_in all.bytes };
-
-    ghost invariant = { λ all. blank_of all.bytes ≡ 0 };
+    ghost view = { λ all. nodes_in all.bytes.items };
 }
 
 impl NodeSet {
@@ -41,7 +37,7 @@ impl NodeSet {
         ensures { result ≡ set.empty }
     {
         NodeSet {
-            bytes: NodeTable::new(alloc, 0),
+            bytes: Vec::new(alloc),
         }
     }
 
@@ -50,7 +46,7 @@ impl NodeSet {
     pub fn contains(&self, id: u32) -> bool
         ensures { result ≡ set.contains self.now id }
     {
-        has_bit(self.bytes.get(id / BITS), id)
+        has_bit(byte_at(&self.bytes, id), id)
     }
 
     /// Adds a node. To repeat one allocates nothing, and can't fail.
@@ -60,8 +56,11 @@ impl NodeSet {
         ensures unchanged { OnErr result (self.new ≡ self.old) }
         ensures repeats { IsTrue (set.contains self.old id) → IsOk result }
     {
-        let byte = with_bit(self.bytes.get(id / BITS), id);
-        self.bytes.set(id / BITS, byte)
+        let place = (id / BITS) as usize;
+        reserve(&mut self.bytes, place)?;
+        let byte = with_bit(byte_at(&self.bytes, id), id);
+        put(&mut self.bytes, place, byte);
+        Ok(())
     }
 
     /// Removes a node, if the set has it.
@@ -69,8 +68,10 @@ impl NodeSet {
     pub fn remove(&mut self, id: u32)
         ensures { self.new ≡ set.remove self.old id }
     {
-        if let Some(slot) = self.bytes.get_slot(id / BITS) {
-            self.bytes.put(slot.place, without_bit(slot.value, id));
+        let place = (id / BITS) as usize;
+        if place < self.bytes.len() {
+            let byte = without_bit(byte_at(&self.bytes, id), id);
+            put(&mut self.bytes, place, byte);
         }
     }
 
@@ -78,13 +79,60 @@ impl NodeSet {
     pub fn clear(&mut self)
         ensures { self.new ≡ set.empty }
     {
-        self.bytes.clear();
+        fill(&mut self.bytes, 0);
     }
 
-    /// How many bytes the pages of the set take.
+    /// How many bytes the set takes.
     pub fn bytes(&self) -> usize {
-        self.bytes.slots()
+        self.bytes.len()
     }
+}
+
+/// The byte of a node; past the last it has no node.
+#[inline(always)]
+fn byte_at(bytes: &[u8], id: u32) -> u8
+    ensures { result ≡ byte_at bytes.now (id / 8) }
+{
+    match bytes.get((id / BITS) as usize) {
+        Some(byte) => *byte,
+        None => 0,
+    }
+}
+
+/// Makes room up to a place, for bytes without nodes.
+#[inline(always)]
+fn reserve(bytes: &mut Vec<u8>, place: usize) -> Result<(), Memory>
+    requires { place < 4294967296 }
+    ensures same { SameBytes bytes.old.items bytes.new.items }
+    ensures reached { OnOk result (place < length bytes.new.items) }
+    ensures repeats { place < length bytes.old.items → IsOk result }
+{
+    if place < bytes.len() {
+        return Ok(());
+    }
+    extend(bytes, place)
+}
+
+#[cold]
+#[inline(never)]
+fn extend(bytes: &mut Vec<u8>, place: usize) -> Result<(), Memory>
+    requires fits { place < 4294967296 }
+    requires past { length bytes.old.items ≤ place }
+    ensures same { SameBytes bytes.old.items bytes.new.items }
+    ensures reached { OnOk result (place < length bytes.new.items) }
+{
+    bytes.resize(place + 1, 0)?;
+    Ok(())
+}
+
+/// Sets the byte at a place.
+#[inline(always)]
+fn put(bytes: &mut Vec<u8>, place: usize, byte: u8)
+    requires { place < length bytes.old.items }
+    ensures set { byte_at bytes.new.items place ≡ byte }
+    ensures others { (other : ℕ) → other ≢ place → byte_at bytes.new.items other ≡ byte_at bytes.old.items other }
+{
+    bytes[place] = byte;
 }
 
 #[inline(always)]
