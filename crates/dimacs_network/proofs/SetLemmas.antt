@@ -10,7 +10,8 @@ use Rattle.std.specs.Cmp.{nat_cmp_total, unsigned_tied}
 use Rattle.std.specs.FinMap.{contains_key-keys}
 use Rattle.std.specs.FinSet.{contains, contains-from_list, same_set, nat_cmp-IsAntisymmetric}
 use Rattle.std.specs.FinSet as set
-use Rattle.dimacs_network.specs.Sets.{SameBytes, byte_at, has_bit, has_node, nodes_in}
+use Rattle.dimacs_network.specs.Sets.{byte_at, has_bit, has_node, nodes_in}
+use Rattle.dimacs_network.specs.inside.Sets.{SameBytes}
 use Rattle.dimacs_network.proofs.MapLemmas.{get-values_below, get-values_below_past}
 use Rattle.dimacs_network.proofs.Nodes.{contains-empty, contains-insert}
 

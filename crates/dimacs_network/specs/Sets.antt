@@ -1,5 +1,5 @@
 -- Sets of nodes, kept as a bit for each in bytes of 8 nodes.
-use Rattle.std.specs.Prelude.{ℕ, ◌*◌, ◌/◌, ◌%◌, ◌==◌, ◌≡◌, Bool, List, length, slice_index_or}
+use Rattle.std.specs.Prelude.{ℕ, ◌*◌, ◌/◌, ◌%◌, ◌==◌, Bool, List, length, slice_index_or}
 use Rattle.std.specs.Bool.{then_some}
 use Rattle.std.specs.Int.{bit_at}
 use Rattle.std.specs.Ordering.{nat_cmp}
@@ -14,10 +14,6 @@ has_bit byte id = bit_at byte (id % 8) == 1
 -- the byte at a place; past the last it has no node
 abbrev pub byte_at : List ℕ → ℕ → ℕ
 byte_at bytes place = slice_index_or bytes place 0
-
--- bytes without nodes may have come at the end
-abbrev pub SameBytes : List ℕ → List ℕ → Type 0
-SameBytes old new = (place : ℕ) → byte_at new place ≡ byte_at old place
 
 -- the byte of a node is at the node's ID divided by 8
 abbrev pub has_node : List ℕ → ℕ → Bool
