@@ -339,5 +339,5 @@ def one_by_one(items):
     yield from items
 
 
-if __name__ == "__main__":
+if __name__ == "__main__":  # tests/targets.py runs it through node
     unittest.main()

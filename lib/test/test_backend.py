@@ -1,13 +1,10 @@
-"""The backend of networkx, next to networkx' own answers, over random graphs: test_backend.py [--graphs N]
-
-Each test of random graphs draws a few hundred, or N. All are drawn by a seed."""
+"""The backend of networkx, next to networkx' own answers, over random graphs."""
 
 import contextlib
 import importlib.metadata
 import inspect
 import itertools
 import math
-import sys
 import unittest
 import unittest.mock
 import warnings
@@ -34,7 +31,6 @@ if not LACKS:
     from dimacs.backend import info, running
 CAPACITIES = [0, 1, 2, 5, 9, math.inf]
 KINDS = "DiGraph MultiDiGraph Graph MultiGraph"
-GRAPHS = 0  # by the argument
 
 
 def answer_of(function, words, backend):
@@ -56,7 +52,7 @@ def pipes(kind="DiGraph"):
 def graphs(seed, count, kinds, edges, **attributes):
     """Graphs of a few nodes, with loops, whose edges have most of these attributes, each one of some numbers, and what
     draws more of each."""
-    for chance in draws(seed, GRAPHS or count):
+    for chance in draws(seed, count):
         graph = getattr(networkx, chance.choice(kinds.split()))()
         nodes = chance.randrange(1, 8)
         graph.add_nodes_from(range(nodes))
@@ -462,7 +458,7 @@ class Paths(Backend):
                 self.refused("shortest_path_length", it, weight="weight", method=method)
 
     def test_what_networkx_makes_of_distances(self):
-        for chance in draws(11, GRAPHS or 15):
+        for chance in draws(11, 15):
             graph = networkx.connected_watts_strogatz_graph(8, 4, 0.4, seed=chance)
             some = chance.choice([range(1, 9), [0.5, 1, 2.25], list(map(float, range(1, 9)))])
             networkx.set_edge_attributes(graph, {edge: chance.choice(some) for edge in graph.edges}, "weight")
@@ -581,10 +577,3 @@ class Registered(Backend):
 
     def test_wrong_arguments(self):
         self.assertRaises(TypeError, networkx.maximum_flow, pipes(), "s", backend="dimacs")
-
-
-if __name__ == "__main__":
-    if sys.argv[1:2] == ["--graphs"]:
-        GRAPHS = int(sys.argv[2])
-        del sys.argv[1:3]
-    unittest.main()

@@ -135,7 +135,3 @@ class Modules(unittest.TestCase):
         self.assertEqual((first, last), ("[]", "module 'dimacs' has no attribute 'other'"))
         for name, line in zip(("scipy", "backend", "ortools", "arrays", "graphs", "drawing"), lines):
             self.assertRegex(line, rf"^dimacs\.{name}( needs (numpy|scipy|networkx), which isn't installed)?$")
-
-
-if __name__ == "__main__":
-    unittest.main()

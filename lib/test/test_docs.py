@@ -81,7 +81,3 @@ class Docs(unittest.TestCase):
         words += [PACKAGE, *sorted(EXAMPLES.glob("*.py"))]
         ran = subprocess.run(words, capture_output=True, text=True, check=False)
         self.assertTrue(re.match(r"Success: no issues found in \d+ source files", ran.stdout), ran.stdout + ran.stderr)
-
-
-if __name__ == "__main__":
-    unittest.main()

@@ -372,7 +372,3 @@ class Graphs(Errors):
             (f"distance of node 'York' is 0.5, {NOT_WHOLE}", certify_paths, self.graph(), "Leeds", {"York": 0.5}),
             (far, certify_paths, self.graph(), "Leeds", {"Leeds": 0, "York": 2**63 - 1}),
         )
-
-
-if __name__ == "__main__":
-    unittest.main()

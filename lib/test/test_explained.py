@@ -298,7 +298,3 @@ class Program(unittest.TestCase):
         given = [*before[:count], *after[count:], b"", b"", b""][:3]
         arguments = [word for it in (words.encode(), *given) for word in (it, len(it))]
         self.assertEqual(library.call(library.explain(), *arguments), (ran.returncode, ran.stdout))
-
-
-if __name__ == "__main__":
-    unittest.main()

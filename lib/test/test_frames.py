@@ -182,7 +182,3 @@ class Frames(Said):
     def test_nodes_of_any_name(self):
         edges = pandas.DataFrame({"u": [(0, 0), 1, "x"], "v": [1, "x", (0, 0)]})
         self.assertEqual(dimacs.from_frame(edges, "u", "v").solve_paths((0, 0)).nodes["distance"].tolist(), [0, 1, 2])
-
-
-if __name__ == "__main__":
-    unittest.main()

@@ -1,24 +1,22 @@
 """Every layer near the ends of types: random cases, which get the answers that texts get, whose numbers are printed here.
 
-DIMACS_CASES=20 has 20 times as many cases run. A case is drawn by its number alone, which is named if it fails.
+A case is drawn by its number alone, which is named if it fails.
 """
 
 import itertools
 import math
-import os
 import random
 import unittest
 
 import dimacs
 from instances import max_text, nets, text
-from shared import ENDS, KINDS, csgraph, fits, form, near, networkx, numpy, numpy_of, sparse
+from shared import ENDS, KINDS, TIMES, csgraph, fits, form, near, networkx, numpy, numpy_of, sparse
 
 if networkx:
     from dimacs import backend
 if csgraph:
     from dimacs import scipy as ours
 
-TIMES = int(os.environ.get("DIMACS_CASES", "1"))
 OFFSETS = (0, 0, 1, -1, 2**63, -(2**63), 2**64, -(2**64))
 LAST = 2**63 - 1
 
@@ -443,7 +441,3 @@ class Backend(Limits):
         graph = networkx.DiGraph([(1, 2), (3, 1)])
         for cutoff in (2**63, 2.0**63, math.inf, *([numpy.float64(2**63)] if numpy else [])):
             self.assertEqual(backend.single_source_dijkstra_path_length(graph, 1, cutoff), {1: 0, 2: 1})
-
-
-if __name__ == "__main__":
-    unittest.main()

@@ -275,7 +275,3 @@ class Misuse(Networkx):
         self.says(dimacs.PastLimit, message, dimacs.certify_networkx_max, graph, *ENDS, {})
         message = "node 'town' NodeTwice: it is the source and the sink"
         self.says(dimacs.PastLimit, message, dimacs.certify_networkx_max, pipes(), "town", "town", {})
-
-
-if __name__ == "__main__":
-    unittest.main()

@@ -80,7 +80,3 @@ class Solvers(unittest.TestCase):
             solver.set_node_supply(node, units)
         self.assertEqual(solver.solve(), solver.OPTIMAL)
         self.assertEqual(ortools.certify(solver).value, 14)
-
-
-if __name__ == "__main__":
-    unittest.main()

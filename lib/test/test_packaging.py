@@ -155,7 +155,3 @@ class Packaging(unittest.TestCase):
         environment = {**os.environ, "DIMACS_LIBRARY": "nowhere.so", "PYTHONPATH": str(FOLDER)}
         ran = subprocess.run(words, env=environment, capture_output=True, text=True, check=False)
         self.assertIn("nowhere.so isn't there: build it by `make`, or by `make quick`, unproved", ran.stderr)
-
-
-if __name__ == "__main__":
-    unittest.main()

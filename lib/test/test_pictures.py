@@ -80,7 +80,3 @@ class Pictures(unittest.TestCase):
         for wrong in (None, 5, ["p sp 1 0"]):
             self.assertRaisesRegex(TypeError, "draw takes texts", dimacs.draw, wrong)
         self.assertRaisesRegex(ValueError, "names a file: pass pathlib.Path", dimacs.draw, __file__)
-
-
-if __name__ == "__main__":
-    unittest.main()

@@ -460,5 +460,5 @@ class Converted(unittest.TestCase):
         self.assertEqual(found.to_frame()[["tail", "head"]].values.tolist(), [[2, 1], [2, 1], [2, 3], [1, 3]])
 
 
-if __name__ == "__main__":
+if __name__ == "__main__":  # tests/targets.py runs it through node
     unittest.main()

@@ -293,7 +293,3 @@ class FromZero(Said):
         self.says(dimacs.PastLimit, message, dimacs.certify_max_arrays, 2, 0, 2, [0], [1], [3], [3], base=0)
         message = "node 1 NodeRange: its predecessor is 2, and there are 2 nodes"
         self.says(dimacs.Refused, message, dimacs.judge_paths_arrays, 2, [0], [1], [3], 0, [0, 3], [-1, 2], base=0)
-
-
-if __name__ == "__main__":
-    unittest.main()

@@ -667,7 +667,3 @@ class Names(Scipy):
     def test_what_is_there(self):
         self.assertEqual(dir(ours), sorted(ours.__all__))
         self.assertTrue(all(hasattr(ours, it) for it in ours.__all__))
-
-
-if __name__ == "__main__":
-    unittest.main()

@@ -213,5 +213,5 @@ class Texts(unittest.TestCase):
         self.assertEqual(dimacs.convert("max", spread), plain)
 
 
-if __name__ == "__main__":
+if __name__ == "__main__":  # tests/targets.py runs it through node
     unittest.main()
